@@ -58,24 +58,24 @@ impl Quota {
     }
 
     /// Whether the slot has a reserve, be it of 0 blocks.
-    pub fn is_open(&self, slot: usize) -> bool
+    pub fn is_open(&self, slot: u8) -> bool
         requires { slot < SLOTS }
         ensures { IsTrue result ↔ IsOpen self.now slot }
     {
-        self.reserves[slot].is_some()
+        self.reserves[usize::from(slot)].is_some()
     }
 
     /// The slot's reserve in blocks: 0 where the slot is closed.
-    pub fn reserve_of(&self, slot: usize) -> u32
+    pub fn reserve_of(&self, slot: u8) -> u32
         requires { slot < SLOTS }
         ensures reserve { result ≡ reserve_at self.now slot }
         ensures within { result ≤ reserved self.now }
     {
-        self.reserves[slot].unwrap_or(0)
+        self.reserves[usize::from(slot)].unwrap_or(0)
     }
 
     /// Opens a slot with a reserve of `n` blocks out of the spare ones.
-    pub fn reserve(&mut self, slot: usize, n: u32)
+    pub fn reserve(&mut self, slot: u8, n: u32)
         requires slot { slot < SLOTS }
         requires closed { ¬ IsOpen self.old slot }
         requires room { n ≤ spare self.old }
@@ -83,25 +83,25 @@ impl Quota {
         ensures spare { spare self.new + n ≡ spare self.old }
     {
         self.spare -= n;
-        self.reserves[slot] = Some(n);
+        self.reserves[usize::from(slot)] = Some(n);
     }
 
     /// Says that `n` blocks of the slot's reserve are in use from now on. The spare blocks stay.
-    pub fn took(&mut self, slot: usize, n: u32)
+    pub fn took(&mut self, slot: u8, n: u32)
         requires slot { slot < SLOTS }
         requires reserved { n ≤ reserve_at self.old slot }
         ensures taken { self.new ≡ taking self.old slot n }
         ensures spare { spare self.new ≡ spare self.old }
     {
         self.used += n;
-        if let Some(reserve) = self.reserves[slot] {
-            self.reserves[slot] = Some(reserve - n);
+        if let Some(reserve) = self.reserves[usize::from(slot)] {
+            self.reserves[usize::from(slot)] = Some(reserve - n);
         }
     }
 
     /// Says that the transaction in the slot has given back `n` used blocks: they are free, and its own reserve
     /// grows by them. The spare blocks stay.
-    pub fn gave(&mut self, slot: usize, n: u32)
+    pub fn gave(&mut self, slot: u8, n: u32)
         requires slot { slot < SLOTS }
         requires open { IsOpen self.old slot }
         requires used { n ≤ used self.old }
@@ -109,15 +109,15 @@ impl Quota {
         ensures spare { spare self.new ≡ spare self.old }
     {
         self.used -= n;
-        self.reserves[slot] = Some(self.reserves[slot].unwrap_or(0) + n);
+        self.reserves[usize::from(slot)] = Some(self.reserves[usize::from(slot)].unwrap_or(0) + n);
     }
 
     /// Closes a slot: its reserve is spare from now on. Nothing changes where the slot is closed.
-    pub fn close(&mut self, slot: usize)
+    pub fn close(&mut self, slot: u8)
         requires { slot < SLOTS }
         ensures closed { self.new ≡ closing self.old slot }
         ensures spare { spare self.new ≡ spare self.old + reserve_at self.old slot }
     {
-        self.spare += self.reserves[slot].take().unwrap_or(0);
+        self.spare += self.reserves[usize::from(slot)].take().unwrap_or(0);
     }
 }

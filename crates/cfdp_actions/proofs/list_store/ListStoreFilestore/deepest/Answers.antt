@@ -1,0 +1,13 @@
+use Rattle.std.proofs.Common.{◌≡◌, ◌≤◌, ◌||◌, ℕ, List, length, sym, ap, ◌∙◌, arith}
+use Rattle.std.specs.List.{list_any}
+use Rattle.cfdp_paths.specs.Paths.{is_below, parent}
+use Rattle.cfdp_actions.specs.Filestore.{octets_in, deepest_of, is_root, is_directory}
+use Rattle.cfdp_actions.specs.Listed.{shown, found, octets_of}
+use Rattle.cfdp_actions.specs.Relocating.{tree_in}
+use Rattle.cfdp_actions.specs.declared.listed.Listed.{Listed}
+use Rattle.cfdp_actions.proofs.StoreLaws.{seen_tree}
+use Rattle.cfdp_actions.proofs.list_store.ListStoreFilestore.deepest.Goals as goal
+
+pub returns-clause-value : goal.returns-clause-value
+returns-clause-value c =
+    c.deepest.ensures.value ∙ ap (λ ls. deepest_of (tree_in c.args.path.now (shown ls))) c.deref.ensures.value ∙ ap deepest_of (sym (seen_tree _ _ _ c.self.invariant _ c.self.view_is c.args.path.now))

@@ -1,0 +1,44 @@
+use Rattle.std.proofs.Common.{◌≡◌, ◌≢◌, ◌+◌, ◌-◌, ◌*◌, ◌<◌, ◌≤◌, ◌||◌, ℕ, true, false, if◌then◌else◌, List, [], ◌∷◌, ◌++◌, Option, Some, None, IfOk, is_some, is_none, length, map, replicate, length-append, get_or, slice_range, refl, sym, ap, subst, ◌∙◌, arith, Vec}
+use Rattle.std.specs.FinMap.{put}
+use Rattle.std.proofs.lemmas.List.{length-replicate}
+use Rattle.std.specs.List.{list_any}
+use Rattle.cfdp_paths.specs.Paths.{Path, path_cmp, is_below, parent, same_path}
+use Rattle.cfdp_actions.specs.Filestore.{Node, Directory, File, node_at, staged_in, weight, blocks_of, octets_in, octets_at, deepest_of, is_root, is_directory, is_file, Becomes, Stages}
+use Rattle.cfdp_actions.specs.Actions.{is_too_deep}
+use Rattle.cfdp_actions.specs.Store.{Store, with_changes, entry_of, standing_of, extended}
+use Rattle.cfdp_actions.specs.Listed.{node_of, shown, found, octets_of, used}
+use Rattle.cfdp_actions.specs.Relocating.{tree_in}
+use Rattle.cfdp_actions.specs.declared.listed.Listed.{Listed}
+use Rattle.cfdp_actions.proofs.RowLaws.{blocks_of-mono, blocks_of-small, blocks_of-twice, blocks_of_one, blocks_of_both}
+use Rattle.cfdp_actions.proofs.SurveyLaws.{blocks_of-bound}
+use Rattle.cfdp_actions.proofs.StagedLaws.{octets_of-at}
+use Rattle.cfdp_actions.proofs.StoreLaws.{seen_staged, seen_free, seen_list, staged_kept, staged_small, lists-each}
+use Rattle.cfdp_actions.proofs.list_store.ListStoreFilestore.stage_extend.Goals as goal
+
+pub blocks_of-old-requires : goal.blocks_of-old-requires
+blocks_of-old-requires c =
+    let v = c.index.result.now in
+    let here : c.from-slot.result < length c.self.inside.staged.items = omega (arith, c.from-slot.ensures, c.requires.slot, c.self.invariant.slots) in
+    omega (arith, c.len.ensures, v.ok.0, ap (λ (xs : List ℕ). length xs) (octets_of-at c.self.inside.staged.items c.from-slot.result v here c.index.ensures), staged_small _ _ _ c.self.invariant c.from-slot.result)
+
+pub blocks_of-requires : goal.blocks_of-requires
+blocks_of-requires c =
+    let list = seen_staged _ _ _ c.self.invariant _ c.self.view_is c.args.slot in
+    let each = lists-each (octets_of c.self.inside.staged.items) c.args.slot in
+    let few = blocks_of-bound c.args.size (omega (arith, c.requires.room, seen_free _ _ _ c.self.invariant _ c.self.view_is, each, ap (λ (xs : List ℕ). blocks_of (length xs)) list, c.self.invariant.small)) in
+    omega (arith, few)
+
+pub overflow_sub-ticks : goal.overflow_sub-ticks
+overflow_sub-ticks c =
+    let v = c.index.result.now in
+    let here : c.from-slot.result < length c.self.inside.staged.items = omega (arith, c.from-slot.ensures, c.requires.slot, c.self.invariant.slots) in
+    let list = ap (λ (xs : List ℕ). length xs) (seen_staged _ _ _ c.self.invariant _ c.self.view_is c.args.slot ∙ ap (λ k. get_or (octets_of c.self.inside.staged.items) k []) (sym c.from-slot.ensures) ∙ octets_of-at c.self.inside.staged.items c.from-slot.result v here c.index.ensures) in
+    omega (arith, c.blocks_of.ensures, c.blocks_of-old.ensures, blocks_of-mono c.len.result c.args.size (omega (arith, c.len.ensures, v.ok.0, list, c.requires.longer)))
+
+pub invariant_of-self-2 : goal.invariant_of-self-2
+invariant_of-self-2 c =
+    let list = seen_staged _ _ _ c.self.invariant _ c.self.view_is c.args.slot ∙ ap (λ k. get_or (octets_of c.self.inside.staged.items) k []) (sym c.from-slot.ensures) in
+    let old = get_or (octets_of c.self.inside.staged.items) c.from-slot.result [] in
+    let long : length (extended old c.args.size) ≡ c.args.size = omega (arith, length-append old (replicate (c.args.size - length old) 0), length-replicate {A = ℕ} (c.args.size - length old) 0, ap (λ (xs : List ℕ). length xs) list, c.requires.longer) in
+    staged_kept _ _ _ c.self.invariant c.extend.new.staged.items c.from-slot.result _ c.in_ok-extend.ensures.ok c.in_ok-extend.ensures.slots (omega (arith, c.from-slot.ensures, c.requires.slot))
+    (omega (arith, ap blocks_of long, c.requires.room, seen_free _ _ _ c.self.invariant _ c.self.view_is, ap (λ (xs : List ℕ). blocks_of (length xs)) list))

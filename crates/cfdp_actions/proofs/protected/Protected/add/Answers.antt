@@ -1,0 +1,27 @@
+use Rattle.std.proofs.Common.{◌≡◌, ℕ, ◌<◌, ◌≤◌, Bool, false, ◌==◌, List, [], ◌∷◌, ◌++◌, Option, Some, None, length, refl, sym, ap, ◌∙◌, arith, length-append}
+use Rattle.std.proofs.lemmas.Bool.Decides.{nat_tests}
+use Rattle.cfdp_paths.specs.Paths.{Path}
+use Rattle.cfdp_actions.specs.Prefixes.{present}
+use Rattle.cfdp_actions.proofs.protected.Protected.add.Goals as goal
+
+present-push : (places : List (Option Path)) (path : Path) → present (places ++ Some path ∷ []) ≡ present places ++ path ∷ []
+present-push [] path = refl
+present-push (None ∷ places) path = present-push places path
+present-push (Some p ∷ places) path = ap (λ paths. p ∷ paths) (present-push places path)
+
+room_left : (n cap : ℕ) (b : Bool) → b ≡ (n == cap) → b ≡ false → n ≤ cap → n < cap
+room_left n cap b e f h = grind (arith, nat_tests)
+
+pub invariant_of-self : goal.invariant_of-self
+invariant_of-self c =
+    let before = c.self.inside.prefixes.items in
+    rw (c.push.ensures.items, present-push before c.args.path, length-append (present before) (c.args.path ∷ []), length-append before (Some c.args.path ∷ [])) (omega (arith, c.self.invariant))
+
+pub returns-clause-ok : goal.returns-clause-ok
+returns-clause-ok c = ap present c.push.ensures.items ∙ present-push c.self.inside.prefixes.items c.args.path ∙ ap (λ paths. paths ++ c.args.path ∷ []) c.self.view_is
+
+pub returns-clause-few : goal.returns-clause-few
+returns-clause-few c =
+    let before = c.self.inside.prefixes.items in
+    let room = room_left _ 8 _ c.is_full.ensures.value c.if-is_full.false c.is_full.ensures.fits in
+    rw (c.push.ensures.items, present-push before c.args.path, length-append (present before) (c.args.path ∷ [])) (omega (arith, c.self.invariant, room))

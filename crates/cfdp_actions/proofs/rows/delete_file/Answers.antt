@@ -1,0 +1,17 @@
+use Rattle.std.proofs.Common.{refl, sym, ◌∙◌, arith}
+use Rattle.cfdp_actions.proofs.RowLaws.{nothing_there, file_there, directory_there, does_refused, does_changed, delete_absent, delete_of_directory, delete_of_file}
+use Rattle.cfdp_actions.proofs.rows.delete_file.Goals as goal
+
+pub returns-in-None : goal.returns-in-None
+returns-in-None g c = does_refused _ _ _ _ (delete_absent _ _ (nothing_there _ _ c.kind.ensures c.in-None.is)) c.refused.ensures
+
+pub returns-in-Some-Directory : goal.returns-in-Some-Directory
+returns-in-Some-Directory g c =
+    let there = directory_there _ _ _ c.kind.ensures c.in-Some-Directory.is c.in-Some-Directory.field-0-is in
+    does_refused _ _ _ _ (delete_of_directory _ _ there) c.not_allowed.ensures
+
+pub returns-in_ok-ticks-in-Some-File : goal.returns-in_ok-ticks-in-Some-File
+returns-in_ok-ticks-in-Some-File g c =
+    let there = file_there _ _ _ c.kind.ensures c.in-Some-File.is c.in-Some-File.field-0-is in
+    let done = c.in_ok-ticks-in-Some-File.ensures in
+    does_changed _ _ _ _ _ _ _ _ _ _ (delete_of_file _ _ there) (omega arith) c.successful.ensures (omega (arith, done.ticks)) done.gone

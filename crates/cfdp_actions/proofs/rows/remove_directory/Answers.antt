@@ -1,0 +1,22 @@
+use Rattle.std.proofs.Common.{refl, sym, ap, ◌∙◌, arith, ◌≡◌, ℕ, nat_lt, ◌+◌, ◌<◌, ◌≤◌}
+use Rattle.cfdp_actions.proofs.RowLaws.{nothing_there, file_there, directory_there, does_refused, does_changed, remove_absent, remove_of_file, remove_of_full, remove_of_empty}
+use Rattle.cfdp_actions.proofs.rows.remove_directory.Goals as goal
+
+pub returns-in-None : goal.returns-in-None
+returns-in-None g c = does_refused _ _ _ _ (remove_absent _ _ (nothing_there _ _ c.kind.ensures c.in-None.is)) c.refused.ensures
+
+pub returns-in-Some-File : goal.returns-in-Some-File
+returns-in-Some-File g c =
+    let there = file_there _ _ _ c.kind.ensures c.in-Some-File.is c.in-Some-File.field-0-is in
+    does_refused _ _ _ _ (remove_of_file _ _ there) c.not_allowed.ensures
+
+pub returns-then-has_entries : goal.returns-then-has_entries
+returns-then-has_entries g c =
+    let there = directory_there _ _ _ c.kind.ensures c.in-Some-Directory.is c.in-Some-Directory.field-0-is in
+    does_refused _ _ _ _ (remove_of_full _ _ there (sym c.has_entries.ensures ∙ c.if-has_entries.true)) c.not_allowed-then-has_entries.ensures
+
+pub returns-in_ok-ticks-in-Some-Directory : goal.returns-in_ok-ticks-in-Some-Directory
+returns-in_ok-ticks-in-Some-Directory g c =
+    let there = directory_there _ _ _ c.kind.ensures c.in-Some-Directory.is c.in-Some-Directory.field-0-is in
+    let done = c.in_ok-ticks-in-Some-Directory.ensures in
+    does_changed _ _ _ _ _ _ _ _ _ _ (remove_of_empty _ _ there (sym c.has_entries.ensures ∙ c.if-has_entries.false)) (omega arith) c.successful.ensures (omega (arith, done.ticks)) done.gone

@@ -1,0 +1,9 @@
+pub mod Filestore
+pub mod Actions
+pub mod Store
+pub mod Prefixes
+pub mod Performing
+pub mod Listed
+pub mod Codes
+pub mod Ranks
+pub mod Relocating

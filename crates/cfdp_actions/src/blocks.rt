@@ -1,0 +1,18 @@
+//! How octets are counted in blocks.
+
+ghost use Rattle.std.specs.Prelude.{◌≡◌, ◌≤◌};
+ghost use Rattle.cfdp_actions.specs.Filestore.{blocks_of};
+
+/// The octets that a block holds.
+pub const BLOCK_OCTETS: u64 = 120;
+
+/// The greatest capacity of a store, in blocks.
+pub const MOST_BLOCKS: u32 = 65536;
+
+/// The blocks of so many octets: one for each 120 octets, the last one filled in part.
+pub fn blocks_of(octets: u64) -> u32
+    requires { octets ≤ 15728640 }
+    ensures { result ≡ blocks_of octets }
+{
+    ((octets + (BLOCK_OCTETS - 1)) / BLOCK_OCTETS) as u32
+}

@@ -1,0 +1,31 @@
+//! The filestore, and the filestore requests of CFDP performed on it (CCSDS 727.0-B-5 §4.9).
+//!
+//! A store is anything that meets the trait [`Filestore`]: contracts see it as a finite map from paths to files and
+//! directories, 64 staged lists and a capacity in blocks. [`ListStore`] keeps it in a plain list. [`perform`] does what
+//! the action table of `specs/Actions.antt` says, over any store, except at the prefixes that are [`Protected`].
+#![tactic(auto)]
+
+mod blocks;
+mod checksum;
+mod filestore;
+mod kind;
+mod list_store;
+mod listed;
+mod performed;
+mod protected;
+mod relocating;
+mod request;
+mod rows;
+mod staging;
+mod survey;
+
+pub use checksum::entry_checksum;
+pub use filestore::Filestore;
+pub use kind::{Entry, Kind, Standing};
+pub use list_store::ListStore;
+pub use performed::{Performed, perform};
+pub use protected::Protected;
+pub use request::Request;
+
+#[cfg(test)]
+mod tests;

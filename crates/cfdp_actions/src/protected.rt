@@ -1,0 +1,107 @@
+//! Prefixes that no request may change.
+
+ghost use Rattle.std.specs.Prelude.{◌≡◌, ◌↔◌, ◌≤◌, List, [], ◌∷◌, ◌++◌, length, OnOk, OnErr, IfErr, IsErr};
+ghost use Rattle.std.specs.List.{list_any};
+ghost use Rattle.cfdp_paths.specs.Paths.{is_at_or_below};
+ghost use Rattle.cfdp_actions.specs.Actions.{is_protected, bars};
+
+use crate::Request;
+use arrayvec::ArrayVec;
+use cfdp_paths::Path;
+use cfdp_status::Action;
+use std::marker::Model;
+
+/// How many prefixes can be protected.
+pub const PREFIXES: usize = 8;
+
+/// Up to eight paths, the prefixes: what stands at or below one of them is neither changed nor removed, and what stands
+/// above one of them is not moved. New paths may be made there.
+///
+/// Contracts see it as the list of its paths. It takes no memory.
+#[derive(Drop)]
+pub struct Protected {
+    prefixes: ArrayVec<Option<Path>, PREFIXES>,
+}
+
+impl Model for Protected {
+    ghost use Rattle.std.specs.Prelude.{◌≡◌, ℕ, List, length};
+    ghost use Rattle.cfdp_actions.specs.Prefixes.{present};
+
+    ghost Value = { List (List (List ℕ)) };
+
+    ghost view = { λ p. present p.prefixes.items };
+
+    ghost invariant = { λ p. length (present p.prefixes.items) ≡ length p.prefixes.items };
+}
+
+impl Protected {
+    /// Nothing is protected.
+    pub fn new() -> Self
+        ensures { result ≡ [] }
+    {
+        Protected {
+            prefixes: ArrayVec::new(),
+        }
+    }
+
+    /// Protects what stands at or below the path; hands the path back exactly where 8 stand there.
+    pub fn add(&mut self, path: Path) -> Result<(), Path>
+        ensures full { IsErr result ↔ (length self.old ≡ 8) }
+        ensures ok { OnOk result (self.new ≡ self.old ++ path ∷ []) }
+        ensures err { OnErr result (self.new ≡ self.old) }
+        ensures handed_back { IfErr result (λ back. back ≡ path) }
+        ensures few { length self.new ≤ 8 }
+    {
+        if self.prefixes.is_full() {
+            return Err(path);
+        }
+        self.prefixes.push(Some(path));
+        Ok(())
+    }
+
+    /// Whether the path is at or below a prefix.
+    pub fn covers(&self, path: &Path) -> bool
+        ensures { result ≡ is_protected self.now path.now }
+    {
+        for prefix in self.prefixes.as_slice() {
+            if let Some(prefix) = prefix {
+                if path.is_at_or_below(prefix) {
+                    return true;
+                }
+            }
+        }
+        false
+    }
+
+    /// Whether a prefix is at or below the path.
+    fn reaches_below(&self, path: &Path) -> bool
+        ensures { result ≡ list_any (λ prefix. is_at_or_below prefix path.now) self.now }
+    {
+        for prefix in self.prefixes.as_slice() {
+            if let Some(prefix) = prefix {
+                if prefix.is_at_or_below(path) {
+                    return true;
+                }
+            }
+        }
+        false
+    }
+
+    /// Whether the request would change what is protected: by its first name where that is at or below a prefix, a
+    /// create apart; for a rename also where a prefix is at or below that name.
+    pub fn bars(&self, request: &Request) -> bool
+        ensures { result ≡ bars self.now request.now }
+    {
+        let first = request.first();
+        match request.action() {
+            Action::CreateFile | Action::CreateDirectory => false,
+            Action::RenameFile => self.covers(first) || self.reaches_below(first),
+            Action::DeleteFile
+            | Action::AppendFile
+            | Action::ReplaceFile
+            | Action::RemoveDirectory
+            | Action::DenyFile
+            | Action::DenyDirectory => self.covers(first),
+        }
+    }
+}

@@ -1,0 +1,349 @@
+//! Worked lists of requests: each is run on a `ListStore` and on a store that counts its changes.
+
+ghost use Rattle.std.specs.Prelude.{◌<◌, ◌≤◌, length};
+
+use super::counted::Counted;
+use crate::blocks::blocks_of;
+use crate::{Filestore, Kind, ListStore, Performed, Protected, Request, entry_checksum, perform};
+use cfdp_paths::{Memory, Path};
+use cfdp_status::Action;
+use std::alloc::Global;
+use std::process::Abort;
+use std::test::Fail;
+
+/// A request, and the status octet, the ticks and the free blocks that it comes to. No second name: empty.
+type Row = (Action, &'static [u8], &'static [u8], u8, u32, u32);
+
+fn request(alloc: Global, action: Action, first: &[u8], second: &[u8]) -> Result<Request, Fail> {
+    let first = Path::parse(alloc, first)?;
+    let second = if second.is_empty() {
+        None
+    } else {
+        Some(Path::parse(alloc, second)?)
+    };
+    Ok(Request::new(action, first, second).ok_or("a name too few or too many")?)
+}
+
+/// Performs a request. Where memory is wanted the store is as before, and the request is performed once more.
+fn performed<S: Filestore>(
+    rt: &impl Abort,
+    alloc: Global,
+    store: &mut S,
+    protected: &Protected,
+    request: &Request,
+) -> Result<Performed, Fail> {
+    let before = store.listing(alloc)?;
+    let free = store.free();
+    if let Ok(done) = perform(store, protected, request) {
+        return Ok(done);
+    }
+    assert_eq!(rt; store.free(), free);
+    assert_eq!(rt; store.listing(alloc)?, before);
+    Ok(perform(store, protected, request)?)
+}
+
+/// Performs the rows one after another.
+fn run<S: Filestore>(
+    rt: &impl Abort,
+    alloc: Global,
+    store: &mut S,
+    protected: &Protected,
+    rows: &[Row],
+) -> Result<(), Fail> {
+    for (action, first, second, status, ticks, free) in rows {
+        let request = request(alloc, *action, first, second)?;
+        let done = performed(rt, alloc, store, protected, &request)?;
+        assert_eq!(rt; done.status.octet(), *status, "status of {request:?}");
+        assert_eq!(rt; done.ticks, *ticks, "ticks of {request:?}");
+        assert_eq!(rt; store.free(), *free, "free after {request:?}");
+    }
+    Ok(())
+}
+
+/// Performs the rows on an empty store of 64 blocks, and on another store of the same kind.
+fn run_on_both(
+    rt: &impl Abort,
+    alloc: Global,
+    protected: &Protected,
+    rows: &[Row],
+) -> Result<(), Fail> {
+    let mut store = ListStore::new(alloc, 64)?;
+    run(rt, alloc, &mut store, protected, rows)?;
+    let mut counted = Counted {
+        inner: ListStore::new(alloc, 64)?,
+        changes: 0,
+    };
+    run(rt, alloc, &mut counted, protected, rows)
+}
+
+/// Stages the octets and installs them at a path at which a file or nothing stands. The ticks of both; `None` where
+/// it does not fit or may not be.
+fn deliver<S: Filestore>(
+    store: &mut S,
+    path: &Path,
+    octets: &[u8],
+) -> Result<Option<(u32, u32)>, Memory>
+    requires { length octets.now ≤ 7864320 }
+{
+    let size = octets.len() as u64;
+    if store.staged_size(0) > 0 || blocks_of(size) > store.free() {
+        return Ok(None);
+    }
+    let staged = store.stage_extend(0, size)?;
+    if store.staged_size(0) != size {
+        return Ok(None);
+    }
+    store.stage_put(0, 0, octets);
+    if !store.parent_is_good(path) || store.free() == 0 {
+        return Ok(None);
+    }
+    match store.kind(path) {
+        Some(Kind::Directory) => Ok(None),
+        Some(Kind::File) | None => {
+            let installed = store.install(0, path)?;
+            Ok(Some((staged, installed)))
+        }
+    }
+}
+
+/// The octets of the file at the path, if a file stands there.
+fn contents<S: Filestore>(
+    store: &S,
+    alloc: Global,
+    path: &Path,
+) -> Result<Option<Vec<u8>>, Memory> {
+    match store.kind(path) {
+        Some(Kind::File) => {
+            let mut octets = vec![in alloc; 0; store.size(path) as usize]?;
+            store.read(path, 0, octets.as_mut_slice());
+            Ok(Some(octets))
+        }
+        Some(Kind::Directory) | None => Ok(None),
+    }
+}
+
+/// Extends what is staged in the slot; `None` where that does not fit into the free blocks.
+fn extend<S: Filestore>(store: &mut S, slot: u8, size: u64) -> Result<Option<u32>, Memory>
+    requires { slot < 64 }
+{
+    if size > 7864320 || store.staged_size(slot) > size || blocks_of(size) > store.free() {
+        return Ok(None);
+    }
+    Ok(Some(store.stage_extend(slot, size)?))
+}
+
+/// What is staged in the slot.
+fn staged<S: Filestore>(store: &S, alloc: Global, slot: u8) -> Result<Vec<u8>, Memory>
+    requires { slot < 64 }
+{
+    let mut octets = vec![in alloc; 0; store.staged_size(slot) as usize]?;
+    store.read_staged(slot, 0, octets.as_mut_slice());
+    Ok(octets)
+}
+
+/// The names of the longest path at or below the path, if anything stands there.
+fn deepest<S: Filestore>(store: &S, path: &Path) -> Option<u8> {
+    match store.kind(path) {
+        Some(_) => Some(store.deepest(path)),
+        None => None,
+    }
+}
+
+/// The checksum of the file at the path, if a file stands there.
+fn checksum<S: Filestore>(store: &S, path: &Path) -> Option<u32> {
+    match store.kind(path) {
+        Some(Kind::File) => Some(entry_checksum(store, path)),
+        Some(Kind::Directory) | None => None,
+    }
+}
+
+#[test]
+fn creates_and_removes(rt: HostRuntime) -> Result<(), Fail> {
+    let rows: [Row; 11] = [
+        (Action::CreateDirectory, b"d", b"", 0x50, 1, 63),
+        (Action::CreateFile, b"d/x", b"", 0x00, 1, 62),
+        (Action::RemoveDirectory, b"d", b"", 0x62, 0, 62),
+        (Action::RenameFile, b"d/x", b"b", 0x20, 0, 62),
+        (Action::ReplaceFile, b"b", b"c", 0x42, 0, 62),
+        (Action::RemoveDirectory, b"d", b"", 0x60, 1, 63),
+        (Action::DenyDirectory, b"d", b"", 0x80, 0, 63),
+        (Action::AppendFile, b"b", b"b", 0x30, 0, 63),
+        (Action::DenyFile, b"b", b"", 0x70, 1, 64),
+        (Action::DeleteFile, b"b", b"", 0x11, 0, 64),
+        (Action::CreateFile, b"x/y", b"", 0x01, 0, 64),
+    ];
+    run_on_both(&rt, rt.alloc(), &Protected::new(), &rows)
+}
+
+#[test]
+fn denies(rt: HostRuntime) -> Result<(), Fail> {
+    let rows: [Row; 6] = [
+        (Action::DenyFile, b"z", b"", 0x70, 0, 64),
+        (Action::DenyDirectory, b"y/z", b"", 0x80, 0, 64),
+        (Action::CreateDirectory, b"d", b"", 0x50, 1, 63),
+        (Action::CreateFile, b"d/x", b"", 0x00, 1, 62),
+        (Action::DenyDirectory, b"d", b"", 0x82, 0, 62),
+        (Action::DenyFile, b"d", b"", 0x72, 0, 62),
+    ];
+    run_on_both(&rt, rt.alloc(), &Protected::new(), &rows)
+}
+
+#[test]
+fn moves_a_directory(rt: HostRuntime) -> Result<(), Fail> {
+    let rows: [Row; 8] = [
+        (Action::CreateDirectory, b"d", b"", 0x50, 1, 63),
+        (Action::CreateFile, b"d/x", b"", 0x00, 1, 62),
+        (Action::RenameFile, b"d", b"e", 0x20, 0, 62),
+        (Action::DeleteFile, b"e/x", b"", 0x10, 1, 63),
+        (Action::RenameFile, b"e", b"e/f", 0x23, 0, 63),
+        (Action::RenameFile, b"e", b"e", 0x22, 0, 63),
+        (Action::RenameFile, b"q", b"r", 0x21, 0, 63),
+        (Action::RenameFile, b"e", b"q/r", 0x23, 0, 63),
+    ];
+    run_on_both(&rt, rt.alloc(), &Protected::new(), &rows)
+}
+
+#[test]
+fn moves_no_deeper_than_eight_names(rt: HostRuntime) -> Result<(), Fail> {
+    let alloc = rt.alloc();
+    let rows: [Row; 11] = [
+        (Action::CreateDirectory, b"e", b"", 0x50, 1, 63),
+        (Action::CreateDirectory, b"a", b"", 0x50, 1, 62),
+        (Action::CreateDirectory, b"a/b", b"", 0x50, 1, 61),
+        (Action::CreateDirectory, b"a/b/c", b"", 0x50, 1, 60),
+        (Action::CreateDirectory, b"a/b/c/d", b"", 0x50, 1, 59),
+        (Action::CreateDirectory, b"a/b/c/d/e", b"", 0x50, 1, 58),
+        (Action::CreateDirectory, b"a/b/c/d/e/f", b"", 0x50, 1, 57),
+        (Action::CreateDirectory, b"a/b/c/d/e/f/g", b"", 0x50, 1, 56),
+        (
+            Action::CreateDirectory,
+            b"a/b/c/d/e/f/g/h",
+            b"",
+            0x50,
+            1,
+            55,
+        ),
+        (Action::RenameFile, b"a", b"e/a", 0x23, 0, 55),
+        (Action::RenameFile, b"a", b"z", 0x20, 0, 55),
+    ];
+    let mut store = ListStore::new(alloc, 64)?;
+    run(&rt, alloc, &mut store, &Protected::new(), &rows)?;
+    assert_eq!(rt; deepest(&store, &Path::parse(alloc, b"z")?), Some(8));
+    assert_eq!(rt; deepest(&store, &Path::parse(alloc, b"e")?), Some(1));
+    assert_eq!(rt; deepest(&store, &Path::parse(alloc, b"a")?), None);
+    assert_eq!(rt;
+        store.standing(alloc, &Path::parse(alloc, b"z/b")?)?.len(),
+        7
+    );
+    Ok(())
+}
+
+#[test]
+fn protects(rt: HostRuntime) -> Result<(), Fail> {
+    let mut protected = Protected::new();
+    let path = Path::parse(rt.alloc(), b"sys/boot")?;
+    assert!(rt; protected.add(path).is_ok());
+    let rows: [Row; 8] = [
+        (Action::CreateDirectory, b"sys", b"", 0x50, 1, 63),
+        (Action::RenameFile, b"sys", b"s", 0x23, 0, 63),
+        (Action::RemoveDirectory, b"sys", b"", 0x60, 1, 64),
+        (Action::CreateDirectory, b"sys", b"", 0x50, 1, 63),
+        (Action::CreateFile, b"sys/boot", b"", 0x00, 1, 62),
+        (Action::DeleteFile, b"sys/boot", b"", 0x12, 0, 62),
+        (Action::DenyFile, b"sys/boot/z", b"", 0x72, 0, 62),
+        (Action::ReplaceFile, b"sys/boot", b"sys/boot", 0x43, 0, 62),
+    ];
+    run_on_both(&rt, rt.alloc(), &protected, &rows)
+}
+
+#[test]
+fn protects_eight_paths(rt: HostRuntime) -> Result<(), Fail> {
+    let alloc = rt.alloc();
+    let mut protected = Protected::new();
+    for name in b"abcdefgh" {
+        assert!(rt; protected.add(Path::parse(alloc, &[*name])?).is_ok());
+    }
+    let ninth = Path::parse(alloc, b"i")?;
+    assert!(rt; !protected.covers(&ninth));
+    assert!(rt; protected.add(ninth).is_err());
+    assert!(rt; protected.covers(&Path::parse(alloc, b"h/i")?));
+    assert!(rt; !protected.covers(&Path::parse(alloc, b"i")?));
+    Ok(())
+}
+
+#[test]
+fn appends_a_file_to_itself(rt: HostRuntime) -> Result<(), Fail> {
+    let alloc = rt.alloc();
+    for (size, whole, sum) in [(120, 240, 0x3c3c_3c3c), (119, 238, 0x3c3c_3b3b)] {
+        let mut store = ListStore::new(alloc, 64)?;
+        let octets = vec![in alloc; 1; size]?;
+        let file = Path::parse(alloc, b"a")?;
+        assert!(rt; octets.len() <= 120);
+        assert_eq!(rt; deliver(&mut store, &file, &octets)?, Some((1, 1)));
+        assert_eq!(rt; store.free(), 62);
+        let rows: [Row; 1] = [(Action::AppendFile, b"a", b"a", 0x30, 2, 61)];
+        run(&rt, alloc, &mut store, &Protected::new(), &rows)?;
+        let listing = store.listing(alloc)?;
+        assert_eq!(rt; listing.len(), 1);
+        assert_eq!(rt; listing[0].path, file);
+        assert_eq!(rt; listing[0].kind, Kind::File);
+        assert_eq!(rt; listing[0].size, whole);
+        assert_eq!(rt; listing[0].checksum, sum);
+    }
+    Ok(())
+}
+
+#[test]
+fn replaces(rt: HostRuntime) -> Result<(), Fail> {
+    let alloc = rt.alloc();
+    let mut store = ListStore::new(alloc, 64)?;
+    let octets = vec![in alloc; 1; 120]?;
+    assert!(rt; octets.len() <= 120);
+    let first = Path::parse(alloc, b"a")?;
+    let second = Path::parse(alloc, b"b")?;
+    assert_eq!(rt; deliver(&mut store, &first, &octets)?, Some((1, 1)));
+    let rows: [Row; 3] = [
+        (Action::ReplaceFile, b"a", b"a", 0x40, 0, 62),
+        (Action::CreateFile, b"b", b"", 0x00, 1, 61),
+        (Action::ReplaceFile, b"b", b"a", 0x40, 2, 60),
+    ];
+    run(&rt, alloc, &mut store, &Protected::new(), &rows)?;
+    assert_eq!(rt; checksum(&store, &first), Some(0x1e1e_1e1e));
+    assert_eq!(rt; contents(&store, alloc, &first)?, Some(octets));
+    assert_eq!(rt;
+        contents(&store, alloc, &second)?,
+        contents(&store, alloc, &first)?
+    );
+    assert_eq!(rt; checksum(&store, &second), Some(0x1e1e_1e1e));
+    assert_eq!(rt; deliver(&mut store, &second, b"xyz")?, Some((1, 1)));
+    assert_eq!(rt; store.free(), 60);
+    let found = store.standing(alloc, &second)?;
+    assert_eq!(rt; found.len(), 1);
+    assert_eq!(rt; found[0].size, 3);
+    assert_eq!(rt;
+        contents(&store, alloc, &second)?,
+        Some(b"xyz".to_vec(alloc)?)
+    );
+    Ok(())
+}
+
+#[test]
+fn stages(rt: HostRuntime) -> Result<(), Fail> {
+    let alloc = rt.alloc();
+    let mut store = ListStore::new(alloc, 2)?;
+    assert!(rt; !store.takes_no_memory());
+    assert_eq!(rt; store.free(), 2);
+    assert_eq!(rt; extend(&mut store, 63, 121)?, Some(2));
+    assert_eq!(rt; store.free(), 0);
+    assert!(rt; store.staged_size(63) == 121);
+    store.stage_put(63, 119, b"ab");
+    let octets = staged(&store, alloc, 63)?;
+    assert_eq!(rt; octets.len(), 121);
+    assert_eq!(rt; octets[118], 0);
+    assert_eq!(rt; octets[119], b'a');
+    assert_eq!(rt; octets[120], b'b');
+    assert_eq!(rt; store.unstage(63), 2);
+    assert_eq!(rt; store.free(), 2);
+    assert_eq!(rt; store.staged_size(63), 0);
+    Ok(())
+}

@@ -1,0 +1,65 @@
+-- What callers may use of the words of `specs/Arena.antt`.
+--     octets_at-..        a block after a block was set or freed
+--     length-..           the capacity stays
+--     free_count-..       how many blocks are free after that
+use Rattle.std.proofs.Common.{◌≡◌, ◌≢◌, ℕ, suc, zero, ◌+◌, ◌<◌, ◌≤◌, List, [], ◌∷◌, length, Some, None, refl, ap, arith, length-set}
+use Rattle.std.proofs.lemmas.List.{get_or-set_same, get_or-set_other}
+use Rattle.cfdp_arena.specs.Arena.{Blocks, octets_at, IsLive, live_count, free_count, with_block, without_block}
+
+pub live_count-le : (arena : Blocks) → live_count arena ≤ length arena
+live_count-le [] = omega arith
+live_count-le (Some octets ∷ rest) = omega (arith, live_count-le rest)
+live_count-le (None ∷ rest) = omega (arith, live_count-le rest)
+
+live_count-taken : (arena : Blocks) (block : ℕ) (octets : List ℕ) → block < length arena → octets_at arena block ≡ None → live_count (with_block arena block octets) ≡ live_count arena + 1
+live_count-taken [] block octets within free = absurd (omega arith)
+live_count-taken (Some x ∷ rest) zero octets within free = cc
+live_count-taken (None ∷ rest) zero octets within free = refl
+live_count-taken (Some x ∷ rest) (suc block) octets within free = omega (arith, live_count-taken rest block octets (omega arith) free)
+live_count-taken (None ∷ rest) (suc block) octets within free = live_count-taken rest block octets (omega arith) free
+
+live_count-written : (arena : Blocks) (block : ℕ) (octets : List ℕ) → IsLive arena block → live_count (with_block arena block octets) ≡ live_count arena
+live_count-written [] block octets live = refl
+live_count-written (Some x ∷ rest) zero octets live = refl
+live_count-written (None ∷ rest) zero octets live = cc
+live_count-written (Some x ∷ rest) (suc block) octets live = ap (λ n. n + 1) (live_count-written rest block octets live)
+live_count-written (None ∷ rest) (suc block) octets live = live_count-written rest block octets live
+
+live_count-given : (arena : Blocks) (block : ℕ) → IsLive arena block → live_count (without_block arena block) + 1 ≡ live_count arena
+live_count-given [] block live = cc
+live_count-given (Some x ∷ rest) zero live = refl
+live_count-given (None ∷ rest) zero live = cc
+live_count-given (Some x ∷ rest) (suc block) live = omega (arith, live_count-given rest block live)
+live_count-given (None ∷ rest) (suc block) live = live_count-given rest block live
+
+module _ (arena : Blocks) (block : ℕ) (octets : List ℕ) where
+  pub octets_at-with_same : block < length arena → octets_at (with_block arena block octets) block ≡ Some octets
+  octets_at-with_same within = get_or-set_same arena block (Some octets) None within
+
+  pub octets_at-with_other : (other : ℕ) → other ≢ block → octets_at (with_block arena block octets) other ≡ octets_at arena other
+  octets_at-with_other other apart = get_or-set_other arena block other (Some octets) None apart
+
+  pub length-with : length (with_block arena block octets) ≡ length arena
+  length-with = length-set arena block (Some octets)
+
+  -- a block that was free
+  pub free_count-taken : block < length arena → octets_at arena block ≡ None → free_count (with_block arena block octets) + 1 ≡ free_count arena
+  free_count-taken within free =
+      omega (arith, length-with, live_count-taken arena block octets within free, live_count-le (with_block arena block octets))
+
+  -- a block that was live
+  pub free_count-written : IsLive arena block → free_count (with_block arena block octets) ≡ free_count arena
+  free_count-written live = omega (arith, length-with, live_count-written arena block octets live)
+
+module _ (arena : Blocks) (block : ℕ) where
+  pub octets_at-without_same : block < length arena → octets_at (without_block arena block) block ≡ None
+  octets_at-without_same within = get_or-set_same arena block None None within
+
+  pub octets_at-without_other : (other : ℕ) → other ≢ block → octets_at (without_block arena block) other ≡ octets_at arena other
+  octets_at-without_other other apart = get_or-set_other arena block other None None apart
+
+  pub length-without : length (without_block arena block) ≡ length arena
+  length-without = length-set arena block None
+
+  pub free_count-given : IsLive arena block → free_count (without_block arena block) ≡ free_count arena + 1
+  free_count-given live = omega (arith, length-without, live_count-given arena block live, live_count-le arena, live_count-le (without_block arena block))

@@ -1,0 +1,7 @@
+pub mod Chains
+pub mod Copies
+pub mod Heap
+pub mod Laws
+pub mod Rows
+pub mod Sharing
+pub mod Steps

@@ -1,0 +1,11 @@
+use denote.Param.Send.{IsSend, AllSend, owning_send, struct_send, sendable}
+use denote.Struct.Struct.{exits_of}
+use denote.Struct.Owning.{shape, fields, to}
+use Rattle.std_alloc.proofs.SendSync.{quiet}
+use Rattle.cfdp_arena.proofs.Sharing.{region-keyless}
+use Rattle.cfdp_arena.specs.contracts.region.Region as C
+
+pub send : IsSend C.the_row
+send =
+    let O = C.the_type in let all : AllSend (fields O) = (search sendable, (search sendable, tt)) in
+    owning_send O all (λ d. region-keyless d.base d.room d.blocks) (λ k. quiet (to O) (exits_of k (fields O)) ((struct_send (shape O) all).leaving k))

@@ -1,0 +1,6 @@
+pub mod Arena
+pub mod Blocks
+pub mod FreeList
+pub mod Lending
+pub mod Ownership
+pub mod Region

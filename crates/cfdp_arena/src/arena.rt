@@ -1,0 +1,159 @@
+//! The arena: which blocks are live, and what they hold.
+ghost use Rattle.std.specs.Prelude.{◌≡◌, ◌≢◌, ◌+◌, ◌<◌, ◌≤◌, ◌↔◌, length, Some, IsNone, IfNone, IfSome, IfOk};
+ghost use Rattle.std.specs.Borrow.{sem};
+ghost use Rattle.cfdp_arena.specs.Blocks.{blank_block, copied};
+ghost use Rattle.cfdp_arena.specs.Arena.{octets_at, IsLive, octets_of, free_count, all_free, with_block, without_block};
+
+use crate::block_id::BlockId;
+use crate::links;
+use crate::memory::Memory;
+use crate::region::Region;
+use std::alloc::Global;
+use std::marker::Model;
+
+/// The octets of a block before its payload.
+const LINK_OCTETS: usize = 8;
+
+/// A fixed number of blocks of 128 octets, each of them free or live. A clause sees a list with an entry for each
+/// block: its octets where it is live.
+pub struct Arena {
+    alloc: Global,
+    region: Region,
+    head: u32,
+    free: u32,
+}
+
+impl Model for Arena {
+    ghost use Rattle.cfdp_arena.specs.Arena.{Blocks};
+    ghost use Rattle.cfdp_arena.specs.FreeList.{arena_view, IsSound};
+
+    ghost Value = { Blocks };
+
+    ghost view = { λ a. arena_view a.region.blocks a.free a.head };
+
+    ghost invariant = { λ a. IsSound a.region.blocks a.free a.head };
+}
+
+impl Arena {
+    ghost use Rattle.cfdp_arena.specs.Lending.{LendsOctets};
+
+    /// Takes the memory of `blocks` blocks, from 1 to 65,536, all of them free. This is the only call that takes
+    /// memory: 128 octets a block, which go back when the arena is dropped. In time linear in `blocks`.
+    ///
+    /// # Errors
+    ///
+    /// `Memory` where the allocator refuses.
+    pub fn new(alloc: Global, blocks: u32) -> Result<Arena, Memory>
+        requires some { 0 < blocks }
+        requires at_most { blocks ≤ 65536 }
+        ensures all_free { IfOk result (λ arena. arena ≡ all_free blocks) }
+    {
+        let region = Region::new(&alloc, blocks as usize)?;
+        let mut arena = Arena {
+            alloc,
+            region,
+            head: 0,
+            free: 0,
+        };
+        for number in 0..blocks {
+            arena.give(BlockId::of_number(number));
+        }
+        Ok(arena)
+    }
+
+    /// Takes a free block, which is then live and has 128 octets 0. `None` where no block is free. In constant time.
+    pub fn take(&mut self) -> Option<BlockId>
+        ensures none { IsNone result ↔ (free_count self.old ≡ 0) }
+        ensures was_free { IfSome result (λ block. octets_at self.old block ≡ None) }
+        ensures within { IfSome result (λ block. block < length self.old) }
+        ensures zeros { IfSome result (λ block. self.new ≡ with_block self.old block blank_block) }
+        ensures unchanged { IfNone result (self.new ≡ self.old) }
+    {
+        if self.free == 0 {
+            return None;
+        }
+        let number = self.head;
+        let block = self.region.block_mut(number as usize);
+        let next = links::next_free(block);
+        links::blank(block);
+        self.head = next;
+        self.free -= 1;
+        Some(BlockId::of_number(number))
+    }
+
+    /// Gives a live block back, which is then free. In constant time.
+    pub fn give(&mut self, block: BlockId)
+        requires live { IsLive self.old block }
+        ensures freed { self.new ≡ without_block self.old block }
+    {
+        let number = block.number();
+        let next = self.head;
+        links::link_to(self.region.block_mut(number as usize), next);
+        self.head = number;
+        self.free += 1;
+    }
+
+    /// Shows the octets of a live block: 8 for its owner's links, and the payload after them. In constant time.
+    pub fn bytes(&self, block: BlockId) -> &[u8; 128]
+        requires live { IsLive self.now block }
+        ensures octets { octets_at self.now block ≡ Some result.now }
+        ensures whole { length result.now ≡ 128 }
+    {
+        self.region.block(block.number() as usize)
+    }
+
+    /// Lends the octets of a live block. A write to them changes no other block. In constant time.
+    pub fn bytes_mut(&mut self, block: BlockId) -> &mut [u8; 128]
+        requires live { IsLive self.old block }
+        ensures* writes_back { sem 𝓛 (LendsOctets self.entry block result) }
+        ensures octets { octets_at self.old block ≡ Some result.now }
+        ensures whole { length result.now ≡ 128 }
+    {
+        self.region.block_mut(block.number() as usize)
+    }
+
+    /// Copies `len` octets of the payload of `from`, from the place `from_at` on, into the payload of `to`, to the
+    /// place `to_at` on. Places count within the payload, from 0 to 119. The octets go from block to block, one at a
+    /// time, with no buffer between. In time linear in `len`.
+    pub fn copy_payload(
+        &mut self,
+        from: BlockId,
+        from_at: usize,
+        to: BlockId,
+        to_at: usize,
+        len: usize,
+    )
+        requires from_live { IsLive self.old from }
+        requires to_live { IsLive self.old to }
+        requires apart { from ≢ to }
+        requires from_within { from_at + len ≤ 120 }
+        requires to_within { to_at + len ≤ 120 }
+        ensures target { self.new ≡ with_block self.old to (copied (octets_of self.old from) from_at (octets_of self.old to) to_at len) }
+    {
+        for offset in 0..len {
+            let octet = self.bytes(from)[LINK_OCTETS + from_at + offset];
+            self.bytes_mut(to)[LINK_OCTETS + to_at + offset] = octet;
+        }
+    }
+
+    /// Returns how many blocks are free: the capacity less the number of live blocks. In constant time.
+    pub fn free(&self) -> u32
+        ensures free { result ≡ free_count self.now }
+        ensures within { result ≤ length self.now }
+        ensures capacity { (0 < length self.now) × (length self.now ≤ 65536) }
+    {
+        self.free
+    }
+}
+
+impl Drop for Arena {
+    fn drop(self) {
+        let Arena {
+            alloc,
+            region,
+            head: _,
+            free: _,
+        } = self;
+        region.release(&alloc);
+    }
+}

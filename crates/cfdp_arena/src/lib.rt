@@ -1,0 +1,23 @@
+//! The block arena of the receiver's filestore: a fixed number of blocks of 128 octets, all taken from memory at once.
+//!
+//! An `Arena` hands out blocks and takes them back, and never asks for memory again after `new`. A block has 8
+//! octets for its owner's links and a payload of 120 octets. The free blocks are a list whose links stand in the
+//! free blocks themselves. Callers see a capacity and a map from the live blocks to their octets. The memory is one
+//! region behind a raw pointer, which stands in `region` alone.
+#![tactic(auto)]
+
+mod arena;
+mod block_id;
+mod links;
+mod memory;
+mod region;
+
+pub use arena::Arena;
+pub use block_id::BlockId;
+pub use memory::Memory;
+// A crate can name an arena in a contract only if the types of its fields are exported.
+#[doc(hidden)]
+pub use region::Region;
+
+#[cfg(test)]
+mod tests;

@@ -1,0 +1,28 @@
+//! The link of a free block: the number of the next free one, in the block's first two octets, the low octet first.
+ghost use Rattle.std.specs.Prelude.{◌≡◌, ◌<◌, length};
+ghost use Rattle.cfdp_arena.specs.FreeList.{link};
+ghost use Rattle.cfdp_arena.specs.Blocks.{blank_block};
+
+/// Returns the number of the free block after this one.
+pub(crate) fn next_free(block: &[u8; 128]) -> u32
+    ensures value { result ≡ link block.now }
+    ensures small { result < 65536 }
+{
+    u32::from(block[0]) + 256 * u32::from(block[1])
+}
+
+/// Links a free block to the free block `next`.
+pub(crate) fn link_to(block: &mut [u8; 128], next: u32)
+    requires small { next < 65536 }
+    ensures linked { link block.new ≡ next }
+{
+    block[0] = (next % 256) as u8;
+    block[1] = (next / 256) as u8;
+}
+
+/// Sets every octet of a block to 0.
+pub(crate) fn blank(block: &mut [u8; 128])
+    ensures zeros { block.new ≡ blank_block }
+{
+    *block = [0; 128];
+}

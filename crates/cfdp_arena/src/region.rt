@@ -1,0 +1,94 @@
+//! The memory of an arena: one block of the allocator's, reached through a raw pointer, in which blocks of 128 octets
+//! stand side by side.
+ghost use Rattle.std.specs.Prelude.{◌≡◌, ◌*◌, ◌^◌, ◌<◌, ℕ, List, [], ◌∷◌, ◌++◌, length, replicate, slice_index_or, IfOk};
+ghost use Rattle.std.specs.Borrow.{sem};
+ghost use Rattle.cfdp_arena.specs.Blocks.{blank_block};
+ghost use Rattle.cfdp_arena.specs.Ownership.{region_owns, region_lends};
+
+use std::alloc::{AllocError, Allocator, Global};
+use std::marker::{Model, Send};
+
+/// The octets of a block.
+const BLOCK_OCTETS: usize = 128;
+
+/// A row of blocks in memory that it owns, with room for more until each place has its block. It has no `Drop`, so
+/// that a region which is not given to `release` is refused.
+pub struct Region {
+    base: *mut [u8; 128],
+    room: usize,
+    ghost blocks: { List (List ℕ) },
+}
+
+impl Model for Region {
+    ghost also_owns = { λ r. region_owns r.base r.room r.blocks };
+
+    ghost also_shares = { λ r _ κ. region_lends r.base r.room r.blocks κ };
+}
+
+unsafe impl Send for Region {}
+
+impl Region {
+    ghost use Rattle.cfdp_arena.specs.Region.{LendsBlock};
+
+    /// Takes the memory of `blocks` blocks, and sets every octet to 0.
+    pub(crate) fn new(alloc: &Global, blocks: usize) -> Result<Region, AllocError>
+        requires small { blocks * 128 < 2 ^ 63 }
+        ensures blank { IfOk result (λ region. region.blocks ≡ replicate blocks blank_block) }
+    {
+        let mut region = Region::reserve(alloc, blocks)?;
+        for number in 0..blocks {
+            region.append_blank(number);
+        }
+        Ok(region)
+    }
+
+    /// Takes the memory of `room` blocks, and fills none.
+    fn reserve(alloc: &Global, room: usize) -> Result<Region, AllocError>
+        requires small { room * 128 < 2 ^ 63 }
+        ensures room { IfOk result (λ region. region.room ≡ room) }
+        ensures empty { IfOk result (λ region. region.blocks ≡ []) }
+    {
+        match alloc.allocate(room * BLOCK_OCTETS, 1) {
+            Ok(block) => Ok(Region {
+                base: block as *mut [u8; 128],
+                room,
+            }),
+            Err(refused) => Err(refused),
+        }
+    }
+
+    /// Makes a block of zeros at the place after the blocks that are there.
+    fn append_blank(&mut self, number: usize)
+        requires next { number ≡ length self.old.blocks }
+        requires room { number < self.old.room }
+        ensures blocks { self.new.blocks ≡ self.old.blocks ++ blank_block ∷ [] }
+        ensures room { self.new.room ≡ self.old.room }
+    {
+        unsafe { *self.base.add(number) = [0; 128] };
+    }
+
+    /// Gives the memory back to the allocator.
+    pub(crate) fn release(self, alloc: &Global) {
+        let Region { base, room } = self;
+        unsafe { alloc.deallocate(base as *mut u8, room * BLOCK_OCTETS, 1) };
+    }
+
+    /// Shows the block of this number, counted from 0.
+    pub(crate) fn block(&self, number: usize) -> &[u8; 128]
+        requires within { number < length self.now.blocks }
+        ensures value { result.now ≡ slice_index_or self.now.blocks number [] }
+        ensures whole { length result.now ≡ 128 }
+    {
+        unsafe { &*self.base.add(number) }
+    }
+
+    /// Lends the block of this number, and changes no other.
+    pub(crate) fn block_mut(&mut self, number: usize) -> &mut [u8; 128]
+        requires within { number < length self.old.blocks }
+        ensures* writes_back { sem 𝓛 (LendsBlock self.entry number result) }
+        ensures value { result.now ≡ slice_index_or self.old.blocks number [] }
+        ensures whole { length result.now ≡ 128 }
+    {
+        unsafe { &mut *self.base.add(number) }
+    }
+}

@@ -1,0 +1,93 @@
+use super::*;
+use plain::PlainRegion;
+use std::alloc::AllocError;
+use std::test::Fail;
+use std::thread;
+
+mod plain;
+
+#[test]
+fn three_blocks(rt: HostRuntime) -> Result<(), Fail> {
+    let mut arena = Arena::new(rt.alloc(), 3)?;
+    assert_eq!(rt; arena.free(), 3);
+    let first = arena.take().expect(&rt, "first");
+    let second = arena.take().expect(&rt, "second");
+    let third = arena.take().expect(&rt, "third");
+    assert_eq!(rt; arena.take(), None);
+    assert!(rt; first != second && second != third && first != third);
+
+    arena.give(first);
+    arena.give(third);
+    assert_eq!(rt; arena.free(), 2);
+    for _ in 0..2 {
+        let block = arena.take().expect(&rt, "given back");
+        assert_eq!(rt; *arena.bytes(block), [0; 128]);
+    }
+    assert_eq!(rt; arena.take(), None);
+    assert_eq!(rt; arena.free(), 0);
+    Ok(())
+}
+
+#[test]
+fn one_octet_is_copied(rt: HostRuntime) -> Result<(), Fail> {
+    let mut arena = Arena::new(rt.alloc(), 2)?;
+    let first = arena.take().expect(&rt, "first");
+    let second = arena.take().expect(&rt, "second");
+    let octets = arena.bytes_mut(first);
+    for place in 8..128 {
+        octets[place] = 1;
+    }
+    let before = *arena.bytes(first);
+
+    arena.copy_payload(first, 0, second, 119, 1);
+    let mut wanted = [0; 128];
+    wanted[127] = 1;
+    assert_eq!(rt; *arena.bytes(second), wanted);
+    assert_eq!(rt; *arena.bytes(first), before);
+
+    arena.give(first);
+    let again = arena.take().expect(&rt, "given back");
+    assert_eq!(rt; again, first);
+    assert_eq!(rt; *arena.bytes(again), [0; 128]);
+    assert_eq!(rt; *arena.bytes(second), wanted);
+    Ok(())
+}
+
+#[test]
+fn an_arena_moves_to_a_thread(rt: HostRuntime) -> Result<(), Fail> {
+    let mut arena = Arena::new(rt.alloc(), 2)?;
+    let block = arena.take().expect(&rt, "a block");
+    arena.bytes_mut(block)[127] = 9;
+    let worker = thread::spawn(&rt, move || (arena.bytes(block)[127], arena.free()))?;
+    assert_eq!(rt; worker.join(&rt), (9, 1));
+    Ok(())
+}
+
+#[test]
+fn numbers_and_the_refusal(rt: HostRuntime) -> Result<(), Fail> {
+    assert_eq!(rt; BlockId::of_number(65535).number(), 65535);
+    let text = format!(in rt.alloc(); "{Memory}")?;
+    assert_eq!(rt; text.as_str(), "out of memory");
+    Ok(())
+}
+
+const BLOCKS: usize = 16;
+
+#[test]
+fn the_region_does_what_the_plain_one_does(rt: HostRuntime) -> Result<(), AllocError> {
+    let mut plain = PlainRegion::new(rt.alloc(), BLOCKS)?;
+    let mut region = Region::new(&rt.alloc(), BLOCKS)?;
+    for step in 0..2000usize {
+        let number = step * 7 % BLOCKS;
+        let place = step * 31 % 128;
+        let octet = (step % 251) as u8;
+        region.block_mut(number)[place] = octet;
+        plain.block_mut(number)[place] = octet;
+        assert_eq!(rt; *region.block(number), *plain.block(number));
+    }
+    for number in 0..BLOCKS {
+        assert_eq!(rt; *region.block(number), *plain.block(number));
+    }
+    region.release(&rt.alloc());
+    Ok(())
+}

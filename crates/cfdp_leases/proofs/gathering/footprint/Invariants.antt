@@ -1,0 +1,12 @@
+use Rattle.std.proofs.Common.{◌≡◌, take}
+use Rattle.std.specs.Prelude.{flat_map}
+use Rattle.std.specs.Option.{option_copied}
+use Rattle.cfdp_leases.specs.Footprint.{exclusive_in, shared_in}
+use Rattle.cfdp_leases.specs.Items.{items_of}
+use Rattle.cfdp_leases.proofs.gathering.footprint.Given as goal
+
+-- the paths of the items so far
+abbrev pub invariant-loop-request : goal.invariant-loop-request
+invariant-loop-request l =
+    (l.exclusive.items ≡ flat_map exclusive_in (items_of (option_copied l.fn.destination) (take l.request-index l.requests)))
+    × (l.shared.items ≡ flat_map shared_in (items_of (option_copied l.fn.destination) (take l.request-index l.requests)))

@@ -1,0 +1,4 @@
+pub mod Footprint
+pub mod Items
+pub mod Leases
+pub mod Laws

@@ -1,0 +1,6 @@
+pub mod Comparing
+pub mod Below
+pub mod Spelling
+pub mod Faulty
+pub mod Scanning
+pub mod Vectors

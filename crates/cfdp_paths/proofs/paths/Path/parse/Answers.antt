@@ -1,0 +1,26 @@
+use Rattle.std.proofs.Common.{sym, ◌∙◌, ap, subst, inl, Ok, Some}
+use Rattle.cfdp_paths.specs.Paths.{Spells, names_in}
+use Rattle.cfdp_paths.proofs.Spelling.{names_in-spelled, path_of_spelled}
+use Rattle.cfdp_paths.proofs.Faulty.{path_from_no_fault, spelled_from_no_fault, fault-unspelled, no_path_from_fault}
+use Rattle.cfdp_paths.proofs.paths.Path.parse.Goals as goal
+
+pub returns-in-Some-clause-only : goal.returns-in-Some-clause-only
+returns-in-Some-clause-only c = λ path h. absurd (fault-unspelled c.args.octets.now path c.in-Some.fault (sym c.in-Some.ensures) h)
+
+pub returns-in-Some-clause-path_of : goal.returns-in-Some-clause-path_of
+returns-in-Some-clause-path_of c = λ _. no_path_from_fault c.args.octets.now c.in-Some.fault (sym c.in-Some.ensures)
+
+pub invariant_of-result : goal.invariant_of-result
+invariant_of-result c = rw c.in_ok-names.ensures (path_from_no_fault c.args.octets.now (sym c.find_fault.ensures ∙ c.in_default.is))
+
+pub returns-clause-path : goal.returns-clause-path
+returns-clause-path c =
+    subst (Spells c.args.octets.now) (sym c.in_ok-names.ensures) (spelled_from_no_fault c.args.octets.now (sym c.find_fault.ensures ∙ c.in_default.is))
+
+pub returns-clause-only : goal.returns-clause-only
+returns-clause-only c = λ path h. inl (ap (λ p. Ok p) (c.in_ok-names.ensures ∙ names_in-spelled c.args.octets.now path h))
+
+pub returns-clause-path_of : goal.returns-clause-path_of
+returns-clause-path_of c =
+    path_of_spelled c.args.octets.now (names_in c.args.octets.now) (spelled_from_no_fault c.args.octets.now (sym c.find_fault.ensures ∙ c.in_default.is))
+    ∙ ap (λ p. Some p) (sym c.in_ok-names.ensures)

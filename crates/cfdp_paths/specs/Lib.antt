@@ -1,0 +1,4 @@
+pub mod Paths
+pub mod Faults
+pub mod Laws
+pub mod Words

@@ -1,0 +1,25 @@
+//! Paths of the filestore: lists of 1 to 8 names of 1 to 96 octets, read from octets and compared by
+//! their names. Contracts see a [`Path`] as its list of names, each a list of octets; `Rattle.cfdp_paths.specs.Paths`
+//! has the words. What is read is exactly what a path's names spell when they are joined by `/`
+//! (CCSDS 727.0-B-5, sections 4.9 and 5.4).
+#![tactic(auto)]
+
+mod copying;
+mod fault;
+pub mod laws;
+mod parsing;
+mod paths;
+#[cfg(test)]
+mod tests;
+
+pub use fault::PathFault;
+pub use paths::Path;
+
+/// Want of memory: the one refusal of a call that only allocates.
+pub type Memory = std::alloc::AllocError;
+
+/// The greatest number of names of a path.
+pub const MOST_NAMES: usize = 8;
+
+/// The greatest number of octets of a name.
+pub const LONGEST_NAME: usize = 96;

@@ -1,0 +1,73 @@
+//! The names that octets spell, and the leftmost fault among them.
+
+ghost use Rattle.std.specs.Prelude.{◌≡◌, ◌||◌, [], ◌∷◌, IfOk};
+ghost use Rattle.cfdp_paths.specs.Faults.{fault_of, fault_of_name};
+ghost use Rattle.cfdp_paths.specs.Paths.{dot, is_slash, names_in, names_of, same_name, without_slash};
+
+use crate::fault::PathFault;
+use crate::{LONGEST_NAME, MOST_NAMES};
+use std::alloc::{AllocError, Global};
+
+/// The fault of the octets, if they spell no path. Takes no memory.
+pub(crate) fn find_fault(octets: &[u8]) -> Option<PathFault>
+    ensures { result ≡ fault_of octets.now }
+{
+    let names = strip_slash(octets);
+    if names.is_empty() {
+        return Some(PathFault::Empty);
+    }
+    let mut room = MOST_NAMES;
+    for name in names.split(|octet| *octet == b'/') {
+        if room == 0 {
+            return Some(PathFault::TooDeep);
+        }
+        if let Some(fault) = find_name_fault(name) {
+            return Some(fault);
+        }
+        room -= 1;
+    }
+    None
+}
+
+/// What is wrong with the name alone, if anything.
+fn find_name_fault(name: &[u8]) -> Option<PathFault>
+    ensures { result ≡ fault_of_name name.now }
+{
+    if name.is_empty() {
+        Some(PathFault::EmptyName)
+    } else if is_dots(name) || name.contains(&0) {
+        Some(PathFault::BadName)
+    } else if name.len() > LONGEST_NAME {
+        Some(PathFault::NameTooLong)
+    } else {
+        None
+    }
+}
+
+/// Whether the name is `.` or `..`.
+fn is_dots(name: &[u8]) -> bool
+    ensures { result ≡ (same_name name.now (dot ∷ []) || same_name name.now (dot ∷ dot ∷ [])) }
+{
+    name == b".".as_slice() || name == b"..".as_slice()
+}
+
+/// The octets without one `/` at the start.
+fn strip_slash(octets: &[u8]) -> &[u8]
+    ensures { result.now ≡ without_slash octets.now }
+{
+    match octets {
+        [b'/', rest @ ..] => rest,
+        _ => octets,
+    }
+}
+
+/// The names between the `/`, one at the start apart, each in a vector of its own.
+pub(crate) fn split_names(alloc: Global, octets: &[u8]) -> Result<Vec<Vec<u8>>, AllocError>
+    ensures { IfOk result (λ names. names_of names.items ≡ names_in octets.now) }
+{
+    let mut names = Vec::new(alloc);
+    for name in strip_slash(octets).split(|octet| *octet == b'/') {
+        names.push(Vec::from_slice(alloc, name)?)?;
+    }
+    Ok(names)
+}

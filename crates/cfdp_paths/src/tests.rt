@@ -1,0 +1,175 @@
+//! Worked paths and faults, the order, and each call once with ample memory.
+
+use crate::parsing::split_names;
+use crate::{LONGEST_NAME, Memory, Path, PathFault};
+use std::alloc::Global;
+use std::collections::BTreeMap;
+use std::test::Fail;
+
+#[test]
+fn faults_in_order(rt: HostRuntime) -> Result<(), Fail> {
+    let rows: [(&[u8], PathFault); 19] = [
+        (b"", PathFault::Empty),
+        (b"/", PathFault::Empty),
+        (b"//", PathFault::EmptyName),
+        (b"a/", PathFault::EmptyName),
+        (b"//a", PathFault::EmptyName),
+        (b"a//b", PathFault::EmptyName),
+        (b"a//..", PathFault::EmptyName),
+        (b"..//a", PathFault::BadName),
+        (b".", PathFault::BadName),
+        (b"..", PathFault::BadName),
+        (b"/..", PathFault::BadName),
+        (b"a/./b", PathFault::BadName),
+        (b"a\0", PathFault::BadName),
+        (b"\0", PathFault::BadName),
+        (b"1/2/3/4/5/6/7/8/9", PathFault::TooDeep),
+        (b"1/2/3/4/5/6/7/8/", PathFault::TooDeep),
+        (b"1/2/3/4/5/6/7/8/..", PathFault::TooDeep),
+        (b"1/2/3/4/5/6/7/./9", PathFault::BadName),
+        (b"/1/2/3/4/5/6/7//9", PathFault::EmptyName),
+    ];
+    for (octets, fault) in rows {
+        assert_eq!(rt;
+            Path::parse(rt.alloc(), octets).err(),
+            Some(fault),
+            "at {octets:?}"
+        );
+    }
+    Ok(())
+}
+
+#[test]
+fn length_of_a_name(rt: HostRuntime) -> Result<(), Fail> {
+    let mut octets = vec![in rt.alloc(); b'x'; LONGEST_NAME]?;
+    let path = Path::parse(rt.alloc(), &octets)?;
+    assert_eq!(rt; path.text(rt.alloc())?, octets);
+    octets.push(b'x')?;
+    assert_eq!(rt;
+        Path::parse(rt.alloc(), &octets).err(),
+        Some(PathFault::NameTooLong)
+    );
+    octets.push(0)?;
+    assert_eq!(rt;
+        Path::parse(rt.alloc(), &octets).err(),
+        Some(PathFault::BadName)
+    );
+    Ok(())
+}
+
+/// The texts of the paths, each with a space behind it.
+fn texts(alloc: Global, paths: &[Path]) -> Result<Vec<u8>, Memory> {
+    let mut texts = Vec::new(alloc);
+    for path in paths {
+        texts.extend_from_slice(&path.text(alloc)?)?;
+        texts.push(b' ')?;
+    }
+    Ok(texts)
+}
+
+#[test]
+fn ample(rt: HostRuntime) -> Result<(), Fail> {
+    let alloc = rt.alloc();
+    let rows: [(&[u8], &[u8], &[u8]); 4] = [
+        (b"a", b"", b""),
+        (b"d/x", b"d", b"d "),
+        (b"d/x/y", b"d/x", b"d d/x "),
+        (
+            b"1/2/3/4/5/6/7/8",
+            b"1/2/3/4/5/6/7",
+            b"1 1/2 1/2/3 1/2/3/4 1/2/3/4/5 1/2/3/4/5/6 1/2/3/4/5/6/7 ",
+        ),
+    ];
+    for (octets, parent, ancestors) in rows {
+        let path = Path::parse(alloc, octets)?;
+        assert_eq!(rt; path.text(alloc)?.as_slice(), octets);
+        assert_eq!(rt; path.copy(alloc)?, path);
+        assert_eq!(rt; path.parent(alloc)?, Path::parse(alloc, parent).ok());
+        assert_eq!(rt;
+            texts(alloc, &path.ancestors(alloc)?)?.as_slice(),
+            ancestors
+        );
+    }
+    Ok(())
+}
+
+#[test]
+fn names_are_read_and_put_back(rt: HostRuntime) -> Result<(), Fail> {
+    let alloc = rt.alloc();
+    let mut names = Vec::new(alloc);
+    names.push(Vec::from_slice(alloc, b"d")?)?;
+    names.push(Vec::from_slice(alloc, b"x")?)?;
+    let path = Path::parse(alloc, b"/d/x")?;
+    assert_eq!(rt; path.names(), names.as_slice());
+    assert_eq!(rt; path.depth(), 2);
+    Ok(())
+}
+
+#[test]
+fn made_of_its_names(rt: HostRuntime) -> Result<(), Fail> {
+    let alloc = rt.alloc();
+    let names = split_names(alloc, b"/d/x".as_slice())?;
+    let path = Path::from_names(names);
+    assert_eq!(rt; path, Path::parse(alloc, b"d/x")?);
+    Ok(())
+}
+
+#[test]
+fn one_path_beside_another(rt: HostRuntime) -> Result<(), Fail> {
+    let alloc = rt.alloc();
+    let d = Path::parse(alloc, b"d")?;
+    let x = Path::parse(alloc, b"d/x")?;
+    let y = Path::parse(alloc, b"d/x/y")?;
+    let other = Path::parse(alloc, b"dx")?;
+    assert!(rt; y.is_at_or_below(&d) && y.is_at_or_below(&y) && y.is_below(&x));
+    assert!(rt; !d.is_at_or_below(&x) && !other.is_at_or_below(&d) && !y.is_below(&y));
+    assert!(rt; x.is_child_of(&d) && y.is_child_of(&x) && !y.is_child_of(&d) && !x.is_child_of(&x));
+    assert!(rt; d.has_root_parent() && other.has_root_parent() && !x.has_root_parent());
+    Ok(())
+}
+
+#[test]
+fn rebased_path(rt: HostRuntime) -> Result<(), Fail> {
+    let alloc = rt.alloc();
+    let d = Path::parse(alloc, b"d")?;
+    let target = Path::parse(alloc, b"e/f")?;
+    let y = Path::parse(alloc, b"d/x/y")?;
+    assert!(rt; y.is_at_or_below(&d) && d.is_at_or_below(&d));
+    assert!(rt; y.depth() + target.depth() <= 8 + d.depth());
+    assert_eq!(rt;
+        y.rebased(alloc, &d, &target)?.text(alloc)?.as_slice(),
+        b"e/f/x/y".as_slice()
+    );
+    assert!(rt; d.depth() + target.depth() <= 8 + d.depth());
+    assert_eq!(rt; d.rebased(alloc, &d, &target)?, target);
+    Ok(())
+}
+
+#[test]
+fn keys_in_order(rt: HostRuntime) -> Result<(), Fail> {
+    let alloc = rt.alloc();
+    let mut places = BTreeMap::new(alloc);
+    for octets in [b"d0".as_slice(), b"d/y", b"d/x/z", b"e", b"d", b"d/x", b"D"] {
+        places.insert(Path::parse(alloc, octets)?, octets.len())?;
+    }
+    let mut keys = Vec::new(alloc);
+    for path in places.keys() {
+        keys.push(path.copy(alloc)?)?;
+    }
+    assert_eq!(rt;
+        texts(alloc, &keys)?.as_slice(),
+        b"D d d/x d/x/z d/y d0 e ".as_slice()
+    );
+    assert_eq!(rt; places.get(&Path::parse(alloc, b"/d/x/z")?), Some(&5));
+    Ok(())
+}
+
+#[test]
+fn fault_in_words(rt: HostRuntime) -> Result<(), Fail> {
+    let fault = PathFault::TooDeep;
+    assert_eq!(rt;
+        format!(in rt.alloc(); "{fault}")?.as_str(),
+        "the path has more than 8 names"
+    );
+    Ok(())
+}

@@ -1,0 +1,16 @@
+pub mod Steps
+pub mod Splits
+pub mod RequestLoop
+pub mod WholeLoop
+pub mod OutcomeLoop
+pub mod MetadataSteps
+pub mod NumberSteps
+pub mod FieldSteps
+pub mod RequestSteps
+pub mod OutcomeSteps
+pub mod DataSteps
+pub mod PduSteps
+pub mod WriteSteps
+pub mod ChecksumSteps
+pub mod CanonicalSteps
+pub mod SoundSteps

@@ -1,0 +1,22 @@
+-- Bits and numbers in octets.
+--   flag place octet        whether the bit at a place is 1, the lowest being place 0
+--   digit b                 1 for true, 0 for false
+--   IsNumber octets len x   these are len octets, and the number that they spell, the highest first, is x
+--   fss large               how many octets a file size or an offset has (CCSDS 727.0-B-5 §5.1.10)
+use Rattle.std.specs.Prelude.{◌≡◌, ℕ, ◌/◌, ◌%◌, ◌^◌, ◌==◌, Bool, true, false, List, length}
+use Rattle.byteorder.specs.Endian.{big_number}
+
+abbrev pub flag : ℕ → ℕ → Bool
+flag place octet = octet / 2 ^ place % 2 == 1
+
+abbrev pub digit : Bool → ℕ
+digit true = 1
+digit false = 0
+
+pub record IsNumber (octets : List ℕ) (len x : ℕ) : Type 0 where
+  pub len_is : length octets ≡ len
+  pub spelled : x ≡ big_number len octets
+
+abbrev pub fss : Bool → ℕ
+fss true = 8
+fss false = 4

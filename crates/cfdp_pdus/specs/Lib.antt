@@ -1,0 +1,10 @@
+pub mod Values
+pub mod Bits
+pub mod Reading
+pub mod Grammar
+pub mod First
+pub mod Canonical
+pub mod Checksum
+pub mod Equality
+pub mod Texts
+pub mod Sound

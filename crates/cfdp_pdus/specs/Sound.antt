@@ -1,0 +1,28 @@
+-- What holds of each PDU that was read, beside what its octets spell.
+--   IsSound pdu    the header's lengths are 1 to 8 and its numbers fit them; each number of the data
+--                  field fits its field; a response can repeat each filestore request
+use Rattle.std.specs.Prelude.{◌<◌}
+use Rattle.std.specs.List.{AllByRecursion}
+use Rattle.cfdp_pdus.specs.declared.header.Header.{Header}
+use Rattle.cfdp_pdus.specs.declared.pdu.Pdu.{Pdu}
+use Rattle.cfdp_pdus.specs.declared.pdu.Pdu.TheVariants as pdus
+use Rattle.cfdp_pdus.specs.Values.{MetadataFields, FinishedFields}
+use Rattle.cfdp_pdus.specs.Canonical.{IsHeader, IsSizedMetadata, IsSizedFileData, IsSizedEof, IsAnswerable}
+
+pub record IsSoundMetadata (header : Header) (metadata : MetadataFields) : Type 0 where
+  pub header_fits : IsHeader header
+  pub sized : IsSizedMetadata header.large metadata
+  pub answerable : AllByRecursion IsAnswerable metadata.requests
+
+-- a fault location has a length of its own, whatever the header's is
+pub record IsSoundFinished (header : Header) (finished : FinishedFields) : Type 0 where
+  pub header_fits : IsHeader header
+  pub condition : finished.condition < 16
+  pub file_status : finished.file_status < 4
+
+abbrev pub IsSound : Pdu → Type 0
+IsSound (pdus.Metadata header metadata) = IsSoundMetadata header metadata
+IsSound (pdus.FileData header file_data) = IsHeader header × IsSizedFileData header.large file_data
+IsSound (pdus.Eof header eof) = IsHeader header × IsSizedEof header.large eof
+IsSound (pdus.Finished header finished) = IsSoundFinished header finished
+IsSound (pdus.NotOurs header code) = IsHeader header

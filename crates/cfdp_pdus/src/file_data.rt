@@ -1,0 +1,110 @@
+ghost use Rattle.std.specs.Prelude.{◌≡◌, ◌≤◌, ◌<◌, ◌+◌, ◌⊎◌, ◌↔◌, ◌++◌, length, vec_len, min, Bool, true, false, nat_le, IfErr, OnOk, OnErr, IsErrOf};
+ghost use Rattle.cfdp_pdus.specs.Reading.{Answers, Gives};
+ghost use Rattle.cfdp_pdus.specs.First.{behind_segment, file_data_at};
+ghost use Rattle.cfdp_pdus.specs.Canonical.{IsHeader, IsSizedFileData, pdu_octets, file_data_field, file_data_fits};
+ghost use Rattle.cfdp_pdus.specs.declared.fault.WriteFault.TheVariants.{TooLong, Memory};
+
+use crate::number::{read_number, size_len};
+use crate::put::{header_len, push_header, push_number};
+use crate::{Header, PduFault, WriteFault};
+use std::alloc::Global;
+use std::marker::Model;
+
+/// A File Data PDU's data field (CCSDS 727.0-B-5 §5.3). A contract sees its octets as a list.
+#[derive(Debug, Drop)]
+pub struct FileData {
+    /// Where the octets stand in the file, from 0.
+    pub offset: u64,
+    /// The octets, which may be none.
+    pub octets: Vec<u8>,
+}
+
+impl Model for FileData {
+    ghost use Rattle.cfdp_pdus.specs.Values.{FileDataFields};
+
+    ghost Value = { FileDataFields };
+
+    ghost view = { λ d. record { offset = d.offset; octets = d.octets.items } };
+}
+
+impl PartialEq for FileData {
+    ghost use Rattle.cfdp_pdus.specs.Equality.{same_file_data, file_data_per};
+
+    ghost eq = { same_file_data };
+
+    ghost laws = { file_data_per };
+
+    fn eq(&self, other: &FileData) -> bool {
+        self.offset == other.offset && self.octets == other.octets
+    }
+}
+
+impl Eq for FileData {
+    ghost use Rattle.cfdp_pdus.specs.Equality.{file_data_equiv};
+
+    ghost laws = { file_data_equiv };
+}
+
+/// What stands behind the continuation state and the segment metadata, where there are any.
+#[tactic(auto, unfolding(crate::specs::First::behind_segment))]
+fn skip_segment(segment_metadata: bool, octets: &[u8]) -> Result<&[u8], PduFault>
+    ensures { Answers (λ rest. rest.now) result (behind_segment segment_metadata octets.now) }
+{
+    if !segment_metadata {
+        return Ok(octets);
+    }
+    let [state, rest @ ..] = octets else {
+        return Err(PduFault::LengthMismatch);
+    };
+    let len = usize::from(*state % 64);
+    if rest.len() < len {
+        return Err(PduFault::LengthMismatch);
+    }
+    Ok(&rest[len..])
+}
+
+/// A File Data PDU's data field.
+#[tactic(auto, unfolding(crate::specs::First::file_data_at))]
+pub fn read_file_data(
+    alloc: Global,
+    large: bool,
+    segment_metadata: bool,
+    octets: &[u8],
+) -> Result<FileData, PduFault>
+    ensures { Gives (λ file_data. file_data) result (file_data_at large segment_metadata octets.now) }
+{
+    let rest = skip_segment(segment_metadata, octets)?;
+    let (offset, rest) = read_number(rest, size_len(large), PduFault::LengthMismatch)?;
+    Ok(FileData {
+        offset,
+        octets: Vec::from_slice(alloc, rest)?,
+    })
+}
+
+/// Appends a File Data PDU, with no segment metadata (CCSDS 727.0-B-5 §5.3).
+///
+/// The faults are `TooLong`, where the data field has more than 65,535 octets, and `Memory`.
+#[tactic(auto, unfolding(crate::specs::Canonical::file_data_field, crate::specs::Canonical::file_data_fits))]
+pub fn write_file_data(
+    header: &Header,
+    file_data: &FileData,
+    out: &mut Vec<u8>,
+) -> Result<(), WriteFault>
+    requires header { IsHeader header.now }
+    requires sized { IsSizedFileData header.now.large file_data.now }
+    ensures ok { OnOk result (out.new.items ≡ out.old.items ++ pdu_octets true header.now (file_data_field header.now.large file_data.now)) }
+    ensures too_long { IsErrOf result TooLong ↔ (file_data_fits header.now.large file_data.now ≡ false) }
+    ensures faults { IfErr result (λ fault. (fault ≡ TooLong) ⊎ (fault ≡ Memory)) }
+    ensures err { OnErr result (out.new.items ≡ out.old.items) }
+{
+    let size_len = size_len(header.large);
+    let len = file_data.octets.len().saturating_add(size_len);
+    if len > 65535 {
+        return Err(WriteFault::TooLong);
+    }
+    out.reserve(header_len(header) + len)?;
+    push_header(out, true, header, len as u16);
+    push_number(out, file_data.offset, size_len);
+    out.extend_from_slice(&file_data.octets).unwrap();
+    Ok(())
+}

@@ -1,0 +1,204 @@
+ghost use Rattle.std.specs.Prelude.{◌≡◌, ◌≤◌, ◌<◌, ◌+◌, ◌^◌, ◌⊎◌, ◌↔◌, ◌++◌, length, vec_len, min, Bool, true, false, nat_le, IfErr, OnOk, OnErr, IsErrOf};
+ghost use Rattle.std.specs.List.{flat_map, list_all};
+ghost use Rattle.std.specs.Option.{ForSome};
+ghost use Rattle.std.specs.Vec.{vec_capacity};
+ghost use Rattle.cfdp_pdus.specs.Equality.{same_codes};
+ghost use Rattle.cfdp_pdus.specs.Reading.{Gives};
+ghost use Rattle.cfdp_pdus.specs.First.{finished_at};
+ghost use Rattle.cfdp_pdus.specs.Canonical.{IsHeader, IsSizedFinished, pdu_octets, finished_field, finished_fits, response_field, fault_location, is_short_response};
+ghost use Rattle.cfdp_pdus.specs.declared.fault.WriteFault.TheVariants.{TooLong, Memory};
+
+use crate::field::read_outcome;
+use crate::number::bit;
+use crate::put::{header_len, push_header, push_location};
+use crate::{Header, PduFault, WriteFault};
+use cfdp_tlv::{FilestoreResponse, write_response};
+use std::alloc::Global;
+use std::marker::Model;
+
+/// A Finished PDU's data field (CCSDS 727.0-B-5 §5.2.3).
+#[derive(Debug, Drop)]
+pub struct Finished {
+    /// The condition code, 0 to 15.
+    pub condition: u8,
+    /// The delivery code: data incomplete, and not complete.
+    pub incomplete: bool,
+    /// The file status, 0 to 3.
+    pub file_status: u8,
+    /// The filestore responses, in order.
+    pub responses: Vec<FilestoreResponse>,
+    /// The fault location: the entity at which the transaction was ended.
+    pub fault: Option<u64>,
+}
+
+impl Model for Finished {
+    ghost use Rattle.cfdp_pdus.specs.Values.{FinishedFields};
+
+    ghost Value = { FinishedFields };
+
+    ghost view = { λ f. record { condition = f.condition; incomplete = f.incomplete; file_status = f.file_status; responses = f.responses.items; fault = f.fault } };
+}
+
+impl PartialEq for Finished {
+    ghost use Rattle.cfdp_pdus.specs.Equality.{same_finished, finished_per};
+
+    ghost eq = { same_finished };
+
+    ghost laws = { finished_per };
+
+    fn eq(&self, other: &Finished) -> bool {
+        have_same_codes(self, other)
+            && self.responses == other.responses
+            && self.fault == other.fault
+    }
+}
+
+impl Eq for Finished {
+    ghost use Rattle.cfdp_pdus.specs.Equality.{finished_equiv};
+
+    ghost laws = { finished_equiv };
+}
+
+/// Whether both have the same condition, delivery code and file status.
+#[tactic(auto, unfolding(crate::specs::Equality::same_codes))]
+fn have_same_codes(a: &Finished, b: &Finished) -> bool
+    ensures { result ≡ same_codes a.now b.now }
+{
+    a.condition == b.condition && a.incomplete == b.incomplete && a.file_status == b.file_status
+}
+
+/// A Finished PDU's data field behind its directive code.
+#[tactic(auto, unfolding(crate::specs::First::finished_at))]
+pub fn read_finished(alloc: Global, octets: &[u8]) -> Result<Finished, PduFault>
+    ensures { Gives (λ finished. finished) result (finished_at octets.now) }
+{
+    let [flags, rest @ ..] = octets else {
+        return Err(PduFault::LengthMismatch);
+    };
+    let (responses, fault) = read_outcome(alloc, rest)?;
+    Ok(Finished {
+        condition: *flags >> 4,
+        incomplete: bit(*flags, 2),
+        file_status: *flags % 4,
+        responses,
+        fault,
+    })
+}
+
+/// Whether each response's value has at most 255 octets.
+fn are_short(responses: &[FilestoreResponse]) -> bool
+    ensures { result ≡ list_all is_short_response responses.now }
+{
+    responses.iter().all(|response| response.value_len() <= 255)
+}
+
+/// How many octets the responses take as TLV fields, or `usize::MAX` where that is too little.
+fn fields_len(responses: &[FilestoreResponse]) -> usize
+    ensures { result ≡ min (length (flat_map response_field responses.now)) usize.MAX }
+{
+    let mut len = 0usize;
+    for response in responses {
+        len = len.saturating_add(response.value_len().saturating_add(2));
+    }
+    len
+}
+
+/// Appends the responses as TLV fields. It cannot fail, since there is room for them.
+fn push_fields(out: &mut Vec<u8>, responses: &[FilestoreResponse])
+    requires short { list_all is_short_response responses.now ≡ true }
+    requires room { vec_len out.old + length (flat_map response_field responses.now) ≤ vec_capacity out.old }
+    ensures items { out.new.items ≡ out.old.items ++ flat_map response_field responses.now }
+    ensures len { vec_len out.new ≡ vec_len out.old + length (flat_map response_field responses.now) }
+    ensures capacity { vec_capacity out.old ≤ vec_capacity out.new }
+{
+    for response in responses {
+        write_response(response, out).unwrap();
+    }
+}
+
+/// How many octets the fault location takes.
+fn fault_len(fault: Option<u64>, id_len: u8) -> usize
+    ensures { result ≡ length (fault_location id_len fault) }
+{
+    match fault {
+        None => 0,
+        Some(_) => usize::from(id_len) + 2,
+    }
+}
+
+/// Appends the fault location, where there is one.
+fn push_fault(out: &mut Vec<u8>, fault: Option<u64>, id_len: u8)
+    requires low { 1 ≤ id_len }
+    requires high { id_len ≤ 8 }
+    requires sized { ForSome fault (λ entity. entity < 256 ^ id_len) }
+    requires room { vec_len out.old + length (fault_location id_len fault) ≤ vec_capacity out.old }
+    ensures items { out.new.items ≡ out.old.items ++ fault_location id_len fault }
+{
+    if let Some(entity) = fault {
+        push_location(out, entity, id_len);
+    }
+}
+
+/// How many octets the data field has, or `usize::MAX` where that is too little.
+#[tactic(auto, unfolding(crate::specs::Canonical::finished_field))]
+fn field_len(header: &Header, finished: &Finished) -> usize
+    requires { IsHeader header.now }
+    ensures { result ≡ min (length (finished_field header.now finished.now)) usize.MAX }
+{
+    let location = fault_len(finished.fault, header.id_len);
+    let responses = fields_len(&finished.responses);
+    responses.saturating_add(location).saturating_add(2)
+}
+
+/// Whether each length fits its field.
+#[tactic(auto, unfolding(crate::specs::Canonical::finished_fits))]
+fn fits(header: &Header, finished: &Finished) -> bool
+    requires { IsHeader header.now }
+    ensures { result ≡ finished_fits header.now finished.now }
+{
+    are_short(&finished.responses) && field_len(header, finished) <= 65535
+}
+
+/// Appends the data field. It cannot fail, since there is room for it.
+#[tactic(auto, unfolding(crate::specs::Canonical::finished_field))]
+fn push_field(out: &mut Vec<u8>, header: &Header, finished: &Finished)
+    requires header { IsHeader header.now }
+    requires sized { IsSizedFinished header.now finished.now }
+    requires short { list_all is_short_response finished.now.responses ≡ true }
+    requires room { vec_len out.old + length (finished_field header.now finished.now) ≤ vec_capacity out.old }
+    ensures { out.new.items ≡ out.old.items ++ finished_field header.now finished.now }
+{
+    let delivery = 4 * u8::from(finished.incomplete);
+    out.push_reserved(5);
+    out.push_reserved(16 * finished.condition + delivery + finished.file_status);
+    push_fields(out, &finished.responses);
+    push_fault(out, finished.fault, header.id_len);
+}
+
+/// Appends a Finished PDU, with its responses and then its fault location, which has the header's
+/// entity ID length (CCSDS 727.0-B-5 §5.2.3).
+///
+/// The faults are `TooLong`, where a response's value has more than 255 octets or the data field more
+/// than 65,535, and `Memory`.
+#[tactic(auto, unfolding(crate::specs::Canonical::finished_fits))]
+pub fn write_finished(
+    header: &Header,
+    finished: &Finished,
+    out: &mut Vec<u8>,
+) -> Result<(), WriteFault>
+    requires header { IsHeader header.now }
+    requires sized { IsSizedFinished header.now finished.now }
+    ensures ok { OnOk result (out.new.items ≡ out.old.items ++ pdu_octets false header.now (finished_field header.now finished.now)) }
+    ensures too_long { IsErrOf result TooLong ↔ (finished_fits header.now finished.now ≡ false) }
+    ensures faults { IfErr result (λ fault. (fault ≡ TooLong) ⊎ (fault ≡ Memory)) }
+    ensures err { OnErr result (out.new.items ≡ out.old.items) }
+{
+    if !fits(header, finished) {
+        return Err(WriteFault::TooLong);
+    }
+    let len = field_len(header, finished);
+    out.reserve(header_len(header) + len)?;
+    push_header(out, false, header, len as u16);
+    push_field(out, header, finished);
+    Ok(())
+}

@@ -1,0 +1,38 @@
+//! The PDUs of CFDP that a file's receiver reads and writes (CCSDS 727.0-B-5 §5.1 to §5.3), and the
+//! modular checksum.
+//!
+//! [`read_pdu`] answers the PDU exactly where the octets spell one, and otherwise the first fault;
+//! `specs/Grammar.antt` says what spells what. A writer appends the one canonical spelling of
+//! `specs/Canonical.antt`, or answers [`WriteFault::TooLong`] exactly where a length does not fit.
+#![tactic(auto)]
+
+mod checksum;
+mod eof;
+mod fault;
+mod field;
+mod file_data;
+mod finished;
+mod header;
+mod laws;
+mod metadata;
+mod number;
+mod pdu;
+mod put;
+mod read;
+
+pub use checksum::modular_checksum;
+pub use eof::{Eof, write_eof};
+pub use fault::{PduFault, WriteFault};
+pub use file_data::{FileData, write_file_data};
+pub use finished::{Finished, write_finished};
+pub use header::Header;
+pub use laws::{
+    eof_reads_back, file_data_reads_back, finished_reads_back, metadata_reads_back,
+    pdus_have_one_reading,
+};
+pub use metadata::{Metadata, write_metadata};
+pub use pdu::Pdu;
+pub use read::read_pdu;
+
+#[cfg(test)]
+mod tests;

@@ -1,0 +1,199 @@
+ghost use Rattle.std.specs.Prelude.{◌≡◌, ◌≤◌, ◌<◌, ◌+◌, ◌⊎◌, ◌↔◌, ◌++◌, length, vec_len, min, Bool, true, false, nat_le, IfErr, OnOk, OnErr, IsErrOf};
+ghost use Rattle.std.specs.List.{flat_map, list_all};
+ghost use Rattle.std.specs.Vec.{vec_capacity};
+ghost use Rattle.cfdp_pdus.specs.Equality.{same_options, same_names};
+ghost use Rattle.cfdp_pdus.specs.Reading.{Gives};
+ghost use Rattle.cfdp_pdus.specs.First.{metadata_at};
+ghost use Rattle.cfdp_pdus.specs.Canonical.{IsHeader, IsSizedMetadata, pdu_octets, metadata_field, metadata_fits, request_field, is_short_request};
+ghost use Rattle.cfdp_pdus.specs.declared.fault.WriteFault.TheVariants.{TooLong, Memory};
+
+use crate::field::{read_name, read_requests};
+use crate::number::{bit, read_number, size_len};
+use crate::put::{header_len, push_header, push_name, push_number};
+use crate::{Header, PduFault, WriteFault};
+use cfdp_tlv::{FilestoreRequest, write_request};
+use std::alloc::Global;
+use std::marker::Model;
+
+/// A Metadata PDU's data field (CCSDS 727.0-B-5 §5.2.5). A contract sees its names as octet lists.
+#[derive(Debug, Drop)]
+pub struct Metadata {
+    /// Whether transaction closure is requested.
+    pub closure: bool,
+    /// The checksum type, 0 to 15.
+    pub checksum_type: u8,
+    /// The file's size in octets, 0 where it is unbounded.
+    pub size: u64,
+    /// The source file name, at most 255 octets.
+    pub source_name: Vec<u8>,
+    /// The destination file name, at most 255 octets. Empty where there is no file.
+    pub destination_name: Vec<u8>,
+    /// The filestore requests, in order.
+    pub requests: Vec<FilestoreRequest>,
+}
+
+impl Model for Metadata {
+    ghost use Rattle.cfdp_pdus.specs.Values.{MetadataFields};
+
+    ghost Value = { MetadataFields };
+
+    ghost view = { λ m. record { closure = m.closure; checksum_type = m.checksum_type; size = m.size; source_name = m.source_name.items; destination_name = m.destination_name.items; requests = m.requests.items } };
+}
+
+impl PartialEq for Metadata {
+    ghost use Rattle.cfdp_pdus.specs.Equality.{same_metadata, metadata_per};
+
+    ghost eq = { same_metadata };
+
+    ghost laws = { metadata_per };
+
+    fn eq(&self, other: &Metadata) -> bool {
+        have_same_options(self, other)
+            && have_same_names(self, other)
+            && self.requests == other.requests
+    }
+}
+
+impl Eq for Metadata {
+    ghost use Rattle.cfdp_pdus.specs.Equality.{metadata_equiv};
+
+    ghost laws = { metadata_equiv };
+}
+
+/// Whether both have the same closure flag, checksum type and size.
+#[tactic(auto, unfolding(crate::specs::Equality::same_options))]
+fn have_same_options(a: &Metadata, b: &Metadata) -> bool
+    ensures { result ≡ same_options a.now b.now }
+{
+    a.closure == b.closure && a.checksum_type == b.checksum_type && a.size == b.size
+}
+
+/// Whether both have the same names.
+#[tactic(auto, unfolding(crate::specs::Equality::same_names))]
+fn have_same_names(a: &Metadata, b: &Metadata) -> bool
+    ensures { result ≡ same_names a.now b.now }
+{
+    a.source_name == b.source_name && a.destination_name == b.destination_name
+}
+
+/// A Metadata PDU's data field behind its directive code.
+#[tactic(auto, unfolding(crate::specs::First::metadata_at))]
+pub fn read_metadata(alloc: Global, large: bool, octets: &[u8]) -> Result<Metadata, PduFault>
+    ensures { Gives (λ metadata. metadata) result (metadata_at large octets.now) }
+{
+    let [flags, rest @ ..] = octets else {
+        return Err(PduFault::LengthMismatch);
+    };
+    let (size, rest) = read_number(rest, size_len(large), PduFault::LengthMismatch)?;
+    let (source, rest) = read_name(rest)?;
+    let (destination, rest) = read_name(rest)?;
+    let requests = read_requests(alloc, rest)?;
+    Ok(Metadata {
+        closure: bit(*flags, 6),
+        checksum_type: *flags % 16,
+        size,
+        source_name: Vec::from_slice(alloc, source)?,
+        destination_name: Vec::from_slice(alloc, destination)?,
+        requests,
+    })
+}
+
+/// Whether each request's value has at most 255 octets.
+fn are_short(requests: &[FilestoreRequest]) -> bool
+    ensures { result ≡ list_all is_short_request requests.now }
+{
+    requests.iter().all(|request| request.value_len() <= 255)
+}
+
+/// How many octets the requests take as TLV fields, or `usize::MAX` where that is too little.
+fn fields_len(requests: &[FilestoreRequest]) -> usize
+    ensures { result ≡ min (length (flat_map request_field requests.now)) usize.MAX }
+{
+    let mut len = 0usize;
+    for request in requests {
+        len = len.saturating_add(request.value_len().saturating_add(2));
+    }
+    len
+}
+
+/// Appends the requests as TLV fields. It cannot fail, since there is room for them.
+fn push_fields(out: &mut Vec<u8>, requests: &[FilestoreRequest])
+    requires short { list_all is_short_request requests.now ≡ true }
+    requires room { vec_len out.old + length (flat_map request_field requests.now) ≤ vec_capacity out.old }
+    ensures items { out.new.items ≡ out.old.items ++ flat_map request_field requests.now }
+    ensures len { vec_len out.new ≡ vec_len out.old + length (flat_map request_field requests.now) }
+    ensures capacity { vec_capacity out.old ≤ vec_capacity out.new }
+{
+    for request in requests {
+        write_request(request, out).unwrap();
+    }
+}
+
+/// How many octets the data field has, or `usize::MAX` where that is too little.
+#[tactic(auto, unfolding(crate::specs::Canonical::metadata_field))]
+fn field_len(large: bool, metadata: &Metadata) -> usize
+    ensures { result ≡ min (length (metadata_field large metadata.now)) usize.MAX }
+{
+    let names = metadata
+        .source_name
+        .len()
+        .saturating_add(metadata.destination_name.len());
+    let fixed = names.saturating_add(4 + size_len(large));
+    fixed.saturating_add(fields_len(&metadata.requests))
+}
+
+/// Whether each length fits its field.
+#[tactic(auto, unfolding(crate::specs::Canonical::metadata_fits))]
+fn fits(large: bool, metadata: &Metadata) -> bool
+    ensures { result ≡ metadata_fits large metadata.now }
+{
+    metadata.source_name.len() <= 255
+        && metadata.destination_name.len() <= 255
+        && are_short(&metadata.requests)
+        && field_len(large, metadata) <= 65535
+}
+
+/// Appends the data field. It cannot fail, since there is room for it.
+#[tactic(auto, unfolding(crate::specs::Canonical::metadata_field))]
+fn push_field(out: &mut Vec<u8>, large: bool, metadata: &Metadata)
+    requires sized { IsSizedMetadata large metadata.now }
+    requires source { length metadata.now.source_name ≤ 255 }
+    requires destination { length metadata.now.destination_name ≤ 255 }
+    requires short { list_all is_short_request metadata.now.requests ≡ true }
+    requires room { vec_len out.old + length (metadata_field large metadata.now) ≤ vec_capacity out.old }
+    ensures { out.new.items ≡ out.old.items ++ metadata_field large metadata.now }
+{
+    out.push_reserved(7);
+    out.push_reserved(64 * u8::from(metadata.closure) + metadata.checksum_type);
+    push_number(out, metadata.size, size_len(large));
+    push_name(out, &metadata.source_name);
+    push_name(out, &metadata.destination_name);
+    push_fields(out, &metadata.requests);
+}
+
+/// Appends a Metadata PDU whose only options are its filestore requests (CCSDS 727.0-B-5 §5.2.5).
+///
+/// The faults are `TooLong`, where a name or a request's value has more than 255 octets or the data
+/// field more than 65,535, and `Memory`.
+#[tactic(auto, unfolding(crate::specs::Canonical::metadata_fits))]
+pub fn write_metadata(
+    header: &Header,
+    metadata: &Metadata,
+    out: &mut Vec<u8>,
+) -> Result<(), WriteFault>
+    requires header { IsHeader header.now }
+    requires sized { IsSizedMetadata header.now.large metadata.now }
+    ensures ok { OnOk result (out.new.items ≡ out.old.items ++ pdu_octets false header.now (metadata_field header.now.large metadata.now)) }
+    ensures too_long { IsErrOf result TooLong ↔ (metadata_fits header.now.large metadata.now ≡ false) }
+    ensures faults { IfErr result (λ fault. (fault ≡ TooLong) ⊎ (fault ≡ Memory)) }
+    ensures err { OnErr result (out.new.items ≡ out.old.items) }
+{
+    if !fits(header.large, metadata) {
+        return Err(WriteFault::TooLong);
+    }
+    let len = field_len(header.large, metadata);
+    out.reserve(header_len(header) + len)?;
+    push_header(out, false, header, len as u16);
+    push_field(out, header.large, metadata);
+    Ok(())
+}

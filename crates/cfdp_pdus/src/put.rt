@@ -1,0 +1,79 @@
+//! Appending parts of a PDU where the room has been made, so that nothing can fail.
+
+ghost use Rattle.std.specs.Prelude.{◌≡◌, ◌≤◌, ◌<◌, ◌+◌, ◌*◌, ◌^◌, ◌++◌, ◌∷◌, length, vec_len};
+ghost use Rattle.std.specs.Vec.{vec_capacity};
+ghost use Rattle.byteorder.specs.Endian.{big_bytes};
+ghost use Rattle.cfdp_tlv.specs.Field.{lv};
+ghost use Rattle.cfdp_pdus.specs.Canonical.{IsHeader, header_octets, location};
+
+use crate::Header;
+use crate::field::ENTITY_ID;
+use byteorder::{BigEndian, ByteOrder};
+
+/// Appends a number of `len` octets.
+pub fn push_number(out: &mut Vec<u8>, number: u64, len: usize)
+    requires low { 1 ≤ len }
+    requires high { len ≤ 8 }
+    requires fits { number < 256 ^ len }
+    requires room { vec_len out.old + len ≤ vec_capacity out.old }
+    ensures items { out.new.items ≡ out.old.items ++ big_bytes len number }
+    ensures len { vec_len out.new ≡ vec_len out.old + len }
+    ensures capacity { vec_capacity out.old ≤ vec_capacity out.new }
+{
+    let mut octets = [0u8; 8];
+    BigEndian::write_uint(&mut octets, number, len);
+    out.extend_from_slice(&octets[..len]).unwrap();
+}
+
+/// Appends an LV field.
+pub fn push_name(out: &mut Vec<u8>, name: &[u8])
+    requires short { length name.now ≤ 255 }
+    requires room { vec_len out.old + (length name.now + 1) ≤ vec_capacity out.old }
+    ensures items { out.new.items ≡ out.old.items ++ lv name.now }
+    ensures len { vec_len out.new ≡ vec_len out.old + (length name.now + 1) }
+    ensures capacity { vec_capacity out.old ≤ vec_capacity out.new }
+{
+    out.push_reserved(name.len() as u8);
+    out.extend_from_slice(name).unwrap();
+}
+
+/// Appends an entity ID as a fault location.
+pub fn push_location(out: &mut Vec<u8>, entity: u64, id_len: u8)
+    requires low { 1 ≤ id_len }
+    requires high { id_len ≤ 8 }
+    requires fits { entity < 256 ^ id_len }
+    requires room { vec_len out.old + (id_len + 2) ≤ vec_capacity out.old }
+    ensures items { out.new.items ≡ out.old.items ++ location id_len entity }
+    ensures len { vec_len out.new ≡ vec_len out.old + (id_len + 2) }
+    ensures capacity { vec_capacity out.old ≤ vec_capacity out.new }
+{
+    out.push_reserved(ENTITY_ID);
+    out.push_reserved(id_len);
+    push_number(out, entity, usize::from(id_len));
+}
+
+/// How many octets a header has.
+pub fn header_len(header: &Header) -> usize
+    ensures { result ≡ 4 + 2 * header.now.id_len + header.now.number_len }
+{
+    4 + 2 * usize::from(header.id_len) + usize::from(header.number_len)
+}
+
+/// Appends a header, whose data field has `len` octets.
+pub fn push_header(out: &mut Vec<u8>, file_data: bool, header: &Header, len: u16)
+    requires valid { IsHeader header.now }
+    requires room { vec_len out.old + (4 + 2 * header.now.id_len + header.now.number_len) ≤ vec_capacity out.old }
+    ensures items { out.new.items ≡ out.old.items ++ header_octets file_data header.now len }
+    ensures len { vec_len out.new ≡ vec_len out.old + (4 + 2 * header.now.id_len + header.now.number_len) }
+    ensures capacity { vec_capacity out.old ≤ vec_capacity out.new }
+{
+    let kind = 16 * u8::from(file_data);
+    let direction = 8 * u8::from(header.toward_sender);
+    let mode = 4 * u8::from(!header.acknowledged);
+    out.push_reserved(32 + kind + direction + mode + u8::from(header.large));
+    push_number(out, u64::from(len), 2);
+    out.push_reserved(16 * (header.id_len - 1) + (header.number_len - 1));
+    push_number(out, header.source, usize::from(header.id_len));
+    push_number(out, header.number, usize::from(header.number_len));
+    push_number(out, header.destination, usize::from(header.id_len));
+}

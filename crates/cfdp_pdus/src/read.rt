@@ -1,0 +1,82 @@
+//! Reading a whole PDU.
+
+ghost use Rattle.std.specs.Prelude.{◌≡◌, ◌⊎◌, IfOk, Ok, Err};
+ghost use Rattle.cfdp_pdus.specs.Reading.{Gives};
+ghost use Rattle.cfdp_pdus.specs.First.{directive_at, field_at, pdu_at};
+ghost use Rattle.cfdp_pdus.specs.Grammar.{SpellsPdu};
+ghost use Rattle.cfdp_pdus.specs.Sound.{IsSound};
+ghost use Rattle.cfdp_pdus.specs.declared.pdu.Pdu.{Pdu as PduValue};
+ghost use Rattle.cfdp_pdus.specs.declared.fault.PduFault.TheVariants.{Memory};
+
+use crate::eof::read_eof;
+use crate::file_data::read_file_data;
+use crate::finished::read_finished;
+use crate::header::{Start, read_start};
+use crate::metadata::read_metadata;
+use crate::{Header, Pdu, PduFault};
+use std::alloc::Global;
+
+/// A directive's data field.
+#[tactic(auto, unfolding(crate::specs::First::directive_at))]
+fn read_directive(alloc: Global, header: Header, field: &[u8]) -> Result<Pdu, PduFault>
+    ensures { Gives (λ pdu. pdu) result (directive_at header field.now) }
+{
+    let [code, rest @ ..] = field else {
+        return Err(PduFault::LengthMismatch);
+    };
+    match *code {
+        7 => Ok(Pdu::Metadata(header, read_metadata(alloc, header.large, rest)?)),
+        4 => Ok(Pdu::Eof(header, read_eof(header.large, rest)?)),
+        5 => Ok(Pdu::Finished(header, read_finished(alloc, rest)?)),
+        6 => Ok(Pdu::NotOurs(header, 6)),
+        8 => Ok(Pdu::NotOurs(header, 8)),
+        9 => Ok(Pdu::NotOurs(header, 9)),
+        12 => Ok(Pdu::NotOurs(header, 12)),
+        _ => Err(PduFault::BadDirective),
+    }
+}
+
+/// The data field of a PDU.
+#[tactic(auto, unfolding(crate::specs::First::field_at))]
+fn read_field(alloc: Global, start: &Start<'_>) -> Result<Pdu, PduFault>
+    ensures { Gives (λ pdu. pdu) result (field_at start.now) }
+{
+    let header = start.header;
+    if start.file_data {
+        let segment_metadata = start.segment_metadata;
+        let file_data = read_file_data(alloc, header.large, segment_metadata, start.field)?;
+        return Ok(Pdu::FileData(header, file_data));
+    }
+    read_directive(alloc, header, start.field)
+}
+
+/// What [`read_pdu`] answers.
+fn read_whole(alloc: Global, octets: &[u8]) -> Result<Pdu, PduFault>
+    ensures { Gives (λ pdu. pdu) result (pdu_at octets.now) }
+{
+    let start = read_start(octets)?;
+    read_field(alloc, &start)
+}
+
+/// The PDU that the octets spell (CCSDS 727.0-B-5 §5.1 to §5.3).
+///
+/// The faults come in this order: no octet (`Truncated`), another version than 001 (`BadVersion`),
+/// a CRC (`CrcNotSupported`), a header that is cut (`Truncated`), fewer octets after the header than
+/// its data field length (`Truncated`), more (`LengthMismatch`). Then, inside the data field: no
+/// directive code (`LengthMismatch`), a code that is not listed (`BadDirective`), fixed fields,
+/// segment metadata or names past its end (`LengthMismatch`). Then the TLV fields from the left: one
+/// that is cut, a filestore request or response that is none, an entity ID of another length than 1
+/// to 8 (`BadTlv`), a request value of 255 octets (`RequestTooLong`). `Memory` may stand in place of
+/// any answer, where a growth was refused.
+pub fn read_pdu(alloc: Global, octets: &[u8]) -> Result<Pdu, PduFault>
+    // What is read is spelled so.
+    ensures found { IfOk result (SpellsPdu octets.now) }
+    // What is spelled so is read, unless memory runs out.
+    ensures only { (pdu : PduValue) → SpellsPdu octets.now pdu → (result ≡ Ok pdu) ⊎ (result ≡ Err Memory) }
+    // Which fault it is.
+    ensures exact { Gives (λ pdu. pdu) result (pdu_at octets.now) }
+    // What is read can be written, and answered.
+    ensures sound { IfOk result IsSound }
+{
+    read_whole(alloc, octets)
+}

@@ -1,0 +1,389 @@
+//! What is written, beside the worked examples.
+
+ghost use Rattle.std.specs.Prelude.{◌≡◌, ◌<◌, ◌^◌, IfSome};
+ghost use Rattle.cfdp_pdus.specs.Canonical.{IsHeader};
+
+use super::octets;
+use crate::*;
+use cfdp_status::{Action, Status};
+use cfdp_tlv::{FilestoreRequest, FilestoreResponse};
+use std::alloc::{AllocError, Global};
+use std::process::Abort;
+use std::test::Fail;
+
+// The header of the examples: entity 1 sends to entity 2, and both are named by one octet.
+fn header(number: u8, toward_sender: bool) -> Header
+    ensures valid { IsHeader result }
+    ensures one_octet { result.id_len ≡ 1 }
+{
+    Header {
+        toward_sender,
+        acknowledged: false,
+        large: false,
+        id_len: 1,
+        number_len: 1,
+        source: 1,
+        number: u64::from(number),
+        destination: 2,
+    }
+}
+
+fn create(alloc: Global, first: &[u8]) -> Result<FilestoreRequest, AllocError> {
+    Ok(FilestoreRequest {
+        action: Action::CreateFile,
+        first: Vec::from_slice(alloc, first)?,
+        second: None,
+    })
+}
+
+fn delete(alloc: Global, first: &[u8]) -> Result<FilestoreRequest, AllocError> {
+    Ok(FilestoreRequest {
+        action: Action::DeleteFile,
+        first: Vec::from_slice(alloc, first)?,
+        second: None,
+    })
+}
+
+fn rename(alloc: Global, first: Vec<u8>, second: Vec<u8>) -> FilestoreRequest {
+    let _alloc = alloc;
+    FilestoreRequest {
+        action: Action::RenameFile,
+        first,
+        second: Some(second),
+    }
+}
+
+// A response about a file that is made, or is to be.
+fn created(alloc: Global, done: bool, first: &[u8]) -> Result<FilestoreResponse, AllocError> {
+    let first = Vec::from_slice(alloc, first)?;
+    let message = Vec::new(alloc);
+    if done {
+        return Ok(FilestoreResponse {
+            status: Status::Successful(Action::CreateFile),
+            first,
+            second: None,
+            message,
+        });
+    }
+    Ok(FilestoreResponse {
+        status: Status::NotPerformed(Action::CreateFile),
+        first,
+        second: None,
+        message,
+    })
+}
+
+// The destination, where there is a fault.
+fn fault_of(condition: u8) -> Option<u64>
+    ensures { IfSome result (λ entity. entity < 256 ^ 1) }
+{
+    if condition == 0 { None } else { Some(2) }
+}
+
+// Writes a Finished PDU for a transaction without a file, and reads it back.
+fn tells(
+    rt: &impl Abort,
+    alloc: Global,
+    number: u8,
+    condition: u8,
+    responses: Vec<FilestoreResponse>,
+    want: &str,
+) -> Result<(), Fail>
+    requires { condition < 16 }
+{
+    let fault = fault_of(condition);
+    let finished = Finished {
+        condition,
+        incomplete: condition == 4,
+        file_status: 3,
+        responses,
+        fault,
+    };
+    let mut out = Vec::new(alloc);
+    write_finished(&header(number, true), &finished, &mut out)?;
+    let want = octets(alloc, want)?;
+    assert!(rt; out == want);
+    let read = read_pdu(alloc, &out)?;
+    assert!(rt; read == Pdu::Finished(header(number, true), finished));
+    Ok(())
+}
+
+#[test]
+fn finished_of_one(rt: HostRuntime) -> Result<(), Fail> {
+    let alloc = rt.alloc();
+    let responses = Vec::from_array(alloc, [created(alloc, true, b"a")?])?;
+    tells(
+        &rt,
+        alloc,
+        5,
+        0,
+        responses,
+        "2c0008000105020503010400016100",
+    )?;
+    tells(&rt, alloc, 6, 0, Vec::new(alloc), "2c0002000106020503")
+}
+
+#[test]
+fn finished_of_a_refusal(rt: HostRuntime) -> Result<(), Fail> {
+    let alloc = rt.alloc();
+    let renamed = FilestoreResponse {
+        status: Status::NotPerformed(Action::RenameFile),
+        first: Vec::from_slice(alloc, b"a")?,
+        second: Some(Vec::from_slice(alloc, b"b")?),
+        message: Vec::new(alloc),
+    };
+    let deleted = FilestoreResponse {
+        status: Status::NotPerformed(Action::DeleteFile),
+        first: Vec::from_slice(alloc, b"a")?,
+        second: None,
+        message: Vec::new(alloc),
+    };
+    let responses = Vec::from_array(alloc, [created(alloc, false, b"a")?, renamed, deleted])?;
+    let want = "2c0019000107020547 01040f016100 01062f0161016200 01041f016100 060102";
+    tells(&rt, alloc, 7, 4, responses, want)
+}
+
+#[test]
+fn finished_of_a_cancel(rt: HostRuntime) -> Result<(), Fail> {
+    let alloc = rt.alloc();
+    let made = created(alloc, true, b"a")?;
+    let second = created(alloc, false, b"b")?;
+    let third = created(alloc, false, b"c")?;
+    let responses = Vec::from_array(alloc, [made, second, third])?;
+    let want = "2c001700010c02 05f3 010400016100 01040f016200 01040f016300 060102";
+    tells(&rt, alloc, 12, 15, responses, want)
+}
+
+// Writes a Metadata PDU without a file, and reads it back.
+fn asks(
+    rt: &impl Abort,
+    alloc: Global,
+    number: u8,
+    requests: Vec<FilestoreRequest>,
+    want: &str,
+) -> Result<(), Fail> {
+    let metadata = Metadata {
+        closure: true,
+        checksum_type: 0,
+        size: 0,
+        source_name: Vec::new(alloc),
+        destination_name: Vec::new(alloc),
+        requests,
+    };
+    let mut out = Vec::new(alloc);
+    write_metadata(&header(number, false), &metadata, &mut out)?;
+    let want = octets(alloc, want)?;
+    assert!(rt; out == want);
+    let read = read_pdu(alloc, &out)?;
+    assert!(rt; read == Pdu::Metadata(header(number, false), metadata));
+    Ok(())
+}
+
+// A Metadata PDU with a file.
+fn delivers(rt: &impl Abort, alloc: Global) -> Result<(), Fail> {
+    let metadata = Metadata {
+        closure: true,
+        checksum_type: 0,
+        size: 15,
+        source_name: Vec::from_slice(alloc, b"s")?,
+        destination_name: Vec::from_slice(alloc, b"f")?,
+        requests: Vec::new(alloc),
+    };
+    let mut out = Vec::new(alloc);
+    write_metadata(&header(10, false), &metadata, &mut out)?;
+    assert!(rt; out == octets(alloc, "24000a00010a02 0740 0000000f 0173 0166")?);
+    Ok(())
+}
+
+// File data of that file.
+fn carries(rt: &impl Abort, alloc: Global) -> Result<(), Fail> {
+    let file_data = FileData {
+        offset: 8,
+        octets: Vec::from_slice(alloc, &[8, 9, 10, 11, 12, 13, 14])?,
+    };
+    let mut out = Vec::new(alloc);
+    write_file_data(&header(10, false), &file_data, &mut out)?;
+    assert!(rt; out == octets(alloc, "34000b00010a02 00000008 08090a0b0c0d0e")?);
+    let read = read_pdu(alloc, &out)?;
+    assert!(rt; read == Pdu::FileData(header(10, false), file_data));
+    Ok(())
+}
+
+// The end of a file.
+fn ends(
+    rt: &impl Abort,
+    alloc: Global,
+    number: u8,
+    condition: u8,
+    checksum: u32,
+    want: &str,
+) -> Result<(), Fail>
+    requires { condition < 16 }
+{
+    let eof = Eof {
+        condition,
+        checksum,
+        size: if checksum == 0 { 0 } else { 15 },
+    };
+    let mut out = Vec::new(alloc);
+    write_eof(&header(number, false), &eof, &mut out)?;
+    assert!(rt; out == octets(alloc, want)?);
+    assert!(rt; read_pdu(alloc, &out)? == Pdu::Eof(header(number, false), eof));
+    Ok(())
+}
+
+// A list that makes, renames and deletes.
+fn asks_for_three(rt: &impl Abort, alloc: Global) -> Result<(), Fail> {
+    let first = Vec::from_slice(alloc, b"a")?;
+    let second = rename(alloc, first, Vec::from_slice(alloc, b"b")?);
+    let requests = Vec::from_array(alloc, [create(alloc, b"a")?, second, delete(alloc, b"a")?])?;
+    let want = "24001900010702 0740 00000000 0000 0003000161 00052001610162 0003100161";
+    asks(rt, alloc, 7, requests, want)
+}
+
+#[test]
+fn ample(rt: HostRuntime) -> Result<(), Fail> {
+    let alloc = rt.alloc();
+    let requests = Vec::from_array(alloc, [create(alloc, b"a")?])?;
+    asks(
+        &rt,
+        alloc,
+        5,
+        requests,
+        "24000d00010502 0740 00000000 0000 0003000161",
+    )?;
+    asks_for_three(&rt, alloc)?;
+    let requests = Vec::from_array(alloc, [create(alloc, b"/a")?, delete(alloc, b"a")?])?;
+    asks(
+        &rt,
+        alloc,
+        8,
+        requests,
+        "24001300010802 0740 00000000 0000 000400022f61 0003100161",
+    )?;
+    delivers(&rt, alloc)?;
+    carries(&rt, alloc)?;
+    ends(
+        &rt,
+        alloc,
+        10,
+        0,
+        0x181c2015,
+        "24000a00010a02 0400 181c2015 0000000f",
+    )?;
+    ends(
+        &rt,
+        alloc,
+        26,
+        15,
+        0,
+        "24000d00011a02 04f0 00000000 00000000 060101",
+    )
+}
+
+// A name that has one octet too many.
+#[test]
+fn names_too_long(rt: HostRuntime) -> Result<(), Fail> {
+    let alloc = rt.alloc();
+    for len in [255usize, 256] {
+        let metadata = Metadata {
+            closure: false,
+            checksum_type: 0,
+            size: 0,
+            source_name: vec![in alloc; b's'; len]?,
+            destination_name: Vec::new(alloc),
+            requests: Vec::new(alloc),
+        };
+        let mut out = Vec::from_slice(alloc, b"x")?;
+        let written = write_metadata(&header(1, false), &metadata, &mut out);
+        assert_eq!(rt; written == Err(WriteFault::TooLong), len == 256);
+        assert_eq!(rt; out.len() == 1, len == 256);
+    }
+    Ok(())
+}
+
+// A data field that has one octet too many.
+#[test]
+fn file_data_too_long(rt: HostRuntime) -> Result<(), Fail> {
+    let alloc = rt.alloc();
+    for len in [65531usize, 65532] {
+        let file_data = FileData {
+            offset: 0,
+            octets: vec![in alloc; 0; len]?,
+        };
+        let mut out = Vec::from_slice(alloc, b"x")?;
+        let written = write_file_data(&header(1, false), &file_data, &mut out);
+        assert_eq!(rt; written == Err(WriteFault::TooLong), len == 65532);
+        assert_eq!(rt; out.len() == 1, len == 65532);
+    }
+    Ok(())
+}
+
+// A request's value of 254 octets is read, and one of 255 is refused.
+#[test]
+fn longest_request(rt: HostRuntime) -> Result<(), Fail> {
+    let alloc = rt.alloc();
+    for len in [126usize, 127] {
+        let first = vec![in alloc; b'p'; 125]?;
+        let second = vec![in alloc; b'r'; len]?;
+        let requests = Vec::from_array(alloc, [rename(alloc, first, second)])?;
+        let metadata = Metadata {
+            closure: true,
+            checksum_type: 0,
+            size: 0,
+            source_name: Vec::new(alloc),
+            destination_name: Vec::new(alloc),
+            requests,
+        };
+        let mut out = Vec::new(alloc);
+        write_metadata(&header(5, false), &metadata, &mut out)?;
+        let read = read_pdu(alloc, &out);
+        if len == 127 {
+            assert!(rt; read == Err(PduFault::RequestTooLong));
+        } else {
+            assert!(rt; read == Ok(Pdu::Metadata(header(5, false), metadata)));
+        }
+    }
+    Ok(())
+}
+
+// Run with each allocation refused in turn: what is answered is the value, or `Memory` with the
+// vector as before.
+#[test]
+fn refused_memory(rt: HostRuntime) {
+    let alloc = rt.alloc();
+    let pdu = b"\x24\x00\x0d\x00\x01\x05\x02\x07\x40\x00\x00\x00\x00\x00\x00\x00\x03\x00\x01a";
+    let read = read_pdu(alloc, pdu);
+    assert!(rt; read.is_ok() || read == Err(PduFault::Memory));
+    let pdu = b"\x2c\x00\x08\x00\x01\x05\x02\x05\x03\x01\x04\x00\x01a\x00";
+    let read = read_pdu(alloc, pdu);
+    assert!(rt; read.is_ok() || read == Err(PduFault::Memory));
+    let eof = Eof {
+        condition: 15,
+        checksum: 0,
+        size: 0,
+    };
+    let mut out = Vec::new(alloc);
+    match write_eof(&header(26, false), &eof, &mut out) {
+        Ok(()) => assert_eq!(rt; out.len(), 20),
+        Err(fault) => assert!(rt; fault == WriteFault::Memory && out.is_empty()),
+    }
+}
+
+// The same of a Finished PDU.
+#[test]
+fn refused_memory_of_finished(rt: HostRuntime) {
+    let alloc = rt.alloc();
+    let finished = Finished {
+        condition: 0,
+        incomplete: false,
+        file_status: 3,
+        responses: Vec::new(alloc),
+        fault: None,
+    };
+    let mut out = Vec::new(alloc);
+    match write_finished(&header(6, true), &finished, &mut out) {
+        Ok(()) => assert_eq!(rt; out.len(), 9),
+        Err(fault) => assert!(rt; fault == WriteFault::Memory && out.is_empty()),
+    }
+}

@@ -1,0 +1,6 @@
+pub mod Decoding
+pub mod LineLemmas
+pub mod Moving
+pub mod Running
+pub mod Statuses
+pub mod Streaming

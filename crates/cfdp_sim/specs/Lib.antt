@@ -1,0 +1,11 @@
+pub mod Adapters
+pub mod Ends
+pub mod Hexadecimal
+pub mod Lines
+pub mod Outcome
+pub mod Places
+pub mod Plain
+pub mod Report
+pub mod RequestLines
+pub mod Session
+pub mod Streams

@@ -1,0 +1,29 @@
+-- Words on streams: what a reader still gives and what a writer holds, where they tell it.
+--
+--   KeptOrLost      the octets that a stream tells after a call that failed
+--   AppendsOrLost   a writer holds some octets more, or no longer tells what it holds
+--   ReadsOff        some octets were read off a reader
+--   Begins          a text begins with another
+use Rattle.std.specs.Prelude.{◌≡◌, ℕ, List, Option, Some, None, ◌++◌, ⊤}
+
+-- a failed call left the told octets as they were, or they are no longer told
+abbrev pub KeptOrLost : Option (List ℕ) → Option (List ℕ) → Type 0
+KeptOrLost None new = ⊤
+KeptOrLost (Some old) None = ⊤
+KeptOrLost (Some old) (Some new) = new ≡ old
+
+-- the told octets grew by some at their end, or they are no longer told
+abbrev pub AppendsOrLost : Option (List ℕ) → Option (List ℕ) → List ℕ → Type 0
+AppendsOrLost None new octets = ⊤
+AppendsOrLost (Some old) None octets = ⊤
+AppendsOrLost (Some old) (Some new) octets = new ≡ old ++ octets
+
+-- a text begins with these octets
+abbrev pub Begins : List ℕ → List ℕ → Type 0
+Begins text octets = (more : List ℕ) × (text ≡ octets ++ more)
+
+-- these octets are what was read of the told ones, or begin those where the rest is no longer told
+abbrev pub ReadsOff : Option (List ℕ) → Option (List ℕ) → List ℕ → Type 0
+ReadsOff None new octets = ⊤
+ReadsOff (Some old) None octets = Begins old octets
+ReadsOff (Some old) (Some new) octets = old ≡ octets ++ new

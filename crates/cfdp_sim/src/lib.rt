@@ -1,0 +1,31 @@
+// The simulator's scripts: what `cfdpsim` reads, does and writes, without its command line.
+//
+// A script is a stream of octets in lines. Each line is answered by itself, in order, and its answer is
+// written whole before the next line is read. `plain` is the one kind of script there is so far: filestore
+// requests as hexadecimal TLVs (CCSDS 727.0-B-5, §5.4), performed on one filestore (§4.9).
+// Input and output go through two small traits, so that a theorem can name their octets.
+#![tactic(auto)]
+
+mod dropped;
+mod faults;
+mod from_read;
+mod hexadecimal;
+mod input;
+mod output;
+mod plain_scripts;
+mod request_lines;
+mod requests;
+mod run;
+mod script;
+mod session;
+mod streams;
+mod to_write;
+
+pub use faults::{ProgramEnd, RunFault};
+pub use from_read::FromRead;
+pub use plain_scripts::{plain, plain_text};
+pub use streams::{Failed, ScriptIn, ScriptOut};
+pub use to_write::ToWrite;
+
+#[cfg(test)]
+mod tests;

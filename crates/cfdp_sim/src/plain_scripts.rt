@@ -1,0 +1,83 @@
+//! The scripts of `plain`: filestore requests, a TLV a line, on one filestore.
+ghost use Rattle.std.specs.Prelude.{◌≡◌, ◌≢◌, ℕ, ◌<◌, ◌⊎◌, true, length, None, Some, IfSome, IfOk, OnOk, Err};
+ghost use Rattle.std.specs.Io.KnownBytes.{IsAtEnd};
+ghost use Rattle.cfdp_sim.specs.Lines.{input_limit};
+ghost use Rattle.cfdp_sim.specs.Outcome.{WholeRun, BadRun, PartRun, LostRun};
+ghost use Rattle.cfdp_sim.specs.Plain.{plain_answer, at_start, plain_report};
+ghost use Rattle.cfdp_sim.specs.declared.faults.RunFault.TheVariants.{Read, Write, Memory, BadLine};
+
+use crate::faults::RunFault;
+use crate::from_read::FromRead;
+use crate::requests::Requests;
+use crate::run::run;
+use crate::streams::{ScriptIn, ScriptOut};
+use crate::to_write::ToWrite;
+use cfdp_actions::ListStore;
+use std::alloc::Global;
+
+/// The blocks of the filestore.
+const BLOCKS: u32 = 64;
+
+/// Runs a script of filestore requests (CCSDS 727.0-B-5, §4.9 and §5.4.1).
+///
+/// Each line is a request TLV in hexadecimal of either case, with spaces between pairs of digits, before and
+/// behind. It is answered by a line: its response TLV in lower case, or `dropped` and why. An empty line, or one
+/// of spaces alone, begins a new list of requests on the same filestore of 64 blocks; after a request that was not
+/// successful the rest of its list is not performed. A line that begins with `#` is passed over. Lines end with a
+/// newline, and a last one without it counts.
+///
+/// # Errors
+///
+/// [`RunFault::BadLine`] for the first line that has more than 200,000 octets, even if it begins with `#`, or is
+/// no hexadecimal; [`RunFault::Read`] where the reader failed, or gave more than 268,435,456 octets;
+/// [`RunFault::Write`] where the writer failed; [`RunFault::Memory`].
+///
+/// Memory: the filestore, one line and its answer. Cost: one pass over the octets, and that of the requests.
+pub fn plain<R: ScriptIn, W: ScriptOut>(
+    alloc: Global,
+    reader: &mut R,
+    writer: &mut W,
+) -> Result<(), RunFault>
+    // The whole report was written, of a script within the input limit that has no bad line.
+    ensures ok { OnOk result
+        (WholeRun plain_answer at_start (R.remaining reader.old) (W.contents writer.old) (W.contents writer.new)) }
+    // Nothing is left unread.
+    ensures all { OnOk result (IsAtEnd (R.remaining reader.new)) }
+
+    // The report up to the first bad line was written, and this is its number.
+    ensures bad_line { (number : ℕ) → result ≡ Err (BadLine number)
+        → BadRun plain_answer at_start number (R.remaining reader.old) (W.contents writer.old) (W.contents writer.new) }
+
+    // What was written is a beginning of the report of what was read.
+    ensures begun { (result ≡ Err Read) ⊎ (result ≡ Err Memory) → PartRun plain_answer at_start
+        (R.remaining reader.old) (R.remaining reader.new) (W.contents writer.old) (W.contents writer.new) }
+    ensures begun_or_lost { result ≡ Err Write → LostRun plain_answer at_start
+        (R.remaining reader.old) (R.remaining reader.new) (W.contents writer.old) (W.contents writer.new) }
+
+    // The reader or the input is to blame, or the writer; otherwise neither has failed.
+    ensures read { result ≡ Err Read
+        → (R.failed reader.new ≡ true) ⊎ IfSome (R.remaining reader.old) (λ input. input_limit < length input) }
+    ensures write { result ≡ Err Write → W.failed writer.new ≡ true }
+    ensures well_read { result ≢ Err Read → R.failed reader.new ≡ R.failed reader.old }
+    ensures well_written { result ≢ Err Write → W.failed writer.new ≡ W.failed writer.old }
+{
+    let Ok(store) = ListStore::new(alloc, BLOCKS) else {
+        return Err(RunFault::Memory);
+    };
+    run(alloc, Requests::new(store), reader, writer)
+}
+
+/// What [`plain`] writes for a script in memory.
+///
+/// # Errors
+///
+/// Those of [`plain`]; [`RunFault::Write`] where memory for the text was refused.
+pub fn plain_text(alloc: Global, script: &[u8]) -> Result<Vec<u8>, RunFault>
+    ensures text { IfOk result (λ text. text.items ≡ (plain_report script.now).text) }
+    ensures fine { OnOk result ((plain_report script.now).bad_line ≡ None) }
+    ensures bad_line { (number : ℕ) → result ≡ Err (BadLine number) → (plain_report script.now).bad_line ≡ Some number }
+{
+    let mut writer = ToWrite::new(Vec::new(alloc));
+    plain(alloc, &mut FromRead::new(script), &mut writer)?;
+    Ok(writer.into_inner())
+}

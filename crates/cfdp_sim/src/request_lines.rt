@@ -1,0 +1,92 @@
+//! The filestore request that a line of `plain` brings, and the line that answers it (CCSDS 727.0-B-5, §5.4).
+ghost use Rattle.std.specs.Prelude.{◌≡◌, ℕ, ◌+◌, ◌≤◌, length, Ok, Err, IfOk, Some};
+ghost use Rattle.cfdp_status.specs.Codes.{action_of};
+ghost use Rattle.cfdp_tlv.specs.Grammar.{names_of, request_at};
+ghost use Rattle.cfdp_sim.specs.RequestLines.{answerable, request_on, response_line};
+ghost use Rattle.cfdp_sim.specs.declared.dropped.Dropped.{Dropped};
+ghost use Rattle.cfdp_sim.specs.declared.request_lines.NoRequest.TheVariants as no;
+
+use crate::dropped::Dropped;
+use cfdp_status::Status;
+use cfdp_tlv::{
+    FILESTORE_REQUEST, FilestoreRequest, FilestoreResponse, TlvFault, read_request, read_tlv,
+    write_response,
+};
+use std::alloc::{AllocError, Global};
+
+/// The longest value of a request that can be answered, in octets: its response has one octet more.
+const LONGEST_VALUE: usize = 254;
+
+/// Why a line brings no request.
+#[derive(Clone, Copy, Debug, PartialEq, Eq)]
+pub(crate) enum NoRequest {
+    /// It is dropped.
+    Dropped(Dropped),
+    /// Memory was refused.
+    Memory,
+}
+
+/// The request that a TLV's value spells, if it can be answered.
+fn read_answerable(alloc: Global, value: &[u8]) -> Result<FilestoreRequest, NoRequest>
+    ensures request { IfOk result (λ request. answerable value.now (request_at value.now) ≡ Ok request) }
+    ensures dropped { (dropped : Dropped) → result ≡ Err (no.Dropped dropped)
+        → answerable value.now (request_at value.now) ≡ Err dropped }
+    ensures names { IfOk result (λ request. length (names_of request.first request.second) + 1 ≡ length value.now) }
+    ensures short { IfOk result (λ request. length (names_of request.first request.second) ≤ 253) }
+{
+    let request = match read_request(alloc, value) {
+        Ok(request) => request,
+        Err(TlvFault::Memory) => return Err(NoRequest::Memory),
+        Err(fault) => return Err(NoRequest::Dropped(Dropped::of_fault(fault))),
+    };
+    if value.len() > LONGEST_VALUE {
+        return Err(NoRequest::Dropped(Dropped::RequestTooLong));
+    }
+    Ok(request)
+}
+
+/// The request that a line brings.
+pub(crate) fn read_line(alloc: Global, octets: &[u8]) -> Result<FilestoreRequest, NoRequest>
+    ensures request { IfOk result (λ request. request_on octets.now ≡ Ok request) }
+    ensures dropped { (dropped : Dropped) → result ≡ Err (no.Dropped dropped) → request_on octets.now ≡ Err dropped }
+    ensures short { IfOk result (λ request. length (names_of request.first request.second) ≤ 253) }
+{
+    let Ok(field) = read_tlv(octets) else {
+        return Err(NoRequest::Dropped(Dropped::Truncated));
+    };
+    if !field.rest.is_empty() {
+        return Err(NoRequest::Dropped(Dropped::Trailing));
+    }
+    if field.kind != FILESTORE_REQUEST {
+        return Err(NoRequest::Dropped(Dropped::NotARequest));
+    }
+    read_answerable(alloc, field.value)
+}
+
+/// The line that answers a request: its response TLV in lower-case hexadecimal.
+pub(crate) fn write_answer(
+    alloc: Global,
+    request: FilestoreRequest,
+    status: Status,
+) -> Result<Vec<u8>, AllocError>
+    requires action { action_of status ≡ request.action }
+    requires short { length (names_of request.first request.second) ≤ 253 }
+    ensures { IfOk result (λ line. line.items ≡ response_line request status) }
+{
+    let FilestoreRequest { first, second, .. } = request;
+    let response = FilestoreResponse {
+        status,
+        first,
+        second,
+        message: Vec::new(alloc),
+    };
+    let mut octets = Vec::new(alloc);
+    match write_response(&response, &mut octets) {
+        Ok(()) => {}
+        Err(TlvFault::Memory) => return Err(AllocError),
+        Err(_) => unreachable!(),
+    }
+    let mut line = hex::encode(alloc, &octets)?.into_bytes();
+    line.push(b'\n')?;
+    Ok(line)
+}

@@ -1,0 +1,121 @@
+//! Filestore requests in lists, performed on one filestore (CCSDS 727.0-B-5, §4.9).
+ghost use Rattle.std.specs.Prelude.{◌≡◌, ◌≤◌, false, length, Some, Ok, IfOk, Err};
+ghost use Rattle.cfdp_paths.specs.Paths.{path_of};
+ghost use Rattle.cfdp_sim.specs.Plain.{plain_blocks, request_by, performed_on, plain_answer};
+ghost use Rattle.cfdp_sim.specs.declared.script.LineFault.TheVariants.{Bad};
+
+use crate::hexadecimal::decode_line;
+use crate::request_lines::{NoRequest, read_line, write_answer};
+use crate::script::{LineFault, Script};
+use cfdp_actions::{Filestore, Protected, Request, perform};
+use cfdp_paths::{Path, PathFault};
+use cfdp_status::Status;
+use cfdp_tlv::FilestoreRequest;
+use std::alloc::{AllocError, Global};
+
+/// The path that a name spells, if it spells one.
+fn parse_name(alloc: Global, name: &[u8]) -> Result<Option<Path>, AllocError>
+    ensures { IfOk result (λ path. path_of name.now ≡ path) }
+{
+    match Path::parse(alloc, name) {
+        Ok(path) => Ok(Some(path)),
+        Err(PathFault::Memory) => Err(AllocError),
+        Err(_) => Ok(None),
+    }
+}
+
+/// The request by the paths that its names spell, if they spell paths.
+fn parse_names(alloc: Global, request: &FilestoreRequest) -> Result<Option<Request>, AllocError>
+    ensures { IfOk result (λ made. request_by request.now ≡ made) }
+{
+    let Some(first) = parse_name(alloc, request.first())? else {
+        return Ok(None);
+    };
+    let second = match request.second() {
+        None => None,
+        Some(name) => match parse_name(alloc, name)? {
+            None => return Ok(None),
+            Some(path) => Some(path),
+        },
+    };
+    Ok(Request::new(request.action(), first, second))
+}
+
+/// Lists of filestore requests on one filestore.
+#[derive(Drop)]
+pub(crate) struct Requests<S: Filestore> {
+    store: S,
+    /// Whether a request of this list was not successful.
+    stopped: bool,
+    ghost capacity: { (S.state store).capacity ≡ plain_blocks },
+}
+
+impl<S: Filestore> Requests<S> {
+    ghost use Rattle.cfdp_actions.specs.Store.{empty_store};
+    ghost use Rattle.cfdp_tlv.specs.Grammar.{names_of};
+    ghost use Rattle.cfdp_sim.specs.Plain.{plain_state, answer_to};
+
+    /// No list has begun.
+    pub(crate) fn new(store: S) -> Self
+        requires { (S.state store).capacity ≡ plain_blocks }
+        ensures store { result.store ≡ store }
+        ensures first { result.stopped ≡ false }
+    {
+        Requests {
+            store,
+            stopped: false,
+        }
+    }
+
+    /// Performs a request, or does not, where an earlier one of this list was not successful.
+    fn perform(&mut self, alloc: Global, request: &FilestoreRequest) -> Result<Status, AllocError>
+        ensures { IfOk result (λ status. performed_on (plain_state (S.state self.old.store) self.old.stopped) request.now
+            ≡ (plain_state (S.state self.new.store) self.new.stopped, status)) }
+    {
+        if self.stopped {
+            return Ok(Status::not_performed(request.action()));
+        }
+        let status = match parse_names(alloc, request)? {
+            None => Status::not_allowed(request.action()),
+            Some(request) => perform(&mut self.store, &Protected::new(), &request)?.status,
+        };
+        self.stopped = !status.is_successful();
+        Ok(status)
+    }
+
+    /// The line that answers a request, which is performed unless an earlier one of this list was not successful.
+    fn answer(&mut self, alloc: Global, request: FilestoreRequest) -> Result<Vec<u8>, AllocError>
+        requires { length (names_of request.first request.second) ≤ 253 }
+        ensures { IfOk result (λ line. answer_to (plain_state (S.state self.old.store) self.old.stopped) (Ok request)
+            ≡ (plain_state (S.state self.new.store) self.new.stopped, line.items)) }
+    {
+        let status = self.perform(alloc, &request)?;
+        write_answer(alloc, request, status)
+    }
+}
+
+impl<S: Filestore> Script for Requests<S> {
+    ghost use Rattle.cfdp_sim.specs.Plain.{PlainState, plain_state, plain_answer};
+
+    ghost State = { PlainState };
+
+    ghost state = { λ s. plain_state (S.state s.store) s.stopped };
+
+    ghost answer = { plain_answer };
+
+    fn line(&mut self, alloc: Global, line: &[u8]) -> Result<Vec<u8>, LineFault> {
+        let octets = decode_line(alloc, line)?;
+        if octets.is_empty() {
+            self.stopped = false;
+            return Ok(octets);
+        }
+        let request = match read_line(alloc, &octets) {
+            Ok(request) => request,
+            Err(NoRequest::Dropped(dropped)) => {
+                return Vec::from_slice(alloc, dropped.text()).map_err(|_| LineFault::Memory);
+            }
+            Err(NoRequest::Memory) => return Err(LineFault::Memory),
+        };
+        self.answer(alloc, request).map_err(|_| LineFault::Memory)
+    }
+}

@@ -1,0 +1,116 @@
+//! Reads and writes that fail in mid-stream, and std's streams that are interrupted.
+use super::fakes::{Call, Reader, Scripted, Writer};
+use super::{REPORT, SCRIPT};
+use crate::{Failed, FromRead, RunFault, ScriptIn, ScriptOut, ToWrite, plain};
+
+/// How many lines of a script that begins with a request are requests.
+fn requests(octets: &[u8]) -> usize {
+    octets
+        .windows(2)
+        .filter(|pair| pair[0] != b'\n' && pair[1] == b'\n')
+        .count()
+}
+
+/// The kth read fails, of one octet each: the lines that were read before are answered, and no other.
+#[test]
+fn reads(rt: HostRuntime) {
+    let script = SCRIPT.as_bytes();
+    for k in 0..script.len() + 2 {
+        let mut reader = Reader::new(script, 1, Some(k));
+        let mut writer = Writer::new(rt.alloc(), 100, None);
+        let end = plain(rt.alloc(), &mut reader, &mut writer);
+        let fails = k <= script.len();
+        assert_eq!(rt;
+            end,
+            if fails { Err(RunFault::Read) } else { Ok(()) },
+            "the read {k}"
+        );
+        assert_eq!(rt; reader.has_failed(), fails);
+        assert!(rt; !writer.has_failed());
+        let read = script.get(..k).unwrap_or(script);
+        assert_eq!(rt;
+            requests(&writer.text),
+            requests(read),
+            "the text before the read {k}"
+        );
+        assert!(rt;
+            REPORT.as_bytes().starts_with(&writer.text),
+            "the text before the read {k}"
+        );
+    }
+}
+
+/// The kth write fails, of one octet each: the octets before it are a beginning of the report.
+#[test]
+fn writes(rt: HostRuntime) {
+    let script = SCRIPT.as_bytes();
+    for k in 0..REPORT.len() + 1 {
+        let mut reader = Reader::new(script, 100, None);
+        let mut writer = Writer::new(rt.alloc(), 1, Some(k));
+        let end = plain(rt.alloc(), &mut reader, &mut writer);
+        let fails = k < REPORT.len();
+        assert_eq!(rt;
+            end,
+            if fails { Err(RunFault::Write) } else { Ok(()) },
+            "the write {k}"
+        );
+        assert_eq!(rt; writer.has_failed(), fails);
+        assert!(rt; !reader.has_failed());
+        assert_eq!(rt; writer.text.len(), k, "the text before the write {k}");
+        assert!(rt;
+            REPORT.as_bytes().starts_with(&writer.text),
+            "the text before the write {k}"
+        );
+    }
+}
+
+/// Where memory is refused, it is told, and what was written is a beginning of the report.
+#[test]
+fn memory(rt: HostRuntime) {
+    let mut reader = Reader::new(SCRIPT.as_bytes(), 100, None);
+    let mut writer = Writer::new(rt.alloc(), 100, None);
+    let end = plain(rt.alloc(), &mut reader, &mut writer);
+    assert!(rt; REPORT.as_bytes().starts_with(&writer.text));
+    let whole = writer.text.len() == REPORT.len();
+    match end {
+        Ok(()) => assert!(rt; whole),
+        Err(RunFault::Write) => assert!(rt; writer.has_failed()),
+        Err(fault) => assert_eq!(rt; fault, RunFault::Memory),
+    }
+}
+
+/// A write that takes nothing has failed; an interrupted call is made again.
+#[test]
+fn std_streams(rt: HostRuntime) {
+    let cases = [
+        ([Call::Moves, Call::Moves], Ok(1), Ok(1)),
+        ([Call::Nothing, Call::Moves], Ok(0), Err(Failed)),
+        ([Call::Interrupted, Call::Moves], Ok(1), Ok(1)),
+        ([Call::Interrupted, Call::Broken], Err(Failed), Err(Failed)),
+        ([Call::Broken, Call::Moves], Err(Failed), Err(Failed)),
+    ];
+    for (calls, read, written) in cases {
+        let mut reader = FromRead::new(Scripted { calls: &calls });
+        assert!(rt; !reader.has_failed());
+        assert_eq!(rt; reader.read(&mut [0; 4]), read, "a read of {calls:?}");
+        assert_eq!(rt; reader.has_failed(), read.is_err());
+        let mut writer = ToWrite::new(Scripted { calls: &calls });
+        assert!(rt; !writer.has_failed());
+        assert_eq!(rt; writer.write(b"abc"), written, "a write of {calls:?}");
+        assert_eq!(rt; writer.has_failed(), written.is_err());
+    }
+}
+
+/// Once a stream has failed, it has failed from then on.
+#[test]
+fn from_then_on(rt: HostRuntime) {
+    let calls = [Call::Broken, Call::Moves];
+    let mut writer = ToWrite::new(Scripted { calls: &calls });
+    assert_eq!(rt; writer.write(b"abc"), Err(Failed));
+    assert_eq!(rt; writer.write(b"abc"), Ok(1));
+    assert!(rt; writer.has_failed());
+    let mut reader = FromRead::new(Scripted { calls: &calls });
+    assert_eq!(rt; reader.read(&mut [0; 4]), Err(Failed));
+    assert_eq!(rt; reader.read(&mut [0; 4]), Ok(1));
+    assert!(rt; reader.has_failed());
+}

@@ -1,0 +1,162 @@
+-- What a view has of a filestore: kinds and sizes, without octets.
+--     Extent, extent_of, extent_in, extent_at    a directory, or a file of at most so many octets: of a node, of what stands at a path
+--     extent_content, extent_weight              the blocks of an extent's octets;  one more for itself
+--     found os p                                 what stands at a path of a list of outlines
+--     with_outline, rehomed                      the list after a change of one path, or after a move
+use Rattle.std.specs.Prelude.{◌≡◌, ⊤, ℕ, suc, ◌+◌, ◌*◌, min, Bool, true, false, cond, not, ◌&&◌, is_some, nat_lt, if◌then◌else◌, List, [], ◌∷◌, ◌++◌, Option, Some, None, length, Result, Ok, Err}
+use Rattle.std.specs.List.{list_any}
+use Rattle.cfdp_paths.specs.Paths.{Path, parent, same_path, is_at_or_below, rebased}
+use Rattle.std.specs.declared.alloc.AllocError.{AllocError}
+use Rattle.cfdp_status.specs.declared.status.Status.{Status}
+use Rattle.cfdp_actions.specs.Filestore.{Node, Directory, File, Filestore, node_at, blocks_of, after}
+use Rattle.cfdp_actions.specs.Actions.{Request, CreateFile, DeleteFile, RenameFile, AppendFile, ReplaceFile, CreateDirectory, RemoveDirectory, DenyFile, DenyDirectory, Item, Install, Perform, Performed, is_protected, table, row}
+use Rattle.cfdp_actions.specs.Store.{is_file_kind}
+use Rattle.cfdp_actions.specs.declared.kind.Entry.{Entry}
+use Rattle.cfdp_leases.specs.Items.{performed}
+use Rattle.cfdp_states.specs.declared.extent.Extent.{Extent}
+use Rattle.cfdp_states.specs.declared.extent.Extent.TheVariants as extent
+use Rattle.cfdp_states.specs.declared.extent.Outline.{Outline}
+
+-- the greatest u64
+abbrev pub most_octets : ℕ
+most_octets = 18446744073709551615
+
+abbrev pub extent_of : Node → Extent
+extent_of Directory = extent.Directory
+extent_of (File octets) = extent.File (min (length octets) most_octets)
+
+abbrev pub extent_in : Option Node → Option Extent
+extent_in None = None
+extent_in (Some node) = Some (extent_of node)
+
+abbrev pub extent_at : Filestore → Path → Option Extent
+extent_at F p = extent_in (node_at F p)
+
+abbrev pub extent_content : Extent → ℕ
+extent_content extent.Directory = 0
+extent_content (extent.File octets) = blocks_of octets
+
+abbrev pub extent_weight : Extent → ℕ
+extent_weight e = 1 + extent_content e
+
+-- what stands at a path of a list
+abbrev pub found : List Outline → Path → Option Extent
+found [] p = None
+found (o ∷ os) p = cond (same_path p o.path) (Some o.extent) (found os p)
+
+-- the blocks of all together
+abbrev pub total_weight : List Outline → ℕ
+total_weight [] = 0
+total_weight (o ∷ os) = extent_weight o.extent + total_weight os
+
+-- with the extent at the path
+abbrev pub with_outline : Path → Extent → List Outline → List Outline
+with_outline p e [] = record { path = p; extent = e } ∷ []
+with_outline p e (o ∷ os) = if same_path p o.path then record { path = o.path; extent = e } ∷ os else o ∷ with_outline p e os
+
+-- how many outlines stand before the first one of the path
+abbrev pub place_of : Path → List Outline → ℕ
+place_of p [] = 0
+place_of p (o ∷ os) = if same_path p o.path then 0 else suc (place_of p os)
+
+-- whether a path at or below p would have more than 8 names, with p/r at q/r
+abbrev pub any_too_deep : Path → Path → List Outline → Bool
+any_too_deep p q os = list_any (λ outline. is_at_or_below outline.path p && nat_lt (8 + length p) (length outline.path + length q)) os
+
+-- those at or below p, with p/r at q/r
+abbrev pub movers : Path → Path → List Outline → List Outline
+movers p q [] = []
+movers p q (o ∷ os) = if is_at_or_below o.path p then record { path = rebased p q o.path; extent = o.extent } ∷ movers p q os else movers p q os
+
+-- the others, but for those whose place is taken
+abbrev pub stayers : Path → List Outline → List Outline → List Outline
+stayers p ms [] = []
+stayers p ms (o ∷ os) = if is_at_or_below o.path p then stayers p ms os else if is_some (found ms o.path) then stayers p ms os else o ∷ stayers p ms os
+
+abbrev pub rehomed : Path → Path → List Outline → List Outline
+rehomed p q os = movers p q os ++ stayers p (movers p q os) os
+
+-- the blocks of the octets of what stands at a path, and all its blocks
+abbrev pub content_in : Option Extent → ℕ
+content_in None = 0
+content_in (Some e) = extent_content e
+
+abbrev pub weight_in : Option Extent → ℕ
+weight_in None = 0
+weight_in (Some e) = extent_weight e
+
+-- how many ticks an item may take, by the sizes of a list of outlines
+abbrev pub bound_on : List Outline → Item → ℕ
+bound_on os (Install p) = 1 + content_in (found os p)
+bound_on os (Perform (CreateFile p)) = 1
+bound_on os (Perform (DeleteFile p)) = 1 + content_in (found os p)
+bound_on os (Perform (RenameFile p q)) = 0
+bound_on os (Perform (AppendFile p q)) = 2 * content_in (found os q)
+bound_on os (Perform (ReplaceFile p q)) = if same_path p q then 0 else content_in (found os p) + 2 * content_in (found os q)
+bound_on os (Perform (CreateDirectory p)) = 1
+bound_on os (Perform (RemoveDirectory p)) = 1
+bound_on os (Perform (DenyFile p)) = weight_in (found os p)
+bound_on os (Perform (DenyDirectory p)) = weight_in (found os p)
+
+-- the root or a directory
+abbrev pub is_folder : Option Extent → Bool
+is_folder None = false
+is_folder (Some extent.Directory) = true
+is_folder (Some (extent.File octets)) = false
+
+abbrev pub good_among : List Outline → Path → Bool
+good_among os [] = true
+good_among os (n ∷ p) = is_folder (found os (n ∷ p))
+
+abbrev pub good_parent : List Outline → Path → Bool
+good_parent os p = good_among os (parent p)
+
+-- one outline a path
+abbrev pub AreDistinct : List Outline → Type 0
+AreDistinct [] = ⊤
+AreDistinct (o ∷ os) = (found os o.path ≡ None) × AreDistinct os
+
+-- the list has an outline of whatever stands in the filestore, and no others
+pub record IsOutline (os : List Outline) (F : Filestore) : Type 0 where
+  pub found : (p : Path) → found os p ≡ extent_at F p
+
+-- whatever filestore the list outlines: the status is the row's, and the list after it outlines the filestore after it
+pub record Does (os os' : List Outline) (request : Request) (told : Status) : Type 0 where
+  pub status : (F : Filestore) → IsOutline os F → Performed told ≡ (table F request).answer
+  pub outlines : (F : Filestore) → IsOutline os F → IsOutline os' (after F (table F request).changes)
+  pub staged : (F : Filestore) → IsOutline os F → (after F (table F request).changes).staged ≡ F.staged
+  pub distinct : AreDistinct os → AreDistinct os'
+
+-- or there was no memory, and the list is as before
+abbrev pub DoesOrNot : List Outline → List Outline → Request → Result Status AllocError → Type 0
+DoesOrNot os os' request (Ok status) = Does os os' request status
+DoesOrNot os os' request (Err memory) = os' ≡ os
+
+-- the same where prefixes are protected
+pub record Performs (prefixes : List Path) (os os' : List Outline) (request : Request) (told : Status) : Type 0 where
+  pub status : (F : Filestore) → IsOutline os F → Performed told ≡ (row prefixes F 0 (Perform request)).answer
+  pub outlines : (F : Filestore) → IsOutline os F → IsOutline os' (performed prefixes F 0 (Perform request))
+  pub staged : (F : Filestore) → IsOutline os F → (performed prefixes F 0 (Perform request)).staged ≡ F.staged
+  pub distinct : AreDistinct os → AreDistinct os'
+
+abbrev pub PerformsOrNot : List Path → List Outline → List Outline → Request → Result Status AllocError → Type 0
+PerformsOrNot prefixes os os' request (Ok status) = Performs prefixes os os' request status
+PerformsOrNot prefixes os os' request (Err memory) = os' ≡ os
+
+-- whether a file may come to stand where this stands
+abbrev pub gives_way : List Path → Path → Option Extent → Bool
+gives_way prefixes p None = true
+gives_way prefixes p (Some extent.Directory) = false
+gives_way prefixes p (Some (extent.File octets)) = not (is_protected prefixes p)
+
+abbrev pub can_install : List Path → List Outline → Path → Bool
+can_install prefixes os p = good_parent os p && gives_way prefixes p (found os p)
+
+-- a line of a listing, without its checksum
+abbrev pub extent_listed : Entry → Extent
+extent_listed e = if is_file_kind e.kind then extent.File e.size else extent.Directory
+
+-- of the lines of a listing whose paths pass a test
+abbrev pub outlines_where : (Path → Bool) → List Entry → List Outline
+outlines_where test [] = []
+outlines_where test (e ∷ es) = if test e.path then record { path = e.path; extent = extent_listed e } ∷ outlines_where test es else outlines_where test es

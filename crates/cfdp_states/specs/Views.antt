@@ -1,0 +1,90 @@
+-- Views: what stands at and below some leased paths, a file being 'at most n octets', while a list of items runs alone.
+--     most_count                    the greatest u32, at which counts stop
+--     Sketch                        what contracts see of a view
+--     only fp F                     the filestore with nothing but what the footprint covers
+--     IsViewOf v F start peak taken the view tells of F, where so many blocks were in use at first and at most, and so many steps are taken
+--     Tells, TellsInstall           how a view goes on with an item, and with the install
+--     HasRun v fp F x items answers the view tells of these items, run alone on F with the delivered file x
+use Rattle.std.specs.Prelude.{◌≡◌, ℕ, ◌+◌, ◌-◌, ◌≤◌, min, max, Bool, IsTrue, if◌then◌else◌, List, [], ◌∷◌, Option, Some, None, length, map, refl}
+use Rattle.std.specs.Coded.{Coded, code_by, coded×, coded_list, coded_ℕ}
+use Rattle.std.specs.FinMap as finite
+use Rattle.cfdp_paths.specs.Paths.{Path, path_cmp}
+use Rattle.cfdp_actions.specs.Filestore.{Filestore, blocks}
+use Rattle.cfdp_actions.specs.Actions.{Item, Install, Answer, Installed, NotInstalled, row}
+use Rattle.cfdp_leases.specs.Footprint.{Footprint, is_covered, IsWithin}
+use Rattle.cfdp_leases.specs.Items.{performed, step_bound}
+use Rattle.cfdp_states.specs.declared.extent.Extent.{Extent}
+use Rattle.cfdp_states.specs.declared.extent.Extent.TheVariants as extent
+use Rattle.cfdp_states.specs.declared.extent.Outline.{Outline}
+use Rattle.cfdp_states.specs.Sketching.{extent_at}
+use Rattle.cfdp_states.specs.Alone.{alone, reached, peak, steps, statuses_alone, need_alone, steps_alone}
+use Rattle.std.specs.List.{AllByRecursion}
+
+abbrev pub most_count : ℕ
+most_count = 4294967295
+
+pub record Sketch : Type 0 where
+  pub prefixes : List Path  -- those that are protected
+  pub extents : finite.FinMap path_cmp Extent  -- what stands
+  pub base : ℕ  -- the blocks in use at first
+  pub need : ℕ  -- how many more are in use at most
+  pub steps : ℕ  -- the steps that are taken
+
+abbrev pub sketch_code : Coded Extent → Coded Sketch
+sketch_code coded =
+    code_by (List Path × (finite.FinMap path_cmp Extent × (ℕ × (ℕ × ℕ))))
+    (coded× (coded_list (coded_list (coded_list coded_ℕ))) (coded× (finite.code (coded_list (coded_list coded_ℕ)) coded) (coded× coded_ℕ (coded× coded_ℕ coded_ℕ))))
+    (λ v. (v.prefixes, (v.extents, (v.base, (v.need, v.steps)))))
+    (λ p. record { prefixes = p.0; extents = p.1.0; base = p.1.1.0; need = p.1.1.1.0; steps = p.1.1.1.1 })
+    (λ _. refl)
+
+abbrev pub extents_of : List Outline → finite.FinMap path_cmp Extent
+extents_of os = finite.from_entries (map (λ outline. (outline.path, outline.extent)) os)
+
+-- a file's greatest size; none for a directory
+abbrev pub size_of : Option Extent → Option ℕ
+size_of None = None
+size_of (Some extent.Directory) = None
+size_of (Some (extent.File octets)) = Some octets
+
+abbrev pub only : Footprint → Filestore → Filestore
+only fp F = record F { nodes = finite.retain_keys F.nodes (λ p. is_covered fp p) }
+
+pub record IsViewOf (v : Sketch) (F : Filestore) (start peak taken : ℕ) : Type 0 where
+  pub extents : (p : Path) → finite.get v.extents p ≡ extent_at F p
+  pub staged : F.staged ≡ [] ∷ []
+  pub base : v.base ≡ start
+  pub small : start ≤ 65536
+  pub need : v.need ≡ min (peak - start) most_count
+  pub steps : v.steps ≡ min taken most_count
+
+-- the item is answered as on the filestore, and the view after it tells of the filestore after it
+abbrev pub Tells : Sketch → Sketch → Item → Answer → Type 0
+Tells v w item answer =
+    (F : Filestore) (start peak taken : ℕ) → IsViewOf v F start peak taken →
+    let G = performed v.prefixes F 0 item in
+    (answer ≡ (row v.prefixes F 0 item).answer) × IsViewOf w G start (max peak (blocks G)) (taken + (1 + step_bound F item))
+
+abbrev pub installed_if : Bool → Answer
+installed_if done = if done then Installed else NotInstalled
+
+-- the same with a list of so many octets staged; where it is not installed the view is as before
+abbrev pub TellsInstall : Sketch → Sketch → Path → ℕ → Bool → Type 0
+TellsInstall v w p size done =
+    (F : Filestore) (start peak taken : ℕ) (x : List ℕ) → IsViewOf v F start peak taken → length x ≡ size →
+    let H = alone F x in
+    let G = performed v.prefixes H 0 (Install p) in
+    (installed_if done ≡ (row v.prefixes H 0 (Install p)).answer)
+    × (IsTrue done → IsViewOf w G start (max peak (max (blocks H) (blocks G))) (taken + (1 + step_bound H (Install p))))
+
+-- The view tells of the items within the footprint, run alone on F with the delivered file x: these are their answers, and the
+-- need and steps are those of F, though the view has seen of it only what the footprint covers.
+pub record HasRun (v : Sketch) (fp : Footprint) (F : Filestore) (x : List ℕ) (items : List Item) (answers : List Answer) : Type 0 where
+  pub within : AllByRecursion (IsWithin fp) items
+  pub seen :
+      let G = alone (only fp F) x in
+      let start = blocks (alone (only fp F) []) in
+      IsViewOf v (reached v.prefixes G 0 items) start (max start (peak v.prefixes G 0 items)) (steps v.prefixes G 0 items)
+  pub answered : answers ≡ statuses_alone v.prefixes F x items
+  pub need : v.need ≡ min (need_alone v.prefixes F x items) most_count
+  pub steps : v.steps ≡ min (steps_alone v.prefixes F x items) most_count

@@ -1,0 +1,48 @@
+//! What stands at a path, without its octets.
+
+ghost use Rattle.std.specs.Prelude.{◌≡◌, ◌<◌, ◌≤◌, ◌^◌};
+ghost use Rattle.cfdp_states.specs.Sketching.{extent_weight, extent_content};
+
+use cfdp_paths::Path;
+
+/// The octets that a block holds.
+const BLOCK_OCTETS: u64 = 120;
+
+/// What stands at a path: a directory, or a file of at most so many octets.
+#[derive(Clone, Copy, Debug, PartialEq, Eq)]
+pub enum Extent {
+    /// A directory.
+    Directory,
+    /// A file, with the most octets that it may have.
+    File(u64),
+}
+
+impl Extent {
+    /// The blocks of its octets: none for a directory.
+    pub fn content(self) -> u64
+        ensures value { result ≡ extent_content self }
+        ensures within { result < 2 ^ 58 }
+    {
+        match self {
+            Extent::Directory => 0,
+            Extent::File(octets) => { octets.div_ceil(BLOCK_OCTETS) }
+        }
+    }
+
+    /// All blocks that it takes: one, and those of its octets.
+    pub fn blocks(self) -> u64
+        ensures value { result ≡ extent_weight self }
+        ensures within { result ≤ 2 ^ 58 }
+    {
+        1 + self.content()
+    }
+}
+
+/// A path, with what stands there.
+#[derive(Debug, Drop)]
+pub struct Outline {
+    /// Where it stands.
+    pub path: Path,
+    /// What stands there.
+    pub extent: Extent,
+}

@@ -1,0 +1,18 @@
+//! Lists of filestore requests run alone: what each request of a list answers, how many blocks the list needs, and how
+//! many steps it takes, when nothing else happens in between and there is room without limit (CCSDS 727.0-B-5 §4.9).
+//! The definitions stand in `specs/Alone.antt`, and what is true of them in [`laws`]: with a longer file, after another
+//! transaction's change, from one request to the next, in any slot. A [`View`] runs such a list on kinds and sizes alone,
+//! without octets: what it tells is stated in `specs/Views.antt`.
+#![tactic(auto)]
+
+mod extent;
+pub mod laws;
+mod outlines;
+mod performing;
+mod rehoming;
+mod surveying;
+mod table;
+mod view;
+
+pub use extent::Extent;
+pub use view::View;

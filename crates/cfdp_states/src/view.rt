@@ -1,0 +1,157 @@
+//! The view: a list of filestore requests is run on it to be judged.
+
+ghost use Rattle.std.specs.Prelude.{◌≡◌, ◌+◌, ◌-◌, ◌≤◌, min, max, ◌^◌, false, Some, None, [], IfOk, OnOk, OnErr, IsFalse, Ok};
+ghost use Rattle.std.specs.FinMap as finite;
+ghost use Rattle.cfdp_actions.specs.Filestore.{blocks};
+ghost use Rattle.cfdp_actions.specs.Actions.{Perform, Performed};
+ghost use Rattle.cfdp_states.specs.Alone.{alone};
+ghost use Rattle.cfdp_states.specs.Sketching.{AreDistinct};
+ghost use Rattle.cfdp_states.specs.Views.{most_count, size_of, only, IsViewOf, Tells, TellsInstall, extents_of};
+
+use crate::extent::{Extent, Outline};
+use crate::outlines::{blocks, find, put};
+use crate::performing::{can_install, content, perform, step_bound};
+use crate::surveying::survey;
+use cfdp_actions::{Filestore, Protected, Request};
+use cfdp_leases::Footprint;
+use cfdp_paths::{Memory, Path};
+use cfdp_status::Status;
+use std::alloc::Global;
+use std::marker::Model;
+
+/// What stands at and below some leased paths, a file being 'at most n octets', without contents: enough to say how a
+/// list of items goes when it runs alone (CCSDS 727.0-B-5 §4.9), how many blocks it needs and how many steps it takes.
+///
+/// Sizes stop at the greatest u64, and counts at the greatest u32.
+#[derive(Drop)]
+pub struct View<'a> {
+    protected: &'a Protected,
+    outlines: Vec<Outline>,
+    base: u64,
+    need: u32,
+    steps: u32,
+}
+
+impl<'a> Model for View<'a> {
+    ghost use Rattle.cfdp_states.specs.Sketching.{AreDistinct};
+    ghost use Rattle.cfdp_states.specs.Views.{Sketch, sketch_code, extents_of};
+    ghost use Rattle.cfdp_states.specs.contracts.extent.Extent as extent;
+
+    ghost Value = { Sketch };
+
+    ghost coded = { sketch_code extent.the_row.coded };
+
+    ghost view = { λ v. record { prefixes = v.protected.now; extents = extents_of v.outlines.items; base = v.base; need = v.need; steps = v.steps } };
+
+    ghost invariant = { λ v. AreDistinct v.outlines.items };
+}
+
+impl<'a> View<'a> {
+    /// What stands in the store at and below the leased paths, before any item.
+    ///
+    /// Cost: a listing of the store.
+    pub fn of<S: Filestore>(
+        alloc: Global,
+        store: &S,
+        protected: &'a Protected,
+        footprint: &Footprint,
+    ) -> Result<View<'a>, Memory>
+        ensures told { IfOk result (λ view. let F = alone (only footprint.now (S.state store.now).filestore) [] in
+            IsViewOf view F (blocks F) (blocks F) 0) }
+        ensures prefixes { IfOk result (λ view. view.prefixes ≡ protected.now) }
+    {
+        let outlines = survey(alloc, store, footprint)?;
+        let base = blocks(&outlines);
+        Ok(View {
+            protected,
+            outlines,
+            base,
+            need: 0,
+            steps: 0,
+        })
+    }
+
+    /// Performs a request on the view, with unlimited room: its status, and what it needs and takes is counted.
+    ///
+    /// After want of memory the view is as before. Cost: a few passes over what the view has.
+    pub fn apply(&mut self, request: &Request) -> Result<Status, Memory>
+        ensures told { IfOk result (λ status. Tells self.old self.new (Perform request.now) (Performed status)) }
+        ensures prefixes { OnOk result (self.new.prefixes ≡ self.old.prefixes) }
+        ensures err { OnErr result (self.new ≡ self.old) }
+    {
+        let bound = step_bound(&self.outlines, request);
+        let status = perform(&mut self.outlines, self.protected, request)?;
+        self.steps = add_steps(self.steps, bound);
+        self.need = raise_need(self.need, self.base, blocks(&self.outlines));
+        Ok(status)
+    }
+
+    /// Installs a delivered file of at most so many octets at the path, and answers whether that is allowed. Where it is
+    /// not, and after want of memory, the view is as before.
+    pub fn install(&mut self, path: &Path, bound: u64) -> Result<bool, Memory>
+        ensures told { IfOk result (λ done. TellsInstall self.old self.new path.now bound done) }
+        ensures prefixes { OnOk result (self.new.prefixes ≡ self.old.prefixes) }
+        ensures refused { result ≡ Ok false → self.new ≡ self.old }
+        ensures err { OnErr result (self.new ≡ self.old) }
+    {
+        if !can_install(&self.outlines, self.protected, path) {
+            return Ok(false);
+        }
+        let file = Extent::File(bound);
+        let ticks = 1 + content(&self.outlines, path);
+        let staged = blocks(&self.outlines).saturating_add(file.content());
+        put(&mut self.outlines, path, file)?;
+        self.steps = add_steps(self.steps, ticks);
+        let need = raise_need(self.need, self.base, staged);
+        self.need = raise_need(need, self.base, blocks(&self.outlines));
+        Ok(true)
+    }
+
+    /// The most octets that the file at the path has, or the greatest u64 where that is more. `None` where no file
+    /// stands.
+    pub fn bound(&self, path: &Path) -> Option<u64>
+        ensures { result ≡ size_of (finite.get self.now.extents path.now) }
+    {
+        match find(&self.outlines, path) {
+            None => None,
+            Some(Extent::Directory) => None,
+            Some(Extent::File(octets)) => Some(octets),
+        }
+    }
+
+    /// How many blocks more than at first were in use at most, or the greatest u32 where that is more.
+    pub fn need(&self) -> u32
+        ensures { result ≡ self.now.need }
+    {
+        self.need
+    }
+
+    /// How many steps were taken at most, or the greatest u32 where that is more.
+    pub fn steps(&self) -> u32
+        ensures { result ≡ self.now.steps }
+    {
+        self.steps
+    }
+}
+
+/// One step more, and as many as the item's bound.
+fn add_steps(steps: u32, bound: u64) -> u32
+    requires { bound ≤ 2 ^ 60 }
+    ensures { result ≡ min (steps + (1 + bound)) most_count }
+{
+    capped(u64::from(steps) + 1 + bound)
+}
+
+/// The need, where so many blocks are in use.
+fn raise_need(need: u32, base: u64, blocks: u64) -> u32
+    ensures { result ≡ max need (min (blocks - base) most_count) }
+{
+    need.max(capped(blocks.saturating_sub(base)))
+}
+
+/// The count, or the greatest u32 where it is more.
+fn capped(count: u64) -> u32
+    ensures { result ≡ min count most_count }
+{
+    count.min(u64::from(u32::MAX)) as u32
+}

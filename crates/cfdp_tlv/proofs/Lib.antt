@@ -1,0 +1,5 @@
+pub mod Steps
+pub mod Fields
+pub mod NameFields
+pub mod Requests
+pub mod Responses

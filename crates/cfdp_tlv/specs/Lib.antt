@@ -1,0 +1,6 @@
+pub mod Reading
+pub mod Field
+pub mod Values
+pub mod Grammar
+pub mod Equality
+pub mod Texts

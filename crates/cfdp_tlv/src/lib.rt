@@ -1,0 +1,28 @@
+//! LV and TLV fields, filestore requests and filestore responses (CCSDS 727.0-B-5 §5.1.8, §5.1.9,
+//! §5.4.1 and §5.4.2).
+//!
+//! A reader answers the value exactly where the octets spell one, and otherwise the first fault;
+//! `specs/Grammar.antt` says what spells what. A writer appends the one canonical spelling, or
+//! answers [`TlvFault::TooLong`] exactly where a value is longer than a length octet can say.
+//! Reading goes over the octets once, refuses before it allocates, and allocates only what it
+//! hands out.
+#![tactic(auto)]
+
+mod fault;
+mod field;
+mod laws;
+mod names;
+mod request;
+mod response;
+mod room;
+
+pub use fault::TlvFault;
+pub use field::{FILESTORE_REQUEST, FILESTORE_RESPONSE, Tlv, read_lv, read_tlv};
+pub use laws::{requests_have_one_reading, responses_have_one_reading};
+pub use request::{FilestoreRequest, RequestParts, read_request, request_parts, write_request};
+pub use response::{
+    FilestoreResponse, ResponseParts, read_response, response_parts, write_response,
+};
+
+#[cfg(test)]
+mod tests;

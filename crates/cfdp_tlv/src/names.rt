@@ -1,0 +1,20 @@
+ghost use Rattle.std.specs.Prelude.{◌≡◌, option_map, is_some, IfOk};
+ghost use Rattle.cfdp_status.specs.Codes.{has_second};
+ghost use Rattle.cfdp_tlv.specs.Reading.{Answers};
+ghost use Rattle.cfdp_tlv.specs.Grammar.{second_at};
+
+use crate::{TlvFault, read_lv};
+use cfdp_status::Action;
+
+/// The second name at the front, where the action has one, and what stands after it.
+#[tactic(auto, unfolding(crate::specs::Grammar::second_at))]
+pub fn read_second(action: Action, octets: &[u8]) -> Result<(Option<&[u8]>, &[u8]), TlvFault>
+    ensures exact { Answers (λ x. (option_map (λ name. name.now) x.0, x.1.now)) result (second_at (has_second action) octets.now) }
+    ensures complete { IfOk result (λ x. is_some x.0 ≡ has_second action) }
+{
+    if !action.has_second() {
+        return Ok((None, octets));
+    }
+    let (second, rest) = read_lv(octets)?;
+    Ok((Some(second), rest))
+}

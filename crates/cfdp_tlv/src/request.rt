@@ -1,0 +1,207 @@
+ghost use Rattle.std.specs.Prelude.{◌≡◌, ◌≤◌, ◌<◌, ◌+◌, ◌↔◌, ◌⊎◌, ◌++◌, List, ℕ, length, vec_len, min, option_map, IfOk, OnOk, OnErr, IfErr, IsOk, IsErrOf, Ok, Err};
+ghost use Rattle.std.specs.Vec.{vec_capacity};
+ghost use Rattle.cfdp_tlv.specs.Reading.{Gives};
+ghost use Rattle.cfdp_tlv.specs.Field.{tlv};
+ghost use Rattle.cfdp_tlv.specs.Values.{RequestFields, IsRequest};
+ghost use Rattle.cfdp_tlv.specs.Grammar.{SpellsRequest, request_at, request_octets};
+ghost use Rattle.cfdp_tlv.specs.declared.fault.TlvFault.TheVariants.{Memory, TooLong};
+
+use crate::names::read_second;
+use crate::room::{names_len, push_names};
+use crate::{FILESTORE_REQUEST, TlvFault, read_lv};
+use cfdp_status::Action;
+use std::alloc::{AllocError, Global};
+use std::marker::Model;
+
+/// A filestore request (CCSDS 727.0-B-5 §5.4.1). A contract sees its action and its names as octet
+/// lists. The second name is there exactly where the action has one.
+#[derive(Debug, Drop)]
+pub struct FilestoreRequest {
+    /// What is asked for.
+    pub action: Action,
+    /// The first file name, as it was spelled.
+    pub first: Vec<u8>,
+    /// The second file name, for rename, append and replace.
+    pub second: Option<Vec<u8>>,
+}
+
+impl Model for FilestoreRequest {
+    ghost use Rattle.std.specs.Prelude.{◌≡◌, option_map, is_some};
+    ghost use Rattle.cfdp_status.specs.Codes.{has_second};
+    ghost use Rattle.cfdp_tlv.specs.Values.{RequestFields};
+
+    ghost Value = { RequestFields };
+
+    ghost view = { λ r. record { action = r.action; first = r.first.items; second = option_map (λ name. name.items) r.second } };
+
+    ghost invariant = { λ r. is_some r.second ≡ has_second r.action };
+}
+
+/// A filestore request that lies in the octets that it was read from. A contract sees it as it sees
+/// a [`FilestoreRequest`].
+#[derive(Debug, Drop)]
+pub struct RequestParts<'a> {
+    /// What is asked for.
+    pub action: Action,
+    /// The first file name.
+    pub first: &'a [u8],
+    /// The second file name, for rename, append and replace.
+    pub second: Option<&'a [u8]>,
+}
+
+impl<'a> Model for RequestParts<'a> {
+    ghost use Rattle.std.specs.Prelude.{◌≡◌, option_map, is_some};
+    ghost use Rattle.cfdp_status.specs.Codes.{has_second};
+    ghost use Rattle.cfdp_tlv.specs.Values.{RequestFields};
+
+    ghost Value = { RequestFields };
+
+    ghost view = { λ r. record { action = r.action; first = r.first.now; second = option_map (λ name. name.now) r.second } };
+
+    ghost invariant = { λ r. is_some r.second ≡ has_second r.action };
+}
+
+impl PartialEq for FilestoreRequest {
+    ghost use Rattle.cfdp_tlv.specs.Equality.{same_request, requests_per};
+
+    ghost eq = { same_request };
+
+    ghost laws = { requests_per };
+
+    fn eq(&self, other: &FilestoreRequest) -> bool {
+        self.action.code() == other.action.code()
+            && self.first == other.first
+            && self.second == other.second
+    }
+}
+
+impl Eq for FilestoreRequest {
+    ghost use Rattle.cfdp_tlv.specs.Equality.{requests_equiv};
+
+    ghost laws = { requests_equiv };
+}
+
+impl FilestoreRequest {
+    /// What is asked for.
+    pub fn action(&self) -> Action
+        ensures value { result ≡ self.now.action }
+        ensures complete { IsRequest self.now }
+    {
+        self.action
+    }
+
+    /// The first file name.
+    pub fn first(&self) -> &[u8]
+        ensures value { result.now ≡ self.now.first }
+        ensures complete { IsRequest self.now }
+    {
+        &self.first
+    }
+
+    /// The second file name, where the action has one.
+    pub fn second(&self) -> Option<&[u8]>
+        ensures value { option_map (λ name. name.now) result ≡ self.now.second }
+        ensures complete { IsRequest self.now }
+    {
+        match &self.second {
+            None => None,
+            Some(second) => Some(second),
+        }
+    }
+
+    /// How many octets its TLV value has, or `usize::MAX` where that is too little.
+    pub fn value_len(&self) -> usize
+        ensures { result ≡ min (length (request_octets self.now)) usize.MAX }
+    {
+        names_len(&self.first, self.second()).saturating_add(1)
+    }
+}
+
+/// The request that a whole TLV value spells, left where it lies.
+///
+/// The faults come in this order: no octet (`Truncated`), an action code above 8 (`BadAction`), a
+/// name that is cut (`Truncated`), octets after the last name (`Trailing`). It takes no memory.
+#[tactic(auto, unfolding(crate::specs::Grammar::request_at))]
+pub fn request_parts(value: &[u8]) -> Result<RequestParts<'_>, TlvFault>
+    ensures exact { result ≡ request_at value.now }
+{
+    let [octet, names @ ..] = value else {
+        return Err(TlvFault::Truncated);
+    };
+    let action = Action::of_code(*octet >> 4).ok_or(TlvFault::BadAction)?;
+    let (first, rest) = read_lv(names)?;
+    let (second, rest) = read_second(action, rest)?;
+    if !rest.is_empty() {
+        return Err(TlvFault::Trailing);
+    }
+    Ok(RequestParts {
+        action,
+        first,
+        second,
+    })
+}
+
+impl<'a> RequestParts<'a> {
+    /// The request with names of its own. It allocates those and nothing else.
+    pub fn copy(&self, alloc: Global) -> Result<FilestoreRequest, AllocError>
+        ensures { IfOk result (λ request. request ≡ self.now) }
+    {
+        let first = Vec::from_slice(alloc, self.first)?;
+        let second = match self.second {
+            None => None,
+            Some(second) => Some(Vec::from_slice(alloc, second)?),
+        };
+        Ok(FilestoreRequest {
+            action: self.action,
+            first,
+            second,
+        })
+    }
+}
+
+/// What [`read_request`] answers.
+fn copied(alloc: Global, value: &[u8]) -> Result<FilestoreRequest, TlvFault>
+    ensures exact { Gives (λ request. request) result (request_at value.now) }
+{
+    let parts = request_parts(value)?;
+    Ok(parts.copy(alloc)?)
+}
+
+/// The request that a whole TLV value spells (CCSDS 727.0-B-5 §5.4.1).
+///
+/// The faults are those of [`request_parts`], and `Memory`. It allocates its names and nothing else.
+pub fn read_request(alloc: Global, value: &[u8]) -> Result<FilestoreRequest, TlvFault>
+    // What is read is spelled so.
+    ensures found { IfOk result (SpellsRequest value.now) }
+    // What is spelled so is read, unless memory runs out.
+    ensures only { (request : RequestFields) → SpellsRequest value.now request → (result ≡ Ok request) ⊎ (result ≡ Err Memory) }
+    // Which fault it is.
+    ensures exact { Gives (λ request. request) result (request_at value.now) }
+{
+    copied(alloc, value)
+}
+
+/// Appends a request as a whole TLV (CCSDS 727.0-B-5 §5.4.1), spare bits 0.
+///
+/// The faults are `TooLong`, where the value has more than 255 octets, and `Memory`.
+pub fn write_request(request: &FilestoreRequest, out: &mut Vec<u8>) -> Result<(), TlvFault>
+    ensures ok { OnOk result (out.new.items ≡ out.old.items ++ tlv FILESTORE_REQUEST (request_octets request.now)) }
+    ensures too_long { IsErrOf result TooLong ↔ (255 < length (request_octets request.now)) }
+    ensures faults { IfErr result (λ fault. (fault ≡ TooLong) ⊎ (fault ≡ Memory)) }
+    ensures err { OnErr result (out.new.items ≡ out.old.items) }
+    // Where there is room for it, memory isn't asked for.
+    ensures room { length (request_octets request.now) ≤ 255
+        → vec_len out.old + (length (request_octets request.now) + 2) ≤ vec_capacity out.old → IsOk result }
+    ensures capacity { vec_capacity out.old ≤ vec_capacity out.new }
+{
+    let len = request.value_len();
+    if len > 255 {
+        return Err(TlvFault::TooLong);
+    }
+    out.reserve(len + 2)?;
+    out.push_reserved(FILESTORE_REQUEST);
+    out.push_reserved(len as u8);
+    out.push_reserved(request.action().code() << 4);
+    push_names(out, request.first(), request.second());
+    Ok(())
+}

@@ -1,0 +1,238 @@
+ghost use Rattle.std.specs.Prelude.{◌≡◌, ◌≤◌, ◌<◌, ◌+◌, ◌↔◌, ◌⊎◌, ◌++◌, List, ℕ, length, vec_len, min, option_map, IfOk, OnOk, OnErr, IfErr, IsOk, IsErrOf, Ok, Err};
+ghost use Rattle.std.specs.Vec.{vec_capacity};
+ghost use Rattle.cfdp_tlv.specs.Reading.{Gives};
+ghost use Rattle.cfdp_tlv.specs.Field.{tlv};
+ghost use Rattle.cfdp_tlv.specs.Values.{ResponseFields, IsResponse};
+ghost use Rattle.cfdp_tlv.specs.Grammar.{SpellsResponse, response_at, response_octets};
+ghost use Rattle.cfdp_tlv.specs.Equality.{same_names};
+ghost use Rattle.cfdp_tlv.specs.declared.fault.TlvFault.TheVariants.{Memory, TooLong};
+
+use crate::names::read_second;
+use crate::room::{names_len, push_lv, push_names};
+use crate::{FILESTORE_RESPONSE, TlvFault, read_lv};
+use cfdp_status::{Action, Status};
+use std::alloc::{AllocError, Global};
+use std::marker::Model;
+
+/// A filestore response (CCSDS 727.0-B-5 §5.4.2). A contract sees its status, its names and its
+/// message as octet lists. The second name is there exactly where the status's action has one.
+#[derive(Debug, Drop)]
+pub struct FilestoreResponse {
+    /// How the request went.
+    pub status: Status,
+    /// The first file name, as the request spelled it.
+    pub first: Vec<u8>,
+    /// The second file name, for rename, append and replace.
+    pub second: Option<Vec<u8>>,
+    /// The filestore message, which may be empty.
+    pub message: Vec<u8>,
+}
+
+impl Model for FilestoreResponse {
+    ghost use Rattle.std.specs.Prelude.{◌≡◌, option_map, is_some};
+    ghost use Rattle.cfdp_status.specs.Codes.{has_second, action_of};
+    ghost use Rattle.cfdp_tlv.specs.Values.{ResponseFields};
+
+    ghost Value = { ResponseFields };
+
+    ghost view = { λ r. record { status = r.status; first = r.first.items; second = option_map (λ name. name.items) r.second; message = r.message.items } };
+
+    ghost invariant = { λ r. is_some r.second ≡ has_second (action_of r.status) };
+}
+
+/// A filestore response that lies in the octets that it was read from. A contract sees it as it sees
+/// a [`FilestoreResponse`].
+#[derive(Debug, Drop)]
+pub struct ResponseParts<'a> {
+    /// How the request went.
+    pub status: Status,
+    /// The first file name.
+    pub first: &'a [u8],
+    /// The second file name, for rename, append and replace.
+    pub second: Option<&'a [u8]>,
+    /// The filestore message, which may be empty.
+    pub message: &'a [u8],
+}
+
+impl<'a> Model for ResponseParts<'a> {
+    ghost use Rattle.std.specs.Prelude.{◌≡◌, option_map, is_some};
+    ghost use Rattle.cfdp_status.specs.Codes.{has_second, action_of};
+    ghost use Rattle.cfdp_tlv.specs.Values.{ResponseFields};
+
+    ghost Value = { ResponseFields };
+
+    ghost view = { λ r. record { status = r.status; first = r.first.now; second = option_map (λ name. name.now) r.second; message = r.message.now } };
+
+    ghost invariant = { λ r. is_some r.second ≡ has_second (action_of r.status) };
+}
+
+impl PartialEq for FilestoreResponse {
+    ghost use Rattle.cfdp_tlv.specs.Equality.{same_response, responses_per};
+
+    ghost eq = { same_response };
+
+    ghost laws = { responses_per };
+
+    fn eq(&self, other: &FilestoreResponse) -> bool {
+        self.status.octet() == other.status.octet()
+            && have_same_names(self, other)
+            && self.message == other.message
+    }
+}
+
+/// Whether both responses have the same names.
+#[tactic(auto, unfolding(crate::specs::Equality::same_names))]
+fn have_same_names(a: &FilestoreResponse, b: &FilestoreResponse) -> bool
+    ensures { result ≡ same_names a.now b.now }
+{
+    a.first == b.first && a.second == b.second
+}
+
+impl Eq for FilestoreResponse {
+    ghost use Rattle.cfdp_tlv.specs.Equality.{responses_equiv};
+
+    ghost laws = { responses_equiv };
+}
+
+impl FilestoreResponse {
+    /// How the request went.
+    pub fn status(&self) -> Status
+        ensures value { result ≡ self.now.status }
+        ensures complete { IsResponse self.now }
+    {
+        self.status
+    }
+
+    /// The first file name.
+    pub fn first(&self) -> &[u8]
+        ensures value { result.now ≡ self.now.first }
+        ensures complete { IsResponse self.now }
+    {
+        &self.first
+    }
+
+    /// The second file name, where the action has one.
+    pub fn second(&self) -> Option<&[u8]>
+        ensures value { option_map (λ name. name.now) result ≡ self.now.second }
+        ensures complete { IsResponse self.now }
+    {
+        match &self.second {
+            None => None,
+            Some(second) => Some(second),
+        }
+    }
+
+    /// The filestore message.
+    pub fn message(&self) -> &[u8]
+        ensures value { result.now ≡ self.now.message }
+        ensures complete { IsResponse self.now }
+    {
+        &self.message
+    }
+
+    /// How many octets its TLV value has, or `usize::MAX` where that is too little.
+    pub fn value_len(&self) -> usize
+        ensures { result ≡ min (length (response_octets self.now)) usize.MAX }
+    {
+        let names = names_len(&self.first, self.second());
+        let message = self.message.len().saturating_add(1);
+        names.saturating_add(message).saturating_add(1)
+    }
+}
+
+/// The response that a whole TLV value spells, left where it lies.
+///
+/// The faults come in this order: no octet (`Truncated`), an action code above 8 (`BadAction`), an
+/// octet that is no status (`BadStatus`), a field that is cut (`Truncated`), octets after the
+/// message (`Trailing`). It takes no memory.
+#[tactic(auto, unfolding(crate::specs::Grammar::response_at))]
+pub fn response_parts(value: &[u8]) -> Result<ResponseParts<'_>, TlvFault>
+    ensures exact { result ≡ response_at value.now }
+{
+    let [octet, fields @ ..] = value else {
+        return Err(TlvFault::Truncated);
+    };
+    Action::of_code(*octet >> 4).ok_or(TlvFault::BadAction)?;
+    let status = Status::of_octet(*octet).ok_or(TlvFault::BadStatus)?;
+    let (first, rest) = read_lv(fields)?;
+    let (second, rest) = read_second(status.action(), rest)?;
+    let (message, rest) = read_lv(rest)?;
+    if !rest.is_empty() {
+        return Err(TlvFault::Trailing);
+    }
+    Ok(ResponseParts {
+        status,
+        first,
+        second,
+        message,
+    })
+}
+
+impl<'a> ResponseParts<'a> {
+    /// The response with names and a message of its own. It allocates those and nothing else.
+    pub fn copy(&self, alloc: Global) -> Result<FilestoreResponse, AllocError>
+        ensures { IfOk result (λ response. response ≡ self.now) }
+    {
+        let first = Vec::from_slice(alloc, self.first)?;
+        let second = match self.second {
+            None => None,
+            Some(second) => Some(Vec::from_slice(alloc, second)?),
+        };
+        let message = Vec::from_slice(alloc, self.message)?;
+        Ok(FilestoreResponse {
+            status: self.status,
+            first,
+            second,
+            message,
+        })
+    }
+}
+
+/// What [`read_response`] answers.
+fn copied(alloc: Global, value: &[u8]) -> Result<FilestoreResponse, TlvFault>
+    ensures exact { Gives (λ response. response) result (response_at value.now) }
+{
+    let parts = response_parts(value)?;
+    Ok(parts.copy(alloc)?)
+}
+
+/// The response that a whole TLV value spells (CCSDS 727.0-B-5 §5.4.2).
+///
+/// The faults are those of [`response_parts`], and `Memory`. It allocates its names and its message
+/// and nothing else.
+pub fn read_response(alloc: Global, value: &[u8]) -> Result<FilestoreResponse, TlvFault>
+    // What is read is spelled so.
+    ensures found { IfOk result (SpellsResponse value.now) }
+    // What is spelled so is read, unless memory runs out.
+    ensures only { (response : ResponseFields) → SpellsResponse value.now response → (result ≡ Ok response) ⊎ (result ≡ Err Memory) }
+    // Which fault it is.
+    ensures exact { Gives (λ response. response) result (response_at value.now) }
+{
+    copied(alloc, value)
+}
+
+/// Appends a response as a whole TLV (CCSDS 727.0-B-5 §5.4.2).
+///
+/// The faults are `TooLong`, where the value has more than 255 octets, and `Memory`.
+pub fn write_response(response: &FilestoreResponse, out: &mut Vec<u8>) -> Result<(), TlvFault>
+    ensures ok { OnOk result (out.new.items ≡ out.old.items ++ tlv FILESTORE_RESPONSE (response_octets response.now)) }
+    ensures too_long { IsErrOf result TooLong ↔ (255 < length (response_octets response.now)) }
+    ensures faults { IfErr result (λ fault. (fault ≡ TooLong) ⊎ (fault ≡ Memory)) }
+    ensures err { OnErr result (out.new.items ≡ out.old.items) }
+    // Where there is room for it, memory isn't asked for.
+    ensures room { length (response_octets response.now) ≤ 255
+        → vec_len out.old + (length (response_octets response.now) + 2) ≤ vec_capacity out.old → IsOk result }
+    ensures capacity { vec_capacity out.old ≤ vec_capacity out.new }
+{
+    let len = response.value_len();
+    if len > 255 {
+        return Err(TlvFault::TooLong);
+    }
+    out.reserve(len + 2)?;
+    out.push_reserved(FILESTORE_RESPONSE);
+    out.push_reserved(len as u8);
+    out.push_reserved(response.status().octet());
+    push_names(out, response.first(), response.second());
+    push_lv(out, response.message());
+    Ok(())
+}

@@ -1,0 +1,317 @@
+use crate::*;
+use cfdp_status::{Action, Status};
+use std::test::Fail;
+
+// A request TLV, its names, and the response TLV to it with a status.
+#[derive(Clone, Copy)]
+struct Exchange {
+    request: &'static [u8],
+    action: Action,
+    first: &'static [u8],
+    second: Option<&'static [u8]>,
+    status: Status,
+    response: &'static [u8],
+}
+
+const EXCHANGES: [Exchange; 11] = [
+    Exchange {
+        request: b"\x00\x03\x00\x01a",
+        action: Action::CreateFile,
+        first: b"a",
+        second: None,
+        status: Status::Successful(Action::CreateFile),
+        response: b"\x01\x04\x00\x01a\x00",
+    },
+    Exchange {
+        request: b"\x00\x03\x00\x01a",
+        action: Action::CreateFile,
+        first: b"a",
+        second: None,
+        status: Status::NotAllowed(Action::CreateFile),
+        response: b"\x01\x04\x01\x01a\x00",
+    },
+    Exchange {
+        request: b"\x00\x03\x10\x01a",
+        action: Action::DeleteFile,
+        first: b"a",
+        second: None,
+        status: Status::NotPerformed(Action::DeleteFile),
+        response: b"\x01\x04\x1f\x01a\x00",
+    },
+    Exchange {
+        request: b"\x00\x03\x50\x01d",
+        action: Action::CreateDirectory,
+        first: b"d",
+        second: None,
+        status: Status::Successful(Action::CreateDirectory),
+        response: b"\x01\x04\x50\x01d\x00",
+    },
+    Exchange {
+        request: b"\x00\x05\x00\x03d/x",
+        action: Action::CreateFile,
+        first: b"d/x",
+        second: None,
+        status: Status::Successful(Action::CreateFile),
+        response: b"\x01\x06\x00\x03d/x\x00",
+    },
+    Exchange {
+        request: b"\x00\x03\x60\x01d",
+        action: Action::RemoveDirectory,
+        first: b"d",
+        second: None,
+        status: Status::NotAllowed(Action::RemoveDirectory),
+        response: b"\x01\x04\x62\x01d\x00",
+    },
+    Exchange {
+        request: b"\x00\x07\x20\x03d/x\x01b",
+        action: Action::RenameFile,
+        first: b"d/x",
+        second: Some(b"b"),
+        status: Status::Successful(Action::RenameFile),
+        response: b"\x01\x08\x20\x03d/x\x01b\x00",
+    },
+    Exchange {
+        request: b"\x00\x05\x40\x01b\x01c",
+        action: Action::ReplaceFile,
+        first: b"b",
+        second: Some(b"c"),
+        status: Status::ReplaceSecondAbsent,
+        response: b"\x01\x06\x42\x01b\x01c\x00",
+    },
+    Exchange {
+        request: b"\x00\x03\x80\x01d",
+        action: Action::DenyDirectory,
+        first: b"d",
+        second: None,
+        status: Status::Successful(Action::DenyDirectory),
+        response: b"\x01\x04\x80\x01d\x00",
+    },
+    Exchange {
+        request: b"\x00\x05\x30\x01b\x01b",
+        action: Action::AppendFile,
+        first: b"b",
+        second: Some(b"b"),
+        status: Status::Successful(Action::AppendFile),
+        response: b"\x01\x06\x30\x01b\x01b\x00",
+    },
+    Exchange {
+        request: b"\x00\x04\x00\x02/a",
+        action: Action::CreateFile,
+        first: b"/a",
+        second: None,
+        status: Status::Successful(Action::CreateFile),
+        response: b"\x01\x05\x00\x02/a\x00",
+    },
+];
+
+#[test]
+fn exchanges(rt: HostRuntime) -> Result<(), Fail> {
+    let alloc = rt.alloc();
+    for exchange in EXCHANGES {
+        let field = read_tlv(exchange.request)?;
+        assert_eq!(rt; field.kind, FILESTORE_REQUEST);
+        assert!(rt; field.rest.is_empty());
+        let request = read_request(alloc, field.value)?;
+        assert_eq!(rt; request.action(), exchange.action);
+        assert_eq!(rt; request.first(), exchange.first);
+        assert!(rt; request.second() == exchange.second);
+        let mut out = Vec::new(alloc);
+        write_request(&request, &mut out)?;
+        assert_eq!(rt; out.as_slice(), exchange.request);
+
+        let field = read_tlv(exchange.response)?;
+        assert_eq!(rt; field.kind, FILESTORE_RESPONSE);
+        assert!(rt; field.rest.is_empty());
+        let response = read_response(alloc, field.value)?;
+        assert_eq!(rt; response.status(), exchange.status);
+        assert_eq!(rt; response.first(), exchange.first);
+        assert!(rt; response.second() == exchange.second);
+        assert!(rt; response.message().is_empty());
+        let mut out = Vec::new(alloc);
+        write_response(&response, &mut out)?;
+        assert_eq!(rt; out.as_slice(), exchange.response);
+    }
+    Ok(())
+}
+
+#[test]
+fn ample(rt: HostRuntime) -> Result<(), Fail> {
+    let alloc = rt.alloc();
+    let requests = [
+        FilestoreRequest {
+            action: Action::CreateFile,
+            first: Vec::from_slice(alloc, b"a")?,
+            second: None,
+        },
+        FilestoreRequest {
+            action: Action::RenameFile,
+            first: Vec::from_slice(alloc, b"a")?,
+            second: Some(Vec::from_slice(alloc, b"b")?),
+        },
+        FilestoreRequest {
+            action: Action::DeleteFile,
+            first: Vec::from_slice(alloc, b"a")?,
+            second: None,
+        },
+        FilestoreRequest {
+            action: Action::CreateFile,
+            first: Vec::from_slice(alloc, b"/a")?,
+            second: None,
+        },
+    ];
+    let mut out = Vec::new(alloc);
+    for request in &requests {
+        write_request(request, &mut out)?;
+    }
+    assert_eq!(rt;
+        out.as_slice(),
+        b"\x00\x03\x00\x01a\x00\x05\x20\x01a\x01b\x00\x03\x10\x01a\x00\x04\x00\x02/a".as_slice()
+    );
+
+    let not_performed = read_response(alloc, b"\x2f\x01a\x01b\x00")?;
+    let want = FilestoreResponse {
+        status: Status::NotPerformed(Action::RenameFile),
+        first: Vec::from_slice(alloc, b"a")?,
+        second: Some(Vec::from_slice(alloc, b"b")?),
+        message: Vec::new(alloc),
+    };
+    assert!(rt; not_performed == want);
+    let performed = read_response(alloc, b"\x00\x02/a\x00")?;
+    let want = FilestoreResponse {
+        status: Status::Successful(Action::CreateFile),
+        first: Vec::from_slice(alloc, b"/a")?,
+        second: None,
+        message: Vec::new(alloc),
+    };
+    assert!(rt; performed == want);
+    assert!(rt; performed != not_performed);
+    Ok(())
+}
+
+#[test]
+fn fields(rt: HostRuntime) -> Result<(), Fail> {
+    let (value, rest) = read_lv(b"\x02ab\x00")?;
+    assert_eq!(rt; value, b"ab".as_slice());
+    assert_eq!(rt; rest, b"\x00".as_slice());
+    let (value, rest) = read_lv(rest)?;
+    assert!(rt; value.is_empty() && rest.is_empty());
+    for cut in [b"".as_slice(), b"\x01", b"\xffabc"] {
+        assert!(rt; matches!(read_lv(cut), Err(TlvFault::Truncated)));
+    }
+    let field = read_tlv(b"\x06\x01\x02\x00")?;
+    assert_eq!(rt;
+        (field.kind, field.value, field.rest),
+        (6, b"\x02".as_slice(), b"\x00".as_slice())
+    );
+    for cut in [b"".as_slice(), b"\x00", b"\x00\x03\x00\x01"] {
+        assert!(rt; matches!(read_tlv(cut), Err(TlvFault::Truncated)));
+    }
+    Ok(())
+}
+
+#[test]
+fn faults(rt: HostRuntime) -> Result<(), Fail> {
+    let alloc = rt.alloc();
+    let requests = [
+        (b"".as_slice(), TlvFault::Truncated),
+        (b"\x90\x01a", TlvFault::BadAction),
+        (b"\x90", TlvFault::BadAction),
+        (b"\x00", TlvFault::Truncated),
+        (b"\x00\x02a", TlvFault::Truncated),
+        (b"\x20\x01a", TlvFault::Truncated),
+        (b"\x10\x01a\x00", TlvFault::Trailing),
+        (b"\x20\x01a\x01b\x00", TlvFault::Trailing),
+    ];
+    for (value, fault) in requests {
+        assert_eq!(rt; read_request(alloc, value).err(), Some(fault));
+        assert_eq!(rt; request_parts(value).err(), Some(fault));
+    }
+    let responses = [
+        (b"".as_slice(), TlvFault::Truncated),
+        (b"\x90\x01a\x00", TlvFault::BadAction),
+        (b"\x02\x01a\x00", TlvFault::BadStatus),
+        (b"\x71", TlvFault::BadStatus),
+        (b"\x00\x01a", TlvFault::Truncated),
+        (b"\x20\x01a\x01b", TlvFault::Truncated),
+        (b"\x00\x01a\x00\x00", TlvFault::Trailing),
+    ];
+    for (value, fault) in responses {
+        assert_eq!(rt; read_response(alloc, value).err(), Some(fault));
+        assert_eq!(rt; response_parts(value).err(), Some(fault));
+    }
+    // Spare bits are passed over.
+    assert!(rt; read_request(alloc, b"\x1f\x01a")? == read_request(alloc, b"\x10\x01a")?);
+    Ok(())
+}
+
+#[test]
+fn longest_values(rt: HostRuntime) -> Result<(), Fail> {
+    let alloc = rt.alloc();
+    for len in [252usize, 253, 254] {
+        let request = FilestoreRequest {
+            action: Action::DeleteFile,
+            first: vec![in alloc; b'p'; len]?,
+            second: None,
+        };
+        let response = FilestoreResponse {
+            status: Status::DeleteAbsent,
+            first: vec![in alloc; b'p'; len]?,
+            second: None,
+            message: Vec::new(alloc),
+        };
+        let mut out = Vec::from_slice(alloc, b"x")?;
+        let written = write_request(&request, &mut out);
+        assert_eq!(rt;
+            written.err(),
+            if len > 253 {
+                Some(TlvFault::TooLong)
+            } else {
+                None
+            }
+        );
+        assert_eq!(rt; out.len(), if len > 253 { 1 } else { len.wrapping_add(5) });
+        let mut out = Vec::from_slice(alloc, b"x")?;
+        let written = write_response(&response, &mut out);
+        assert_eq!(rt;
+            written.err(),
+            if len > 252 {
+                Some(TlvFault::TooLong)
+            } else {
+                None
+            }
+        );
+        assert_eq!(rt; out.len(), if len > 252 { 1 } else { len.wrapping_add(6) });
+    }
+    Ok(())
+}
+
+// Run with each allocation refused in turn: what is answered is the value, or `Memory` with the
+// vector as before.
+#[test]
+fn refused_memory(rt: HostRuntime) {
+    let alloc = rt.alloc();
+    let request = match read_request(alloc, b"\x20\x01a\x01b") {
+        Ok(request) => request,
+        Err(fault) => {
+            assert_eq!(rt; fault, TlvFault::Memory);
+            return;
+        }
+    };
+    let response = match read_response(alloc, b"\x20\x01a\x01b\x01m") {
+        Ok(response) => response,
+        Err(fault) => {
+            assert_eq!(rt; fault, TlvFault::Memory);
+            return;
+        }
+    };
+    let mut out = Vec::new(alloc);
+    match write_request(&request, &mut out) {
+        Ok(()) => assert_eq!(rt; out.as_slice(), b"\x00\x05\x20\x01a\x01b".as_slice()),
+        Err(fault) => assert!(rt; fault == TlvFault::Memory && out.is_empty()),
+    }
+    let mut out = Vec::new(alloc);
+    match write_response(&response, &mut out) {
+        Ok(()) => assert_eq!(rt; out.as_slice(), b"\x01\x07\x20\x01a\x01b\x01m".as_slice()),
+        Err(fault) => assert!(rt; fault == TlvFault::Memory && out.is_empty()),
+    }
+}

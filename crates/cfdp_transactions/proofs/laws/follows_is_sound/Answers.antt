@@ -1,0 +1,5 @@
+use Rattle.cfdp_transactions.proofs.Needs.{follows_sound}
+use Rattle.cfdp_transactions.proofs.laws.follows_is_sound.Goals as goal
+
+pub returns : goal.returns
+returns c = follows_sound c.lower_laws.ensures

@@ -1,0 +1,5 @@
+use Rattle.cfdp_transactions.proofs.OctetsAndGaps.{few_gaps}
+use Rattle.cfdp_transactions.proofs.laws.received.few_gaps.Goals as goal
+
+pub returns : goal.returns
+returns c = few_gaps

@@ -1,0 +1,5 @@
+use Rattle.cfdp_transactions.proofs.OctetsAndGaps.{greatest_end}
+use Rattle.cfdp_transactions.proofs.laws.received.greatest_end.Goals as goal
+
+pub returns : goal.returns
+returns c = greatest_end

@@ -1,0 +1,5 @@
+use Rattle.cfdp_transactions.proofs.Starting.{start_sound}
+use Rattle.cfdp_transactions.proofs.laws.start_is_sound.Goals as goal
+
+pub returns : goal.returns
+returns c = start_sound

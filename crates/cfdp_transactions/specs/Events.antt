@@ -1,0 +1,71 @@
+-- What happens to the receiving entity, and what it replies.
+--     Event      a PDU that came (CCSDS 727.0-B-5 §5.2, §5.3), a step, a request to cancel (§4.11), a check timer's
+--                expiry (§4.6.4), or a request for the outcome
+--     Outcome    the Finished PDU, its header, and whether it is sent
+--     Reply
+--     about      whose transaction an event is
+--     event_of   the event that a PDU is: none, where it goes toward the sender or the core does not take it
+use Rattle.std.specs.Prelude.{ℕ, Bool, if◌then◌else◌, Option, Some, None}
+use Rattle.cfdp_status.specs.declared.status.Status.{Status}
+use Rattle.cfdp_status.specs.declared.transaction.TransactionId.{TransactionId}
+use Rattle.cfdp_pdus.specs.Values.{MetadataFields, FileDataFields, FinishedFields}
+use Rattle.cfdp_pdus.specs.declared.header.Header.{Header}
+use Rattle.cfdp_pdus.specs.declared.eof.Eof.{Eof}
+use Rattle.cfdp_pdus.specs.declared.pdu.Pdu.{Pdu}
+use Rattle.cfdp_pdus.specs.declared.pdu.Pdu.TheVariants as pdu
+use Rattle.cfdp_transactions.specs.Entry.{id_of}
+use Rattle.cfdp_transactions.specs.Verdict.{Refusal}
+
+pub data Event : Type 0 where
+  MetadataCame : Header → MetadataFields → Event
+  DataCame : Header → FileDataFields → Event
+  EofCame : Header → Eof → Event
+  Step : TransactionId → Event
+  Cancel : TransactionId → Event
+  Check : TransactionId → Event
+  Take : TransactionId → Event
+
+pub record Outcome : Type 0 where
+  pub header : Header
+  pub finished : FinishedFields
+  pub send : Bool
+
+pub data Reply : Type 0 where
+  Admitted : ℕ → ℕ → Reply  -- blocks and steps granted
+  Refused : Refusal → Reply
+  Stored : Reply
+  Dropped : Reply
+  Complete : Reply
+  Waiting : Reply
+  Faulted : ℕ → Reply
+  Performed : Status → Reply
+  Installed : Reply
+  Done : Reply
+  Cancelled : Reply
+  Taken : Outcome → Reply
+  Duplicate : Reply
+  Unknown : Reply
+  Idle : Reply
+  NotForUs : Reply
+  TableFull : Reply
+  Memory : Reply  -- none of the table's: memory was refused, and nothing changed
+  JournalFull : Reply  -- nor this: the event was not taken
+
+abbrev pub about : Event → TransactionId
+about (MetadataCame h m) = id_of h
+about (DataCame h piece) = id_of h
+about (EofCame h eof) = id_of h
+about (Step id) = id
+about (Cancel id) = id
+about (Check id) = id
+about (Take id) = id
+
+abbrev pub to_receiver : Header → Event → Option Event
+to_receiver h event = if h.toward_sender then None else Some event
+
+abbrev pub event_of : Pdu → Option Event
+event_of (pdu.Metadata h m) = to_receiver h (MetadataCame h m)
+event_of (pdu.FileData h piece) = to_receiver h (DataCame h piece)
+event_of (pdu.Eof h eof) = to_receiver h (EofCame h eof)
+event_of (pdu.Finished h finished) = None
+event_of (pdu.NotOurs h directive) = None

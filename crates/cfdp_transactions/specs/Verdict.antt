@@ -1,0 +1,136 @@
+-- The verdict on a list of filestore requests, before its transaction begins: what is refused, and what is granted.
+-- (CCSDS 727.0-B-5 §4.9 performs the requests once the file is there; that they are judged before is this project's own.)
+--     Proposal                  a list as it was sent, with its file's destination and the bound of its length
+--     Place, Refusal, Verdict   a name of a proposal;  why it is refused;  or what it is granted
+--     parsed P                  its items, or the first name that is no path
+--     conflict_in leases fp     the first transaction whose footprint conflicts
+--     first_failure i answers   the first request that is not successful, counted from i
+--     destination_allowed       whether the file may be installed as things stand
+--     verdict prefixes F leases spare P
+use Rattle.std.specs.Prelude.{ℕ, ◌+◌, min, Bool, true, if◌then◌else◌, nat_lt, List, [], ◌∷◌, length, replicate, Option, Some, None}
+use Rattle.cfdp_status.specs.declared.action.Action.{Action}
+use Rattle.cfdp_status.specs.declared.action.Action.TheVariants as action
+use Rattle.cfdp_status.specs.declared.status.Status.{Status}
+use Rattle.cfdp_status.specs.declared.transaction.TransactionId.{TransactionId}
+use Rattle.cfdp_status.specs.Codes.{is_successful}
+use Rattle.cfdp_paths.specs.Paths.{Path, path_of}
+use Rattle.cfdp_actions.specs.Filestore.{Filestore}
+use Rattle.cfdp_actions.specs.Actions.{Request, CreateFile, DeleteFile, RenameFile, AppendFile, ReplaceFile, CreateDirectory, RemoveDirectory, DenyFile, DenyDirectory, Item, Install, Perform, Answer, Performed, Installed, NotInstalled, succeeded, row}
+use Rattle.cfdp_leases.specs.Footprint.{Footprint, footprint_of, is_conflict}
+use Rattle.cfdp_states.specs.Alone.{alone, statuses_alone, need_alone, steps_alone}
+use Rattle.cfdp_tlv.specs.Values.{RequestFields}
+
+-- no destination: no file, and the bound is 0
+pub record Proposal : Type 0 where
+  pub destination : Option (List ℕ)
+  pub bound : ℕ
+  pub requests : List RequestFields
+
+pub data Place : Type 0 where
+  Destination : Place
+  At : ℕ → Place
+
+pub data Refusal : Type 0 where
+  TooManyRequests : Refusal
+  BadPath : Place → Refusal
+  Conflict : TransactionId → Refusal
+  DestinationNotAllowed : Refusal
+  WouldFail : ℕ → Status → Refusal
+  TooLong : ℕ → Refusal
+  NoRoom : ℕ → ℕ → Refusal
+
+-- a grant has the items, and how many blocks and steps they may take
+pub data Verdict : Type 0 where
+  Refuse : Refusal → Verdict
+  Grant : List Item → ℕ → ℕ → Verdict
+
+-- names and paths ----------------------------------------------------------------
+
+pub data Parsed : Type 0 where
+  Bad : Place → Parsed
+  Good : List Item → Parsed
+
+abbrev pub named : Option (List ℕ) → Option Path
+named None = None
+named (Some octets) = path_of octets
+
+-- a request of its paths; None where one of its names is no path
+abbrev pub request_of : Action → Option Path → Option Path → Option Request
+request_of action.CreateFile (Some p) q = Some (CreateFile p)
+request_of action.DeleteFile (Some p) q = Some (DeleteFile p)
+request_of action.RenameFile (Some p) (Some q) = Some (RenameFile p q)
+request_of action.AppendFile (Some p) (Some q) = Some (AppendFile p q)
+request_of action.ReplaceFile (Some p) (Some q) = Some (ReplaceFile p q)
+request_of action.CreateDirectory (Some p) q = Some (CreateDirectory p)
+request_of action.RemoveDirectory (Some p) q = Some (RemoveDirectory p)
+request_of action.DenyFile (Some p) q = Some (DenyFile p)
+request_of action.DenyDirectory (Some p) q = Some (DenyDirectory p)
+request_of action p q = None
+
+abbrev pub and_then : Option Request → ℕ → Parsed → Parsed
+and_then None i rest = Bad (At i)
+and_then (Some r) i (Bad place) = Bad place
+and_then (Some r) i (Good items) = Good (Perform r ∷ items)
+
+-- the first name that is no path, from the left, or the items; requests count from i
+abbrev pub parsed_from : ℕ → List RequestFields → Parsed
+parsed_from i [] = Good []
+parsed_from i (r ∷ rs) = and_then (request_of r.action (path_of r.first) (named r.second)) i (parsed_from (i + 1) rs)
+
+abbrev pub with_file : Option Path → Parsed → Parsed
+with_file None parsed = Bad Destination
+with_file (Some p) (Bad place) = Bad place
+with_file (Some p) (Good items) = Good (Install p ∷ items)
+
+abbrev pub with_destination : Option (List ℕ) → Parsed → Parsed
+with_destination None parsed = parsed
+with_destination (Some octets) parsed = with_file (path_of octets) parsed
+
+abbrev pub parsed : Proposal → Parsed
+parsed P = with_destination P.destination (parsed_from 0 P.requests)
+
+-- what is in the way -------------------------------------------------------------
+
+-- the first in order of admission whose footprint conflicts
+abbrev pub conflict_in : List (TransactionId × Footprint) → Footprint → Option TransactionId
+conflict_in [] fp = None
+conflict_in (l ∷ ls) fp = if is_conflict fp l.1 then Some l.0 else conflict_in ls fp
+
+-- the first request that is not successful; the install is no request
+abbrev pub first_failure : ℕ → List Answer → Option (ℕ × Status)
+first_failure i [] = None
+first_failure i (Performed s ∷ rest) = if is_successful s then first_failure (i + 1) rest else Some (i, s)
+first_failure i (Installed ∷ rest) = first_failure i rest
+first_failure i (NotInstalled ∷ rest) = first_failure i rest
+
+abbrev pub destination_allowed : List Path → Filestore → List Item → Bool
+destination_allowed prefixes F (Install p ∷ items) = succeeded (row prefixes F 0 (Install p)).answer
+destination_allowed prefixes F items = true
+
+-- the verdict --------------------------------------------------------------------
+
+-- carried in 32 bits
+abbrev pub capped : ℕ → ℕ
+capped n = min n 4294967295
+
+-- of items without a conflict whose destination is allowed, by their first failure, Need and Steps alone
+abbrev pub judged : ℕ → List Item → Option (ℕ × Status) → ℕ → ℕ → Verdict
+judged spare items (Some f) needed steps = Refuse (WouldFail f.0 f.1)
+judged spare items None needed steps =
+    if nat_lt 65536 steps then Refuse (TooLong (capped steps))
+    else if nat_lt spare needed then Refuse (NoRoom (capped needed) (capped spare))
+    else Grant items needed steps
+
+abbrev pub judged_apart : List Path → Filestore → ℕ → List ℕ → List Item → Option TransactionId → Verdict
+judged_apart prefixes F spare x items (Some id) = Refuse (Conflict id)
+judged_apart prefixes F spare x items None =
+    if destination_allowed prefixes (alone F x) items
+    then judged spare items (first_failure 0 (statuses_alone prefixes F x items)) (need_alone prefixes F x items) (steps_alone prefixes F x items)
+    else Refuse DestinationNotAllowed
+
+abbrev pub verdict_of : List Path → Filestore → List (TransactionId × Footprint) → ℕ → Proposal → Parsed → Verdict
+verdict_of prefixes F leases spare P (Bad place) = Refuse (BadPath place)
+verdict_of prefixes F leases spare P (Good items) = judged_apart prefixes F spare (replicate P.bound 0) items (conflict_in leases (footprint_of items))
+
+abbrev pub verdict : List Path → Filestore → List (TransactionId × Footprint) → ℕ → Proposal → Verdict
+verdict prefixes F leases spare P = if nat_lt 64 (length P.requests) then Refuse TooManyRequests else verdict_of prefixes F leases spare P (parsed P)

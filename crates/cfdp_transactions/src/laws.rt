@@ -1,0 +1,86 @@
+//! What is true of the definitions of the core, whatever the code does. Each function does nothing:
+//! its contract is the law.
+
+ghost use Rattle.cfdp_transactions.specs.LowerLaws.{LowerLaws};
+ghost use Rattle.cfdp_transactions.specs.Headline.{StartIsSound, NextIsSound, NextIsPromised, Headline};
+ghost use Rattle.cfdp_transactions.specs.Needs.{StepNeeds, DataNeeds, FollowsIsSound};
+ghost use Rattle.cfdp_transactions.specs.Writable.{OutcomesFit};
+
+pub mod received;
+
+use cfdp_leases::laws::{isolation, own_footprint, stays_rooted};
+use cfdp_states::laws::{
+    any_slot_with, enough_room, foreign_change_with, growth, longer_file, own_step,
+};
+
+// What the layers below promise.
+fn lower_laws()
+    ensures { LowerLaws }
+{
+    own_footprint();
+    isolation();
+    stays_rooted();
+    growth();
+    longer_file();
+    foreign_change_with();
+    own_step();
+    enough_room();
+    any_slot_with();
+}
+
+/// A receiving entity that has just begun is sound.
+pub fn start_is_sound()
+    ensures { StartIsSound }
+{}
+
+/// Every event leaves a sound entity sound.
+pub fn next_is_sound()
+    ensures { NextIsSound }
+{
+    lower_laws();
+}
+
+/// From each sound world to the next, whatever the event: items are performed as the action table
+/// says and succeed, a transaction that completes has 'successful' for every request and 'not
+/// performed' for none, no more is spent than granted, and no event of one transaction changes a
+/// path leased to another.
+pub fn next_is_promised()
+    ensures { NextIsPromised }
+{
+    lower_laws();
+}
+
+/// For every configuration and every list of events, each world of the run is sound, and from each
+/// world to the next all that was just said holds.
+pub fn headline()
+    ensures { Headline }
+{
+    lower_laws();
+}
+
+/// Where each PDU event of a list has a header whose lengths are 1 to 8 octets and whose numbers fit
+/// them, an EOF's condition is at most 15 and request values have at most 254 octets, every outcome
+/// of the run can be written as a Finished PDU: all its numbers and lengths fit.
+pub fn outcomes_fit()
+    ensures { OutcomesFit }
+{}
+
+/// A call that does what the table says, or nothing where memory was refused, keeps an entity sound.
+pub fn follows_is_sound()
+    ensures { FollowsIsSound }
+{
+    lower_laws();
+}
+
+/// In a sound world, an entry in Executing has a next item, for which there are blocks and steps:
+/// what the calls of the layers below need of a Step.
+pub fn step_needs()
+    ensures { StepNeeds }
+{
+    lower_laws();
+}
+
+/// In a sound world, an entry that takes data has the blocks in its reserve, and they are free.
+pub fn data_needs()
+    ensures { DataNeeds }
+{}
