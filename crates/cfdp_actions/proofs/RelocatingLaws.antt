@@ -2,7 +2,7 @@
 --     push_shown                 an entry more at the end
 --     rest_kept, tree_kept       an entry that stays;  rest_moved, tree_moved: one that moves
 --     with_paths-rebased         new paths are the rebased ones
-use Rattle.std.proofs.Common.{◌≡◌, ℕ, suc, ◌+◌, ◌≤◌, Bool, true, false, not, List, [], ◌∷◌, ◌++◌, map, length, append_assoc, refl, sym, ap, ◌∙◌, arith, if◌then◌else◌}
+use Rattle.std.proofs.Common.{◌≡◌, true, false, not, List, [], ◌∷◌, ◌++◌, map, append_assoc, refl, ap, ◌∙◌, if◌then◌else◌}
 use Rattle.std.proofs.lemmas.List.{map-append}
 use Rattle.cfdp_paths.specs.Paths.{Path, is_at_or_below, rebased}
 use Rattle.cfdp_actions.specs.Filestore.{Node}

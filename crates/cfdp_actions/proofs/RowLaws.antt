@@ -13,7 +13,7 @@ use Rattle.cfdp_status.specs.declared.status.Status.{Status}
 use Rattle.cfdp_status.specs.declared.status.Status.TheVariants.{Successful, NotAllowed, DeleteAbsent, RenameOldAbsent, RenameNewPresent, AppendFirstAbsent, AppendSecondAbsent, ReplaceFirstAbsent, ReplaceSecondAbsent, RemoveAbsent}
 use Rattle.cfdp_paths.specs.Paths.{Path, same_path, is_at_or_below}
 use Rattle.cfdp_paths.proofs.Comparing.{same_path-Decides}
-use Rattle.cfdp_actions.specs.Filestore.{Node, Directory, File, Filestore, node_at, octets_in, octets_at, is_directory, is_file, blocks_of, weight, Change, Becomes, has_entries, parent_is_good, tree_at, deepest_of}
+use Rattle.cfdp_actions.specs.Filestore.{Node, Directory, File, Filestore, node_at, octets_in, octets_at, is_directory, is_file, blocks_of, Change, Becomes, has_entries, parent_is_good, tree_at, deepest_of}
 use Rattle.cfdp_actions.specs.Actions.{Request, CreateFile, DeleteFile, RenameFile, AppendFile, ReplaceFile, CreateDirectory, RemoveDirectory, DenyFile, DenyDirectory, action_in, Item, Perform, Performed as Status_of, Outcome, ticks, refused, succeeds, create, gone, delete_file, is_too_deep, vacated, settled, rename, append, replace, remove_directory, deny_file, deny_directory, table, bars, denied, within, act}
 use Rattle.cfdp_actions.specs.Store.{Store, free_blocks, with_changes, kind_in, is_file_kind}
 use Rattle.cfdp_actions.specs.Performing.{Does}

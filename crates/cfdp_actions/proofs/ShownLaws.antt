@@ -3,13 +3,12 @@
 --     shown_exchanged     an entry with other content
 --     shown_inserted      an entry more
 --     shown_removed       an entry less
-use Rattle.std.proofs.Common.{◌≡◌, ◌≢◌, ℕ, suc, ◌+◌, ◌<◌, ◌≤◌, Bool, true, false, not, List, [], ◌∷◌, ◌++◌, Option, Some, None, is_some, length, take, drop, set, get_or, map, refl, sym, ap, subst, ◌∙◌, arith}
-use Rattle.std.specs.FinMap.{find, put, is_sorted}
-use Rattle.std.specs.FinMap.Entries.{where_key}
+use Rattle.std.proofs.Common.{◌≡◌, ◌≢◌, ℕ, suc, ◌<◌, true, List, ◌∷◌, ◌++◌, is_some, length, take, drop, set, get_or, sym, ap, ◌∙◌, arith}
+use Rattle.std.specs.FinMap.{put, is_sorted}
 use Rattle.std.specs.List.{insert, remove}
 use Rattle.std.proofs.Math.ListN.{get_or-map}
 use Rattle.std.proofs.lemmas.List.{map-set, map-append, length-map, take-map, drop-map}
-use Rattle.cfdp_paths.specs.Paths.{Path, path_cmp, same_path}
+use Rattle.cfdp_paths.specs.Paths.{Path, path_cmp}
 use Rattle.cfdp_actions.specs.Filestore.{Node}
 use Rattle.cfdp_actions.specs.Ranks.{rank}
 use Rattle.cfdp_actions.specs.Listed.{node_of, shown_entry, shown, found}

@@ -2,7 +2,7 @@
 --     octets_of-set        one of them changed
 --     octets_of-at         one of them
 --     extended_is          what `resize` leaves
-use Rattle.std.proofs.Common.{◌≡◌, ℕ, ◌+◌, ◌-◌, ◌<◌, ◌≤◌, List, [], ◌∷◌, ◌++◌, length, take, set, get_or, map, replicate, refl, sym, ap, ◌∙◌, arith, Vec, vec_len, Result, Ok, Err, OnErr}
+use Rattle.std.proofs.Common.{◌≡◌, ℕ, ◌-◌, ◌<◌, ◌≤◌, List, [], ◌++◌, length, take, set, get_or, replicate, sym, ap, ◌∙◌, arith, Vec, Result, Ok, Err, OnErr}
 use Rattle.std.specs.declared.alloc.Global.{Global}
 use Rattle.std.proofs.lemmas.List.{map-set, get_or-map, take_all, set-get_or}
 use Rattle.cfdp_actions.specs.Store.{extended}

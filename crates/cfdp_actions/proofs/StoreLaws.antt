@@ -5,16 +5,13 @@
 --     gone_store, gone_kept             one path taken out
 --     moved_store, moved_kept           all at and below a path moved
 --     staged_store, staged_kept         one staged list changed
-use Rattle.std.proofs.Common.{◌≡◌, ◌≢◌, ℕ, zero, suc, ◌+◌, ◌-◌, ◌*◌, ◌<◌, ◌≤◌, Bool, true, false, not, if◌then◌else◌, ◌&&◌, ◌||◌, ◌==◌, List, [], ◌∷◌, ◌++◌, Option, Some, None, is_some, length, map, set, get_or, sum_by, replicate, length-append, refl, sym, ap, subst, ◌∙◌, arith, T, Vec}
+use Rattle.std.proofs.Common.{◌≡◌, ℕ, zero, suc, ◌+◌, ◌-◌, ◌*◌, ◌<◌, ◌≤◌, Bool, true, false, not, if◌then◌else◌, ◌&&◌, ◌||◌, ◌==◌, List, [], ◌∷◌, ◌++◌, Option, Some, None, is_some, length, map, set, get_or, sum_by, replicate, length-append, refl, sym, ap, subst, ◌∙◌, arith, T, Vec}
 use Rattle.std.specs.declared.alloc.Global.{Global}
-use Rattle.std.specs.Cmp.{tied_itself}
 use Rattle.std.specs.FinMap as finite
-use Rattle.std.specs.FinMap.{find, put, is_sorted, entries-from_sorted, get-from_sorted, entries-insert, get-insert, get-remove, get-retain_keys, same_map, same_entries_map}
+use Rattle.std.specs.FinMap.{find, put, is_sorted, entries-from_sorted, get-from_sorted, entries-insert, get-remove, get-retain_keys, same_map, same_entries_map}
 use Rattle.std.specs.FinMap.Entries.{where_key, is_sorted-put, is_sorted-where_key, find-where_key, is_some-find}
 use Rattle.std.specs.List.{list_any}
-use Rattle.std.specs.Ordering.{eq_by_cmp, is_eq}
 use Rattle.std.specs.declared.cmp.Ordering.TheVariants.{Equal}
-use Rattle.std.proofs.lemmas.Bool.{true≢false, false≢true}
 use Rattle.std.proofs.lemmas.Float.{T_from_true}
 use Rattle.std.proofs.lemmas.List.Sums.{sum_by-set, sum_by-cons}
 use Rattle.std.proofs.lemmas.Bool.Decides.{nat_tests}
@@ -23,10 +20,10 @@ use Rattle.std.proofs.Math.Nat.{mul-zero}
 use Rattle.std.proofs.lemmas.List.Folds.{sum_by-replicate}
 use Rattle.cfdp_paths.specs.Paths.{Path, path_cmp, same_path, is_at_or_below, is_below, parent, rebased}
 use Rattle.cfdp_paths.proofs.Comparing.{same_path-Decides}
-use Rattle.cfdp_actions.specs.Filestore.{Node, Directory, File, Filestore, node_at, staged_in, blocks_of, weight, weights, blocks, Change, Becomes, Stages, nodes_with, changed, after, inside, has_entries, is_directory, is_file, octets_in, is_good, is_root, parent_is_good, tree_at}
+use Rattle.cfdp_actions.specs.Filestore.{Node, Directory, File, Filestore, node_at, staged_in, blocks_of, weight, weights, blocks, Change, Becomes, Stages, changed, after, inside, has_entries, is_directory, is_file, octets_in, is_good, is_root, parent_is_good, tree_at}
 use Rattle.cfdp_actions.specs.Actions.{vacated, settled}
 use Rattle.cfdp_actions.specs.Store.{Store, free_blocks, with_changes}
-use Rattle.cfdp_actions.specs.Listed.{shown_entry, shown, found, octets_of, used, nodes_of, store_of, IsKept}
+use Rattle.cfdp_actions.specs.Listed.{shown, found, octets_of, used, nodes_of, store_of, IsKept}
 use Rattle.cfdp_actions.specs.Relocating.{tree_in, rest_in, puts, moved_to}
 use Rattle.cfdp_actions.specs.declared.listed.Listed.{Listed}
 use Rattle.cfdp_actions.proofs.ListLaws.{path_total, path_antisym, without, weights-put, weights-put-le, weights-without, weights-parted}

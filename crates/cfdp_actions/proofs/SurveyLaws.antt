@@ -2,14 +2,13 @@
 --     weights_next, lists_next      the blocks of what is left of a list
 --     blocks_of-bound               octets whose blocks are few
 --     found_next                    what stands at a path, past an entry with another path
-use Rattle.std.proofs.Common.{◌≡◌, ◌≢◌, ℕ, ◌+◌, ◌<◌, ◌≤◌, Bool, true, false, if◌then◌else◌, List, [], ◌∷◌, Option, Some, None, length, drop, get_or, sum_by, refl, sym, ap, ◌∙◌, arith, Vec}
+use Rattle.std.proofs.Common.{◌≡◌, ◌≢◌, ℕ, ◌+◌, ◌<◌, ◌≤◌, Bool, true, false, if◌then◌else◌, List, ◌∷◌, Some, length, drop, get_or, sum_by, refl, sym, ap, ◌∙◌, arith, Vec}
 use Rattle.std.specs.declared.alloc.Global.{Global}
-use Rattle.std.proofs.lemmas.Bool.{true≢false}
 use Rattle.std.proofs.lemmas.List.{at_drop_more}
 use Rattle.std.proofs.lemmas.List.Sums.{sum_by-cons}
 use Rattle.cfdp_paths.specs.Paths.{Path, same_path}
 use Rattle.cfdp_paths.proofs.Comparing.{same_path-Decides}
-use Rattle.cfdp_actions.specs.Filestore.{Node, weight, weights, blocks_of}
+use Rattle.cfdp_actions.specs.Filestore.{weight, weights, blocks_of}
 use Rattle.cfdp_actions.specs.Listed.{node_of, shown, found, octets_of}
 use Rattle.cfdp_actions.specs.declared.listed.Listed.{Listed}
 

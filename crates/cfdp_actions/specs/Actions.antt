@@ -10,7 +10,7 @@
 --     row prefixes F slot item  the row, being barred coming first
 --     within free item o        the row, where it fits into the free blocks
 --     act, act_item             what a request, or an item, does: the row within the free blocks
-use Rattle.std.specs.Prelude.{◌≡◌, ℕ, ◌+◌, ◌-◌, Bool, true, false, if◌then◌else◌, nat_le, nat_lt, ◌||◌, ◌&&◌, is_some, List, [], ◌∷◌, ◌++◌, Option, Some, None, length, unwrap_or}
+use Rattle.std.specs.Prelude.{ℕ, ◌+◌, ◌-◌, Bool, true, false, if◌then◌else◌, nat_le, nat_lt, ◌||◌, ◌&&◌, is_some, List, [], ◌∷◌, ◌++◌, Option, Some, None, length, unwrap_or}
 use Rattle.std.specs.List.{list_any}
 use Rattle.cfdp_status.specs.declared.action.Action.{Action}
 use Rattle.cfdp_status.specs.declared.action.Action.TheVariants as action

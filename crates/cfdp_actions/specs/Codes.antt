@@ -4,7 +4,7 @@ use Rattle.std.specs.Prelude.{◌≡◌, ℕ, Bool, List, Option, Some, None, re
 use Rattle.std.specs.Coded.{Coded, code_by, coded×, coded_list, coded_option, coded_ℕ, coded_bool}
 use Rattle.std.specs.FinMap as finite
 use Rattle.cfdp_paths.specs.Paths.{path_cmp}
-use Rattle.cfdp_actions.specs.Filestore.{Node, Directory, File, Filestore}
+use Rattle.cfdp_actions.specs.Filestore.{Node, Directory, File}
 use Rattle.cfdp_actions.specs.Store.{Store}
 
 abbrev pub octets_of_node : Node → Option (List ℕ)

@@ -12,7 +12,7 @@
 --     is_good, parent_is_good     whether a path, or its parent, is the root or a directory
 --     IsRooted                    each path's parent is the root or a directory
 --     tree_at F p, deepest_of     p and all that stands below it, in order;  the names of the longest path of some entries
-use Rattle.std.specs.Prelude.{◌≡◌, ℕ, ◌+◌, ◌-◌, ◌/◌, Bool, true, false, not, ◌&&◌, ◌==◌, IsTrue, IsSome, max, List, [], ◌∷◌, Option, Some, None, length, sum_by, slice_index_or, slice_set, replicate}
+use Rattle.std.specs.Prelude.{ℕ, ◌+◌, ◌/◌, Bool, true, false, not, ◌&&◌, ◌==◌, IsTrue, IsSome, max, List, [], ◌∷◌, Option, Some, None, length, sum_by, slice_index_or, slice_set, replicate}
 use Rattle.std.specs.FinMap as finite
 use Rattle.cfdp_paths.specs.Paths.{Path, path_cmp, is_at_or_below, is_below, parent}
 

@@ -6,7 +6,7 @@
 --     used ls staged            the blocks of all together
 --     nodes_of, store_of        the list as a finite map, and with the staged lists as a store
 --     IsKept                    what is true of every such list
-use Rattle.std.specs.Prelude.{◌≡◌, ℕ, ◌+◌, ◌≤◌, false, IsTrue, List, [], ◌∷◌, Option, Some, None, length, map, sum_by, Vec}
+use Rattle.std.specs.Prelude.{◌≡◌, ℕ, ◌+◌, ◌≤◌, false, IsTrue, List, Option, length, map, sum_by, Vec}
 use Rattle.std.specs.declared.alloc.Global.{Global}
 use Rattle.std.specs.FinMap as finite
 use Rattle.cfdp_paths.specs.Paths.{Path, path_cmp}

@@ -1,7 +1,7 @@
 -- What it is to perform a request on a store.
 --     outcome_of prefixes s request    the action table on the store's filestore and its free blocks
 --     Does old new request result      with nothing protected the result and the store after it are those of the table
-use Rattle.std.specs.Prelude.{◌≡◌, ℕ, IsTrue, IsOk, List, [], ◌∷◌, Result, Ok, Err}
+use Rattle.std.specs.Prelude.{◌≡◌, IsTrue, IsOk, List, [], Result, Ok, Err}
 use Rattle.std.specs.declared.alloc.AllocError.{AllocError}
 use Rattle.cfdp_paths.specs.Paths.{Path}
 use Rattle.cfdp_actions.specs.Actions.{Request, Outcome, Performed as Status_of, act, ticks}

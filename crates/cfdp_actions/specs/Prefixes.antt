@@ -1,6 +1,6 @@
 -- The list of protected prefixes, as a row of places holds it.
 --     present places    the paths that stand in the places, in order
-use Rattle.std.specs.Prelude.{◌≡◌, ℕ, List, [], ◌∷◌, Option, Some, None, length}
+use Rattle.std.specs.Prelude.{List, [], ◌∷◌, Option, Some, None}
 use Rattle.cfdp_paths.specs.Paths.{Path}
 
 abbrev pub present : List (Option Path) → List Path

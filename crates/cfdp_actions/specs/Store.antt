@@ -10,7 +10,7 @@
 --     checksum_of octets        the modular checksum of a file (CCSDS 727.0-B-5 §4.2.2), as a sum
 --     entry_of, listing_of      a line of a listing, and all of them in path order
 --     standing_of, standings_of the same without checksums, for a path and what stands below it
-use Rattle.std.specs.Prelude.{◌≡◌, ℕ, zero, suc, ◌+◌, ◌-◌, ◌*◌, ◌%◌, ◌^◌, ◌≤◌, Bool, true, false, IsTrue, List, [], ◌∷◌, ◌++◌, Option, Some, None, length, map, take, drop, replicate}
+use Rattle.std.specs.Prelude.{ℕ, suc, ◌+◌, ◌-◌, ◌*◌, ◌%◌, ◌^◌, Bool, true, false, List, [], ◌∷◌, ◌++◌, Option, Some, None, length, map, take, drop, replicate}
 use Rattle.std.specs.FinMap as finite
 use Rattle.cfdp_paths.specs.Paths.{Path}
 use Rattle.cfdp_actions.specs.Filestore.{Node, Directory, File, Filestore, node_at, empty_filestore, blocks, Change, after, octets_in, tree_at}

@@ -6,9 +6,9 @@ use Rattle.cfdp_actions.specs.Filestore.{Filestore, blocks}
 use Rattle.cfdp_actions.specs.Actions.{Item, Install, Installed, Answer, row}
 use Rattle.cfdp_leases.specs.Items.{performed, step_bound}
 use Rattle.cfdp_leases.specs.Footprint.{Footprint, IsWithin}
-use Rattle.cfdp_states.specs.Alone.{statuses, steps, peak, reached, alone, statuses_alone}
+use Rattle.cfdp_states.specs.Alone.{Succeed, statuses, steps, peak, reached, alone, statuses_alone}
 use Rattle.cfdp_states.specs.Views.{most_count, Sketch, only, IsViewOf, HasRun}
-use Rattle.cfdp_states.specs.Laws.{Appended, OnlyLeased, ViewBegins, ViewInstalls, ViewRefuses, ViewGoesOn}
+use Rattle.cfdp_states.specs.Laws.{SucceedByStatuses, Appended, OnlyLeased, ViewBegins, ViewInstalls, ViewRefuses, ViewGoesOn}
 
 twice_max : (b p q : ℕ) → max b (max p q) ≡ max (max b p) q
 twice_max b p q = omega arith
@@ -104,3 +104,10 @@ module _ (leased : OnlyLeased) where
     where
       head : (a b : Answer) → a ∷ [] ≡ b ∷ [] → a ≡ b
       head a b e = cc
+
+pub succeed_by_statuses : SucceedByStatuses
+unfolding Succeed statuses
+succeed_by_statuses prefixes F slot [] = (λ h. h, λ h. h)
+succeed_by_statuses prefixes F slot (item ∷ items) =
+    let rest = succeed_by_statuses prefixes (performed prefixes F slot item) slot items in
+    (λ h. (h.0, rest.0 h.1), λ h. (h.0, rest.1 h.1))

@@ -3,19 +3,20 @@
 --     EnoughRoom        with need blocks free the next item is the row of the table
 --     LongerFile        a longer delivered file: the same statuses, and need and steps no less
 --     ForeignChange, ForeignChangeWith      a change that keeps the footprint: the same statuses, growths, need and steps
+--     SucceedByStatuses a list succeeds where each of its statuses does
 --     OnlyLeased        all that is not leased may be left out of sight
 --     Appended          one more item at the end of a list
 --     ViewBegins, ViewInstalls, ViewRefuses, ViewGoesOn      a view tells of a list that is run alone, from item to item
 --     AnySlot, AnySlotWith                  it does not matter in which slot the file is staged, nor what else is staged
-use Rattle.std.specs.Prelude.{◌≡◌, ℕ, ◌+◌, ◌≤◌, ◌<◌, max, true, false, List, [], ◌∷◌, ◌++◌, length}
+use Rattle.std.specs.Prelude.{◌≡◌, ℕ, ◌+◌, ◌≤◌, ◌<◌, max, true, false, IsTrue, ◌↔◌, List, [], ◌∷◌, ◌++◌, length}
 use Rattle.std.specs.List.{AllByRecursion}
 use Rattle.cfdp_paths.specs.Paths.{Path}
 use Rattle.cfdp_actions.specs.Filestore.{Filestore, node_at, staged_in, blocks, IsRooted}
-use Rattle.cfdp_actions.specs.Actions.{Item, Install, Installed, NotInstalled, Answer, ticks, row, act_item}
+use Rattle.cfdp_actions.specs.Actions.{Item, Install, Installed, NotInstalled, Answer, succeeded, ticks, row, act_item}
 use Rattle.cfdp_leases.specs.Items.{performed, step_bound}
 use Rattle.cfdp_leases.specs.Footprint.{Footprint, IsWithin}
 use Rattle.cfdp_leases.specs.Laws.{IsAlike}
-use Rattle.cfdp_states.specs.Alone.{peak, statuses, growths, steps, need, statuses_with, growths_with, need_with, steps_with, reached, alone, statuses_alone, need_alone, steps_alone}
+use Rattle.cfdp_states.specs.Alone.{Succeed, peak, statuses, growths, steps, need, statuses_with, growths_with, need_with, steps_with, reached, alone, statuses_alone, need_alone, steps_alone}
 use Rattle.cfdp_states.specs.Views.{Sketch, only, IsViewOf, Tells, TellsInstall, HasRun}
 
 -- after the next item the rest's need is at most the need before less that item's growth of blocks, its steps are those before
@@ -120,3 +121,9 @@ ViewGoesOn =
     (v w : Sketch) (fp : Footprint) (F : Filestore) (x : List ℕ) (items : List Item) (answers : List Answer) (item : Item) (answer : Answer) →
     HasRun v fp F x items answers → Tells v w item answer → w.prefixes ≡ v.prefixes → IsWithin fp item →
     HasRun w fp F x (items ++ item ∷ []) (answers ++ answer ∷ [])
+
+-- a list succeeds where each of its statuses is successful
+abbrev pub SucceedByStatuses : Type 0
+SucceedByStatuses =
+    (prefixes : List Path) (F : Filestore) (slot : ℕ) (items : List Item) →
+    Succeed prefixes F slot items ↔ AllByRecursion (λ answer. IsTrue (succeeded answer)) (statuses prefixes F slot items)

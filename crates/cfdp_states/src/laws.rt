@@ -1,7 +1,7 @@
 //! What is true of lists run alone, whatever the code does. Each function does nothing: its contract is a law over the
 //! definitions of `specs/`.
 ghost use Rattle.cfdp_leases.specs.Laws.{Growth, WithinBound};
-ghost use Rattle.cfdp_states.specs.Laws.{OwnStep, EnoughRoom, LongerFile, ForeignChange, ForeignChangeWith, AnySlot, AnySlotWith, OnlyLeased, Appended, ViewBegins, ViewInstalls, ViewRefuses, ViewGoesOn};
+ghost use Rattle.cfdp_states.specs.Laws.{OwnStep, EnoughRoom, LongerFile, ForeignChange, ForeignChangeWith, AnySlot, AnySlotWith, OnlyLeased, SucceedByStatuses, Appended, ViewBegins, ViewInstalls, ViewRefuses, ViewGoesOn};
 
 use cfdp_leases::laws::{frame_of_reads, own_changes, stays_rooted};
 
@@ -67,6 +67,11 @@ pub fn only_leased()
     frame_of_reads();
     own_changes();
 }
+
+/// A list succeeds where each of its statuses is successful, and only there.
+pub fn succeed_by_statuses()
+    ensures { SucceedByStatuses }
+{}
 
 /// One more item at the end of a list: its answer, and what the list comes to.
 pub fn appended()

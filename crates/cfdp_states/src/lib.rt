@@ -16,3 +16,6 @@ mod view;
 
 pub use extent::Extent;
 pub use view::View;
+
+#[cfg(test)]
+mod tests;

@@ -10,7 +10,7 @@ use Rattle.cfdp_states.specs.Alone.{stage, alone}
 use Rattle.cfdp_transactions.specs.Config.{Config}
 use Rattle.cfdp_pdus.specs.Values.{MetadataFields}
 use Rattle.cfdp_pdus.specs.declared.header.Header.{Header}
-use Rattle.cfdp_transactions.specs.Verdict.{Verdict, Refuse, Grant, verdict}
+use Rattle.cfdp_verifier.specs.Verdict.{Verdict, Refuse, Grant, verdict}
 use Rattle.cfdp_transactions.specs.Entry.{Phase, Receiving, Refused, Ended, is_live, Entry, id_of, name_of, has_file, footprint}
 use Rattle.cfdp_transactions.specs.Events.{Reply}
 use Rattle.cfdp_transactions.specs.World.{World, spare, leases_of, free_slot, bound}

@@ -13,7 +13,7 @@ use Rattle.cfdp_leases.specs.Items.{performed}
 use Rattle.cfdp_leases.specs.Footprint.{Footprint, footprint_of, is_conflict, reaches}
 use Rattle.cfdp_states.specs.Alone.{statuses, alone, statuses_alone, need_alone, steps_alone}
 use Rattle.cfdp_tlv.specs.Values.{RequestFields}
-use Rattle.cfdp_transactions.specs.Verdict.{Proposal, Verdict, Refuse, Grant, Parsed, Bad, Good, named, request_of, and_then, parsed_from, with_file, with_destination, parsed, conflict_in, first_failure, destination_allowed, judged, judged_apart, verdict_of, verdict}
+use Rattle.cfdp_verifier.specs.Verdict.{Proposal, Verdict, Refuse, Grant, Parsed, Bad, Good, named, request_of, and_then, parsed_from, with_file, with_destination, parsed, conflict_in, first_failure, destination_allowed, judged, judged_apart, verdict_of, verdict}
 use Rattle.cfdp_transactions.specs.Entry.{is_live, Entry, name_of, footprint}
 use Rattle.cfdp_transactions.specs.World.{leases_of}
 use Rattle.cfdp_transactions.specs.Sound.{Each, is_next_install, requests_in}

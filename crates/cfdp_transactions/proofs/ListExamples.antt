@@ -13,7 +13,8 @@ use Rattle.cfdp_leases.proofs.Sets.{path_cmp_total}
 use Rattle.cfdp_states.specs.Alone.{statuses, steps, peak}
 use Rattle.cfdp_tlv.specs.Values.{RequestFields}
 use Rattle.cfdp_pdus.specs.Values.{MetadataFields}
-use Rattle.cfdp_transactions.specs.Verdict.{TooManyRequests, BadPath, DestinationNotAllowed, WouldFail, NoRoom, Destination, At}
+use Rattle.cfdp_verifier.specs.declared.refusal.Place.TheVariants.{Destination, At}
+use Rattle.cfdp_verifier.specs.declared.refusal.Refusal.TheVariants.{TooManyRequests, BadPath, DestinationNotAllowed, WouldFail, NoRoom}
 use Rattle.cfdp_transactions.specs.Entry.{Executing, Refused, Entry}
 use Rattle.cfdp_transactions.specs.Events.{MetadataCame, Step, Reply}
 use Rattle.cfdp_transactions.specs.World.{World}

@@ -13,7 +13,8 @@ use Rattle.cfdp_pdus.specs.Values.{MetadataFields, FileDataFields}
 use Rattle.cfdp_pdus.specs.declared.header.Header.{Header}
 use Rattle.cfdp_pdus.specs.declared.eof.Eof.{Eof}
 use Rattle.cfdp_transactions.specs.Received.{kept_with, pieces, is_whole, Received, staged_of}
-use Rattle.cfdp_transactions.specs.Verdict.{Verdict, Refuse, Grant, verdict, TooManyRequests}
+use Rattle.cfdp_verifier.specs.declared.refusal.Refusal.TheVariants.{TooManyRequests}
+use Rattle.cfdp_verifier.specs.Verdict.{Verdict, Refuse, Grant, verdict}
 use Rattle.cfdp_transactions.specs.Entry.{Phase, Receiving, Awaiting, Executing, Refused, Done, Ended, is_live, is_receiving, takes_data, Entry, has_file, id_of}
 use Rattle.cfdp_transactions.specs.Events.{Event, MetadataCame, DataCame, EofCame, Step, Cancel, Check, Take, Reply}
 use Rattle.cfdp_transactions.specs.Outcome.{condition_of, is_refused, file_status_of, answered, responses_of, fault_of, outcome_of}

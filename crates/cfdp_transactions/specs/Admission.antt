@@ -7,7 +7,8 @@ use Rattle.cfdp_actions.specs.Actions.{Item}
 use Rattle.cfdp_transactions.specs.Config.{Config}
 use Rattle.cfdp_pdus.specs.Values.{MetadataFields}
 use Rattle.cfdp_pdus.specs.declared.header.Header.{Header}
-use Rattle.cfdp_transactions.specs.Verdict.{Proposal, TooManyRequests, Verdict, Refuse, Grant, verdict}
+use Rattle.cfdp_verifier.specs.declared.refusal.Refusal.TheVariants.{TooManyRequests}
+use Rattle.cfdp_verifier.specs.Verdict.{Proposal, Verdict, Refuse, Grant, verdict}
 use Rattle.cfdp_transactions.specs.Entry.{Phase, Receiving, Refused, Ended, Entry, has_file}
 use Rattle.cfdp_transactions.specs.Events.{Reply}
 use Rattle.cfdp_transactions.specs.World.{World, spare, leases_of, free_slot, bound}

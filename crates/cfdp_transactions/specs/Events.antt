@@ -14,7 +14,7 @@ use Rattle.cfdp_pdus.specs.declared.eof.Eof.{Eof}
 use Rattle.cfdp_pdus.specs.declared.pdu.Pdu.{Pdu}
 use Rattle.cfdp_pdus.specs.declared.pdu.Pdu.TheVariants as pdu
 use Rattle.cfdp_transactions.specs.Entry.{id_of}
-use Rattle.cfdp_transactions.specs.Verdict.{Refusal}
+use Rattle.cfdp_verifier.specs.declared.refusal.Refusal.{Refusal}
 
 pub data Event : Type 0 where
   MetadataCame : Header → MetadataFields → Event

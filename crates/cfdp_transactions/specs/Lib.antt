@@ -1,5 +1,4 @@
 pub mod LowerLaws
-pub mod Verdict
 pub mod Config
 pub mod Received
 pub mod Entry

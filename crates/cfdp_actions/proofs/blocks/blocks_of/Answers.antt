@@ -1,4 +1,4 @@
-use Rattle.std.proofs.Common.{refl, arith, rules}
+use Rattle.std.proofs.Common.{rules}
 use Rattle.cfdp_actions.specs.Filestore.{blocks_of}
 use Rattle.cfdp_actions.proofs.blocks.blocks_of.Goals as goal
 

@@ -1,9 +1,5 @@
-use Rattle.std.proofs.Common.{◌≡◌, ℕ, ◌+◌, ◌*◌, ◌%◌, ◌^◌, ◌<◌, ◌≤◌, ◌++◌, ◌||◌, max, map, drop, take, sum_by, length}
-use Rattle.std.specs.FinMap.Entries.{where_key}
-use Rattle.cfdp_paths.specs.Paths.{path_cmp, is_at_or_below, parent}
-use Rattle.cfdp_actions.specs.Filestore.{deepest_of, weights, blocks_of}
-use Rattle.cfdp_actions.specs.Store.{entry_of, standing_of, checksum_from}
-use Rattle.cfdp_actions.specs.Listed.{shown, found, octets_of}
+use Rattle.std.proofs.Common.{◌≡◌, ◌+◌, ◌%◌, ◌^◌, drop}
+use Rattle.cfdp_actions.specs.Store.{checksum_from}
 use Rattle.cfdp_actions.proofs.checksum.add_octets.Given as goal
 
 abbrev pub invariant-loop-octet : goal.invariant-loop-octet

@@ -1,4 +1,4 @@
-use Rattle.std.proofs.Common.{◌+◌, ◌≤◌, length, refl, sym, ap, ◌∙◌, arith}
+use Rattle.std.proofs.Common.{◌+◌, ◌≤◌, length, ◌∙◌, arith}
 use Rattle.cfdp_actions.specs.Filestore.{octets_at}
 use Rattle.cfdp_actions.proofs.ChecksumLaws.{next_piece, still_long, last_piece}
 use Rattle.cfdp_actions.proofs.checksum.entry_checksum.Goals as goal

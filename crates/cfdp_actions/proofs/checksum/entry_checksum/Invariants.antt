@@ -1,4 +1,4 @@
-use Rattle.std.proofs.Common.{◌≡◌, ◌+◌, ◌-◌, ◌%◌, ◌^◌, ◌<◌, ◌≤◌, length, take, drop}
+use Rattle.std.proofs.Common.{◌≡◌, ◌+◌, ◌-◌, ◌%◌, ◌^◌, ◌<◌, ◌≤◌, length, drop}
 use Rattle.cfdp_actions.specs.Filestore.{octets_at}
 use Rattle.cfdp_actions.specs.Store.{checksum_from}
 use Rattle.cfdp_actions.proofs.checksum.entry_checksum.Given as goal

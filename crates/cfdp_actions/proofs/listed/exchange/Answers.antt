@@ -1,5 +1,5 @@
-use Rattle.std.proofs.Common.{refl, sym, ◌∙◌, ap, arith}
-use Rattle.cfdp_actions.specs.Listed.{shown, shown_entry}
+use Rattle.std.proofs.Common.{◌∙◌, ap, arith}
+use Rattle.cfdp_actions.specs.Listed.{shown}
 use Rattle.cfdp_actions.specs.Ranks.{rank}
 use Rattle.cfdp_actions.specs.Filestore.{Directory}
 use Rattle.cfdp_actions.proofs.ShownLaws.{place_within, place_path, shown_exchanged}

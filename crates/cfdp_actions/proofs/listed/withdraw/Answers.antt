@@ -1,4 +1,4 @@
-use Rattle.std.proofs.Common.{refl, sym, ◌∙◌, ap, arith}
+use Rattle.std.proofs.Common.{◌∙◌, ap, arith}
 use Rattle.cfdp_actions.specs.Listed.{shown}
 use Rattle.cfdp_actions.specs.Ranks.{rank}
 use Rattle.cfdp_actions.specs.Filestore.{Directory}

@@ -1,6 +1,5 @@
 use Rattle.std.proofs.Common.{◌≡◌, ◌+◌, ◌≤◌, ◌++◌, length, vec_len, vec_capacity}
 use Rattle.std.specs.Vec.Iter.{into_iter_items, into_iter_len}
-use Rattle.std.specs.VecDeque.{deque_len}
 use Rattle.cfdp_actions.specs.Listed.{shown}
 use Rattle.cfdp_actions.specs.Relocating.{tree_in, rest_in, with_paths}
 use Rattle.cfdp_actions.proofs.relocating.part.Given as goal

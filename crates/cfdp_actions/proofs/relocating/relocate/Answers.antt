@@ -1,6 +1,6 @@
-use Rattle.std.proofs.Common.{◌≡◌, ◌++◌, List, sym, ap, ◌∙◌, arith, Vec, length, map}
+use Rattle.std.proofs.Common.{◌≡◌, List, ap, ◌∙◌, arith, Vec, length, map}
 use Rattle.std.specs.declared.alloc.Global.{Global}
-use Rattle.std.specs.Vec.Iter.{into_iter_items, into_iter_len}
+use Rattle.std.specs.Vec.Iter.{into_iter_items}
 use Rattle.cfdp_paths.specs.Paths.{rebased}
 use Rattle.cfdp_actions.specs.Listed.{shown}
 use Rattle.cfdp_actions.specs.Relocating.{tree_in, rest_in, puts, moved_to, with_paths}

@@ -1,4 +1,4 @@
-use Rattle.std.proofs.Common.{refl, sym, ap, ◌∙◌, arith, ◌≡◌, ℕ, nat_lt, ◌+◌, ◌<◌, ◌≤◌}
+use Rattle.std.proofs.Common.{arith, ◌+◌}
 use Rattle.cfdp_actions.proofs.RowLaws.{nothing_there, something_there, file_by, directory_by, does_refused, does_full, does_changed, blocks_of-mono, append_first_absent, append_second_absent, append_first_directory, append_second_directory, append_of_files, blocks_of_both, blocks_of_one}
 use Rattle.cfdp_actions.proofs.rows.append.Goals as goal
 use Rattle.cfdp_actions.proofs.rows.append.Goals.{then-not-is_file-via-then-not-is_file, then-not-is_file-via-else-not-is_file+then-not-is_file-2}

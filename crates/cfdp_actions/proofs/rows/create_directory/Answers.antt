@@ -1,4 +1,4 @@
-use Rattle.std.proofs.Common.{refl, sym, ap, ◌∙◌, arith, ◌≡◌, ℕ, nat_lt, ◌+◌, ◌<◌, ◌≤◌}
+use Rattle.std.proofs.Common.{sym, ◌∙◌, arith}
 use Rattle.cfdp_actions.proofs.RowLaws.{there_by, absent_by, does_refused, does_full, does_changed, create_directory_present, create_directory_bad, create_directory_made}
 use Rattle.cfdp_actions.proofs.rows.create_directory.Goals as goal
 use Rattle.cfdp_actions.proofs.rows.create_directory.Goals.{then-is_some-via-then-is_some, then-is_some-via-else-is_some+then-not-parent_is_good, then-is_some-via-else-is_some+else-not-parent_is_good+then-free-eq0}

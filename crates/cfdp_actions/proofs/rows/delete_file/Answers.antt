@@ -1,4 +1,4 @@
-use Rattle.std.proofs.Common.{refl, sym, ◌∙◌, arith}
+use Rattle.std.proofs.Common.{arith}
 use Rattle.cfdp_actions.proofs.RowLaws.{nothing_there, file_there, directory_there, does_refused, does_changed, delete_absent, delete_of_directory, delete_of_file}
 use Rattle.cfdp_actions.proofs.rows.delete_file.Goals as goal
 

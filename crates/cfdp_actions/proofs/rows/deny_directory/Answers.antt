@@ -1,4 +1,4 @@
-use Rattle.std.proofs.Common.{refl, sym, ap, ◌∙◌, arith, ◌≡◌, ℕ, nat_lt, ◌+◌, ◌<◌, ◌≤◌}
+use Rattle.std.proofs.Common.{refl, sym, ◌∙◌, arith}
 use Rattle.cfdp_actions.proofs.RowLaws.{nothing_there, file_there, directory_there, does_refused, does_changed, deny_directory_absent, deny_directory_of_file, deny_directory_of_full, deny_directory_of_empty}
 use Rattle.cfdp_actions.proofs.rows.deny_directory.Goals as goal
 

@@ -1,4 +1,4 @@
-use Rattle.std.proofs.Common.{refl, sym, ap, ◌∙◌, arith, ◌≡◌, ℕ, nat_lt, ◌+◌, ◌<◌, ◌≤◌}
+use Rattle.std.proofs.Common.{refl, arith}
 use Rattle.cfdp_actions.proofs.RowLaws.{nothing_there, file_there, directory_there, does_refused, does_changed, deny_absent, deny_of_directory, deny_of_file}
 use Rattle.cfdp_actions.proofs.rows.deny_file.Goals as goal
 

@@ -1,4 +1,4 @@
-use Rattle.std.proofs.Common.{refl, sym, ap, ◌∙◌, arith, ◌≡◌, ℕ, nat_lt, ◌+◌, ◌<◌, ◌≤◌}
+use Rattle.std.proofs.Common.{sym, ap, ◌∙◌, nat_lt}
 use Rattle.cfdp_actions.proofs.RowLaws.{too_deep, sum_is}
 use Rattle.cfdp_actions.proofs.rows.is_too_deep.Goals as goal
 

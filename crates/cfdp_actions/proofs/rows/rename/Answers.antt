@@ -1,4 +1,4 @@
-use Rattle.std.proofs.Common.{refl, sym, ap, ◌∙◌, arith, ◌≡◌, ℕ, nat_lt, ◌+◌, ◌<◌, ◌≤◌}
+use Rattle.std.proofs.Common.{sym, ◌∙◌, arith}
 use Rattle.cfdp_actions.proofs.RowLaws.{nothing_by, there_by, absent_by, does_refused, does_changed, rename_old_absent, rename_new_present, rename_bad_parent, rename_into_itself, rename_too_deep, rename_of_tree, there_unless}
 use Rattle.cfdp_actions.proofs.rows.rename.Goals as goal
 use Rattle.cfdp_actions.proofs.rows.rename.Goals.{then-not-parent_is_good-via-then-not-parent_is_good, then-not-parent_is_good-via-else-not-parent_is_good+then-is_at_or_below, then-not-parent_is_good-via-else-not-parent_is_good+else-is_at_or_below+then-is_too_deep}

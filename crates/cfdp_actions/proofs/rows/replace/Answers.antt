@@ -1,5 +1,5 @@
-use Rattle.std.proofs.Common.{refl, sym, ap, ◌∙◌, arith, ◌≡◌, ℕ, nat_lt, ◌+◌, ◌<◌, ◌≤◌}
-use Rattle.cfdp_actions.proofs.RowLaws.{nothing_there, something_there, file_by, directory_by, does_refused, does_full, does_changed, blocks_of-mono, replace_first_absent, replace_second_absent, replace_first_directory, replace_second_directory, does_replace, does_replace_full, blocks_of_one, blocks_of-small}
+use Rattle.std.proofs.Common.{arith}
+use Rattle.cfdp_actions.proofs.RowLaws.{nothing_there, something_there, file_by, directory_by, does_refused, replace_first_absent, replace_second_absent, replace_first_directory, replace_second_directory, does_replace, does_replace_full, blocks_of_one, blocks_of-small}
 use Rattle.cfdp_actions.proofs.rows.replace.Goals as goal
 use Rattle.cfdp_actions.proofs.rows.replace.Goals.{then-not-is_file-via-then-not-is_file, then-not-is_file-via-else-not-is_file+then-not-is_file-2}
 

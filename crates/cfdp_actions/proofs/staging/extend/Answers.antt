@@ -1,4 +1,4 @@
-use Rattle.std.proofs.Common.{◌≡◌, ◌<◌, ◌≤◌, ap, sym, ◌∙◌, set, length, arith}
+use Rattle.std.proofs.Common.{◌<◌, ap, sym, ◌∙◌, set, length, arith}
 use Rattle.cfdp_actions.specs.Store.{extended}
 use Rattle.cfdp_actions.specs.Listed.{octets_of}
 use Rattle.cfdp_actions.proofs.StagedLaws.{octets_of-set, octets_of-at, octets_of-same, extended_is, on_err}

@@ -1,4 +1,4 @@
-use Rattle.std.proofs.Common.{◌≡◌, ◌<◌, ap, sym, ◌∙◌, set, length, arith}
+use Rattle.std.proofs.Common.{◌<◌, ap, sym, ◌∙◌, set, length, arith}
 use Rattle.std.proofs.lemmas.List.{with_items_is}
 use Rattle.cfdp_actions.specs.Store.{overwritten}
 use Rattle.cfdp_actions.specs.Listed.{octets_of}

@@ -1,4 +1,4 @@
-use Rattle.std.proofs.Common.{◌≡◌, ap, sym, ◌∙◌, set, ℕ, Vec}
+use Rattle.std.proofs.Common.{ap, ◌∙◌, set, ℕ, Vec}
 use Rattle.std.specs.declared.alloc.Global.{Global}
 use Rattle.cfdp_actions.specs.Listed.{octets_of}
 use Rattle.cfdp_actions.proofs.StagedLaws.{octets_of-set}

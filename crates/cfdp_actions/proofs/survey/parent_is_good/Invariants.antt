@@ -1,9 +1,6 @@
-use Rattle.std.proofs.Common.{◌≡◌, ℕ, ◌+◌, ◌*◌, ◌%◌, ◌^◌, ◌<◌, ◌≤◌, ◌++◌, ◌||◌, max, map, drop, take, sum_by, length}
-use Rattle.std.specs.FinMap.Entries.{where_key}
-use Rattle.cfdp_paths.specs.Paths.{path_cmp, is_at_or_below, parent}
-use Rattle.cfdp_actions.specs.Filestore.{deepest_of, weights, blocks_of}
-use Rattle.cfdp_actions.specs.Store.{entry_of, standing_of, checksum_from}
-use Rattle.cfdp_actions.specs.Listed.{shown, found, octets_of}
+use Rattle.std.proofs.Common.{◌≡◌, drop}
+use Rattle.cfdp_paths.specs.Paths.{parent}
+use Rattle.cfdp_actions.specs.Listed.{found}
 use Rattle.cfdp_actions.proofs.survey.parent_is_good.Given as goal
 
 abbrev pub invariant-loop-entry : goal.invariant-loop-entry

@@ -1,9 +1,8 @@
-use Rattle.std.proofs.Common.{◌≡◌, ℕ, ◌+◌, ◌*◌, ◌%◌, ◌^◌, ◌<◌, ◌≤◌, ◌++◌, ◌||◌, max, map, drop, take, sum_by, length}
+use Rattle.std.proofs.Common.{◌≡◌, ◌++◌, map, drop}
 use Rattle.std.specs.FinMap.Entries.{where_key}
-use Rattle.cfdp_paths.specs.Paths.{path_cmp, is_at_or_below, parent}
-use Rattle.cfdp_actions.specs.Filestore.{deepest_of, weights, blocks_of}
-use Rattle.cfdp_actions.specs.Store.{entry_of, standing_of, checksum_from}
-use Rattle.cfdp_actions.specs.Listed.{shown, found, octets_of}
+use Rattle.cfdp_paths.specs.Paths.{path_cmp, is_at_or_below}
+use Rattle.cfdp_actions.specs.Store.{standing_of}
+use Rattle.cfdp_actions.specs.Listed.{shown}
 use Rattle.cfdp_actions.proofs.survey.standing.Given as goal
 
 abbrev pub invariant-loop-entry : goal.invariant-loop-entry

@@ -1,11 +1,9 @@
-use Rattle.std.proofs.Common.{◌≡◌, ◌≤◌, ℕ, true, false, List, [], length, replicate, refl, sym, ap, subst, ◌∙◌, arith}
+use Rattle.std.proofs.Common.{◌≡◌, ℕ, false, List, [], length, replicate, refl, sym, ap, subst, ◌∙◌, arith}
 use Rattle.std.specs.FinMap as finite
-use Rattle.std.specs.FinMap.{is_sorted}
 use Rattle.std.proofs.lemmas.List.{length-map, length-replicate}
 use Rattle.cfdp_paths.specs.Paths.{path_cmp}
-use Rattle.cfdp_actions.specs.Filestore.{Node, Filestore}
-use Rattle.cfdp_actions.specs.Store.{Store}
-use Rattle.cfdp_actions.specs.Listed.{shown, octets_of, store_of, IsKept}
+use Rattle.cfdp_actions.specs.Filestore.{Node}
+use Rattle.cfdp_actions.specs.Listed.{octets_of, store_of, IsKept}
 use Rattle.cfdp_actions.proofs.StoreLaws.{empty_nodes, empty_lists}
 use Rattle.cfdp_actions.proofs.list_store.ListStore.new.Goals as goal
 

@@ -1,5 +1,5 @@
-use Rattle.std.proofs.Common.{◌≡◌, Some, None, sym, ap, ◌∙◌}
-use Rattle.cfdp_actions.specs.Store.{kind_in, kind_at}
+use Rattle.std.proofs.Common.{Some, sym, ap, ◌∙◌}
+use Rattle.cfdp_actions.specs.Store.{kind_in}
 use Rattle.cfdp_actions.specs.Listed.{found}
 use Rattle.cfdp_actions.proofs.StoreLaws.{node_at-found}
 use Rattle.cfdp_actions.proofs.list_store.ListStoreFilestore.kind.Goals as goal

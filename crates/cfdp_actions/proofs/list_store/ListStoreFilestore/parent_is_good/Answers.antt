@@ -1,10 +1,7 @@
-use Rattle.std.proofs.Common.{◌≡◌, ◌≤◌, ◌||◌, ℕ, List, length, sym, ap, ◌∙◌, arith}
-use Rattle.std.specs.List.{list_any}
-use Rattle.cfdp_paths.specs.Paths.{is_below, parent}
-use Rattle.cfdp_actions.specs.Filestore.{octets_in, deepest_of, is_root, is_directory}
-use Rattle.cfdp_actions.specs.Listed.{shown, found, octets_of}
-use Rattle.cfdp_actions.specs.Relocating.{tree_in}
-use Rattle.cfdp_actions.specs.declared.listed.Listed.{Listed}
+use Rattle.std.proofs.Common.{◌||◌, sym, ap, ◌∙◌}
+use Rattle.cfdp_paths.specs.Paths.{parent}
+use Rattle.cfdp_actions.specs.Filestore.{is_root, is_directory}
+use Rattle.cfdp_actions.specs.Listed.{found}
 use Rattle.cfdp_actions.proofs.StoreLaws.{seen_parent}
 use Rattle.cfdp_actions.proofs.list_store.ListStoreFilestore.parent_is_good.Goals as goal
 

@@ -1,7 +1,7 @@
 -- The verdict on a list of filestore requests, before its transaction begins: what is refused, and what is granted.
 -- (CCSDS 727.0-B-5 §4.9 performs the requests once the file is there; that they are judged before is this project's own.)
 --     Proposal                  a list as it was sent, with its file's destination and the bound of its length
---     Place, Refusal, Verdict   a name of a proposal;  why it is refused;  or what it is granted
+--     Verdict                   why it is refused (a Refusal, which may name a Place), or what it is granted
 --     parsed P                  its items, or the first name that is no path
 --     conflict_in leases fp     the first transaction whose footprint conflicts
 --     first_failure i answers   the first request that is not successful, counted from i
@@ -19,25 +19,16 @@ use Rattle.cfdp_actions.specs.Actions.{Request, CreateFile, DeleteFile, RenameFi
 use Rattle.cfdp_leases.specs.Footprint.{Footprint, footprint_of, is_conflict}
 use Rattle.cfdp_states.specs.Alone.{alone, statuses_alone, need_alone, steps_alone}
 use Rattle.cfdp_tlv.specs.Values.{RequestFields}
+pub use Rattle.cfdp_verifier.specs.declared.refusal.Place.{Place}
+pub use Rattle.cfdp_verifier.specs.declared.refusal.Place.TheVariants.{Destination, At}
+pub use Rattle.cfdp_verifier.specs.declared.refusal.Refusal.{Refusal}
+pub use Rattle.cfdp_verifier.specs.declared.refusal.Refusal.TheVariants.{TooManyRequests, BadPath, Conflict, DestinationNotAllowed, WouldFail, TooLong, NoRoom}
 
 -- no destination: no file, and the bound is 0
 pub record Proposal : Type 0 where
   pub destination : Option (List ℕ)
   pub bound : ℕ
   pub requests : List RequestFields
-
-pub data Place : Type 0 where
-  Destination : Place
-  At : ℕ → Place
-
-pub data Refusal : Type 0 where
-  TooManyRequests : Refusal
-  BadPath : Place → Refusal
-  Conflict : TransactionId → Refusal
-  DestinationNotAllowed : Refusal
-  WouldFail : ℕ → Status → Refusal
-  TooLong : ℕ → Refusal
-  NoRoom : ℕ → ℕ → Refusal
 
 -- a grant has the items, and how many blocks and steps they may take
 pub data Verdict : Type 0 where

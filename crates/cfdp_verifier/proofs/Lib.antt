@@ -1,0 +1,6 @@
+pub mod Prepended
+pub mod Conflicts
+pub mod Covered
+pub mod Running
+pub mod Judged
+pub mod Tested

@@ -1,0 +1,128 @@
+-- A list of requests, run one after another on a view.
+--     GoesOn          so far each request was successful, and the rest of the list goes from here as the list from its start
+--     begins, goes, fails, ends      the first place, the next place, a request that is not successful, the last place
+use Rattle.std.proofs.Common.{◌≡◌, refl, sym, ◌∙◌, ap, subst, true, false, cond, ℕ, suc, ◌+◌, ◌-◌, ◌≤◌, max, List, [], ◌∷◌, Some, Ok, zero, map, drop, length, get_or, ◌<◌, arith, add-zero, add-one}
+use Rattle.std.proofs.Math.Seq.{drop-cons}
+use Rattle.cfdp_status.specs.declared.status.Status.{Status}
+use Rattle.cfdp_status.specs.Codes.{is_successful}
+use Rattle.cfdp_paths.specs.Paths.{Path}
+use Rattle.cfdp_actions.specs.Filestore.{Filestore, blocks}
+use Rattle.cfdp_actions.specs.Actions.{Item, Perform, Request, Performed, Answer, row}
+use Rattle.cfdp_leases.specs.Items.{performed, step_bound}
+use Rattle.cfdp_states.specs.Alone.{statuses, steps, peak}
+use Rattle.cfdp_states.specs.Views.{Sketch, IsViewOf, Tells}
+use Rattle.cfdp_verifier.specs.Verdict.{capped, first_failure}
+use Rattle.cfdp_verifier.specs.Judging.{EndsSo}
+
+-- from F, where so many blocks were in use at first and at most, and so many steps are taken
+pub record GoesOn (prefixes : List Path) (F : Filestore) (items : List Item) (start high taken : ℕ) (w : Sketch) (number : ℕ) (rest : List Item) : Type 0 where
+  pub here : Filestore
+  pub most : ℕ
+  pub spent : ℕ
+  pub seen : IsViewOf w here start most spent
+  pub within : blocks here ≤ most
+  pub failure : first_failure 0 (statuses prefixes F 0 items) ≡ first_failure number (statuses prefixes here 0 rest)
+  pub peaks : max high (peak prefixes F 0 items) ≡ max most (peak prefixes here 0 rest)
+  pub counts : taken + steps prefixes F 0 items ≡ spent + steps prefixes here 0 rest
+
+-- a filestore's own blocks are at most the peak
+pub low : (prefixes : List Path) (F : Filestore) (items : List Item) → blocks F ≤ peak prefixes F 0 items
+unfolding peak
+low prefixes F [] = omega arith
+low prefixes F (item ∷ items) = omega arith
+
+-- b blocks before an item and c after it, p at most from then on, m at most before
+raised : (m b c p : ℕ) → b ≤ m → c ≤ p → max m (max b p) ≡ max (max m c) p
+raised m b c p before after = omega arith
+
+added : (t n s : ℕ) → t + (n + s) ≡ (t + n) + s
+added t n s = omega arith
+
+-- what a view tells of an item, at the list's prefixes
+told_at : (prefixes : List Path) (v w : Sketch) (item : Item) (answer : Answer) → v.prefixes ≡ prefixes → Tells v w item answer →
+    (G : Filestore) (start most spent : ℕ) → IsViewOf v G start most spent →
+    (answer ≡ (row prefixes G 0 item).answer)
+    × IsViewOf w (performed prefixes G 0 item) start (max most (blocks (performed prefixes G 0 item))) (spent + (1 + step_bound G item))
+told_at prefixes v w item answer same tells G start most spent seen =
+    subst (λ (ps : List Path). (answer ≡ (row ps G 0 item).answer)
+    × IsViewOf w (performed ps G 0 item) start (max most (blocks (performed ps G 0 item))) (spent + (1 + step_bound G item)))
+    same (tells G start most spent seen)
+
+-- the first item's answer, and then the others'
+first_of_them : (prefixes : List Path) (G : Filestore) (number : ℕ) (request : Request) (rest : List Item) (status : Status) →
+    Performed status ≡ (row prefixes G 0 (Perform request)).answer →
+    first_failure number (statuses prefixes G 0 (Perform request ∷ rest))
+    ≡ cond (is_successful status) (first_failure (number + 1) (statuses prefixes (performed prefixes G 0 (Perform request)) 0 rest)) (Some (number, status))
+unfolding statuses
+first_of_them prefixes G number request rest status answer =
+    ap (λ a. first_failure number (a ∷ statuses prefixes (performed prefixes G 0 (Perform request)) 0 rest)) (sym answer)
+
+-- the requests from one on
+next_of_them : (requests : List Request) (number : ℕ) (request : Request) → number < length requests → request ≡ get_or requests number request →
+    map Perform (drop number requests) ≡ Perform request ∷ map Perform (drop (number + 1) requests)
+next_of_them requests number request more is =
+    ap (map Perform) (drop-cons requests number request more)
+    ∙ ap (λ (r : Request). Perform r ∷ map Perform (drop (suc number) requests)) (sym is)
+    ∙ ap (λ n. Perform request ∷ map Perform (drop n requests)) (sym (add-one number))
+
+drop-past : (requests : List Request) (number : ℕ) → length requests ≤ number → drop number requests ≡ []
+drop-past [] zero le = refl
+drop-past [] (suc number) le = refl
+drop-past (r ∷ rs) zero le = absurd (omega arith)
+drop-past (r ∷ rs) (suc number) le = drop-past rs number (omega arith)
+
+module _ (prefixes : List Path) (F : Filestore) (items : List Item) (start high taken : ℕ) where
+  pub begins : (v : Sketch) → IsViewOf v F start high taken → blocks F ≤ high → GoesOn prefixes F items start high taken v 0 items
+  begins v seen within = record { here = F; most = high; spent = taken; seen = seen; within = within; failure = refl; peaks = refl; counts = refl }
+
+  pub goes : (v w : Sketch) (number : ℕ) (request : Request) (rest : List Item) (status : Status) → v.prefixes ≡ prefixes →
+      Tells v w (Perform request) (Performed status) → is_successful status ≡ true →
+      GoesOn prefixes F items start high taken v number (Perform request ∷ rest) → GoesOn prefixes F items start high taken w (number + 1) rest
+  unfolding steps peak
+  goes v w number request rest status same tells done g =
+      let told = told_at prefixes v w (Perform request) (Performed status) same tells g.here start g.most g.spent g.seen in
+      let next = performed prefixes g.here 0 (Perform request) in
+      record {
+        here = next;
+        most = max g.most (blocks next);
+        spent = g.spent + (1 + step_bound g.here (Perform request));
+        seen = told.1;
+        within = omega arith;
+        failure = g.failure ∙ first_of_them prefixes g.here number request rest status told.0
+            ∙ ap (λ b. cond b (first_failure (number + 1) (statuses prefixes next 0 rest)) (Some (number, status))) done;
+        peaks = g.peaks ∙ raised g.most (blocks g.here) (blocks next) (peak prefixes next 0 rest) g.within (low prefixes next rest);
+        counts = g.counts ∙ added g.spent (1 + step_bound g.here (Perform request)) (steps prefixes next 0 rest);
+      }
+
+  pub fails : (v w : Sketch) (number : ℕ) (request : Request) (rest : List Item) (status : Status) → v.prefixes ≡ prefixes →
+      Tells v w (Perform request) (Performed status) → is_successful status ≡ false →
+      GoesOn prefixes F items start high taken v number (Perform request ∷ rest) → first_failure 0 (statuses prefixes F 0 items) ≡ Some (number, status)
+  fails v w number request rest status same tells failed g =
+      let told = told_at prefixes v w (Perform request) (Performed status) same tells g.here start g.most g.spent g.seen in
+      let next = performed prefixes g.here 0 (Perform request) in
+      g.failure ∙ first_of_them prefixes g.here number request rest status told.0
+      ∙ ap (λ b. cond b (first_failure (number + 1) (statuses prefixes next 0 rest)) (Some (number, status))) failed
+
+  -- the next request of a list of requests
+  pub goes_on : (v w : Sketch) (requests : List Request) (number : ℕ) (request : Request) (status : Status) → number < length requests → request ≡ get_or requests number request →
+      v.prefixes ≡ prefixes → Tells v w (Perform request) (Performed status) → is_successful status ≡ true →
+      GoesOn prefixes F items start high taken v number (map Perform (drop number requests)) → GoesOn prefixes F items start high taken w (number + 1) (map Perform (drop (number + 1) requests))
+  goes_on v w requests number request status more is same tells done g =
+      goes v w number request (map Perform (drop (number + 1) requests)) status same tells done
+      (subst (λ (rest : List Item). GoesOn prefixes F items start high taken v number rest) (next_of_them requests number request more is) g)
+
+  pub fails_at : (v w : Sketch) (requests : List Request) (number : ℕ) (request : Request) (status : Status) → number < length requests → request ≡ get_or requests number request →
+      v.prefixes ≡ prefixes → Tells v w (Perform request) (Performed status) → is_successful status ≡ false →
+      GoesOn prefixes F items start high taken v number (map Perform (drop number requests)) → first_failure 0 (statuses prefixes F 0 items) ≡ Some (number, status)
+  fails_at v w requests number request status more is same tells failed g =
+      fails v w number request (map Perform (drop (number + 1) requests)) status same tells failed
+      (subst (λ (rest : List Item). GoesOn prefixes F items start high taken v number rest) (next_of_them requests number request more is) g)
+
+  pub ends : (w : Sketch) (requests : List Request) (number : ℕ) → length requests ≤ number → GoesOn prefixes F items start high taken w number (map Perform (drop number requests)) →
+      EndsSo {X = ℕ} prefixes F items start high taken w (Ok 0)
+  unfolding statuses steps peak
+  ends w requests number all g =
+      let none = ap (map Perform) (drop-past requests number all) in
+      let last = subst (λ (rest : List Item). GoesOn prefixes F items start high taken w number rest) none g in
+      let highest : last.most ≡ max high (peak prefixes F 0 items) = omega (arith, last.peaks, last.within) in
+      (last.failure, last.seen.need ∙ ap (λ n. capped (n - start)) highest, last.seen.steps ∙ ap capped (sym (last.counts ∙ add-zero last.spent)))

@@ -1,0 +1,13 @@
+use Rattle.std.proofs.Common.{◌≡◌, ◌≤◌, ℕ, map, drop}
+use Rattle.cfdp_actions.specs.Filestore.{Filestore, blocks}
+use Rattle.cfdp_actions.specs.Actions.{Perform}
+use Rattle.cfdp_states.specs.Views.{IsViewOf}
+use Rattle.cfdp_verifier.proofs.Running.{GoesOn}
+use Rattle.cfdp_verifier.proofs.judging.run_requests.Given as goal
+
+-- each request so far was successful, and the list goes on from here
+abbrev pub invariant-loop-number : goal.invariant-loop-number
+invariant-loop-number l =
+    (l.view.prefixes ≡ l.initial.view.prefixes)
+    × ((F : Filestore) (start high taken : ℕ) → IsViewOf l.initial.view F start high taken → blocks F ≤ high →
+    GoesOn l.initial.view.prefixes F (map Perform l.requests) start high taken l.view l.number (map Perform (drop l.number l.requests)))

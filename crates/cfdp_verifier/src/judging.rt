@@ -1,0 +1,104 @@
+//! A list that is run alone on a view, what it costs, and whether that can be had.
+
+ghost use Rattle.std.specs.Prelude.{◌≡◌, ◌≤◌, IfNone, map, replicate, length, vec_len, None};
+ghost use Rattle.cfdp_actions.specs.Actions.{Perform};
+ghost use Rattle.cfdp_leases.specs.Footprint.{footprint_of};
+ghost use Rattle.cfdp_leases.specs.Items.{items_of};
+ghost use Rattle.cfdp_verifier.specs.Judging.{Affords, Judges, JudgesAlone, TellsRun};
+ghost use Rattle.cfdp_verifier.specs.Verdict.{judged_apart};
+
+use crate::MOST_STEPS;
+use crate::parsing::Items;
+use crate::refusal::{NotGranted, Refusal};
+use cfdp_actions::{Filestore, Protected, Request};
+use cfdp_leases::Footprint;
+use cfdp_states::View;
+use std::alloc::Global;
+
+/// What a list takes at most when it runs alone; each number stops at the greatest u32.
+#[derive(Clone, Copy, Debug)]
+pub struct Costs {
+    /// How many blocks more than now are in use at most.
+    pub blocks: u32,
+    /// How many steps are taken at most.
+    pub steps: u32,
+}
+
+/// Runs the items alone, and answers what they cost where no more than that is left: the list may take so many steps,
+/// and so many blocks are to spare.
+pub fn judge<S: Filestore>(
+    alloc: Global,
+    store: &S,
+    protected: &Protected,
+    footprint: &Footprint,
+    items: &Items,
+    bound: u64,
+    spare: u32,
+) -> Result<Costs, NotGranted>
+    requires footprint { footprint.now ≡ footprint_of (items_of items.now.destination items.now.requests.items) }
+    requires few { vec_len items.now.requests ≤ 64 }
+    requires bound { IfNone items.now.destination (bound ≡ 0) }
+    requires spare { spare ≤ 65536 }
+    ensures { let list = items_of items.now.destination items.now.requests.items in
+        Judges list (judged_apart protected.now (S.state store.now).filestore spare (replicate bound 0) list None) result }
+{
+    let costs = run_alone(alloc, store, protected, footprint, items, bound)?;
+    afford(costs, spare)
+}
+
+/// The costs, where the list may have them.
+fn afford(costs: Costs, spare: u32) -> Result<Costs, NotGranted>
+    requires { spare ≤ 65536 }
+    ensures { Affords costs spare result }
+{
+    if costs.steps > MOST_STEPS {
+        Err(NotGranted::Refused(Refusal::TooLong(costs.steps)))
+    } else if costs.blocks > spare {
+        Err(NotGranted::Refused(Refusal::NoRoom(costs.blocks, spare)))
+    } else {
+        Ok(costs)
+    }
+}
+
+/// Runs the items alone, with a file of as many octets as the bound: what they cost, or the install or the first request
+/// that does not succeed.
+fn run_alone<S: Filestore>(
+    alloc: Global,
+    store: &S,
+    protected: &Protected,
+    footprint: &Footprint,
+    items: &Items,
+    bound: u64,
+) -> Result<Costs, NotGranted>
+    requires footprint { footprint.now ≡ footprint_of (items_of items.now.destination items.now.requests.items) }
+    requires few { vec_len items.now.requests ≤ 64 }
+    requires bound { IfNone items.now.destination (bound ≡ 0) }
+    ensures { JudgesAlone protected.now (S.state store.now).filestore (replicate bound 0)
+        (items_of items.now.destination items.now.requests.items) result }
+{
+    let mut view = View::of(alloc, store, protected, footprint)?;
+    if let Some(path) = &items.destination {
+        if !view.install(path, bound)? {
+            return Err(NotGranted::Refused(Refusal::DestinationNotAllowed));
+        }
+    }
+    run_requests(&mut view, &items.requests)?;
+    Ok(Costs {
+        blocks: view.need(),
+        steps: view.steps(),
+    })
+}
+
+/// Runs the requests one after another on the view, up to the first that is not successful.
+fn run_requests(view: &mut View<'_>, requests: &[Request]) -> Result<(), NotGranted>
+    requires { length requests.now ≤ 64 }
+    ensures { TellsRun view.old view.new (map Perform requests.now) result }
+{
+    for (number, request) in requests.iter().enumerate() {
+        let status = view.apply(request)?;
+        if !status.is_successful() {
+            return Err(NotGranted::Refused(Refusal::WouldFail(number as u8, status)));
+        }
+    }
+    Ok(())
+}

@@ -1,0 +1,26 @@
+//! The verdict on a list of filestore requests, before its transaction begins (CCSDS 727.0-B-5 §4.9 performs the
+//! requests once the file is there; that they are judged before is this project's own). [`verify`] grants a list exactly
+//! where, run alone on the filestore as it is, each request of it will be successful within the blocks that are to spare,
+//! and otherwise names the first reason why not. No list is run on a store: it is run on a view of kinds and sizes. The
+//! definitions stand in `specs/Verdict.antt`.
+#![tactic(auto)]
+
+mod judging;
+mod parsing;
+mod proposal;
+mod refusal;
+#[cfg(test)]
+mod tests;
+mod verdict;
+mod verifying;
+
+pub use proposal::Proposal;
+pub use refusal::{Place, Refusal};
+pub use verdict::{Grant, Verdict};
+pub use verifying::verify;
+
+/// The most filestore requests that a list may have.
+pub const MOST_REQUESTS: usize = 64;
+
+/// The most steps that are granted to one transaction.
+pub const MOST_STEPS: u32 = 65_536;

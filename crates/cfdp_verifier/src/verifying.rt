@@ -1,0 +1,91 @@
+//! The verdict, from its first test to its last.
+
+ghost use Rattle.std.specs.Prelude.{◌≡◌, ◌≤◌, IfNone, IfOk};
+ghost use Rattle.cfdp_quota.specs.Budget.{spare};
+ghost use Rattle.cfdp_verifier.specs.Answers.{Grants, HasFootprint, answered};
+ghost use Rattle.cfdp_verifier.specs.Verdict.{verdict};
+
+use crate::MOST_REQUESTS;
+use crate::judging::judge;
+use crate::parsing::parse_items;
+use crate::proposal::Proposal;
+use crate::refusal::{NotGranted, Refusal};
+use crate::verdict::{Grant, Verdict};
+use cfdp_actions::{Filestore, Protected};
+use cfdp_leases::{Leases, footprint};
+use cfdp_paths::Memory;
+use cfdp_quota::Quota;
+use std::alloc::{AllocError, Global};
+
+/// The verdict on a list of filestore requests (CCSDS 727.0-B-5 §4.9), before its transaction begins: it is granted
+/// exactly where no test refuses it, and otherwise the first that does is answered. The tests are, in this order: it has
+/// at most 64 requests; its names are paths; its footprint conflicts with no lease; run alone on the store as it is, with
+/// unlimited room and a file of as many octets as the bound, its file may be installed, and each request is successful;
+/// it takes at most 65,536 steps; and it needs no more blocks than are to spare.
+///
+/// The list is run on a view of kinds and sizes, never on the store. Without a destination the bound has to be 0.
+///
+/// # Errors
+///
+/// Want of memory. Cost: a listing of the store, and for each request a few passes over what the list leases.
+pub fn verify<S: Filestore>(
+    alloc: Global,
+    store: &S,
+    leases: &Leases,
+    quota: &Quota,
+    protected: &Protected,
+    proposal: &Proposal<'_>,
+) -> Result<Verdict, Memory>
+    requires bound { IfNone proposal.now.destination (proposal.now.bound ≡ 0) }
+    // The quota is of a filestore, which has at most 65,536 blocks.
+    requires spare { spare quota.now ≤ 65536 }
+    ensures verdict { IfOk result (λ answer. answered answer
+        ≡ verdict protected.now (S.state store.now).filestore leases.now (spare quota.now) proposal.now) }
+    ensures footprint { IfOk result HasFootprint }
+{
+    match find_grant(alloc, store, leases, quota, protected, proposal) {
+        Ok(grant) => Ok(Verdict::Granted(grant)),
+        Err(NotGranted::Refused(refusal)) => Ok(Verdict::Refused(refusal)),
+        Err(NotGranted::Memory) => Err(AllocError),
+    }
+}
+
+/// What the list is granted, or why it isn't.
+fn find_grant<S: Filestore>(
+    alloc: Global,
+    store: &S,
+    leases: &Leases,
+    quota: &Quota,
+    protected: &Protected,
+    proposal: &Proposal<'_>,
+) -> Result<Grant, NotGranted>
+    requires bound { IfNone proposal.now.destination (proposal.now.bound ≡ 0) }
+    requires spare { spare quota.now ≤ 65536 }
+    ensures { Grants (verdict protected.now (S.state store.now).filestore leases.now (spare quota.now) proposal.now) result }
+{
+    if proposal.requests.len() > MOST_REQUESTS {
+        return Err(NotGranted::Refused(Refusal::TooManyRequests));
+    }
+    let items = parse_items(alloc, proposal)?;
+    let footprint = footprint(alloc, &items.requests, items.destination.as_ref())?;
+    if let Some(transaction) = leases.conflict(&footprint) {
+        return Err(NotGranted::Refused(Refusal::Conflict(transaction)));
+    }
+    let spare = quota.spare();
+    let costs = judge(
+        alloc,
+        store,
+        protected,
+        &footprint,
+        &items,
+        proposal.bound,
+        spare,
+    )?;
+    Ok(Grant {
+        footprint,
+        requests: items.requests,
+        destination: items.destination,
+        blocks: costs.blocks,
+        steps: costs.steps,
+    })
+}
