@@ -1,5 +1,6 @@
 pub mod Steps
 pub mod Splits
+pub mod CountSteps
 pub mod RequestLoop
 pub mod WholeLoop
 pub mod OutcomeLoop

@@ -7,7 +7,7 @@ use Rattle.byteorder.specs.Numbers.{big_from-append}
 use Rattle.cfdp_pdus.specs.declared.fault.PduFault.{PduFault}
 use Rattle.cfdp_pdus.specs.Bits.{IsNumber}
 use Rattle.cfdp_pdus.specs.First.{number_at}
-use Rattle.cfdp_pdus.proofs.Steps.{guard_ok}
+use Rattle.cfdp_tlv.proofs.Steps.{guard_ok}
 
 -- a number stands at the front
 pub record TakesNumber (octets : List ℕ) (len x : ℕ) (rest : List ℕ) : Type 0 where

@@ -8,10 +8,12 @@ use Rattle.cfdp_tlv.specs.Grammar.{SpellsResponse, response_at}
 use Rattle.cfdp_tlv.proofs.Responses.{response_takes, response_again}
 use Rattle.cfdp_pdus.specs.declared.fault.PduFault.{PduFault}
 use Rattle.cfdp_pdus.specs.declared.fault.PduFault.TheVariants.{BadTlv}
-use Rattle.cfdp_pdus.specs.Reading.{◌>>=◌, mend}
+use Rattle.cfdp_tlv.specs.Reading.{◌>>=◌}
+use Rattle.cfdp_pdus.specs.Reading.{mend}
 use Rattle.cfdp_pdus.specs.Grammar.{Field, values_of, EachTells, IsEntity, AreEntities, last_entity}
 use Rattle.cfdp_pdus.specs.First.{told_at, entity_at, or_else, outcome_of}
-use Rattle.cfdp_pdus.proofs.Steps.{bind_ok, mend_ok, held_ok, ok_is, chosen}
+use Rattle.cfdp_tlv.proofs.Steps.{bind_ok}
+use Rattle.cfdp_pdus.proofs.Steps.{mend_ok, held_ok, ok_is, chosen}
 use Rattle.cfdp_pdus.proofs.FieldSteps.{all_of}
 use Rattle.cfdp_pdus.proofs.OutcomeLoop.{Outcome}
 

@@ -8,10 +8,11 @@ use Rattle.cfdp_pdus.specs.declared.pdu.Pdu.TheVariants as pdus
 use Rattle.cfdp_pdus.specs.declared.fault.PduFault.{PduFault}
 use Rattle.cfdp_pdus.specs.declared.fault.PduFault.TheVariants.{Truncated, BadVersion, CrcNotSupported, LengthMismatch, BadDirective, Memory}
 use Rattle.cfdp_pdus.specs.Bits.{flag, IsNumber}
-use Rattle.cfdp_pdus.specs.Reading.{◌>>=◌, Gives}
+use Rattle.cfdp_tlv.specs.Reading.{◌>>=◌, Gives}
 use Rattle.cfdp_pdus.specs.Grammar.{HasHeader, header_of, SpellsDirective, SpellsField, IsOther, SpellsPdu}
 use Rattle.cfdp_pdus.specs.First.{Start, number_at, metadata_at, file_data_at, eof_at, finished_at, directive_at, field_at, header_at, start_at, pdu_at}
-use Rattle.cfdp_pdus.proofs.Steps.{bind_ok, guard_ok, guard_then, held_then, ok_is, chosen, only_ok}
+use Rattle.cfdp_tlv.proofs.Steps.{bind_ok, guard_ok, only_ok}
+use Rattle.cfdp_pdus.proofs.Steps.{guard_then, held_then, ok_is, chosen}
 use Rattle.cfdp_pdus.proofs.NumberSteps.{number_takes, number_again}
 use Rattle.cfdp_pdus.proofs.DataSteps.{metadata_takes, metadata_again, file_data_takes, file_data_again, eof_takes, eof_again, finished_takes, finished_again}
 
@@ -289,9 +290,9 @@ pdu_again (first ∷ high ∷ low ∷ fourth ∷ rest) pdu spelled =
 pub one_pdu : (octets : List ℕ) (a b : Pdu) → SpellsPdu octets a → SpellsPdu octets b → a ≡ b
 one_pdu octets a b first second = ok_is a b (sym (pdu_again octets a first) ∙ pdu_again octets b second)
 
-pub pdu_found : (octets : List ℕ) (result : Result Pdu PduFault) → Gives (λ (pdu : Pdu). pdu) result (pdu_at octets) → IfOk result (SpellsPdu octets)
+pub pdu_found : (octets : List ℕ) (result : Result Pdu PduFault) → Gives Memory (λ (pdu : Pdu). pdu) result (pdu_at octets) → IfOk result (SpellsPdu octets)
 pdu_found octets (Ok pdu) given = pdu_takes octets pdu given
 pdu_found octets (Err fault) given = tt
 
-pub pdu_only : (octets : List ℕ) (result : Result Pdu PduFault) → Gives (λ (pdu : Pdu). pdu) result (pdu_at octets) → (pdu : Pdu) → SpellsPdu octets pdu → (result ≡ Ok pdu) ⊎ (result ≡ Err Memory)
-pdu_only octets result given pdu spelled = only_ok result (pdu_at octets) pdu given (pdu_again octets pdu spelled)
+pub pdu_only : (octets : List ℕ) (result : Result Pdu PduFault) → Gives Memory (λ (pdu : Pdu). pdu) result (pdu_at octets) → (pdu : Pdu) → SpellsPdu octets pdu → (result ≡ Ok pdu) ⊎ (result ≡ Err Memory)
+pdu_only octets result given pdu spelled = only_ok Memory result (pdu_at octets) pdu given (pdu_again octets pdu spelled)

@@ -1,66 +1,44 @@
--- Reading requests field by field, as a loop does.
-use Rattle.std.proofs.Common.{◌≡◌, ℕ, List, [], ◌∷◌, ◌++◌, true, false, eqb, Result, Ok, Err, refl, sym, ap, ◌∙◌, append_assoc}
-use Rattle.std.proofs.lemmas.List.{append-nil}
+-- What one step over the TLV fields of a Metadata PDU reads.
+use Rattle.std.proofs.Common.{◌≡◌, ℕ, List, [], ◌∷◌, true, false, eqb, Ok, Err, refl}
+use Rattle.std.specs.Prelude.{IsOk}
 use Rattle.cfdp_tlv.specs.Field.{tlv_at}
+use Rattle.cfdp_tlv.specs.Reading.{◌>>=◌}
 use Rattle.cfdp_tlv.specs.Values.{RequestFields}
 use Rattle.cfdp_tlv.specs.declared.fault.TlvFault.{TlvFault}
 use Rattle.cfdp_pdus.specs.declared.fault.PduFault.{PduFault}
-use Rattle.cfdp_pdus.specs.declared.fault.PduFault.TheVariants.{Truncated, BadVersion, CrcNotSupported, LengthMismatch, BadDirective, BadTlv, RequestTooLong, Memory}
-use Rattle.cfdp_pdus.specs.Reading.{◌>>=◌, Fails}
+use Rattle.cfdp_pdus.specs.declared.fault.PduFault.TheVariants.{BadTlv}
 use Rattle.cfdp_pdus.specs.First.{fields_at, asked_at, requests_of}
+use Rattle.cfdp_pdus.proofs.Steps.{not_refused}
 use Rattle.cfdp_pdus.proofs.Splits.{fields_at-step, fields_at-cut, fields_at-nil}
 
--- what was read before, and what is still read
-abbrev pub with_requests : List RequestFields → Result (List RequestFields) PduFault → Result (List RequestFields) PduFault
-with_requests front read = read >>= λ requests. Ok (front ++ requests)
-
-regroup : (front : List RequestFields) (request : RequestFields) (read : Result (List RequestFields) PduFault) → with_requests front (read >>= λ requests. Ok (request ∷ requests)) ≡ with_requests (front ++ request ∷ []) read
-regroup front request (Ok requests) = ap (λ (rs : List RequestFields). Ok rs) (simp append_assoc)
-regroup front request (Err fault) = refl
-
-pub asks : (front : List RequestFields) (rest : List ℕ) (kind : ℕ) (value after : List ℕ) (request : RequestFields) (total : Result (List RequestFields) PduFault) → tlv_at rest ≡ Ok (kind, value, after) → kind ≡ 0 → asked_at value ≡ Ok request
-    → with_requests front (requests_of (fields_at rest)) ≡ total → with_requests (front ++ request ∷ []) (requests_of (fields_at after)) ≡ total
+pub asks : (rest : List ℕ) (kind : ℕ) (value after : List ℕ) (request : RequestFields) → tlv_at rest ≡ Ok (kind, value, after) → kind ≡ 0 → asked_at value ≡ Ok request
+    → requests_of (fields_at rest) ≡ (requests_of (fields_at after) >>= λ requests. Ok (request ∷ requests))
 unfolding requests_of
-asks front rest kind value after request total read zero asked so_far =
+asks rest kind value after request read zero asked =
     let is_request : eqb kind 0 ≡ true = rw zero refl in
-    let one : with_requests front (requests_of (fields_at rest)) ≡ with_requests (front ++ request ∷ []) (requests_of (fields_at after)) =
-    rw (fields_at-step rest kind value after read, is_request, asked) (regroup front request (requests_of (fields_at after))) in
-    sym one ∙ so_far
+    rw (fields_at-step rest kind value after read, is_request, asked) refl
 
-pub passes : (front : List RequestFields) (rest : List ℕ) (kind : ℕ) (value after : List ℕ) (total : Result (List RequestFields) PduFault) → tlv_at rest ≡ Ok (kind, value, after) → eqb kind 0 ≡ false
-    → with_requests front (requests_of (fields_at rest)) ≡ total → with_requests front (requests_of (fields_at after)) ≡ total
+pub passes : (rest : List ℕ) (kind : ℕ) (value after : List ℕ) → tlv_at rest ≡ Ok (kind, value, after) → eqb kind 0 ≡ false → requests_of (fields_at rest) ≡ requests_of (fields_at after)
 unfolding requests_of
-passes front rest kind value after total read other so_far =
-    let one : with_requests front (requests_of (fields_at rest)) ≡ with_requests front (requests_of (fields_at after)) = rw (fields_at-step rest kind value after read, other) refl in
-    sym one ∙ so_far
+passes rest kind value after read other = rw (fields_at-step rest kind value after read, other) refl
 
-refused : (fault : PduFault) (front : List RequestFields) (rest : List ℕ) (kind : ℕ) (value after : List ℕ) (total : Result (List RequestFields) PduFault) → tlv_at rest ≡ Ok (kind, value, after) → kind ≡ 0 → asked_at value ≡ Err fault
-    → with_requests front (requests_of (fields_at rest)) ≡ total → total ≡ Err fault
+pub refused : (rest : List ℕ) (kind : ℕ) (value after : List ℕ) (fault : PduFault) → tlv_at rest ≡ Ok (kind, value, after) → kind ≡ 0 → asked_at value ≡ Err fault → requests_of (fields_at rest) ≡ Err fault
 unfolding requests_of
-refused fault front rest kind value after total read zero fails so_far =
+refused rest kind value after fault read zero fails =
     let is_request : eqb kind 0 ≡ true = rw zero refl in
-    let one : with_requests front (requests_of (fields_at rest)) ≡ Err fault = rw (fields_at-step rest kind value after read, is_request, fails) refl in
-    sym so_far ∙ one
+    rw (fields_at-step rest kind value after read, is_request, fails) refl
 
-pub refuses : (fault : PduFault) (front : List RequestFields) (rest : List ℕ) (kind : ℕ) (value after : List ℕ) (total : Result (List RequestFields) PduFault) → tlv_at rest ≡ Ok (kind, value, after) → kind ≡ 0 → Fails fault (asked_at value)
-    → with_requests front (requests_of (fields_at rest)) ≡ total → Fails fault total
-refuses Memory front rest kind value after total read zero fails so_far = tt
-refuses Truncated front rest kind value after total read zero fails so_far = refused Truncated front rest kind value after total read zero fails so_far
-refuses BadVersion front rest kind value after total read zero fails so_far = refused BadVersion front rest kind value after total read zero fails so_far
-refuses CrcNotSupported front rest kind value after total read zero fails so_far = refused CrcNotSupported front rest kind value after total read zero fails so_far
-refuses LengthMismatch front rest kind value after total read zero fails so_far = refused LengthMismatch front rest kind value after total read zero fails so_far
-refuses BadDirective front rest kind value after total read zero fails so_far = refused BadDirective front rest kind value after total read zero fails so_far
-refuses BadTlv front rest kind value after total read zero fails so_far = refused BadTlv front rest kind value after total read zero fails so_far
-refuses RequestTooLong front rest kind value after total read zero fails so_far = refused RequestTooLong front rest kind value after total read zero fails so_far
-
-pub cut : (front : List RequestFields) (rest : List ℕ) (fault : TlvFault) (total : Result (List RequestFields) PduFault) → (rest ≡ [] → ⊥) → tlv_at rest ≡ Err fault → with_requests front (requests_of (fields_at rest)) ≡ total → total ≡ Err BadTlv
+pub cut : (rest : List ℕ) (fault : TlvFault) → (rest ≡ [] → ⊥) → tlv_at rest ≡ Err fault → requests_of (fields_at rest) ≡ Err BadTlv
 unfolding requests_of
-cut front rest fault total some read so_far =
-    let one : with_requests front (requests_of (fields_at rest)) ≡ Err BadTlv = rw (fields_at-cut rest fault some read) refl in
-    sym so_far ∙ one
+cut rest fault some read = rw (fields_at-cut rest fault some read) refl
 
-pub is_done : (front : List RequestFields) (rest : List ℕ) (total : Result (List RequestFields) PduFault) → rest ≡ [] → with_requests front (requests_of (fields_at rest)) ≡ total → total ≡ Ok front
+pub none_left : (rest : List ℕ) → rest ≡ [] → requests_of (fields_at rest) ≡ Ok []
 unfolding requests_of
-is_done front rest total none so_far =
-    let one : with_requests front (requests_of (fields_at rest)) ≡ Ok front = rw (none, fields_at-nil) (ap (λ (rs : List RequestFields). Ok rs) (append-nil front)) in
-    sym so_far ∙ one
+none_left rest none = rw (none, fields_at-nil) refl
+
+-- where all of them are read, the next field is, and the request in it
+pub next_field : (rest : List ℕ) → (rest ≡ [] → ⊥) → IsOk (requests_of (fields_at rest)) → IsOk (tlv_at rest)
+next_field rest some good = not_refused (tlv_at rest) (requests_of (fields_at rest)) (λ _. BadTlv) (λ fault. cut rest fault some) good
+
+pub next_request : (rest : List ℕ) (kind : ℕ) (value after : List ℕ) → tlv_at rest ≡ Ok (kind, value, after) → kind ≡ 0 → IsOk (requests_of (fields_at rest)) → IsOk (asked_at value)
+next_request rest kind value after read zero good = not_refused (asked_at value) (requests_of (fields_at rest)) (λ fault. fault) (λ fault. refused rest kind value after fault read zero) good

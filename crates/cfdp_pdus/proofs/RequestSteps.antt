@@ -6,10 +6,12 @@ use Rattle.cfdp_tlv.specs.Grammar.{SpellsRequest, request_at}
 use Rattle.cfdp_tlv.proofs.Requests.{request_takes, request_again}
 use Rattle.cfdp_pdus.specs.declared.fault.PduFault.{PduFault}
 use Rattle.cfdp_pdus.specs.declared.fault.PduFault.TheVariants.{BadTlv, RequestTooLong}
-use Rattle.cfdp_pdus.specs.Reading.{◌>>=◌, mend}
+use Rattle.cfdp_tlv.specs.Reading.{◌>>=◌}
+use Rattle.cfdp_pdus.specs.Reading.{mend}
 use Rattle.cfdp_pdus.specs.Grammar.{Field, values_of, EachAsks}
 use Rattle.cfdp_pdus.specs.First.{asked_at, requests_of}
-use Rattle.cfdp_pdus.proofs.Steps.{bind_ok, mend_ok, held_ok, ok_is, chosen}
+use Rattle.cfdp_tlv.proofs.Steps.{bind_ok}
+use Rattle.cfdp_pdus.proofs.Steps.{mend_ok, held_ok, ok_is, chosen}
 use Rattle.cfdp_pdus.proofs.FieldSteps.{all_of}
 
 asked_takes : (value : List ℕ) (request : RequestFields) → asked_at value ≡ Ok request → SpellsRequest value request × (length value < 255)

@@ -1,43 +1,43 @@
 -- What is known of a reading that failed, and of one that gave a value.
-use Rattle.std.proofs.Common.{◌≡◌, Bool, true, false, cond, Result, Ok, Err, refl, sym, ap, ◌∙◌, inl, inr}
-use Rattle.std.specs.Prelude.{◌⊎◌}
+use Rattle.std.proofs.Common.{◌≡◌, Bool, true, false, cond, Result, Ok, Err, refl, ap, inl, inr}
+use Rattle.std.specs.Prelude.{◌⊎◌, IsOk}
 use Rattle.cfdp_tlv.specs.declared.fault.TlvFault.{TlvFault}
 use Rattle.cfdp_pdus.specs.declared.fault.PduFault.{PduFault}
-use Rattle.cfdp_pdus.specs.declared.fault.PduFault.TheVariants.{Truncated, BadVersion, CrcNotSupported, LengthMismatch, BadDirective, BadTlv, RequestTooLong, Memory}
-use Rattle.cfdp_pdus.specs.Reading.{◌>>=◌, mend, Fails, Gives}
+use Rattle.cfdp_tlv.specs.Reading.{◌>>=◌, Answers, Fails}
+use Rattle.cfdp_pdus.specs.Reading.{mend}
 
--- a fault that is not memory's is that of reading
-pub fails_so : {A : Type 0} (e : PduFault) (read : Result A PduFault) → read ≡ Err e → Fails e read
-fails_so Memory read same = tt
-fails_so Truncated read same = same
-fails_so BadVersion read same = same
-fails_so CrcNotSupported read same = same
-fails_so LengthMismatch read same = same
-fails_so BadDirective read same = same
-fails_so BadTlv read same = same
-fails_so RequestTooLong read same = same
+-- a first step that gave no value, gives the whole none
+pub first_is_ok : {A B F : Type 0} (read : Result A F) (next : A → Result B F) → IsOk (read >>= next) → IsOk read
+first_is_ok (Ok x) next good = refl
+first_is_ok (Err fault) next good = absurd cc
 
--- a first step that fails, fails the whole
-pub bind_fails : {A B : Type 0} (e : PduFault) (read : Result A PduFault) (next : A → Result B PduFault) → Fails e read → Fails e (read >>= next)
-bind_fails Memory read next fails = tt
-bind_fails Truncated read next fails = ap (λ r. r >>= next) fails
-bind_fails BadVersion read next fails = ap (λ r. r >>= next) fails
-bind_fails CrcNotSupported read next fails = ap (λ r. r >>= next) fails
-bind_fails LengthMismatch read next fails = ap (λ r. r >>= next) fails
-bind_fails BadDirective read next fails = ap (λ r. r >>= next) fails
-bind_fails BadTlv read next fails = ap (λ r. r >>= next) fails
-bind_fails RequestTooLong read next fails = ap (λ r. r >>= next) fails
+pub never_both : {A F : Type 0} (read : Result A F) (fault : F) → read ≡ Err fault → IsOk read → ⊥
+never_both (Ok x) fault e good = cc
+never_both (Err other) fault e good = cc
 
--- both steps gave a value
-pub bind_ok : {A B : Type 0} (read : Result A PduFault) (next : A → Result B PduFault) (y : B) → (read >>= next) ≡ Ok y → (x : A) × (read ≡ Ok x) × (next x ≡ Ok y)
-bind_ok (Ok x) next y e = (x, refl, e)
-bind_ok (Err fault) next y e = absurd cc
+pub not_refused : {A B F G : Type 0} (part : Result A F) (whole : Result B G) (cause : F → G) → ((fault : F) → part ≡ Err fault → whole ≡ Err (cause fault)) → IsOk whole → IsOk part
+not_refused (Ok x) whole cause refused good = refl
+not_refused (Err fault) whole cause refused good = absurd (never_both whole (cause fault) (refused fault refl) good)
 
--- a test that did not fail, and one that held
-pub guard_ok : {A : Type 0} (b : Bool) (fault : PduFault) (x y : A) → cond b (Err fault) (Ok x) ≡ Ok y → (b ≡ false) × (x ≡ y)
-guard_ok true fault x y e = absurd cc
-guard_ok false fault x y e = (refl, cc)
+-- a last step that cannot fail
+pub last_err : {A B F : Type 0} (read : Result A F) (last : A → B) (fault : F) → (read >>= λ x. Ok (last x)) ≡ Err fault → read ≡ Err fault
+last_err (Ok x) last fault e = absurd cc
+last_err (Err other) last fault e = cc
 
+last_is_ok : {A B F : Type 0} (read : Result A F) (last : A → B) → IsOk read → IsOk (read >>= λ x. Ok (last x))
+last_is_ok (Ok x) last good = refl
+last_is_ok (Err fault) last good = absurd cc
+
+pub last_fails : {A B F : Type 0} (memory fault : F) (read : Result A F) (last : A → B) → Fails memory fault read → Fails memory fault (read >>= λ x. Ok (last x))
+last_fails memory fault read last (inl same) = inl (ap (λ r. r >>= λ x. Ok (last x)) same)
+last_fails memory fault read last (inr ran_out) = inr (ran_out.0, last_is_ok read last ran_out.1)
+
+-- what is answered has been read
+pub answers_ok : {X Y F : Type 0} (view : X → Y) (result : Result X F) (read : Result Y F) → Answers view result read → IsOk read → IsOk result
+answers_ok view (Ok x) read given good = refl
+answers_ok view (Err fault) read given good = absurd (never_both read fault given good)
+
+-- a test that held
 pub held_ok : {A : Type 0} (b : Bool) (fault : PduFault) (x y : A) → cond b (Ok x) (Err fault) ≡ Ok y → (b ≡ true) × (x ≡ y)
 held_ok true fault x y e = (refl, cc)
 held_ok false fault x y e = absurd cc
@@ -65,15 +65,3 @@ mend_ok fault (Err other) y e = absurd cc
 pub chosen : {A : Type 0} (b : Bool) (x y z : A) → cond b x y ≡ z → ((b ≡ true) × (x ≡ z)) ⊎ ((b ≡ false) × (y ≡ z))
 chosen true x y z e = inl (refl, e)
 chosen false x y z e = inr (refl, e)
-
--- where reading gives a value, the answer is that value, or memory ran out
-pub only_ok : {A : Type 0} (result read : Result A PduFault) (y : A) → Gives (λ (x : A). x) result read → read ≡ Ok y → (result ≡ Ok y) ⊎ (result ≡ Err Memory)
-only_ok (Ok x) read y given e = inl (sym given ∙ e)
-only_ok (Err Memory) read y given e = inr refl
-only_ok (Err Truncated) read y given e = absurd cc
-only_ok (Err BadVersion) read y given e = absurd cc
-only_ok (Err CrcNotSupported) read y given e = absurd cc
-only_ok (Err LengthMismatch) read y given e = absurd cc
-only_ok (Err BadDirective) read y given e = absurd cc
-only_ok (Err BadTlv) read y given e = absurd cc
-only_ok (Err RequestTooLong) read y given e = absurd cc

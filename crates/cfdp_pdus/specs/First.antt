@@ -20,7 +20,8 @@ use Rattle.cfdp_pdus.specs.declared.pdu.Pdu.{Pdu}
 use Rattle.cfdp_pdus.specs.declared.pdu.Pdu.TheVariants as pdus
 use Rattle.cfdp_pdus.specs.Values.{MetadataFields, FileDataFields, FinishedFields}
 use Rattle.cfdp_pdus.specs.Bits.{flag, fss}
-use Rattle.cfdp_pdus.specs.Reading.{◌>>=◌, mend}
+use Rattle.cfdp_tlv.specs.Reading.{◌>>=◌}
+use Rattle.cfdp_pdus.specs.Reading.{mend}
 use Rattle.cfdp_pdus.specs.Grammar.{Field}
 
 unfoldable pub number_at : PduFault → ℕ → List ℕ → Result (ℕ × List ℕ) PduFault

@@ -3,6 +3,7 @@ pub mod Bits
 pub mod Reading
 pub mod Grammar
 pub mod First
+pub mod Counting
 pub mod Canonical
 pub mod Checksum
 pub mod Equality

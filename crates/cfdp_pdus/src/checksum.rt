@@ -1,10 +1,12 @@
+//! The modular checksum.
+
 ghost use Rattle.std.specs.Prelude.{◌≡◌, ◌<◌, length};
 ghost use Rattle.cfdp_pdus.specs.Checksum.{checksum, weighed_from};
 
 use byteorder::{BigEndian, ByteOrder};
 
 /// The modular checksum of a file (CCSDS 727.0-B-5 §4.2.2): the sum modulo 2^32 of its octets as words
-/// of four from offset 0, the last word filled with zeros. It takes no memory.
+/// of four from offset 0, the last word filled with zeros. It takes no memory, and goes over the octets once.
 pub fn modular_checksum(octets: &[u8]) -> u32
     ensures { result ≡ checksum octets.now }
 {

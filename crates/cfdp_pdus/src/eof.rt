@@ -1,5 +1,7 @@
+//! The EOF PDU, which says what the whole file is.
+
 ghost use Rattle.std.specs.Prelude.{◌≡◌, ◌≤◌, ◌<◌, ◌+◌, ◌⊎◌, ◌↔◌, ◌++◌, length, vec_len, min, Bool, true, false, nat_le, IfErr, OnOk, OnErr, IsErrOf};
-ghost use Rattle.cfdp_pdus.specs.Reading.{Answers};
+ghost use Rattle.cfdp_tlv.specs.Reading.{Answers};
 ghost use Rattle.cfdp_pdus.specs.First.{eof_at};
 ghost use Rattle.cfdp_pdus.specs.Canonical.{IsHeader, IsSizedEof, pdu_octets, eof_field};
 ghost use Rattle.cfdp_pdus.specs.declared.fault.WriteFault.TheVariants.{TooLong, Memory};
@@ -42,6 +44,7 @@ pub fn read_eof(large: bool, octets: &[u8]) -> Result<Eof, PduFault>
 /// (CCSDS 727.0-B-5 §5.2.2).
 ///
 /// The only fault is `Memory`, since an EOF PDU always fits its length field.
+/// Cost: the octets that it appends, and one growth of the vector at most.
 #[tactic(auto, unfolding(crate::specs::Canonical::eof_field))]
 pub fn write_eof(header: &Header, eof: &Eof, out: &mut Vec<u8>) -> Result<(), WriteFault>
     requires header { IsHeader header.now }

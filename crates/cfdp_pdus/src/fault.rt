@@ -1,3 +1,5 @@
+//! Why a PDU was not read or written.
+
 ghost use Rattle.std.specs.Prelude.{◌≡◌};
 
 use std::alloc::{AllocError, AllocFailed};

@@ -1,16 +1,18 @@
 //! What the data fields are made of: names, and TLV fields one after the other.
 
-ghost use Rattle.std.specs.Prelude.{◌≡◌};
-ghost use Rattle.cfdp_pdus.specs.Reading.{Answers, Gives};
+ghost use Rattle.std.specs.Prelude.{◌≡◌, IfOk, Ok};
+ghost use Rattle.cfdp_tlv.specs.Reading.{Answers, Gives};
 ghost use Rattle.cfdp_pdus.specs.First.{name_at, asked_at, told_at, requests_of, outcome_of, entity_at, all_whole, fields_at};
+ghost use Rattle.cfdp_pdus.specs.Counting.{count_of, responses_of, outcome_count};
+ghost use Rattle.cfdp_pdus.specs.declared.fault.PduFault.TheVariants.{Memory};
 
 use crate::PduFault;
 use byteorder::{BigEndian, ByteOrder};
 use cfdp_tlv::{
-    FILESTORE_REQUEST, FILESTORE_RESPONSE, FilestoreRequest, FilestoreResponse, read_lv, read_tlv,
-    request_parts, response_parts,
+    FILESTORE_REQUEST, FILESTORE_RESPONSE, FilestoreRequest, FilestoreResponse, RequestParts,
+    ResponseParts, read_lv, read_tlv, request_parts, response_parts,
 };
-use std::alloc::Global;
+use std::alloc::{AllocError, Global};
 
 /// The type of an entity ID TLV.
 pub const ENTITY_ID: u8 = 6;
@@ -24,8 +26,8 @@ pub fn read_name(octets: &[u8]) -> Result<(&[u8], &[u8]), PduFault>
 
 /// A filestore request that a response can answer: its value has at most 254 octets.
 #[tactic(auto, unfolding(crate::specs::First::asked_at))]
-fn read_asked(alloc: Global, value: &[u8]) -> Result<FilestoreRequest, PduFault>
-    ensures { Gives (λ request. request) result (asked_at value.now) }
+fn read_asked(value: &[u8]) -> Result<RequestParts<'_>, PduFault>
+    ensures { result ≡ asked_at value.now }
 {
     let Ok(parts) = request_parts(value) else {
         return Err(PduFault::BadTlv);
@@ -33,26 +35,57 @@ fn read_asked(alloc: Global, value: &[u8]) -> Result<FilestoreRequest, PduFault>
     if value.len() >= 255 {
         return Err(PduFault::RequestTooLong);
     }
-    Ok(parts.copy(alloc)?)
+    Ok(parts)
 }
 
-/// The filestore requests among TLV fields.
-pub fn read_requests(alloc: Global, octets: &[u8]) -> Result<Vec<FilestoreRequest>, PduFault>
-    ensures { Gives (λ requests. requests.items) result (requests_of (fields_at octets.now)) }
+/// How many filestore requests there are among TLV fields, each of which is looked at. It takes no
+/// memory.
+fn check_requests(octets: &[u8]) -> Result<usize, PduFault>
+    ensures { result ≡ count_of (requests_of (fields_at octets.now)) }
 {
-    let mut requests = Vec::new(alloc);
+    let mut count = 0usize;
     let mut rest = octets;
     'fields: while !rest.is_empty() {
         let Ok(field) = read_tlv(rest) else {
             return Err(PduFault::BadTlv);
         };
         if field.kind == FILESTORE_REQUEST {
-            let request = read_asked(alloc, field.value)?;
-            requests.push(request)?;
+            read_asked(field.value)?;
+            count += 1;
+        }
+        rest = field.rest;
+    }
+    Ok(count)
+}
+
+/// The filestore requests, so many as were counted, among TLV fields that were found good.
+fn copy_requests(
+    alloc: Global,
+    octets: &[u8],
+    count: usize,
+) -> Result<Vec<FilestoreRequest>, AllocError>
+    requires { count_of (requests_of (fields_at octets.now)) ≡ Ok count }
+    ensures { IfOk result (λ requests. requests_of (fields_at octets.now) ≡ Ok requests.items) }
+{
+    let mut requests = Vec::with_capacity(alloc, count)?;
+    let mut rest = octets;
+    'fields: while !rest.is_empty() {
+        let field = read_tlv(rest).unwrap();
+        if field.kind == FILESTORE_REQUEST {
+            let request = read_asked(field.value).unwrap();
+            requests.push_reserved(request.copy(alloc)?);
         }
         rest = field.rest;
     }
     Ok(requests)
+}
+
+/// The filestore requests among TLV fields. All fields are looked at before memory is asked for.
+pub fn read_requests(alloc: Global, octets: &[u8]) -> Result<Vec<FilestoreRequest>, PduFault>
+    ensures { Gives Memory (λ requests. requests.items) result (requests_of (fields_at octets.now)) }
+{
+    let count = check_requests(octets)?;
+    Ok(copy_requests(alloc, octets, count)?)
 }
 
 /// An entity ID of 1 to 8 octets.
@@ -67,23 +100,18 @@ fn read_entity(value: &[u8]) -> Result<u64, PduFault>
 }
 
 /// A filestore response.
-fn read_told(alloc: Global, value: &[u8]) -> Result<FilestoreResponse, PduFault>
-    ensures { Gives (λ response. response) result (told_at value.now) }
+fn read_told(value: &[u8]) -> Result<ResponseParts<'_>, PduFault>
+    ensures { result ≡ told_at value.now }
 {
-    let Ok(parts) = response_parts(value) else {
-        return Err(PduFault::BadTlv);
-    };
-    Ok(parts.copy(alloc)?)
+    response_parts(value).map_err(|_| PduFault::BadTlv)
 }
 
-/// The filestore responses among TLV fields, and the last entity ID, which is the fault location.
-pub fn read_outcome(
-    alloc: Global,
-    octets: &[u8],
-) -> Result<(Vec<FilestoreResponse>, Option<u64>), PduFault>
-    ensures { Gives (λ x. (x.0.items, x.1)) result (outcome_of (fields_at octets.now)) }
+/// How many filestore responses there are among TLV fields, and the last entity ID. Each field is
+/// looked at. It takes no memory.
+fn check_outcome(octets: &[u8]) -> Result<(usize, Option<u64>), PduFault>
+    ensures { result ≡ outcome_count (fields_at octets.now) }
 {
-    let mut responses = Vec::new(alloc);
+    let mut count = 0usize;
     let mut fault = None;
     let mut rest = octets;
     'fields: while !rest.is_empty() {
@@ -91,15 +119,49 @@ pub fn read_outcome(
             return Err(PduFault::BadTlv);
         };
         if field.kind == FILESTORE_RESPONSE {
-            let response = read_told(alloc, field.value)?;
-            responses.push(response)?;
+            read_told(field.value)?;
+            count += 1;
         } else if field.kind == ENTITY_ID {
             let entity = read_entity(field.value)?;
             fault = Some(entity);
         }
         rest = field.rest;
     }
-    Ok((responses, fault))
+    Ok((count, fault))
+}
+
+/// The filestore responses, so many as were counted, among TLV fields that were found good.
+fn copy_responses(
+    alloc: Global,
+    octets: &[u8],
+    count: usize,
+) -> Result<Vec<FilestoreResponse>, AllocError>
+    requires { count_of (responses_of (fields_at octets.now)) ≡ Ok count }
+    ensures { IfOk result (λ responses. responses_of (fields_at octets.now) ≡ Ok responses.items) }
+{
+    let mut responses = Vec::with_capacity(alloc, count)?;
+    let mut rest = octets;
+    'fields: while !rest.is_empty() {
+        let field = read_tlv(rest).unwrap();
+        if field.kind == FILESTORE_RESPONSE {
+            let response = read_told(field.value).unwrap();
+            responses.push_reserved(response.copy(alloc)?);
+        }
+        rest = field.rest;
+    }
+    Ok(responses)
+}
+
+/// The filestore responses among TLV fields, and the last entity ID, which is the fault location.
+/// All fields are looked at before memory is asked for.
+pub fn read_outcome(
+    alloc: Global,
+    octets: &[u8],
+) -> Result<(Vec<FilestoreResponse>, Option<u64>), PduFault>
+    ensures { Gives Memory (λ x. (x.0.items, x.1)) result (outcome_of (fields_at octets.now)) }
+{
+    let (count, fault) = check_outcome(octets)?;
+    Ok((copy_responses(alloc, octets, count)?, fault))
 }
 
 /// That no TLV field is cut.

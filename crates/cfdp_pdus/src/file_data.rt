@@ -1,7 +1,10 @@
+//! The File Data PDU, which brings a piece of the file.
+
 ghost use Rattle.std.specs.Prelude.{◌≡◌, ◌≤◌, ◌<◌, ◌+◌, ◌⊎◌, ◌↔◌, ◌++◌, length, vec_len, min, Bool, true, false, nat_le, IfErr, OnOk, OnErr, IsErrOf};
-ghost use Rattle.cfdp_pdus.specs.Reading.{Answers, Gives};
+ghost use Rattle.cfdp_tlv.specs.Reading.{Answers, Gives};
 ghost use Rattle.cfdp_pdus.specs.First.{behind_segment, file_data_at};
 ghost use Rattle.cfdp_pdus.specs.Canonical.{IsHeader, IsSizedFileData, pdu_octets, file_data_field, file_data_fits};
+ghost use Rattle.cfdp_pdus.specs.declared.fault.PduFault.TheVariants.{Memory as OutOfMemory};
 ghost use Rattle.cfdp_pdus.specs.declared.fault.WriteFault.TheVariants.{TooLong, Memory};
 
 use crate::number::{read_number, size_len};
@@ -71,7 +74,7 @@ pub fn read_file_data(
     segment_metadata: bool,
     octets: &[u8],
 ) -> Result<FileData, PduFault>
-    ensures { Gives (λ file_data. file_data) result (file_data_at large segment_metadata octets.now) }
+    ensures { Gives OutOfMemory (λ file_data. file_data) result (file_data_at large segment_metadata octets.now) }
 {
     let rest = skip_segment(segment_metadata, octets)?;
     let (offset, rest) = read_number(rest, size_len(large), PduFault::LengthMismatch)?;
@@ -84,6 +87,7 @@ pub fn read_file_data(
 /// Appends a File Data PDU, with no segment metadata (CCSDS 727.0-B-5 §5.3).
 ///
 /// The faults are `TooLong`, where the data field has more than 65,535 octets, and `Memory`.
+/// Cost: the octets that it appends, and one growth of the vector at most.
 #[tactic(auto, unfolding(crate::specs::Canonical::file_data_field, crate::specs::Canonical::file_data_fits))]
 pub fn write_file_data(
     header: &Header,

@@ -1,11 +1,14 @@
+//! The Finished PDU, which tells the sender how a transaction went.
+
 ghost use Rattle.std.specs.Prelude.{◌≡◌, ◌≤◌, ◌<◌, ◌+◌, ◌^◌, ◌⊎◌, ◌↔◌, ◌++◌, length, vec_len, min, Bool, true, false, nat_le, IfErr, OnOk, OnErr, IsErrOf};
 ghost use Rattle.std.specs.List.{flat_map, list_all};
 ghost use Rattle.std.specs.Option.{ForSome};
 ghost use Rattle.std.specs.Vec.{vec_capacity};
 ghost use Rattle.cfdp_pdus.specs.Equality.{same_codes};
-ghost use Rattle.cfdp_pdus.specs.Reading.{Gives};
+ghost use Rattle.cfdp_tlv.specs.Reading.{Gives};
 ghost use Rattle.cfdp_pdus.specs.First.{finished_at};
 ghost use Rattle.cfdp_pdus.specs.Canonical.{IsHeader, IsSizedFinished, pdu_octets, finished_field, finished_fits, response_field, fault_location, is_short_response};
+ghost use Rattle.cfdp_pdus.specs.declared.fault.PduFault.TheVariants.{Memory as OutOfMemory};
 ghost use Rattle.cfdp_pdus.specs.declared.fault.WriteFault.TheVariants.{TooLong, Memory};
 
 use crate::field::read_outcome;
@@ -23,7 +26,7 @@ pub struct Finished {
     pub condition: u8,
     /// The delivery code: data incomplete, and not complete.
     pub incomplete: bool,
-    /// The file status, 0 to 3.
+    /// The file status: 0 discarded on purpose, 1 rejected by the filestore, 2 retained, 3 unreported.
     pub file_status: u8,
     /// The filestore responses, in order.
     pub responses: Vec<FilestoreResponse>,
@@ -70,7 +73,7 @@ fn have_same_codes(a: &Finished, b: &Finished) -> bool
 /// A Finished PDU's data field behind its directive code.
 #[tactic(auto, unfolding(crate::specs::First::finished_at))]
 pub fn read_finished(alloc: Global, octets: &[u8]) -> Result<Finished, PduFault>
-    ensures { Gives (λ finished. finished) result (finished_at octets.now) }
+    ensures { Gives OutOfMemory (λ finished. finished) result (finished_at octets.now) }
 {
     let [flags, rest @ ..] = octets else {
         return Err(PduFault::LengthMismatch);
@@ -180,6 +183,7 @@ fn push_field(out: &mut Vec<u8>, header: &Header, finished: &Finished)
 ///
 /// The faults are `TooLong`, where a response's value has more than 255 octets or the data field more
 /// than 65,535, and `Memory`.
+/// Cost: the octets that it appends, and one growth of the vector at most.
 #[tactic(auto, unfolding(crate::specs::Canonical::finished_fits))]
 pub fn write_finished(
     header: &Header,

@@ -1,3 +1,5 @@
+//! The header of every PDU.
+
 ghost use Rattle.std.specs.Prelude.{◌≡◌};
 ghost use Rattle.cfdp_pdus.specs.First.{start_at, header_at};
 

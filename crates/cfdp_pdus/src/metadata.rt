@@ -1,10 +1,13 @@
+//! The Metadata PDU, which begins a transaction.
+
 ghost use Rattle.std.specs.Prelude.{◌≡◌, ◌≤◌, ◌<◌, ◌+◌, ◌⊎◌, ◌↔◌, ◌++◌, length, vec_len, min, Bool, true, false, nat_le, IfErr, OnOk, OnErr, IsErrOf};
 ghost use Rattle.std.specs.List.{flat_map, list_all};
 ghost use Rattle.std.specs.Vec.{vec_capacity};
 ghost use Rattle.cfdp_pdus.specs.Equality.{same_options, same_names};
-ghost use Rattle.cfdp_pdus.specs.Reading.{Gives};
+ghost use Rattle.cfdp_tlv.specs.Reading.{Gives};
 ghost use Rattle.cfdp_pdus.specs.First.{metadata_at};
 ghost use Rattle.cfdp_pdus.specs.Canonical.{IsHeader, IsSizedMetadata, pdu_octets, metadata_field, metadata_fits, request_field, is_short_request};
+ghost use Rattle.cfdp_pdus.specs.declared.fault.PduFault.TheVariants.{Memory as OutOfMemory};
 ghost use Rattle.cfdp_pdus.specs.declared.fault.WriteFault.TheVariants.{TooLong, Memory};
 
 use crate::field::{read_name, read_requests};
@@ -20,7 +23,7 @@ use std::marker::Model;
 pub struct Metadata {
     /// Whether transaction closure is requested.
     pub closure: bool,
-    /// The checksum type, 0 to 15.
+    /// The checksum type, 0 to 15: 0 is the modular checksum, 15 is none.
     pub checksum_type: u8,
     /// The file's size in octets, 0 where it is unbounded.
     pub size: u64,
@@ -79,7 +82,7 @@ fn have_same_names(a: &Metadata, b: &Metadata) -> bool
 /// A Metadata PDU's data field behind its directive code.
 #[tactic(auto, unfolding(crate::specs::First::metadata_at))]
 pub fn read_metadata(alloc: Global, large: bool, octets: &[u8]) -> Result<Metadata, PduFault>
-    ensures { Gives (λ metadata. metadata) result (metadata_at large octets.now) }
+    ensures { Gives OutOfMemory (λ metadata. metadata) result (metadata_at large octets.now) }
 {
     let [flags, rest @ ..] = octets else {
         return Err(PduFault::LengthMismatch);
@@ -175,6 +178,7 @@ fn push_field(out: &mut Vec<u8>, large: bool, metadata: &Metadata)
 ///
 /// The faults are `TooLong`, where a name or a request's value has more than 255 octets or the data
 /// field more than 65,535, and `Memory`.
+/// Cost: the octets that it appends, and one growth of the vector at most.
 #[tactic(auto, unfolding(crate::specs::Canonical::metadata_fits))]
 pub fn write_metadata(
     header: &Header,

@@ -2,7 +2,7 @@
 
 ghost use Rattle.std.specs.Prelude.{◌≡◌, ◌≤◌, ◌<◌, ◌^◌, IfOk};
 ghost use Rattle.cfdp_pdus.specs.Bits.{flag, fss};
-ghost use Rattle.cfdp_pdus.specs.Reading.{Answers};
+ghost use Rattle.cfdp_tlv.specs.Reading.{Answers};
 ghost use Rattle.cfdp_pdus.specs.First.{number_at};
 
 use crate::PduFault;

@@ -1,3 +1,5 @@
+//! A PDU of any kind.
+
 use crate::{Eof, FileData, Finished, Header, Metadata};
 
 /// A PDU with its header.

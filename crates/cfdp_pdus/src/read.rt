@@ -1,7 +1,7 @@
 //! Reading a whole PDU.
 
 ghost use Rattle.std.specs.Prelude.{◌≡◌, ◌⊎◌, IfOk, Ok, Err};
-ghost use Rattle.cfdp_pdus.specs.Reading.{Gives};
+ghost use Rattle.cfdp_tlv.specs.Reading.{Gives};
 ghost use Rattle.cfdp_pdus.specs.First.{directive_at, field_at, pdu_at};
 ghost use Rattle.cfdp_pdus.specs.Grammar.{SpellsPdu};
 ghost use Rattle.cfdp_pdus.specs.Sound.{IsSound};
@@ -19,7 +19,7 @@ use std::alloc::Global;
 /// A directive's data field.
 #[tactic(auto, unfolding(crate::specs::First::directive_at))]
 fn read_directive(alloc: Global, header: Header, field: &[u8]) -> Result<Pdu, PduFault>
-    ensures { Gives (λ pdu. pdu) result (directive_at header field.now) }
+    ensures { Gives Memory (λ pdu. pdu) result (directive_at header field.now) }
 {
     let [code, rest @ ..] = field else {
         return Err(PduFault::LengthMismatch);
@@ -39,7 +39,7 @@ fn read_directive(alloc: Global, header: Header, field: &[u8]) -> Result<Pdu, Pd
 /// The data field of a PDU.
 #[tactic(auto, unfolding(crate::specs::First::field_at))]
 fn read_field(alloc: Global, start: &Start<'_>) -> Result<Pdu, PduFault>
-    ensures { Gives (λ pdu. pdu) result (field_at start.now) }
+    ensures { Gives Memory (λ pdu. pdu) result (field_at start.now) }
 {
     let header = start.header;
     if start.file_data {
@@ -52,7 +52,7 @@ fn read_field(alloc: Global, start: &Start<'_>) -> Result<Pdu, PduFault>
 
 /// What [`read_pdu`] answers.
 fn read_whole(alloc: Global, octets: &[u8]) -> Result<Pdu, PduFault>
-    ensures { Gives (λ pdu. pdu) result (pdu_at octets.now) }
+    ensures { Gives Memory (λ pdu. pdu) result (pdu_at octets.now) }
 {
     let start = read_start(octets)?;
     read_field(alloc, &start)
@@ -66,15 +66,18 @@ fn read_whole(alloc: Global, octets: &[u8]) -> Result<Pdu, PduFault>
 /// directive code (`LengthMismatch`), a code that is not listed (`BadDirective`), fixed fields,
 /// segment metadata or names past its end (`LengthMismatch`). Then the TLV fields from the left: one
 /// that is cut, a filestore request or response that is none, an entity ID of another length than 1
-/// to 8 (`BadTlv`), a request value of 255 octets (`RequestTooLong`). `Memory` may stand in place of
-/// any answer, where a growth was refused.
+/// to 8 (`BadTlv`), a request value of 255 octets (`RequestTooLong`). All of this is found before
+/// memory is asked for, so `Memory` stands only in place of a PDU.
+///
+/// It goes over the octets twice at most: once without memory, and, where they spell a PDU, once to
+/// copy what is handed out, each vector being allocated at its length, and nothing else.
 pub fn read_pdu(alloc: Global, octets: &[u8]) -> Result<Pdu, PduFault>
     // What is read is spelled so.
     ensures found { IfOk result (SpellsPdu octets.now) }
     // What is spelled so is read, unless memory runs out.
     ensures only { (pdu : PduValue) → SpellsPdu octets.now pdu → (result ≡ Ok pdu) ⊎ (result ≡ Err Memory) }
-    // Which fault it is.
-    ensures exact { Gives (λ pdu. pdu) result (pdu_at octets.now) }
+    // Which fault it is: `Memory` stands only in place of a PDU.
+    ensures exact { Gives Memory (λ pdu. pdu) result (pdu_at octets.now) }
     // What is read can be written, and answered.
     ensures sound { IfOk result IsSound }
 {

@@ -1,15 +1,18 @@
 //! The worked examples of the format, the faults, and a slow reader beside the real one.
 
+mod meanings;
+mod refused;
 mod slow;
 mod writing;
 
 use crate::*;
+use cfdp_status::Action;
 use std::alloc::{AllocError, Global};
 use std::process::Abort;
 use std::test::Fail;
 
 // PDUs as they stand in worked examples: Metadata, File Data, EOF, Finished, and one that is not ours.
-const EXAMPLES: [&str; 37] = [
+const EXAMPLES: [&str; 44] = [
     "24000d00010502 0740 00000000 0000 0003000161",
     "24000a00010502 0400 00000000 00000000",
     "2c0008000105020503010400016100",
@@ -47,6 +50,13 @@ const EXAMPLES: [&str; 37] = [
     "2c000200011b0205b4",
     "34000708010a0281ff0000000041",
     "2c001200010502 0503 020161 060102 010400016100 06020103",
+    "24001100010602 0740 00000078 0173 0161 00053001610161",
+    "24001100010602 0740 00000077 0173 0161 00053001610161",
+    "24000a00010602 0400 1e1e1e1e 00000078",
+    "24000a00010602 0400 1e1e1e1d 00000077",
+    "24000100010502 08",
+    "24000100010502 09",
+    "24000100010502 0c",
 ];
 
 // The value of a hexadecimal digit.
@@ -102,74 +112,165 @@ fn agree_on_changes(rt: &impl Abort, alloc: Global, pdu: &mut [u8]) {
     }
 }
 
-// Each example, each of its beginnings, and each with one bit changed, is read as the slow reader
-// reads it.
+// They agree on a PDU, each of its beginnings, and on it with one bit changed.
+fn agree_around(rt: &impl Abort, alloc: Global, pdu: &mut [u8]) {
+    assert!(rt; read_pdu(alloc, pdu).is_ok(), "{pdu:?}");
+    agree(rt, alloc, pdu);
+    agree_on_cuts(rt, alloc, pdu);
+    agree_on_changes(rt, alloc, pdu);
+}
+
 #[test]
 fn as_the_slow_reader(rt: HostRuntime) -> Result<(), Fail> {
     let alloc = rt.alloc();
     for example in EXAMPLES {
-        let mut pdu = octets(alloc, example)?;
-        assert!(rt; read_pdu(alloc, &pdu).is_ok(), "{example}");
-        agree(&rt, alloc, &pdu);
-        agree_on_cuts(&rt, alloc, &pdu);
-        agree_on_changes(&rt, alloc, &mut pdu);
+        agree_around(&rt, alloc, &mut octets(alloc, example)?);
     }
     Ok(())
 }
 
+// So many octets 01 behind a header and an offset.
+#[test]
+fn data_as_the_slow_reader(rt: HostRuntime) -> Result<(), Fail> {
+    let alloc = rt.alloc();
+    for (before, len) in [
+        ("34007c00010602 00000000", 120usize),
+        ("34007b00010602 00000000", 119),
+    ] {
+        let mut pdu = octets(alloc, before)?;
+        for _ in 0..len {
+            pdu.push(1)?;
+        }
+        agree_around(&rt, alloc, &mut pdu);
+    }
+    Ok(())
+}
+
+// What is no PDU, and its fault.
+const FAULTS: [(&str, PduFault); 23] = [
+    ("", PduFault::Truncated),
+    (
+        "04000d00010502 0740 00000000 0000 0003000161",
+        PduFault::BadVersion,
+    ),
+    (
+        "26000d00010502 0740 00000000 0000 0003000161",
+        PduFault::CrcNotSupported,
+    ),
+    ("06", PduFault::BadVersion),
+    ("26", PduFault::CrcNotSupported),
+    ("240001", PduFault::Truncated),
+    ("2400010001", PduFault::Truncated),
+    ("24000200010502 07", PduFault::Truncated),
+    (
+        "24000d00010502 0740 00000000 0000 0003000161 00",
+        PduFault::LengthMismatch,
+    ),
+    (
+        "24000d00010502 0740 00000000 0000 0003900161",
+        PduFault::BadTlv,
+    ),
+    (
+        "24000d00010502 0a40 00000000 0000 0003000161",
+        PduFault::BadDirective,
+    ),
+    ("24000000010502", PduFault::LengthMismatch),
+    ("24000100010502 07", PduFault::LengthMismatch),
+    ("24000100010502 0a", PduFault::BadDirective),
+    ("24000700010502 0740 00000000 05", PduFault::LengthMismatch),
+    ("34000108010a02 81", PduFault::LengthMismatch),
+    ("34000300010a02 000000", PduFault::LengthMismatch),
+    (
+        "24000800010502 0400 00000000 0000",
+        PduFault::LengthMismatch,
+    ),
+    ("24000b00010502 0400 00000000 00000000 06", PduFault::BadTlv),
+    ("2c000400010502 0503 0600", PduFault::BadTlv),
+    (
+        "2c000d00010502 0503 0609 000000000000000001",
+        PduFault::BadTlv,
+    ),
+    ("2c000800010502 0503 0104 02016100", PduFault::BadTlv),
+    ("2c000300010502 0503 01", PduFault::BadTlv),
+];
+
 #[test]
 fn faults(rt: HostRuntime) -> Result<(), Fail> {
     let alloc = rt.alloc();
-    let cases = [
-        ("", PduFault::Truncated),
-        (
-            "04000d00010502 0740 00000000 0000 0003000161",
-            PduFault::BadVersion,
-        ),
-        (
-            "26000d00010502 0740 00000000 0000 0003000161",
-            PduFault::CrcNotSupported,
-        ),
-        ("06", PduFault::BadVersion),
-        ("26", PduFault::CrcNotSupported),
-        ("240001", PduFault::Truncated),
-        ("2400010001", PduFault::Truncated),
-        ("24000200010502 07", PduFault::Truncated),
-        (
-            "24000d00010502 0740 00000000 0000 0003000161 00",
-            PduFault::LengthMismatch,
-        ),
-        (
-            "24000d00010502 0740 00000000 0000 0003900161",
-            PduFault::BadTlv,
-        ),
-        (
-            "24000d00010502 0a40 00000000 0000 0003000161",
-            PduFault::BadDirective,
-        ),
-        ("24000000010502", PduFault::LengthMismatch),
-        ("24000100010502 07", PduFault::LengthMismatch),
-        ("24000100010502 0a", PduFault::BadDirective),
-        ("24000700010502 0740 00000000 05", PduFault::LengthMismatch),
-        ("34000108010a02 81", PduFault::LengthMismatch),
-        ("34000300010a02 000000", PduFault::LengthMismatch),
-        (
-            "24000800010502 0400 00000000 0000",
-            PduFault::LengthMismatch,
-        ),
-        ("24000b00010502 0400 00000000 00000000 06", PduFault::BadTlv),
-        ("2c000400010502 0503 0600", PduFault::BadTlv),
-        (
-            "2c000d00010502 0503 0609 000000000000000001",
-            PduFault::BadTlv,
-        ),
-        ("2c000800010502 0503 0104 02016100", PduFault::BadTlv),
-        ("2c000300010502 0503 01", PduFault::BadTlv),
-    ];
-    for (text, fault) in cases {
+    for (text, fault) in FAULTS {
         let pdu = octets(alloc, text)?;
         assert!(rt; read_pdu(alloc, &pdu) == Err(fault), "{text}");
     }
+    Ok(())
+}
+
+// A PDU of 20 octets that is cut anywhere is truncated.
+#[test]
+fn cuts(rt: HostRuntime) -> Result<(), Fail> {
+    let alloc = rt.alloc();
+    let pdu = octets(alloc, EXAMPLES[0])?;
+    assert_eq!(rt; pdu.len(), 20);
+    for len in 0..pdu.len() {
+        assert!(rt;
+            read_pdu(alloc, &pdu[..len]) == Err(PduFault::Truncated),
+            "{len}"
+        );
+    }
+    Ok(())
+}
+
+// 96 times `p`, a slash, and so many times another octet.
+fn deep_name(alloc: Global, octet: u8, count: usize) -> Result<Vec<u8>, AllocError> {
+    let mut name = vec![in alloc; b'p'; 96]?;
+    name.push(b'/')?;
+    for _ in 0..count {
+        name.push(octet)?;
+    }
+    Ok(name)
+}
+
+// A Metadata PDU without a file, whose request renames one deep name to another. What stands before
+// each name has its length, and the first of them those of the data field and the request too.
+fn renames(
+    alloc: Global,
+    before: [&[u8]; 2],
+    first: &[u8],
+    second: &[u8],
+) -> Result<Vec<u8>, AllocError> {
+    let mut pdu = Vec::from_slice(alloc, before[0])?;
+    pdu.extend_from_slice(first)?;
+    pdu.extend_from_slice(before[1])?;
+    pdu.extend_from_slice(second)?;
+    Ok(pdu)
+}
+
+// A request's value of 254 octets is read with its names, and one of 255 is refused.
+#[test]
+fn longest_rename(rt: HostRuntime) -> Result<(), Fail> {
+    let alloc = rt.alloc();
+    let first = deep_name(alloc, b'q', 28)?;
+    let second = deep_name(alloc, b'r', 29)?;
+    let before = [
+        b"\x24\x01\x08\x00\x01\x05\x02\x07\x40\x00\x00\x00\x00\x00\x00\x00\xfe\x20\x7d".as_slice(),
+        b"\x7e",
+    ];
+    let pdu = renames(alloc, before, &first, &second)?;
+    let Pdu::Metadata(_, metadata) = read_pdu(alloc, &pdu)? else {
+        return Err(Fail::new("it is another PDU"));
+    };
+    assert_eq!(rt; metadata.requests.len(), 1);
+    let request = &metadata.requests[0];
+    assert!(rt; request.action() == Action::RenameFile);
+    assert!(rt; request.first() == first.as_slice());
+    assert!(rt; request.second() == Some(second.as_slice()));
+
+    let second = deep_name(alloc, b'r', 30)?;
+    let before = [
+        b"\x24\x01\x09\x00\x01\x05\x02\x07\x40\x00\x00\x00\x00\x00\x00\x00\xff\x20\x7d".as_slice(),
+        b"\x7f",
+    ];
+    let pdu = renames(alloc, before, &first, &second)?;
+    assert!(rt; read_pdu(alloc, &pdu) == Err(PduFault::RequestTooLong));
     Ok(())
 }
 

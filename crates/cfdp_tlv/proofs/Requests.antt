@@ -58,12 +58,12 @@ beside-code DenyDirectory = refl
 pub one_request : (octets : List ℕ) (a b : RequestFields) → SpellsRequest octets a → SpellsRequest octets b → a ≡ b
 one_request octets a b first second = ok_is a b (sym (request_again octets a first) ∙ request_again octets b second)
 
-pub request_found : (octets : List ℕ) (result : Result RequestFields TlvFault) → Gives (λ (r : RequestFields). r) result (request_at octets) → IfOk result (SpellsRequest octets)
+pub request_found : (octets : List ℕ) (result : Result RequestFields TlvFault) → Gives Memory (λ (r : RequestFields). r) result (request_at octets) → IfOk result (SpellsRequest octets)
 request_found octets (Ok request) given = request_takes octets request given
 request_found octets (Err fault) given = tt
 
-pub request_only : (octets : List ℕ) (result : Result RequestFields TlvFault) → Gives (λ (r : RequestFields). r) result (request_at octets) → (request : RequestFields) → SpellsRequest octets request → (result ≡ Ok request) ⊎ (result ≡ Err Memory)
-request_only octets result given request spelled = only_ok result (request_at octets) request given (request_again octets request spelled)
+pub request_only : (octets : List ℕ) (result : Result RequestFields TlvFault) → Gives Memory (λ (r : RequestFields). r) result (request_at octets) → (request : RequestFields) → SpellsRequest octets request → (result ≡ Ok request) ⊎ (result ≡ Err Memory)
+request_only octets result given request spelled = only_ok Memory result (request_at octets) request given (request_again octets request spelled)
 
 -- what is written of a request spells it
 pub request_spelled : (request : RequestFields) → IsRequest request → SpellsRequest (request_octets request) request

@@ -48,12 +48,12 @@ response_again (octet ∷ octets) response spelled =
 pub one_response : (octets : List ℕ) (a b : ResponseFields) → SpellsResponse octets a → SpellsResponse octets b → a ≡ b
 one_response octets a b first second = ok_is a b (sym (response_again octets a first) ∙ response_again octets b second)
 
-pub response_found : (octets : List ℕ) (result : Result ResponseFields TlvFault) → Gives (λ (r : ResponseFields). r) result (response_at octets) → IfOk result (SpellsResponse octets)
+pub response_found : (octets : List ℕ) (result : Result ResponseFields TlvFault) → Gives Memory (λ (r : ResponseFields). r) result (response_at octets) → IfOk result (SpellsResponse octets)
 response_found octets (Ok response) given = response_takes octets response given
 response_found octets (Err fault) given = tt
 
-pub response_only : (octets : List ℕ) (result : Result ResponseFields TlvFault) → Gives (λ (r : ResponseFields). r) result (response_at octets) → (response : ResponseFields) → SpellsResponse octets response → (result ≡ Ok response) ⊎ (result ≡ Err Memory)
-response_only octets result given response spelled = only_ok result (response_at octets) response given (response_again octets response spelled)
+pub response_only : (octets : List ℕ) (result : Result ResponseFields TlvFault) → Gives Memory (λ (r : ResponseFields). r) result (response_at octets) → (response : ResponseFields) → SpellsResponse octets response → (result ≡ Ok response) ⊎ (result ≡ Err Memory)
+response_only octets result given response spelled = only_ok Memory result (response_at octets) response given (response_again octets response spelled)
 
 -- what is written of a response spells it
 pub response_spelled : (response : ResponseFields) → IsResponse response → SpellsResponse (response_octets response) response

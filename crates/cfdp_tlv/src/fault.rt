@@ -1,3 +1,5 @@
+//! Why a field was not read or written.
+
 ghost use Rattle.std.specs.Prelude.{◌≡◌};
 ghost use Rattle.cfdp_tlv.specs.declared.fault.TlvFault.TheVariants.{Memory};
 

@@ -1,3 +1,5 @@
+//! LV and TLV fields.
+
 ghost use Rattle.std.specs.Prelude.{◌≡◌, ℕ, List, ◌++◌, IfOk, IsOkAnd};
 ghost use Rattle.cfdp_tlv.specs.Reading.{Answers};
 ghost use Rattle.cfdp_tlv.specs.Field.{lv, tlv, lv_at, tlv_at};

@@ -1,3 +1,5 @@
+//! The second name of a request or a response.
+
 ghost use Rattle.std.specs.Prelude.{◌≡◌, option_map, is_some, IfOk};
 ghost use Rattle.cfdp_status.specs.Codes.{has_second};
 ghost use Rattle.cfdp_tlv.specs.Reading.{Answers};

@@ -1,3 +1,5 @@
+//! Filestore requests, read and written.
+
 ghost use Rattle.std.specs.Prelude.{◌≡◌, ◌≤◌, ◌<◌, ◌+◌, ◌↔◌, ◌⊎◌, ◌++◌, List, ℕ, length, vec_len, min, option_map, IfOk, OnOk, OnErr, IfErr, IsOk, IsErrOf, Ok, Err};
 ghost use Rattle.std.specs.Vec.{vec_capacity};
 ghost use Rattle.cfdp_tlv.specs.Reading.{Gives};
@@ -142,7 +144,8 @@ pub fn request_parts(value: &[u8]) -> Result<RequestParts<'_>, TlvFault>
 }
 
 impl<'a> RequestParts<'a> {
-    /// The request with names of its own. It allocates those and nothing else.
+    /// The request with names of its own. It copies and allocates those and nothing else; the only fault
+    /// is want of memory.
     pub fn copy(&self, alloc: Global) -> Result<FilestoreRequest, AllocError>
         ensures { IfOk result (λ request. request ≡ self.now) }
     {
@@ -161,7 +164,7 @@ impl<'a> RequestParts<'a> {
 
 /// What [`read_request`] answers.
 fn copied(alloc: Global, value: &[u8]) -> Result<FilestoreRequest, TlvFault>
-    ensures exact { Gives (λ request. request) result (request_at value.now) }
+    ensures exact { Gives Memory (λ request. request) result (request_at value.now) }
 {
     let parts = request_parts(value)?;
     Ok(parts.copy(alloc)?)
@@ -169,14 +172,16 @@ fn copied(alloc: Global, value: &[u8]) -> Result<FilestoreRequest, TlvFault>
 
 /// The request that a whole TLV value spells (CCSDS 727.0-B-5 §5.4.1).
 ///
-/// The faults are those of [`request_parts`], and `Memory`. It allocates its names and nothing else.
+/// The faults are those of [`request_parts`], found in one pass that takes no memory. Where there is
+/// none, each name is allocated at its length and copied, and nothing else is; `Memory` says that
+/// this was refused.
 pub fn read_request(alloc: Global, value: &[u8]) -> Result<FilestoreRequest, TlvFault>
     // What is read is spelled so.
     ensures found { IfOk result (SpellsRequest value.now) }
     // What is spelled so is read, unless memory runs out.
     ensures only { (request : RequestFields) → SpellsRequest value.now request → (result ≡ Ok request) ⊎ (result ≡ Err Memory) }
-    // Which fault it is.
-    ensures exact { Gives (λ request. request) result (request_at value.now) }
+    // Which fault it is: `Memory` stands only in place of a request.
+    ensures exact { Gives Memory (λ request. request) result (request_at value.now) }
 {
     copied(alloc, value)
 }
@@ -184,6 +189,7 @@ pub fn read_request(alloc: Global, value: &[u8]) -> Result<FilestoreRequest, Tlv
 /// Appends a request as a whole TLV (CCSDS 727.0-B-5 §5.4.1), spare bits 0.
 ///
 /// The faults are `TooLong`, where the value has more than 255 octets, and `Memory`.
+/// Cost: the octets that it appends, and one growth of the vector at most.
 pub fn write_request(request: &FilestoreRequest, out: &mut Vec<u8>) -> Result<(), TlvFault>
     ensures ok { OnOk result (out.new.items ≡ out.old.items ++ tlv FILESTORE_REQUEST (request_octets request.now)) }
     ensures too_long { IsErrOf result TooLong ↔ (255 < length (request_octets request.now)) }

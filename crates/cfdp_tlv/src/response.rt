@@ -1,3 +1,5 @@
+//! Filestore responses, read and written.
+
 ghost use Rattle.std.specs.Prelude.{◌≡◌, ◌≤◌, ◌<◌, ◌+◌, ◌↔◌, ◌⊎◌, ◌++◌, List, ℕ, length, vec_len, min, option_map, IfOk, OnOk, OnErr, IfErr, IsOk, IsErrOf, Ok, Err};
 ghost use Rattle.std.specs.Vec.{vec_capacity};
 ghost use Rattle.cfdp_tlv.specs.Reading.{Gives};
@@ -169,7 +171,8 @@ pub fn response_parts(value: &[u8]) -> Result<ResponseParts<'_>, TlvFault>
 }
 
 impl<'a> ResponseParts<'a> {
-    /// The response with names and a message of its own. It allocates those and nothing else.
+    /// The response with names and a message of its own. It copies and allocates those and nothing else;
+    /// the only fault is want of memory.
     pub fn copy(&self, alloc: Global) -> Result<FilestoreResponse, AllocError>
         ensures { IfOk result (λ response. response ≡ self.now) }
     {
@@ -190,7 +193,7 @@ impl<'a> ResponseParts<'a> {
 
 /// What [`read_response`] answers.
 fn copied(alloc: Global, value: &[u8]) -> Result<FilestoreResponse, TlvFault>
-    ensures exact { Gives (λ response. response) result (response_at value.now) }
+    ensures exact { Gives Memory (λ response. response) result (response_at value.now) }
 {
     let parts = response_parts(value)?;
     Ok(parts.copy(alloc)?)
@@ -198,15 +201,16 @@ fn copied(alloc: Global, value: &[u8]) -> Result<FilestoreResponse, TlvFault>
 
 /// The response that a whole TLV value spells (CCSDS 727.0-B-5 §5.4.2).
 ///
-/// The faults are those of [`response_parts`], and `Memory`. It allocates its names and its message
-/// and nothing else.
+/// The faults are those of [`response_parts`], found in one pass that takes no memory. Where there is
+/// none, each name and the message is allocated at its length and copied, and nothing else is;
+/// `Memory` says that this was refused.
 pub fn read_response(alloc: Global, value: &[u8]) -> Result<FilestoreResponse, TlvFault>
     // What is read is spelled so.
     ensures found { IfOk result (SpellsResponse value.now) }
     // What is spelled so is read, unless memory runs out.
     ensures only { (response : ResponseFields) → SpellsResponse value.now response → (result ≡ Ok response) ⊎ (result ≡ Err Memory) }
-    // Which fault it is.
-    ensures exact { Gives (λ response. response) result (response_at value.now) }
+    // Which fault it is: `Memory` stands only in place of a response.
+    ensures exact { Gives Memory (λ response. response) result (response_at value.now) }
 {
     copied(alloc, value)
 }
@@ -214,6 +218,7 @@ pub fn read_response(alloc: Global, value: &[u8]) -> Result<FilestoreResponse, T
 /// Appends a response as a whole TLV (CCSDS 727.0-B-5 §5.4.2).
 ///
 /// The faults are `TooLong`, where the value has more than 255 octets, and `Memory`.
+/// Cost: the octets that it appends, and one growth of the vector at most.
 pub fn write_response(response: &FilestoreResponse, out: &mut Vec<u8>) -> Result<(), TlvFault>
     ensures ok { OnOk result (out.new.items ≡ out.old.items ++ tlv FILESTORE_RESPONSE (response_octets response.now)) }
     ensures too_long { IsErrOf result TooLong ↔ (255 < length (response_octets response.now)) }

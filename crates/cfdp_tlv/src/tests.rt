@@ -167,24 +167,73 @@ fn ample(rt: HostRuntime) -> Result<(), Fail> {
         out.as_slice(),
         b"\x00\x03\x00\x01a\x00\x05\x20\x01a\x01b\x00\x03\x10\x01a\x00\x04\x00\x02/a".as_slice()
     );
+    Ok(())
+}
 
-    let not_performed = read_response(alloc, b"\x2f\x01a\x01b\x00")?;
-    let want = FilestoreResponse {
-        status: Status::NotPerformed(Action::RenameFile),
-        first: Vec::from_slice(alloc, b"a")?,
-        second: Some(Vec::from_slice(alloc, b"b")?),
-        message: Vec::new(alloc),
-    };
-    assert!(rt; not_performed == want);
-    let performed = read_response(alloc, b"\x00\x02/a\x00")?;
-    let want = FilestoreResponse {
+// The value of a response whose message is empty, and what it says.
+#[derive(Clone, Copy)]
+struct Told {
+    value: &'static [u8],
+    status: Status,
+    first: &'static [u8],
+    second: Option<&'static [u8]>,
+}
+
+const TOLD: [Told; 6] = [
+    Told {
+        value: b"\x00\x01a\x00",
         status: Status::Successful(Action::CreateFile),
-        first: Vec::from_slice(alloc, b"/a")?,
+        first: b"a",
         second: None,
-        message: Vec::new(alloc),
-    };
-    assert!(rt; performed == want);
-    assert!(rt; performed != not_performed);
+    },
+    Told {
+        value: b"\x0f\x01a\x00",
+        status: Status::NotPerformed(Action::CreateFile),
+        first: b"a",
+        second: None,
+    },
+    Told {
+        value: b"\x2f\x01a\x01b\x00",
+        status: Status::NotPerformed(Action::RenameFile),
+        first: b"a",
+        second: Some(b"b"),
+    },
+    Told {
+        value: b"\x1f\x01a\x00",
+        status: Status::NotPerformed(Action::DeleteFile),
+        first: b"a",
+        second: None,
+    },
+    Told {
+        value: b"\x00\x02/a\x00",
+        status: Status::Successful(Action::CreateFile),
+        first: b"/a",
+        second: None,
+    },
+    Told {
+        value: b"\x10\x01a\x00",
+        status: Status::Successful(Action::DeleteFile),
+        first: b"a",
+        second: None,
+    },
+];
+
+#[test]
+fn ample_responses(rt: HostRuntime) -> Result<(), Fail> {
+    let alloc = rt.alloc();
+    for told in TOLD {
+        let second = match told.second {
+            None => None,
+            Some(second) => Some(Vec::from_slice(alloc, second)?),
+        };
+        let want = FilestoreResponse {
+            status: told.status,
+            first: Vec::from_slice(alloc, told.first)?,
+            second,
+            message: Vec::new(alloc),
+        };
+        assert!(rt; read_response(alloc, told.value)? == want);
+    }
     Ok(())
 }
 
@@ -209,8 +258,9 @@ fn fields(rt: HostRuntime) -> Result<(), Fail> {
     Ok(())
 }
 
+// These are the answers too where each allocation is refused: a fault is found without memory.
 #[test]
-fn faults(rt: HostRuntime) -> Result<(), Fail> {
+fn refused_values(rt: HostRuntime) {
     let alloc = rt.alloc();
     let requests = [
         (b"".as_slice(), TlvFault::Truncated),
@@ -239,7 +289,11 @@ fn faults(rt: HostRuntime) -> Result<(), Fail> {
         assert_eq!(rt; read_response(alloc, value).err(), Some(fault));
         assert_eq!(rt; response_parts(value).err(), Some(fault));
     }
-    // Spare bits are passed over.
+}
+
+#[test]
+fn spare_bits(rt: HostRuntime) -> Result<(), Fail> {
+    let alloc = rt.alloc();
     assert!(rt; read_request(alloc, b"\x1f\x01a")? == read_request(alloc, b"\x10\x01a")?);
     Ok(())
 }

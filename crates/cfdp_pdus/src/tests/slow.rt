@@ -1,5 +1,7 @@
 //! A slow reader of PDUs, by the places at which the format puts things, beside the real one.
 
+ghost use Rattle.std.specs.Prelude.{◌≤◌};
+
 use crate::*;
 use cfdp_status::{Action, Status};
 use cfdp_tlv::{FilestoreRequest, FilestoreResponse};
@@ -141,69 +143,83 @@ fn options(alloc: Global, field: &[u8], start: usize, directive: u8) -> Result<P
     Ok(parts)
 }
 
+// How many octets a file size or an offset has.
+fn size_len(header: &Header) -> usize
+    ensures { result ≤ 8 }
+{
+    if header.large { 8 } else { 4 }
+}
+
+// A Metadata PDU's data field.
+fn metadata(alloc: Global, header: Header, field: &[u8]) -> Result<Pdu, PduFault> {
+    let fault = PduFault::LengthMismatch;
+    let size_len = size_len(&header);
+    let flags = octet(field, 1, fault)?;
+    let size = number(field, 2, size_len, fault)?;
+    let (source_name, at) = counted(alloc, field, 2 + size_len, fault)?;
+    let (destination_name, at) = counted(alloc, field, at, fault)?;
+    let Parts {
+        requests,
+        responses: _,
+        fault: _,
+    } = options(alloc, field, at, 7)?;
+    let metadata = Metadata {
+        closure: flags & 0x40 != 0,
+        checksum_type: flags & 0x0f,
+        size,
+        source_name,
+        destination_name,
+        requests,
+    };
+    Ok(Pdu::Metadata(header, metadata))
+}
+
+// An EOF PDU's data field.
+fn eof(alloc: Global, header: Header, field: &[u8]) -> Result<Pdu, PduFault> {
+    let fault = PduFault::LengthMismatch;
+    let size_len = size_len(&header);
+    let condition = octet(field, 1, fault)? / 16;
+    let checksum = number(field, 2, 4, fault)?;
+    let size = number(field, 6, size_len, fault)?;
+    let _ = options(alloc, field, 6 + size_len, 4)?;
+    let eof = Eof {
+        condition,
+        checksum: (checksum & 0xffff_ffff) as u32,
+        size,
+    };
+    Ok(Pdu::Eof(header, eof))
+}
+
+// A Finished PDU's data field.
+fn finished(alloc: Global, header: Header, field: &[u8]) -> Result<Pdu, PduFault> {
+    let flags = octet(field, 1, PduFault::LengthMismatch)?;
+    let Parts {
+        requests: _,
+        responses,
+        fault,
+    } = options(alloc, field, 2, 5)?;
+    let finished = Finished {
+        condition: flags / 16,
+        incomplete: flags & 4 != 0,
+        file_status: flags & 3,
+        responses,
+        fault,
+    };
+    Ok(Pdu::Finished(header, finished))
+}
+
 // The data field of a directive.
 fn directive(alloc: Global, header: Header, field: &[u8]) -> Result<Pdu, PduFault> {
-    let fault = PduFault::LengthMismatch;
-    let size_len = if header.large { 8 } else { 4 };
-    let code = octet(field, 0, fault)?;
-    if code == 7 {
-        let flags = octet(field, 1, fault)?;
-        let size = number(field, 2, size_len, fault)?;
-        let (source_name, at) = counted(alloc, field, 2 + size_len, fault)?;
-        let (destination_name, at) = counted(alloc, field, at, fault)?;
-        let Parts {
-            requests,
-            responses: _,
-            fault: _,
-        } = options(alloc, field, at, 7)?;
-        return Ok(Pdu::Metadata(
-            header,
-            Metadata {
-                closure: flags & 0x40 != 0,
-                checksum_type: flags & 0x0f,
-                size,
-                source_name,
-                destination_name,
-                requests,
-            },
-        ));
+    match octet(field, 0, PduFault::LengthMismatch)? {
+        7 => metadata(alloc, header, field),
+        4 => eof(alloc, header, field),
+        5 => finished(alloc, header, field),
+        6 => Ok(Pdu::NotOurs(header, 6)),
+        8 => Ok(Pdu::NotOurs(header, 8)),
+        9 => Ok(Pdu::NotOurs(header, 9)),
+        12 => Ok(Pdu::NotOurs(header, 12)),
+        _ => Err(PduFault::BadDirective),
     }
-    if code == 4 {
-        let condition = octet(field, 1, fault)? / 16;
-        let checksum = number(field, 2, 4, fault)?;
-        let size = number(field, 6, size_len, fault)?;
-        let _ = options(alloc, field, 6 + size_len, 4)?;
-        return Ok(Pdu::Eof(
-            header,
-            Eof {
-                condition,
-                checksum: (checksum & 0xffff_ffff) as u32,
-                size,
-            },
-        ));
-    }
-    if code == 5 {
-        let flags = octet(field, 1, fault)?;
-        let Parts {
-            requests: _,
-            responses,
-            fault,
-        } = options(alloc, field, 2, 5)?;
-        return Ok(Pdu::Finished(
-            header,
-            Finished {
-                condition: flags / 16,
-                incomplete: flags & 4 != 0,
-                file_status: flags & 3,
-                responses,
-                fault,
-            },
-        ));
-    }
-    if code == 6 || code == 8 || code == 9 || code == 12 {
-        return Ok(Pdu::NotOurs(header, code));
-    }
-    Err(PduFault::BadDirective)
 }
 
 // A File Data PDU's data field.
@@ -218,13 +234,33 @@ fn file_data(
     if segment_metadata {
         at = usize::from(octet(field, 0, fault)? & 0x3f).wrapping_add(1);
     }
-    let size_len = if header.large { 8 } else { 4 };
+    let size_len = size_len(&header);
     let offset = number(field, at, size_len, fault)?;
     let mut octets = Vec::new(alloc);
     for place in at.wrapping_add(size_len)..field.len() {
         octets.push(octet(field, place, fault)?)?;
     }
     Ok(Pdu::FileData(header, FileData { offset, octets }))
+}
+
+// The header, and the place behind it.
+fn header(octets: &[u8], first: u8, fourth: u8) -> Result<(Header, usize), PduFault> {
+    let cut = PduFault::Truncated;
+    let id_len = (fourth >> 4 & 7) + 1;
+    let number_len = (fourth & 7) + 1;
+    let number_at = 4 + usize::from(id_len);
+    let destination_at = number_at + usize::from(number_len);
+    let header = Header {
+        toward_sender: first & 0x08 != 0,
+        acknowledged: first & 0x04 == 0,
+        large: first & 0x01 != 0,
+        id_len,
+        number_len,
+        source: number(octets, 4, usize::from(id_len), cut)?,
+        number: number(octets, number_at, usize::from(number_len), cut)?,
+        destination: number(octets, destination_at, usize::from(id_len), cut)?,
+    };
+    Ok((header, destination_at + usize::from(id_len)))
 }
 
 /// What the octets say, read place by place.
@@ -239,21 +275,7 @@ pub fn read(alloc: Global, octets: &[u8]) -> Result<Pdu, PduFault> {
     }
     let len = number(octets, 1, 2, cut)?;
     let fourth = octet(octets, 3, cut)?;
-    let id_len = (fourth >> 4 & 7) + 1;
-    let number_len = (fourth & 7) + 1;
-    let number_at = 4 + usize::from(id_len);
-    let destination_at = number_at + usize::from(number_len);
-    let field_at = destination_at + usize::from(id_len);
-    let header = Header {
-        toward_sender: first & 0x08 != 0,
-        acknowledged: first & 0x04 == 0,
-        large: first & 0x01 != 0,
-        id_len,
-        number_len,
-        source: number(octets, 4, usize::from(id_len), cut)?,
-        number: number(octets, number_at, usize::from(number_len), cut)?,
-        destination: number(octets, destination_at, usize::from(id_len), cut)?,
-    };
+    let (header, field_at) = header(octets, first, fourth)?;
     let end = (len as usize).wrapping_add(field_at);
     if octets.len() < end {
         return Err(cut);

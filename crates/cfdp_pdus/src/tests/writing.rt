@@ -192,18 +192,28 @@ fn delivers(rt: &impl Abort, alloc: Global) -> Result<(), Fail> {
     let mut out = Vec::new(alloc);
     write_metadata(&header(10, false), &metadata, &mut out)?;
     assert!(rt; out == octets(alloc, "24000a00010a02 0740 0000000f 0173 0166")?);
+    let read = read_pdu(alloc, &out)?;
+    assert!(rt; read == Pdu::Metadata(header(10, false), metadata));
     Ok(())
 }
 
 // File data of that file.
-fn carries(rt: &impl Abort, alloc: Global) -> Result<(), Fail> {
+fn carries(
+    rt: &impl Abort,
+    alloc: Global,
+    offset: u64,
+    octets_there: &[u8],
+    want: &str,
+) -> Result<(), Fail>
+    requires { offset < 256 ^ 4 }
+{
     let file_data = FileData {
-        offset: 8,
-        octets: Vec::from_slice(alloc, &[8, 9, 10, 11, 12, 13, 14])?,
+        offset,
+        octets: Vec::from_slice(alloc, octets_there)?,
     };
     let mut out = Vec::new(alloc);
     write_file_data(&header(10, false), &file_data, &mut out)?;
-    assert!(rt; out == octets(alloc, "34000b00010a02 00000008 08090a0b0c0d0e")?);
+    assert!(rt; out == octets(alloc, want)?);
     let read = read_pdu(alloc, &out)?;
     assert!(rt; read == Pdu::FileData(header(10, false), file_data));
     Ok(())
@@ -261,24 +271,32 @@ fn ample(rt: HostRuntime) -> Result<(), Fail> {
         requests,
         "24001300010802 0740 00000000 0000 000400022f61 0003100161",
     )?;
-    delivers(&rt, alloc)?;
-    carries(&rt, alloc)?;
-    ends(
-        &rt,
-        alloc,
-        10,
-        0,
-        0x181c2015,
-        "24000a00010a02 0400 181c2015 0000000f",
-    )?;
-    ends(
-        &rt,
-        alloc,
-        26,
-        15,
-        0,
-        "24000d00011a02 04f0 00000000 00000000 060101",
-    )
+    delivers(&rt, alloc)
+}
+
+#[test]
+fn ample_data(rt: HostRuntime) -> Result<(), Fail> {
+    let alloc = rt.alloc();
+    let late = [8, 9, 10, 11, 12, 13, 14];
+    let want = "34000b00010a02 00000008 08090a0b0c0d0e";
+    carries(&rt, alloc, 8, &late, want)?;
+    let early = [0, 1, 2, 3, 4, 5, 6, 7, 8, 9];
+    let want = "34000e00010a02 00000000 00010203040506070809";
+    carries(&rt, alloc, 0, &early, want)
+}
+
+#[test]
+fn ample_ends(rt: HostRuntime) -> Result<(), Fail> {
+    let alloc = rt.alloc();
+    for (number, checksum, want) in [
+        (5, 0, "24000a00010502 0400 00000000 00000000"),
+        (8, 0, "24000a00010802 0400 00000000 00000000"),
+        (10, 0x181c2015, "24000a00010a02 0400 181c2015 0000000f"),
+    ] {
+        ends(&rt, alloc, number, 0, checksum, want)?;
+    }
+    let want = "24000d00011a02 04f0 00000000 00000000 060101";
+    ends(&rt, alloc, 26, 15, 0, want)
 }
 
 // A name that has one octet too many.
@@ -345,45 +363,4 @@ fn longest_request(rt: HostRuntime) -> Result<(), Fail> {
         }
     }
     Ok(())
-}
-
-// Run with each allocation refused in turn: what is answered is the value, or `Memory` with the
-// vector as before.
-#[test]
-fn refused_memory(rt: HostRuntime) {
-    let alloc = rt.alloc();
-    let pdu = b"\x24\x00\x0d\x00\x01\x05\x02\x07\x40\x00\x00\x00\x00\x00\x00\x00\x03\x00\x01a";
-    let read = read_pdu(alloc, pdu);
-    assert!(rt; read.is_ok() || read == Err(PduFault::Memory));
-    let pdu = b"\x2c\x00\x08\x00\x01\x05\x02\x05\x03\x01\x04\x00\x01a\x00";
-    let read = read_pdu(alloc, pdu);
-    assert!(rt; read.is_ok() || read == Err(PduFault::Memory));
-    let eof = Eof {
-        condition: 15,
-        checksum: 0,
-        size: 0,
-    };
-    let mut out = Vec::new(alloc);
-    match write_eof(&header(26, false), &eof, &mut out) {
-        Ok(()) => assert_eq!(rt; out.len(), 20),
-        Err(fault) => assert!(rt; fault == WriteFault::Memory && out.is_empty()),
-    }
-}
-
-// The same of a Finished PDU.
-#[test]
-fn refused_memory_of_finished(rt: HostRuntime) {
-    let alloc = rt.alloc();
-    let finished = Finished {
-        condition: 0,
-        incomplete: false,
-        file_status: 3,
-        responses: Vec::new(alloc),
-        fault: None,
-    };
-    let mut out = Vec::new(alloc);
-    match write_finished(&header(6, true), &finished, &mut out) {
-        Ok(()) => assert_eq!(rt; out.len(), 9),
-        Err(fault) => assert!(rt; fault == WriteFault::Memory && out.is_empty()),
-    }
 }
