@@ -19,6 +19,7 @@ mod rows;
 mod staging;
 mod survey;
 
+pub use blocks::BLOCK_OCTETS;
 pub use checksum::entry_checksum;
 pub use filestore::Filestore;
 pub use kind::{Entry, Kind, Standing};

@@ -136,7 +136,8 @@ impl Path {
     ///
     /// # Errors
     ///
-    /// [`Memory`] where there was none for a copy of one of them, or for the list.
+    /// [`Memory`] where there was none for a copy of one of them, or for the list. Cost: a copy of each, at most 28 names
+    /// in all.
     pub fn ancestors(&self, alloc: Global) -> Result<Vec<Path>, Memory>
         ensures ancestors { IfOk result (λ paths. paths.items ≡ ancestors self.now) }
         ensures none { ancestors self.now ≡ [] → IsOk result }
@@ -166,7 +167,7 @@ impl Path {
     ///
     /// # Errors
     ///
-    /// [`Memory`] where there was none for the octets.
+    /// [`Memory`] where there was none for the octets. Cost: one pass over the names.
     pub fn text(&self, alloc: Global) -> Result<Vec<u8>, Memory>
         ensures { IfOk result (λ octets. octets.items ≡ joined self.now) }
     {
@@ -178,7 +179,8 @@ impl Path {
     ///
     /// # Errors
     ///
-    /// [`Memory`] where there was none for the path.
+    /// [`Memory`] where there was none for the path: an allocation for each of its names, and a few more. Cost: one
+    /// copy of its names.
     pub fn rebased(&self, alloc: Global, from: &Path, to: &Path) -> Result<Path, Memory>
         requires below { IsTrue (is_at_or_below self.now from.now) }
         requires room { length self.now + length to.now ≤ 8 + length from.now }

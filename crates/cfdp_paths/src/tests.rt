@@ -1,5 +1,7 @@
 //! Worked paths and faults, the order, and each call once with ample memory.
 
+mod refused;
+
 use crate::parsing::split_names;
 use crate::{LONGEST_NAME, Memory, Path, PathFault};
 use std::alloc::Global;
@@ -8,15 +10,17 @@ use std::test::Fail;
 
 #[test]
 fn faults_in_order(rt: HostRuntime) -> Result<(), Fail> {
-    let rows: [(&[u8], PathFault); 19] = [
+    let rows: [(&[u8], PathFault); 24] = [
         (b"", PathFault::Empty),
         (b"/", PathFault::Empty),
         (b"//", PathFault::EmptyName),
         (b"a/", PathFault::EmptyName),
+        (b"/a/", PathFault::EmptyName),
         (b"//a", PathFault::EmptyName),
         (b"a//b", PathFault::EmptyName),
         (b"a//..", PathFault::EmptyName),
         (b"..//a", PathFault::BadName),
+        (b"a/../", PathFault::BadName),
         (b".", PathFault::BadName),
         (b"..", PathFault::BadName),
         (b"/..", PathFault::BadName),
@@ -24,8 +28,11 @@ fn faults_in_order(rt: HostRuntime) -> Result<(), Fail> {
         (b"a\0", PathFault::BadName),
         (b"\0", PathFault::BadName),
         (b"1/2/3/4/5/6/7/8/9", PathFault::TooDeep),
+        (b"/1/2/3/4/5/6/7/8/9", PathFault::TooDeep),
         (b"1/2/3/4/5/6/7/8/", PathFault::TooDeep),
+        (b"1/2/3/4/5/6/7/8//", PathFault::TooDeep),
         (b"1/2/3/4/5/6/7/8/..", PathFault::TooDeep),
+        (b"1/2/3/4/5/6/7/8/9/..", PathFault::TooDeep),
         (b"1/2/3/4/5/6/7/./9", PathFault::BadName),
         (b"/1/2/3/4/5/6/7//9", PathFault::EmptyName),
     ];
@@ -39,21 +46,57 @@ fn faults_in_order(rt: HostRuntime) -> Result<(), Fail> {
     Ok(())
 }
 
+/// The octets in front, a name of 97 octets, and the octets behind it.
+fn around_a_long_name(alloc: Global, front: &[u8], back: &[u8]) -> Result<Vec<u8>, Memory> {
+    let mut octets = vec![in alloc; b'x'; LONGEST_NAME + 1]?;
+    octets.extend_from_slice(back)?;
+    let mut whole = Vec::from_slice(alloc, front)?;
+    whole.extend_from_slice(&octets)?;
+    Ok(whole)
+}
+
 #[test]
 fn length_of_a_name(rt: HostRuntime) -> Result<(), Fail> {
-    let mut octets = vec![in rt.alloc(); b'x'; LONGEST_NAME]?;
-    let path = Path::parse(rt.alloc(), &octets)?;
-    assert_eq!(rt; path.text(rt.alloc())?, octets);
-    octets.push(b'x')?;
-    assert_eq!(rt;
-        Path::parse(rt.alloc(), &octets).err(),
-        Some(PathFault::NameTooLong)
-    );
-    octets.push(0)?;
-    assert_eq!(rt;
-        Path::parse(rt.alloc(), &octets).err(),
-        Some(PathFault::BadName)
-    );
+    let alloc = rt.alloc();
+    let octets = vec![in alloc; b'x'; LONGEST_NAME]?;
+    let path = Path::parse(alloc, &octets)?;
+    assert_eq!(rt; path.text(alloc)?, octets);
+    let rows: [(&[u8], &[u8], PathFault); 8] = [
+        (b"", b"", PathFault::NameTooLong),
+        (b"/", b"", PathFault::NameTooLong),
+        (b"", b"\0", PathFault::BadName),
+        (b"", b"/", PathFault::NameTooLong),
+        (b"", b"/..", PathFault::NameTooLong),
+        (b"../", b"", PathFault::BadName),
+        (b"//", b"", PathFault::EmptyName),
+        (b"1/2/3/4/5/6/7/8/", b"", PathFault::TooDeep),
+    ];
+    for (front, back, fault) in rows {
+        let octets = around_a_long_name(alloc, front, back)?;
+        assert_eq!(rt;
+            Path::parse(alloc, &octets).err(),
+            Some(fault),
+            "a long name behind {front:?} and before {back:?}"
+        );
+    }
+    Ok(())
+}
+
+/// One `/` in front means nothing, and any octet but `/` and 0 may stand in a name.
+#[test]
+fn accepted(rt: HostRuntime) -> Result<(), Fail> {
+    let rows: [(&[u8], &[u8]); 6] = [
+        (b"/a", b"a"),
+        (b"/1/2/3/4/5/6/7/8", b"1/2/3/4/5/6/7/8"),
+        (b"...", b"..."),
+        (b"/.a/a./..a", b".a/a./..a"),
+        (b" /\x01\x7f", b" /\x01\x7f"),
+        (b"\xff", b"\xff"),
+    ];
+    for (octets, text) in rows {
+        let path = Path::parse(rt.alloc(), octets)?;
+        assert_eq!(rt; path.text(rt.alloc())?.as_slice(), text);
+    }
     Ok(())
 }
 
@@ -70,25 +113,51 @@ fn texts(alloc: Global, paths: &[Path]) -> Result<Vec<u8>, Memory> {
 #[test]
 fn ample(rt: HostRuntime) -> Result<(), Fail> {
     let alloc = rt.alloc();
-    let rows: [(&[u8], &[u8], &[u8]); 4] = [
-        (b"a", b"", b""),
-        (b"d/x", b"d", b"d "),
-        (b"d/x/y", b"d/x", b"d d/x "),
-        (
-            b"1/2/3/4/5/6/7/8",
-            b"1/2/3/4/5/6/7",
-            b"1 1/2 1/2/3 1/2/3/4 1/2/3/4/5 1/2/3/4/5/6 1/2/3/4/5/6/7 ",
-        ),
+    let rows: [(&[u8], &[u8], &[u8], &[u8]); 6] = [
+        (b"a", b"a", b"", b""),
+        (b"b", b"b", b"", b""),
+        (b"/a", b"a", b"", b""),
+        (b"f", b"f", b"", b""),
+        (b"d/x", b"d/x", b"d", b"d "),
+        (b"d/x/y", b"d/x/y", b"d/x", b"d d/x "),
     ];
-    for (octets, parent, ancestors) in rows {
+    for (octets, text, parent, ancestors) in rows {
         let path = Path::parse(alloc, octets)?;
-        assert_eq!(rt; path.text(alloc)?.as_slice(), octets);
+        assert_eq!(rt; path.text(alloc)?.as_slice(), text);
         assert_eq!(rt; path.copy(alloc)?, path);
-        assert_eq!(rt; path.parent(alloc)?, Path::parse(alloc, parent).ok());
+        let parent = match Path::parse(alloc, parent) {
+            Err(PathFault::Empty) => None,
+            answer => Some(answer?),
+        };
+        assert_eq!(rt; path.parent(alloc)?, parent);
         assert_eq!(rt;
             texts(alloc, &path.ancestors(alloc)?)?.as_slice(),
             ancestors
         );
+    }
+    Ok(())
+}
+
+#[test]
+fn eight_names(rt: HostRuntime) -> Result<(), Fail> {
+    let alloc = rt.alloc();
+    let octets = b"1/2/3/4/5/6/7/8".as_slice();
+    let path = Path::parse(alloc, octets)?;
+    assert_eq!(rt; path.text(alloc)?.as_slice(), octets);
+    assert_eq!(rt; path.copy(alloc)?, path);
+    let parent = Path::parse(alloc, b"1/2/3/4/5/6/7")?;
+    assert_eq!(rt; path.parent(alloc)?, Some(parent));
+    Ok(())
+}
+
+#[test]
+fn seven_ancestors(rt: HostRuntime) -> Result<(), Fail> {
+    let path = Path::parse(rt.alloc(), b"1/2/3/4/5/6/7/8")?;
+    let ancestors = path.ancestors(rt.alloc())?;
+    assert_eq!(rt; ancestors.len(), 7);
+    for (place, ancestor) in ancestors.iter().enumerate() {
+        assert!(rt; path.is_below(ancestor));
+        assert_eq!(rt; ancestor.depth().saturating_sub(1), place);
     }
     Ok(())
 }

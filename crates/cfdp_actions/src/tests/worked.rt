@@ -1,11 +1,9 @@
 //! Worked lists of requests: each is run on a `ListStore` and on a store that counts its changes.
 
-ghost use Rattle.std.specs.Prelude.{◌<◌, ◌≤◌, length};
-
+use super::calls::{checksum, contents, deepest, deliver, extend, request, staged};
 use super::counted::Counted;
-use crate::blocks::blocks_of;
-use crate::{Filestore, Kind, ListStore, Performed, Protected, Request, entry_checksum, perform};
-use cfdp_paths::{Memory, Path};
+use crate::{Filestore, Kind, ListStore, Protected, perform};
+use cfdp_paths::Path;
 use cfdp_status::Action;
 use std::alloc::Global;
 use std::process::Abort;
@@ -13,34 +11,6 @@ use std::test::Fail;
 
 /// A request, and the status octet, the ticks and the free blocks that it comes to. No second name: empty.
 type Row = (Action, &'static [u8], &'static [u8], u8, u32, u32);
-
-fn request(alloc: Global, action: Action, first: &[u8], second: &[u8]) -> Result<Request, Fail> {
-    let first = Path::parse(alloc, first)?;
-    let second = if second.is_empty() {
-        None
-    } else {
-        Some(Path::parse(alloc, second)?)
-    };
-    Ok(Request::new(action, first, second).ok_or("a name too few or too many")?)
-}
-
-/// Performs a request. Where memory is wanted the store is as before, and the request is performed once more.
-fn performed<S: Filestore>(
-    rt: &impl Abort,
-    alloc: Global,
-    store: &mut S,
-    protected: &Protected,
-    request: &Request,
-) -> Result<Performed, Fail> {
-    let before = store.listing(alloc)?;
-    let free = store.free();
-    if let Ok(done) = perform(store, protected, request) {
-        return Ok(done);
-    }
-    assert_eq!(rt; store.free(), free);
-    assert_eq!(rt; store.listing(alloc)?, before);
-    Ok(perform(store, protected, request)?)
-}
 
 /// Performs the rows one after another.
 fn run<S: Filestore>(
@@ -52,7 +22,7 @@ fn run<S: Filestore>(
 ) -> Result<(), Fail> {
     for (action, first, second, status, ticks, free) in rows {
         let request = request(alloc, *action, first, second)?;
-        let done = performed(rt, alloc, store, protected, &request)?;
+        let done = perform(store, protected, &request)?;
         assert_eq!(rt; done.status.octet(), *status, "status of {request:?}");
         assert_eq!(rt; done.ticks, *ticks, "ticks of {request:?}");
         assert_eq!(rt; store.free(), *free, "free after {request:?}");
@@ -74,87 +44,6 @@ fn run_on_both(
         changes: 0,
     };
     run(rt, alloc, &mut counted, protected, rows)
-}
-
-/// Stages the octets and installs them at a path at which a file or nothing stands. The ticks of both; `None` where
-/// it does not fit or may not be.
-fn deliver<S: Filestore>(
-    store: &mut S,
-    path: &Path,
-    octets: &[u8],
-) -> Result<Option<(u32, u32)>, Memory>
-    requires { length octets.now ≤ 7864320 }
-{
-    let size = octets.len() as u64;
-    if store.staged_size(0) > 0 || blocks_of(size) > store.free() {
-        return Ok(None);
-    }
-    let staged = store.stage_extend(0, size)?;
-    if store.staged_size(0) != size {
-        return Ok(None);
-    }
-    store.stage_put(0, 0, octets);
-    if !store.parent_is_good(path) || store.free() == 0 {
-        return Ok(None);
-    }
-    match store.kind(path) {
-        Some(Kind::Directory) => Ok(None),
-        Some(Kind::File) | None => {
-            let installed = store.install(0, path)?;
-            Ok(Some((staged, installed)))
-        }
-    }
-}
-
-/// The octets of the file at the path, if a file stands there.
-fn contents<S: Filestore>(
-    store: &S,
-    alloc: Global,
-    path: &Path,
-) -> Result<Option<Vec<u8>>, Memory> {
-    match store.kind(path) {
-        Some(Kind::File) => {
-            let mut octets = vec![in alloc; 0; store.size(path) as usize]?;
-            store.read(path, 0, octets.as_mut_slice());
-            Ok(Some(octets))
-        }
-        Some(Kind::Directory) | None => Ok(None),
-    }
-}
-
-/// Extends what is staged in the slot; `None` where that does not fit into the free blocks.
-fn extend<S: Filestore>(store: &mut S, slot: u8, size: u64) -> Result<Option<u32>, Memory>
-    requires { slot < 64 }
-{
-    if size > 7864320 || store.staged_size(slot) > size || blocks_of(size) > store.free() {
-        return Ok(None);
-    }
-    Ok(Some(store.stage_extend(slot, size)?))
-}
-
-/// What is staged in the slot.
-fn staged<S: Filestore>(store: &S, alloc: Global, slot: u8) -> Result<Vec<u8>, Memory>
-    requires { slot < 64 }
-{
-    let mut octets = vec![in alloc; 0; store.staged_size(slot) as usize]?;
-    store.read_staged(slot, 0, octets.as_mut_slice());
-    Ok(octets)
-}
-
-/// The names of the longest path at or below the path, if anything stands there.
-fn deepest<S: Filestore>(store: &S, path: &Path) -> Option<u8> {
-    match store.kind(path) {
-        Some(_) => Some(store.deepest(path)),
-        None => None,
-    }
-}
-
-/// The checksum of the file at the path, if a file stands there.
-fn checksum<S: Filestore>(store: &S, path: &Path) -> Option<u32> {
-    match store.kind(path) {
-        Some(Kind::File) => Some(entry_checksum(store, path)),
-        Some(Kind::Directory) | None => None,
-    }
 }
 
 #[test]
@@ -278,7 +167,6 @@ fn appends_a_file_to_itself(rt: HostRuntime) -> Result<(), Fail> {
         let mut store = ListStore::new(alloc, 64)?;
         let octets = vec![in alloc; 1; size]?;
         let file = Path::parse(alloc, b"a")?;
-        assert!(rt; octets.len() <= 120);
         assert_eq!(rt; deliver(&mut store, &file, &octets)?, Some((1, 1)));
         assert_eq!(rt; store.free(), 62);
         let rows: [Row; 1] = [(Action::AppendFile, b"a", b"a", 0x30, 2, 61)];
@@ -298,7 +186,6 @@ fn replaces(rt: HostRuntime) -> Result<(), Fail> {
     let alloc = rt.alloc();
     let mut store = ListStore::new(alloc, 64)?;
     let octets = vec![in alloc; 1; 120]?;
-    assert!(rt; octets.len() <= 120);
     let first = Path::parse(alloc, b"a")?;
     let second = Path::parse(alloc, b"b")?;
     assert_eq!(rt; deliver(&mut store, &first, &octets)?, Some((1, 1)));
