@@ -2,6 +2,7 @@
 
 ghost use Rattle.std.specs.Prelude.{◌≡◌};
 ghost use Rattle.std.specs.List.{list_any};
+ghost use Rattle.std.specs.FinSet as set;
 ghost use Rattle.cfdp_leases.specs.Footprint.{any_in, covers, is_conflict, leased, reaches};
 ghost use Rattle.cfdp_paths.specs.Paths.{is_at_or_below};
 
@@ -30,6 +31,23 @@ impl Model for Footprint {
 }
 
 impl Footprint {
+    /// The paths that are leased exclusively: those that the requests and the install may change. In no order that is
+    /// promised, and some may come several times. Takes no memory.
+    pub fn exclusive(&self) -> &[Path]
+        ensures { set.from_list result.now ≡ self.now.exclusive }
+    {
+        &self.exclusive
+    }
+
+    /// The paths that are leased as shared: those that the requests only read, and the proper ancestors of all named
+    /// paths. In no order that is promised, and some may come several times, or be at or below an exclusive path. Takes no
+    /// memory.
+    pub fn shared(&self) -> &[Path]
+        ensures { set.from_list result.now ≡ self.now.shared }
+    {
+        &self.shared
+    }
+
     /// Whether the two cannot be held at the same time: an exclusive path of one has a leased path of the other at or
     /// below it.
     pub(crate) fn conflicts_with(&self, other: &Footprint) -> bool

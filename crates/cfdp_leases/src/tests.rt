@@ -131,33 +131,56 @@ fn a_footprint_covers_its_paths(rt: HostRuntime) -> Result<(), Fail> {
     Ok(())
 }
 
-/// Five grants one after another; where one is refused, all is as before it.
+/// What the leases and a footprint answer.
+fn answers(
+    leases: &Leases,
+    probes: &[Footprint; 2],
+    paths: &[Path; 2],
+) -> ([Option<TransactionId>; 2], [Option<Lease>; 2], [bool; 5]) {
+    let conflicts = [leases.conflict(&probes[0]), leases.conflict(&probes[1])];
+    let leased = [covers(&probes[0], &paths[0]), covers(&probes[0], &paths[1])];
+    let held = [1, 2, 3, 4, 5].map(|number| leases.holds(id(number)));
+    (conflicts, leased, held)
+}
+
+/// Five grants one after another. All else that takes memory comes before them, so that only a grant can be refused
+/// from then on: that changes no answer, and the same is granted when it is asked for again. `None` where there was no
+/// memory for what comes before them.
 fn grant_five(rt: &impl Abort, alloc: Global) -> Option<()> {
+    let probes = [
+        of(alloc, Action::DeleteFile, b"a", b"")?,
+        of(alloc, Action::DeleteFile, b"e", b"")?,
+    ];
+    let paths = [
+        Path::parse(alloc, b"a").ok()?,
+        Path::parse(alloc, b"e").ok()?,
+    ];
+    let wanted = [
+        (1, of(alloc, Action::CreateFile, b"a", b"")?),
+        (2, of(alloc, Action::CreateFile, b"b", b"")?),
+        (3, of(alloc, Action::CreateFile, b"c", b"")?),
+        (4, of(alloc, Action::CreateFile, b"d", b"")?),
+        (5, of(alloc, Action::CreateFile, b"e", b"")?),
+    ];
+    let names = [b"a", b"b", b"c", b"d", b"e"];
     let mut leases = Leases::new(alloc);
-    let inner = Path::parse(alloc, b"d/1").ok()?;
-    let whole = of(alloc, Action::RemoveDirectory, b"d", b"")?;
-    for (number, name) in [
-        (1, b"d/1"),
-        (2, b"d/2"),
-        (3, b"d/3"),
-        (4, b"d/4"),
-        (5, b"d/5"),
-    ] {
-        let next = of(alloc, Action::CreateFile, name, b"")?;
-        let before = leases.conflict(&whole);
-        if admit(rt, &mut leases, id(number), next).is_err() {
-            assert_eq!(rt; leases.conflict(&whole), before);
-            assert!(rt; !leases.holds(id(number)));
-        } else {
-            assert!(rt; leases.holds(id(number)));
+    for ((number, footprint), name) in wanted.into_iter().zip(names) {
+        let before = answers(&leases, &probes, &paths);
+        if admit(rt, &mut leases, id(number), footprint).is_err() {
+            assert_eq!(rt; answers(&leases, &probes, &paths), before);
+            let again = of(alloc, Action::CreateFile, name, b"")?;
+            assert_eq!(rt; admit(rt, &mut leases, id(number), again), Ok(()));
         }
-        assert_eq!(rt; covers(&whole, &inner), Some(Lease::Exclusive));
+        assert!(rt; leases.holds(id(number)));
     }
+    assert_eq!(rt; leases.conflict(&probes[0]), Some(id(1)));
+    assert_eq!(rt; leases.conflict(&probes[1]), Some(id(5)));
     Some(())
 }
 
-/// Shows its point where each growth is refused in turn, by `rt try --test --fail-alloc N`.
+/// Shows its point where `rt try --test --fail-alloc N` refuses each growth in turn: this test then answers want of memory
+/// where what comes before the grants was refused, and passes where a grant was, or nothing.
 #[test]
-fn a_refused_grant_changes_nothing(rt: HostRuntime) {
-    let _ = grant_five(&rt, rt.alloc());
+fn a_refused_grant_changes_nothing(rt: HostRuntime) -> Result<(), Fail> {
+    Ok(grant_five(&rt, rt.alloc()).ok_or("memory")?)
 }

@@ -9,7 +9,7 @@ use Rattle.cfdp_actions.specs.Actions.{Item, Outcome, row}
 use Rattle.cfdp_leases.specs.Items.{performed}
 use Rattle.cfdp_leases.specs.Footprint.{Footprint, IsWithin, Keeps}
 use Rattle.cfdp_leases.specs.Laws.{IsAlike, FrameOfReads, StaysRooted}
-use Rattle.cfdp_states.specs.Alone.{statuses, growths, steps, peak, need, stage}
+use Rattle.cfdp_states.specs.Alone.{statuses, growths, steps, peak, need, reached, stage}
 use Rattle.cfdp_states.specs.Laws.{ForeignChange, ForeignChangeWith}
 use Rattle.cfdp_states.proofs.Order.{node_at-becomes}
 use Rattle.cfdp_states.proofs.Weights.{blocks-stages}
@@ -68,12 +68,13 @@ same-after fp slot F G (c ∷ cs) same = same-after fp slot (changed F c) (chang
 higher : (b c d e p r taken given : ℕ) → c + given ≡ b + taken → e + given ≡ d + taken → p + e ≡ r + c → max b p + d ≡ max d r + b
 higher b c d e p r taken given first second rest = omega arith
 
--- the same statuses, growths and steps, and peaks that are as far apart as the blocks now
-pub record RunsAlike (prefixes : List Path) (slot : ℕ) (F G : Filestore) (items : List Item) : Type 0 where
+-- the same statuses, growths and steps, peaks that are as far apart as the blocks now, and the same at what is covered in the end
+pub record RunsAlike (prefixes : List Path) (fp : Footprint) (slot : ℕ) (F G : Filestore) (items : List Item) : Type 0 where
   pub statuses : statuses prefixes F slot items ≡ statuses prefixes G slot items
   pub growths : growths prefixes F slot items ≡ growths prefixes G slot items
   pub peak : peak prefixes F slot items + blocks G ≡ peak prefixes G slot items + blocks F
   pub steps : steps prefixes F slot items ≡ steps prefixes G slot items
+  pub kept : Keeps (reached prefixes F slot items) (reached prefixes G slot items) fp
 
 module _ (reads : FrameOfReads) (stays : StaysRooted) (prefixes : List Path) (fp : Footprint) (slot : ℕ) where
   -- after an item within the footprint
@@ -82,9 +83,9 @@ module _ (reads : FrameOfReads) (stays : StaysRooted) (prefixes : List Path) (fp
       let rows : row prefixes F slot item ≡ row prefixes G slot item = (reads prefixes fp F G slot item same.alike within).0 in
       subst (λ (o : Outcome). IsSame fp slot (performed prefixes F slot item) (after G o.changes)) rows (same-after fp slot F G (row prefixes F slot item).changes same)
 
-  pub runs_alike : (F G : Filestore) (items : List Item) → IsSame fp slot F G → IsRooted F → IsRooted G → AllByRecursion (IsWithin fp) items → RunsAlike prefixes slot F G items
-  unfolding statuses growths peak steps
-  runs_alike F G [] same rooted_F rooted_G within = record { statuses = refl; growths = refl; peak = omega arith; steps = refl }
+  pub runs_alike : (F G : Filestore) (items : List Item) → IsSame fp slot F G → IsRooted F → IsRooted G → AllByRecursion (IsWithin fp) items → RunsAlike prefixes fp slot F G items
+  unfolding statuses growths peak steps reached
+  runs_alike F G [] same rooted_F rooted_G within = record { statuses = refl; growths = refl; peak = omega arith; steps = refl; kept = same.alike.kept }
   runs_alike F G (item ∷ items) same rooted_F rooted_G within =
       let read = reads prefixes fp F G slot item same.alike within.0 in
       let o = row prefixes F slot item in
@@ -100,6 +101,7 @@ module _ (reads : FrameOfReads) (stays : StaysRooted) (prefixes : List Path) (fp
             (subst (λ (o : Outcome). blocks K + o.given ≡ blocks G + o.taken) (sym rows) (row-grows prefixes G slot item rooted_G same.held_G))
             rest.peak;
         steps = λ i. (1 + read.1 i) + rest.steps i;
+        kept = rest.kept;
       }
 
 same_gap : (a b f g : ℕ) → a + g ≡ b + f → a - f ≡ b - g

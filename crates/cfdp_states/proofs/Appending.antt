@@ -1,14 +1,15 @@
 -- One more item at the end of a list, and a view that tells of it.
-use Rattle.std.proofs.Common.{◌≡◌, refl, sym, ◌∙◌, ap, subst, ℕ, ◌+◌, ◌-◌, min, max, List, [], ◌∷◌, ◌++◌, arith}
+use Rattle.std.proofs.Common.{◌≡◌, refl, sym, ◌∙◌, ap, subst, Option, Some, None, ℕ, ◌+◌, ◌-◌, min, max, List, [], ◌∷◌, ◌++◌, arith}
 use Rattle.std.specs.List.{AllByRecursion}
 use Rattle.cfdp_paths.specs.Paths.{Path}
-use Rattle.cfdp_actions.specs.Filestore.{Filestore, blocks}
+use Rattle.cfdp_actions.specs.Filestore.{Node, Directory, File, Filestore, node_at, blocks}
 use Rattle.cfdp_actions.specs.Actions.{Item, Install, Installed, Answer, row}
 use Rattle.cfdp_leases.specs.Items.{performed, step_bound}
 use Rattle.cfdp_leases.specs.Footprint.{Footprint, IsWithin}
 use Rattle.cfdp_states.specs.Alone.{Succeed, statuses, steps, peak, reached, alone, statuses_alone}
-use Rattle.cfdp_states.specs.Views.{most_count, Sketch, only, IsViewOf, HasRun}
-use Rattle.cfdp_states.specs.Laws.{SucceedByStatuses, Appended, OnlyLeased, ViewBegins, ViewInstalls, ViewRefuses, ViewGoesOn}
+use Rattle.cfdp_states.specs.Sketching.{extent_in}
+use Rattle.cfdp_states.specs.Views.{most_count, Sketch, size_of, length_in, only, IsViewOf, HasRun}
+use Rattle.cfdp_states.specs.Laws.{SucceedByStatuses, Appended, OnlyLeased, ViewBegins, ViewInstalls, ViewRefuses, ViewGoesOn, ViewBounds}
 
 twice_max : (b p q : ℕ) → max b (max p q) ≡ max (max b p) q
 twice_max b p q = omega arith
@@ -38,7 +39,7 @@ above_start : (start p : ℕ) → min (max start p - start) most_count ≡ min (
 above_start start p = omega arith
 
 module _ (leased : OnlyLeased) where
-  -- need and steps are those of the whole filestore
+  -- need and steps, and what stands where it is covered, are those of the whole filestore
   counted : (v : Sketch) (fp : Footprint) (F : Filestore) (x : List ℕ) (items : List Item) (answers : List Answer) → AllByRecursion (IsWithin fp) items →
       answers ≡ statuses_alone v.prefixes (only fp F) x items →
       (let G = alone (only fp F) x in let start = blocks (alone (only fp F) []) in IsViewOf v (reached v.prefixes G 0 items) start (max start (peak v.prefixes G 0 items)) (steps v.prefixes G 0 items)) →
@@ -47,6 +48,7 @@ module _ (leased : OnlyLeased) where
       let same = leased v.prefixes fp F x items within in
       record {
         answered = answered ∙ same.0;
+        extents = λ p covered. seen.extents p ∙ ap extent_in (same.3 p covered);
         need = seen.need ∙ above_start (blocks (alone (only fp F) [])) (peak v.prefixes (alone (only fp F) x) 0 items) ∙ ap (λ n. min n most_count) same.1;
         steps = seen.steps ∙ ap (λ n. min n most_count) same.2;
         within = within;
@@ -104,6 +106,14 @@ module _ (leased : OnlyLeased) where
     where
       head : (a b : Answer) → a ∷ [] ≡ b ∷ [] → a ≡ b
       head a b e = cc
+
+size_is : (a : Option Node) → size_of (extent_in a) ≡ length_in a
+size_is None = refl
+size_is (Some Directory) = refl
+size_is (Some (File octets)) = refl
+
+pub view_bounds : ViewBounds
+view_bounds v fp F x items answers p run covered = ap size_of (run.extents p covered) ∙ size_is (node_at (reached v.prefixes (alone F x) 0 items) p)
 
 pub succeed_by_statuses : SucceedByStatuses
 unfolding Succeed statuses

@@ -155,7 +155,7 @@ distinct-with p e (o ∷ os) h =
       | false ↦ λ t. (found-with p e os o.path ∙ ap (λ b. cond b (Some e) (found os o.path)) (same_path-symm o.path p ∙ t) ∙ h.0, distinct-with p e os h.1)
     ] refl
 
-distinct-append : (os us : List Outline) → AreDistinct os → AreDistinct us → ((x : Path) → is_some (found os x) ≡ true → found us x ≡ None) → AreDistinct (os ++ us)
+pub distinct-append : (os us : List Outline) → AreDistinct os → AreDistinct us → ((x : Path) → is_some (found os x) ≡ true → found us x ≡ None) → AreDistinct (os ++ us)
 distinct-append [] us h k apart = k
 distinct-append (o ∷ os) us h k apart = (
   found-append os us o.path ∙ ap (λ v. cond (is_some v) v (found us o.path)) h.0 ∙ apart o.path (ap (λ b. is_some (cond b (Some o.extent) (found os o.path))) (same_path-refl o.path)),

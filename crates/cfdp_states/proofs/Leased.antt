@@ -9,7 +9,7 @@ use Rattle.cfdp_actions.specs.Actions.{Item, Outcome, row}
 use Rattle.cfdp_leases.specs.Items.{performed}
 use Rattle.cfdp_leases.specs.Footprint.{Footprint, is_exclusive, is_shared, is_covered, IsWithin, Keeps}
 use Rattle.cfdp_leases.specs.Laws.{FrameOfReads, IsOwn, OwnChanges}
-use Rattle.cfdp_states.specs.Alone.{statuses, growths, steps, peak, alone}
+use Rattle.cfdp_states.specs.Alone.{statuses, growths, steps, peak, reached, alone}
 use Rattle.cfdp_states.specs.Views.{only}
 use Rattle.cfdp_states.specs.Laws.{OnlyLeased}
 use Rattle.cfdp_states.proofs.Order.{paths_exact}
@@ -50,9 +50,9 @@ highest : (b c d e p r : ℕ) → c + d ≡ e + b → p + e ≡ r + c → max b 
 highest b c d e p r one rest = omega arith
 
 module _ (reads : FrameOfReads) (owns : OwnChanges) (prefixes : List Path) (fp : Footprint) (slot : ℕ) where
-  pub runs_leased : (F G : Filestore) (items : List Item) → IsSame fp slot F G → AllByRecursion (IsWithin fp) items → RunsAlike prefixes slot F G items
-  unfolding statuses growths peak steps
-  runs_leased F G [] same within = record { statuses = refl; growths = refl; peak = omega arith; steps = refl }
+  pub runs_leased : (F G : Filestore) (items : List Item) → IsSame fp slot F G → AllByRecursion (IsWithin fp) items → RunsAlike prefixes fp slot F G items
+  unfolding statuses growths peak steps reached
+  runs_leased F G [] same within = record { statuses = refl; growths = refl; peak = omega arith; steps = refl; kept = same.alike.kept }
   runs_leased F G (item ∷ items) same within =
       let read = reads prefixes fp F G slot item same.alike within.0 in
       let o = row prefixes F slot item in
@@ -67,6 +67,7 @@ module _ (reads : FrameOfReads) (owns : OwnChanges) (prefixes : List Path) (fp :
         growths = λ i. ((rows i).taken, (rows i).given) ∷ rest.growths i;
         peak = highest (blocks F) (blocks H) (blocks G) (blocks K) (Rattle.cfdp_states.specs.Alone.peak prefixes H slot items) (Rattle.cfdp_states.specs.Alone.peak prefixes K slot items) blocks_too rest.peak;
         steps = λ i. (1 + read.1 i) + rest.steps i;
+        kept = rest.kept;
       }
 
 as_high : (a b f g h k x : ℕ) → a + k ≡ b + h → h ≡ f + x → k ≡ g + x → a - f ≡ b - g
@@ -84,4 +85,5 @@ only_leased reads owns prefixes fp F x items within =
       as_high (peak prefixes H 0 items) (peak prefixes K 0 items) (blocks (alone (only fp F) [])) (blocks (alone F [])) (blocks H) (blocks K) (blocks_of (length x)) runs.peak
           (staged_more (alone (only fp F) []) 0 x (omega arith) refl) (staged_more (alone F []) 0 x (omega arith) refl),
       runs.steps,
+      runs.kept,
     )

@@ -18,6 +18,8 @@ pub mod Barred
 pub mod Counting
 pub mod Viewing
 pub mod Installing
+pub mod Trees
+pub mod Surveys
 pub mod Surveyed
 pub mod Leased
 pub mod Appending

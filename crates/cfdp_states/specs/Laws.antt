@@ -7,17 +7,19 @@
 --     OnlyLeased        all that is not leased may be left out of sight
 --     Appended          one more item at the end of a list
 --     ViewBegins, ViewInstalls, ViewRefuses, ViewGoesOn      a view tells of a list that is run alone, from item to item
+--     ViewBounds        its bound is the length of the file that stands there in the end
 --     AnySlot, AnySlotWith                  it does not matter in which slot the file is staged, nor what else is staged
 use Rattle.std.specs.Prelude.{◌≡◌, ℕ, ◌+◌, ◌≤◌, ◌<◌, max, true, false, IsTrue, ◌↔◌, List, [], ◌∷◌, ◌++◌, length}
 use Rattle.std.specs.List.{AllByRecursion}
+use Rattle.std.specs.FinMap as finite
 use Rattle.cfdp_paths.specs.Paths.{Path}
 use Rattle.cfdp_actions.specs.Filestore.{Filestore, node_at, staged_in, blocks, IsRooted}
 use Rattle.cfdp_actions.specs.Actions.{Item, Install, Installed, NotInstalled, Answer, succeeded, ticks, row, act_item}
 use Rattle.cfdp_leases.specs.Items.{performed, step_bound}
-use Rattle.cfdp_leases.specs.Footprint.{Footprint, IsWithin}
+use Rattle.cfdp_leases.specs.Footprint.{Footprint, is_covered, IsWithin, Keeps}
 use Rattle.cfdp_leases.specs.Laws.{IsAlike}
 use Rattle.cfdp_states.specs.Alone.{Succeed, peak, statuses, growths, steps, need, statuses_with, growths_with, need_with, steps_with, reached, alone, statuses_alone, need_alone, steps_alone}
-use Rattle.cfdp_states.specs.Views.{Sketch, only, IsViewOf, Tells, TellsInstall, HasRun}
+use Rattle.cfdp_states.specs.Views.{Sketch, size_of, length_at, only, IsViewOf, Tells, TellsInstall, HasRun}
 
 -- after the next item the rest's need is at most the need before less that item's growth of blocks, its steps are those before
 -- less 1 and that item's bound, and the item's ticks are at most that bound
@@ -80,13 +82,14 @@ AnySlotWith =
     × (need_with prefixes F slot x items ≡ need_alone prefixes F x items)
     × (steps_with prefixes F slot x items ≡ steps_alone prefixes F x items)
 
--- items within the footprint run alone as they do where nothing else stands
+-- items within the footprint run alone as they do where nothing else stands, and come to the same at what it covers
 abbrev pub OnlyLeased : Type 0
 OnlyLeased =
     (prefixes : List Path) (fp : Footprint) (F : Filestore) (x : List ℕ) (items : List Item) → AllByRecursion (IsWithin fp) items →
     (statuses_alone prefixes (only fp F) x items ≡ statuses_alone prefixes F x items)
     × (need_alone prefixes (only fp F) x items ≡ need_alone prefixes F x items)
     × (steps_alone prefixes (only fp F) x items ≡ steps_alone prefixes F x items)
+    × Keeps (reached prefixes (alone (only fp F) x) 0 items) (reached prefixes (alone F x) 0 items) fp
 
 -- one more item at the end
 abbrev pub Appended : Type 0
@@ -121,6 +124,12 @@ ViewGoesOn =
     (v w : Sketch) (fp : Footprint) (F : Filestore) (x : List ℕ) (items : List Item) (answers : List Answer) (item : Item) (answer : Answer) →
     HasRun v fp F x items answers → Tells v w item answer → w.prefixes ≡ v.prefixes → IsWithin fp item →
     HasRun w fp F x (items ++ item ∷ []) (answers ++ answer ∷ [])
+
+-- the bound that it tells of a path within the footprint is the length of the file that then stands there on the filestore
+abbrev pub ViewBounds : Type 0
+ViewBounds =
+    (v : Sketch) (fp : Footprint) (F : Filestore) (x : List ℕ) (items : List Item) (answers : List Answer) (p : Path) →
+    HasRun v fp F x items answers → IsTrue (is_covered fp p) → size_of (finite.get v.extents p) ≡ length_at (reached v.prefixes (alone F x) 0 items) p
 
 -- a list succeeds where each of its statuses is successful
 abbrev pub SucceedByStatuses : Type 0

@@ -1,8 +1,20 @@
 -- What a view has of a filestore: kinds and sizes, without octets.
+--     most_octets                                the greatest u64, at which sizes stop
 --     Extent, extent_of, extent_in, extent_at    a directory, or a file of at most so many octets: of a node, of what stands at a path
 --     extent_content, extent_weight              the blocks of an extent's octets;  one more for itself
---     found os p                                 what stands at a path of a list of outlines
---     with_outline, rehomed                      the list after a change of one path, or after a move
+--     found os p, place_of p os                  what stands at a path of a list of outlines;  how many outlines stand before the path's
+--     total_weight                               the blocks of all outlines together
+--     with_outline                               the list after a change of one path
+--     any_too_deep p q os                        whether a path would have more than 8 names after a move from p to q
+--     movers, stayers, rehomed                   what a move takes along;  what it leaves;  the list after it
+--     content_in, weight_in, bound_on            blocks of what stands at a path, or of its octets alone;  how many ticks an item may take
+--     is_folder, good_among, good_parent         whether the root or a directory stands at a path, or at its parent
+--     AreDistinct, IsOutline os F                one outline a path;  the list outlines what stands in F
+--     IsSurvey os test F                         or what stands at the paths that pass the test
+--     Does, Performs                             a list goes on as the row of a request;  and as the row with protected prefixes
+--     DoesOrNot, PerformsOrNot                   or there was no memory, and it is as before
+--     gives_way, can_install                     whether a file may come to stand where this stands, or at a path
+--     extent_standing, outlines_where test es    what stands at a path as an outline has it;  of those whose paths pass the test
 use Rattle.std.specs.Prelude.{◌≡◌, ⊤, ℕ, suc, ◌+◌, ◌*◌, min, Bool, true, false, cond, not, ◌&&◌, is_some, nat_lt, if◌then◌else◌, List, [], ◌∷◌, ◌++◌, Option, Some, None, length, Result, Ok, Err}
 use Rattle.std.specs.List.{list_any}
 use Rattle.cfdp_paths.specs.Paths.{Path, parent, same_path, is_at_or_below, rebased}
@@ -11,7 +23,7 @@ use Rattle.cfdp_status.specs.declared.status.Status.{Status}
 use Rattle.cfdp_actions.specs.Filestore.{Node, Directory, File, Filestore, node_at, blocks_of, after}
 use Rattle.cfdp_actions.specs.Actions.{Request, CreateFile, DeleteFile, RenameFile, AppendFile, ReplaceFile, CreateDirectory, RemoveDirectory, DenyFile, DenyDirectory, Item, Install, Perform, Performed, is_protected, table, row}
 use Rattle.cfdp_actions.specs.Store.{is_file_kind}
-use Rattle.cfdp_actions.specs.declared.kind.Entry.{Entry}
+use Rattle.cfdp_actions.specs.declared.kind.Standing.{Standing}
 use Rattle.cfdp_leases.specs.Items.{performed}
 use Rattle.cfdp_states.specs.declared.extent.Extent.{Extent}
 use Rattle.cfdp_states.specs.declared.extent.Extent.TheVariants as extent
@@ -152,11 +164,16 @@ gives_way prefixes p (Some (extent.File octets)) = not (is_protected prefixes p)
 abbrev pub can_install : List Path → List Outline → Path → Bool
 can_install prefixes os p = good_parent os p && gives_way prefixes p (found os p)
 
--- a line of a listing, without its checksum
-abbrev pub extent_listed : Entry → Extent
-extent_listed e = if is_file_kind e.kind then extent.File e.size else extent.Directory
+-- what a store says that stands at a path
+abbrev pub extent_standing : Standing → Extent
+extent_standing s = if is_file_kind s.kind then extent.File s.size else extent.Directory
 
--- of the lines of a listing whose paths pass a test
-abbrev pub outlines_where : (Path → Bool) → List Entry → List Outline
+-- of what was found, where the path passes a test
+abbrev pub outlines_where : (Path → Bool) → List Standing → List Outline
 outlines_where test [] = []
-outlines_where test (e ∷ es) = if test e.path then record { path = e.path; extent = extent_listed e } ∷ outlines_where test es else outlines_where test es
+outlines_where test (s ∷ ss) = if test s.path then record { path = s.path; extent = extent_standing s } ∷ outlines_where test ss else outlines_where test ss
+
+-- one outline of each path that passes the test and at which something stands, and no others
+pub record IsSurvey (os : List Outline) (test : Path → Bool) (F : Filestore) : Type 0 where
+  pub found : (p : Path) → found os p ≡ (if test p then extent_at F p else None)
+  pub distinct : AreDistinct os

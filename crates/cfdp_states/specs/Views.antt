@@ -1,22 +1,26 @@
 -- Views: what stands at and below some leased paths, a file being 'at most n octets', while a list of items runs alone.
 --     most_count                    the greatest u32, at which counts stop
---     Sketch                        what contracts see of a view
+--     Sketch, sketch_code           what contracts see of a view;  that it is so seen
+--     extents_of                    what a list of outlines has at each path
+--     size_of                       the greatest size of a file that is outlined
+--     length_in, length_at          the length of a file of the filestore, as far as sizes go;  of the one at a path
 --     only fp F                     the filestore with nothing but what the footprint covers
 --     IsViewOf v F start peak taken the view tells of F, where so many blocks were in use at first and at most, and so many steps are taken
 --     Tells, TellsInstall           how a view goes on with an item, and with the install
+--     installed_if                  the install's answer
 --     HasRun v fp F x items answers the view tells of these items, run alone on F with the delivered file x
 use Rattle.std.specs.Prelude.{◌≡◌, ℕ, ◌+◌, ◌-◌, ◌≤◌, min, max, Bool, IsTrue, if◌then◌else◌, List, [], ◌∷◌, Option, Some, None, length, map, refl}
 use Rattle.std.specs.Coded.{Coded, code_by, coded×, coded_list, coded_ℕ}
 use Rattle.std.specs.FinMap as finite
 use Rattle.cfdp_paths.specs.Paths.{Path, path_cmp}
-use Rattle.cfdp_actions.specs.Filestore.{Filestore, blocks}
+use Rattle.cfdp_actions.specs.Filestore.{Node, Directory, File, Filestore, node_at, blocks}
 use Rattle.cfdp_actions.specs.Actions.{Item, Install, Answer, Installed, NotInstalled, row}
 use Rattle.cfdp_leases.specs.Footprint.{Footprint, is_covered, IsWithin}
 use Rattle.cfdp_leases.specs.Items.{performed, step_bound}
 use Rattle.cfdp_states.specs.declared.extent.Extent.{Extent}
 use Rattle.cfdp_states.specs.declared.extent.Extent.TheVariants as extent
 use Rattle.cfdp_states.specs.declared.extent.Outline.{Outline}
-use Rattle.cfdp_states.specs.Sketching.{extent_at}
+use Rattle.cfdp_states.specs.Sketching.{most_octets, extent_at}
 use Rattle.cfdp_states.specs.Alone.{alone, reached, peak, steps, statuses_alone, need_alone, steps_alone}
 use Rattle.std.specs.List.{AllByRecursion}
 
@@ -46,6 +50,15 @@ abbrev pub size_of : Option Extent → Option ℕ
 size_of None = None
 size_of (Some extent.Directory) = None
 size_of (Some (extent.File octets)) = Some octets
+
+-- the length of the file at a path, or the greatest u64 where it is longer; none where no file stands
+abbrev pub length_in : Option Node → Option ℕ
+length_in None = None
+length_in (Some Directory) = None
+length_in (Some (File octets)) = Some (min (length octets) most_octets)
+
+abbrev pub length_at : Filestore → Path → Option ℕ
+length_at F p = length_in (node_at F p)
 
 abbrev pub only : Footprint → Filestore → Filestore
 only fp F = record F { nodes = finite.retain_keys F.nodes (λ p. is_covered fp p) }
@@ -77,8 +90,9 @@ TellsInstall v w p size done =
     (installed_if done ≡ (row v.prefixes H 0 (Install p)).answer)
     × (IsTrue done → IsViewOf w G start (max peak (max (blocks H) (blocks G))) (taken + (1 + step_bound H (Install p))))
 
--- The view tells of the items within the footprint, run alone on F with the delivered file x: these are their answers, and the
--- need and steps are those of F, though the view has seen of it only what the footprint covers.
+-- The view tells of the items within the footprint, run alone on F with the delivered file x: these are their answers, what the
+-- footprint covers stands in the end as the view has it, and the need and steps are those of F, though the view has seen of it
+-- only what the footprint covers.
 pub record HasRun (v : Sketch) (fp : Footprint) (F : Filestore) (x : List ℕ) (items : List Item) (answers : List Answer) : Type 0 where
   pub within : AllByRecursion (IsWithin fp) items
   pub seen :
@@ -86,5 +100,6 @@ pub record HasRun (v : Sketch) (fp : Footprint) (F : Filestore) (x : List ℕ) (
       let start = blocks (alone (only fp F) []) in
       IsViewOf v (reached v.prefixes G 0 items) start (max start (peak v.prefixes G 0 items)) (steps v.prefixes G 0 items)
   pub answered : answers ≡ statuses_alone v.prefixes F x items
+  pub extents : (p : Path) → IsTrue (is_covered fp p) → finite.get v.extents p ≡ extent_at (reached v.prefixes (alone F x) 0 items) p
   pub need : v.need ≡ min (need_alone v.prefixes F x items) most_count
   pub steps : v.steps ≡ min (steps_alone v.prefixes F x items) most_count

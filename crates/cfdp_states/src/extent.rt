@@ -3,10 +3,8 @@
 ghost use Rattle.std.specs.Prelude.{◌≡◌, ◌<◌, ◌≤◌, ◌^◌};
 ghost use Rattle.cfdp_states.specs.Sketching.{extent_weight, extent_content};
 
+use cfdp_actions::BLOCK_OCTETS;
 use cfdp_paths::Path;
-
-/// The octets that a block holds.
-const BLOCK_OCTETS: u64 = 120;
 
 /// What stands at a path: a directory, or a file of at most so many octets.
 #[derive(Clone, Copy, Debug, PartialEq, Eq)]
@@ -25,7 +23,7 @@ impl Extent {
     {
         match self {
             Extent::Directory => 0,
-            Extent::File(octets) => { octets.div_ceil(BLOCK_OCTETS) }
+            Extent::File(octets) => octets.div_ceil(BLOCK_OCTETS),
         }
     }
 

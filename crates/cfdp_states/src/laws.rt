@@ -1,7 +1,7 @@
 //! What is true of lists run alone, whatever the code does. Each function does nothing: its contract is a law over the
 //! definitions of `specs/`.
 ghost use Rattle.cfdp_leases.specs.Laws.{Growth, WithinBound};
-ghost use Rattle.cfdp_states.specs.Laws.{OwnStep, EnoughRoom, LongerFile, ForeignChange, ForeignChangeWith, AnySlot, AnySlotWith, OnlyLeased, SucceedByStatuses, Appended, ViewBegins, ViewInstalls, ViewRefuses, ViewGoesOn};
+ghost use Rattle.cfdp_states.specs.Laws.{OwnStep, EnoughRoom, LongerFile, ForeignChange, ForeignChangeWith, AnySlot, AnySlotWith, OnlyLeased, SucceedByStatuses, Appended, ViewBegins, ViewInstalls, ViewRefuses, ViewGoesOn, ViewBounds};
 
 use cfdp_leases::laws::{frame_of_reads, own_changes, stays_rooted};
 
@@ -105,3 +105,10 @@ pub fn view_goes_on()
 {
     only_leased();
 }
+
+/// The bound that a view tells of a path within its footprint ([`View::bound`](crate::View::bound)) is the length of the
+/// file that stands there once the items so far have run alone on the whole filestore, or the greatest u64 where that is
+/// less; none where no file stands.
+pub fn view_bounds()
+    ensures { ViewBounds }
+{}

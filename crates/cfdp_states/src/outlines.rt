@@ -6,11 +6,8 @@ ghost use Rattle.cfdp_paths.specs.Paths.{parent, same_path, is_at_or_below, is_b
 ghost use Rattle.cfdp_states.specs.Sketching.{found, total_weight, any_too_deep, with_outline, place_of, most_octets};
 
 use crate::extent::{Extent, Outline};
-use cfdp_paths::{Memory, Path};
+use cfdp_paths::{MOST_NAMES, Memory, Path};
 use std::alloc::Global;
-
-/// The most names that a path has.
-const DEEPEST: usize = 8;
 
 /// What stands at the path, if anything does.
 pub fn find(outlines: &[Outline], path: &Path) -> Option<Extent>
@@ -47,7 +44,7 @@ pub fn has_entries(outlines: &[Outline], path: &Path) -> bool
 pub fn is_too_deep(outlines: &[Outline], from: &Path, to: &Path) -> bool
     ensures { result ≡ any_too_deep from.now to.now outlines.now }
 {
-    let most = DEEPEST + from.depth();
+    let most = MOST_NAMES + from.depth();
     let more = to.depth();
     outlines.iter().any(|outline| outline.path.is_at_or_below(from)
         && most < outline.path.depth() + more)

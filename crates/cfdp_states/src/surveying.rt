@@ -1,60 +1,128 @@
 //! What stands in a store at some paths, without octets.
 
-ghost use Rattle.std.specs.Prelude.{◌≡◌, ◌≤◌, is_some, IfOk};
+ghost use Rattle.std.specs.Prelude.{◌≡◌, ◌≤◌, ◌++◌, ◌&&◌, not, IfOk, OnOk};
+ghost use Rattle.std.specs.List.{list_any};
+ghost use Rattle.cfdp_paths.specs.Paths.{same_path, is_at_or_below};
 ghost use Rattle.cfdp_actions.specs.Filestore.{blocks};
-ghost use Rattle.cfdp_actions.specs.Store.{listing_of};
-ghost use Rattle.cfdp_leases.specs.Footprint.{covers};
-ghost use Rattle.cfdp_states.specs.Sketching.{extent_listed, outlines_where};
+ghost use Rattle.cfdp_leases.specs.Footprint.{is_covered};
+ghost use Rattle.cfdp_states.specs.Sketching.{extent_at, extent_standing, outlines_where, IsSurvey};
 
 use crate::extent::{Extent, Outline};
-use cfdp_actions::{Entry, Filestore, Kind};
-use cfdp_leases::{Footprint, covers};
-use cfdp_paths::Memory;
+use crate::outlines::find;
+use cfdp_actions::{Filestore, Kind, Standing};
+use cfdp_leases::Footprint;
+use cfdp_paths::{Memory, Path};
 use std::alloc::Global;
 
-/// An outline of each path of the store that the footprint covers.
+/// An outline of each path that the footprint covers and at which something stands.
 pub fn survey<S: Filestore>(
     alloc: Global,
     store: &S,
     footprint: &Footprint,
 ) -> Result<Vec<Outline>, Memory>
     ensures outlines { IfOk result (λ outlines.
-        outlines.items ≡ outlines_where (λ path. is_some (covers footprint.now path)) (listing_of (S.state store.now).filestore)) }
+        IsSurvey outlines.items (is_covered footprint.now) (S.state store.now).filestore) }
     ensures small { blocks (S.state store.now).filestore ≤ 65536 }
 {
     let _free = store.free();
-    let listing = store.listing(alloc)?;
-    outline_all(alloc, &listing, footprint)
+    let exclusive = footprint.exclusive();
+    let mut outlines = survey_trees(alloc, store, exclusive)?;
+    let mut others = survey_others(alloc, store, footprint.shared(), exclusive)?;
+    outlines.append(&mut others)?;
+    Ok(outlines)
 }
 
-/// An outline of each listed path that the footprint covers.
-fn outline_all(
+/// An outline of each path at or below these at which something stands.
+fn survey_trees<S: Filestore>(
     alloc: Global,
-    listing: &[Entry],
-    footprint: &Footprint,
+    store: &S,
+    roots: &[Path],
 ) -> Result<Vec<Outline>, Memory>
-    ensures { IfOk result (λ outlines.
-        outlines.items ≡ outlines_where (λ path. is_some (covers footprint.now path)) listing.now) }
+    requires { blocks (S.state store.now).filestore ≤ 65536 }
+    ensures { IfOk result (λ outlines. IsSurvey outlines.items
+        (λ path. list_any (λ root. is_at_or_below path root) roots.now) (S.state store.now).filestore) }
 {
     let mut outlines = Vec::new(alloc);
-    for entry in listing {
-        if covers(footprint, &entry.path).is_some() {
-            let path = entry.path.copy(alloc)?;
-            outlines.push(Outline {
-                path,
-                extent: extent_listed(entry),
-            })?;
+    for (place, root) in roots.iter().enumerate() {
+        let before = &roots[..place];
+        if has_above(before, root) {
+            continue;
         }
+        let found = store.standing(alloc, root)?;
+        add_others(&mut outlines, found, before)?;
     }
     Ok(outlines)
 }
 
-/// What a line of a listing says that stands there.
-fn extent_listed(entry: &Entry) -> Extent
-    ensures { result ≡ extent_listed entry.now }
+/// Adds an outline of each thing found, but for those at or below one of the paths.
+fn add_others(
+    outlines: &mut Vec<Outline>,
+    found: Vec<Standing>,
+    before: &[Path],
+) -> Result<(), Memory>
+    ensures { OnOk result (outlines.new.items ≡ outlines.old.items
+        ++ outlines_where (λ path. not (list_any (λ root. is_at_or_below path root) before.now)) found.items) }
 {
-    match entry.kind {
+    for standing in found {
+        if !has_above(before, &standing.path) {
+            let extent = extent_standing(&standing);
+            let Standing { path, .. } = standing;
+            outlines.push(Outline { path, extent })?;
+        }
+    }
+    Ok(())
+}
+
+/// An outline of each of the paths at which something stands, but for those at or below one of the roots.
+fn survey_others<S: Filestore>(
+    alloc: Global,
+    store: &S,
+    paths: &[Path],
+    roots: &[Path],
+) -> Result<Vec<Outline>, Memory>
+    requires { blocks (S.state store.now).filestore ≤ 65536 }
+    ensures { IfOk result (λ outlines. IsSurvey outlines.items (λ path. list_any (same_path path) paths.now
+        && not (list_any (λ root. is_at_or_below path root) roots.now)) (S.state store.now).filestore) }
+{
+    let mut outlines = Vec::new(alloc);
+    for path in paths {
+        if has_above(roots, path) || find(&outlines, path).is_some() {
+            continue;
+        }
+        let Some(extent) = extent_at(store, path) else {
+            continue;
+        };
+        let path = path.copy(alloc)?;
+        outlines.push(Outline { path, extent })?;
+    }
+    Ok(outlines)
+}
+
+/// Whether the path is at or below one of the roots.
+fn has_above(roots: &[Path], path: &Path) -> bool
+    ensures { result ≡ list_any (λ root. is_at_or_below path.now root) roots.now }
+{
+    roots.iter().any(|root| path.is_at_or_below(root))
+}
+
+/// What stands at the path, if anything does.
+fn extent_at<S: Filestore>(store: &S, path: &Path) -> Option<Extent>
+    requires { blocks (S.state store.now).filestore ≤ 65536 }
+    ensures { result ≡ extent_at (S.state store.now).filestore path.now }
+{
+    match store.kind(path) {
+        None => None,
+        Some(Kind::Directory) => Some(Extent::Directory),
+        Some(Kind::File) => Some(Extent::File(store.size(path))),
+    }
+}
+
+/// What the store says that stands there.
+fn extent_standing(standing: &Standing) -> Extent
+    ensures { result ≡ extent_standing standing.now }
+{
+    match standing.kind {
         Kind::Directory => Extent::Directory,
-        Kind::File => Extent::File(entry.size),
+        Kind::File => Extent::File(standing.size),
     }
 }

@@ -123,20 +123,18 @@ pub fn rename(outlines: &mut Vec<Outline>, from: &Path, to: &Path) -> Result<Sta
 pub fn append(outlines: &mut Vec<Outline>, first: &Path, second: &Path) -> Result<Status, Memory>
     ensures { DoesOrNot outlines.old.items outlines.new.items (AppendFile first.now second.now) result }
 {
-    match find(outlines, first) {
-        None => Ok(Status::AppendFirstAbsent),
-        Some(Extent::Directory) => match find(outlines, second) {
-            None => Ok(Status::AppendSecondAbsent),
-            Some(_) => Ok(Status::NotAllowed(Action::AppendFile)),
-        },
-        Some(Extent::File(size)) => match find(outlines, second) {
-            None => Ok(Status::AppendSecondAbsent),
-            Some(Extent::Directory) => Ok(Status::NotAllowed(Action::AppendFile)),
-            Some(Extent::File(more)) => {
-                put(outlines, first, Extent::File(size.saturating_add(more)))?;
-                Ok(Status::Successful(Action::AppendFile))
-            }
-        },
+    let Some(longer) = find(outlines, first) else {
+        return Ok(Status::AppendFirstAbsent);
+    };
+    let Some(added) = find(outlines, second) else {
+        return Ok(Status::AppendSecondAbsent);
+    };
+    match (longer, added) {
+        (Extent::File(size), Extent::File(more)) => {
+            put(outlines, first, Extent::File(size.saturating_add(more)))?;
+            Ok(Status::Successful(Action::AppendFile))
+        }
+        _ => Ok(Status::NotAllowed(Action::AppendFile)),
     }
 }
 
@@ -144,19 +142,17 @@ pub fn append(outlines: &mut Vec<Outline>, first: &Path, second: &Path) -> Resul
 pub fn replace(outlines: &mut Vec<Outline>, first: &Path, second: &Path) -> Result<Status, Memory>
     ensures { DoesOrNot outlines.old.items outlines.new.items (ReplaceFile first.now second.now) result }
 {
-    match find(outlines, first) {
-        None => Ok(Status::ReplaceFirstAbsent),
-        Some(Extent::Directory) => match find(outlines, second) {
-            None => Ok(Status::ReplaceSecondAbsent),
-            Some(_) => Ok(Status::NotAllowed(Action::ReplaceFile)),
-        },
-        Some(Extent::File(_)) => match find(outlines, second) {
-            None => Ok(Status::ReplaceSecondAbsent),
-            Some(Extent::Directory) => Ok(Status::NotAllowed(Action::ReplaceFile)),
-            Some(Extent::File(size)) => {
-                put(outlines, first, Extent::File(size))?;
-                Ok(Status::Successful(Action::ReplaceFile))
-            }
-        },
+    let Some(old) = find(outlines, first) else {
+        return Ok(Status::ReplaceFirstAbsent);
+    };
+    let Some(new) = find(outlines, second) else {
+        return Ok(Status::ReplaceSecondAbsent);
+    };
+    match (old, new) {
+        (Extent::File(_), Extent::File(size)) => {
+            put(outlines, first, Extent::File(size))?;
+            Ok(Status::Successful(Action::ReplaceFile))
+        }
+        _ => Ok(Status::NotAllowed(Action::ReplaceFile)),
     }
 }

@@ -9,6 +9,9 @@ use std::alloc::Global;
 use std::process::Abort;
 use std::test::Fail;
 
+mod one_tree;
+mod refused;
+
 /// A request with its names, and the octet of its status. No second name: empty.
 type Row = (Action, &'static [u8], &'static [u8], u8);
 
@@ -66,10 +69,10 @@ fn deliver(store: &mut ListStore, path: &Path, size: u64) -> Result<bool, Memory
 
 /// Runs the rows on a view of the store, after the install of a file of at most so many octets where there is one, and
 /// compares the statuses, the need and the steps.
-fn judge(
+fn judge<S: Filestore>(
     rt: &impl Abort,
     alloc: Global,
-    store: &ListStore,
+    store: &S,
     file: Option<(&[u8], u64)>,
     rows: &[Row],
     need: u32,

@@ -49,7 +49,15 @@ impl<'a> Model for View<'a> {
 impl<'a> View<'a> {
     /// What stands in the store at and below the leased paths, before any item.
     ///
-    /// Cost: a listing of the store.
+    /// # Errors
+    ///
+    /// Want of memory.
+    ///
+    /// Cost: one `standing` of the store for each exclusive path that is not at or below an earlier one, and a `kind` and a
+    /// `size` for each other shared path; no listing, no octets and no checksum. What the footprint does not cover is not
+    /// asked for. Each thing that stands below an exclusive path is compared with the exclusive paths before that one, and
+    /// each shared path with all exclusive ones and with the shared ones that stand: the comparisons grow with the products
+    /// of these counts.
     pub fn of<S: Filestore>(
         alloc: Global,
         store: &S,
@@ -71,9 +79,13 @@ impl<'a> View<'a> {
         })
     }
 
-    /// Performs a request on the view, with unlimited room: its status, and what it needs and takes is counted.
+    /// Performs the next request on the view, with unlimited room, and answers its status (CCSDS 727.0-B-5 §4.9); a
+    /// request that is not successful changes nothing. The blocks that it needs and the steps that it takes are counted.
     ///
-    /// After want of memory the view is as before. Cost: a few passes over what the view has.
+    /// # Errors
+    ///
+    /// Want of memory; the view is then as before. Cost: a few passes over what the view has, and for a rename a copy of
+    /// it.
     pub fn apply(&mut self, request: &Request) -> Result<Status, Memory>
         ensures told { IfOk result (λ status. Tells self.old self.new (Perform request.now) (Performed status)) }
         ensures prefixes { OnOk result (self.new.prefixes ≡ self.old.prefixes) }
@@ -86,8 +98,14 @@ impl<'a> View<'a> {
         Ok(status)
     }
 
-    /// Installs a delivered file of at most so many octets at the path, and answers whether that is allowed. Where it is
-    /// not, and after want of memory, the view is as before.
+    /// Installs a delivered file of at most `bound` octets at the path (CCSDS 727.0-B-5 §4.6.1), in place of a file that
+    /// stands there, and answers whether that is allowed: its parent is the root or a directory, and neither a directory
+    /// nor a protected file stands there. Where it is not allowed the view is as before. The blocks of the staged file
+    /// are counted too.
+    ///
+    /// # Errors
+    ///
+    /// Want of memory; the view is then as before. Cost: a few passes over what the view has.
     pub fn install(&mut self, path: &Path, bound: u64) -> Result<bool, Memory>
         ensures told { IfOk result (λ done. TellsInstall self.old self.new path.now bound done) }
         ensures prefixes { OnOk result (self.new.prefixes ≡ self.old.prefixes) }
@@ -107,8 +125,9 @@ impl<'a> View<'a> {
         Ok(true)
     }
 
-    /// The most octets that the file at the path has, or the greatest u64 where that is more. `None` where no file
-    /// stands.
+    /// The most octets that the file at the path has, from 0 to the greatest u64, which also stands for more. `None` where
+    /// no file stands, and where the path is none of those that the view was made of. Takes no memory. Cost: a pass over
+    /// what the view has.
     pub fn bound(&self, path: &Path) -> Option<u64>
         ensures { result ≡ size_of (finite.get self.now.extents path.now) }
     {

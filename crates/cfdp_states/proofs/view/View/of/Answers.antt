@@ -1,12 +1,8 @@
 use Rattle.std.proofs.Common.{◌∙◌, ap, List, min}
 use Rattle.cfdp_states.specs.declared.extent.Outline.{Outline}
 use Rattle.cfdp_states.specs.Sketching.{total_weight, most_octets}
-use Rattle.cfdp_states.proofs.Surveyed.{view_of, distinct_of}
+use Rattle.cfdp_states.proofs.Surveyed.{view_of}
 use Rattle.cfdp_states.proofs.view.View.of.Goals as goal
-
-pub invariant_of-result : goal.invariant_of-result
-invariant_of-result g c =
-    distinct_of c.args.footprint.now (g.S.Filestore.state c.args.store.now).filestore c.in_ok-outlines.outlines.items c.in_ok-outlines.ensures.outlines c.in_ok-outlines.ensures.small
 
 pub returns-clause-told : goal.returns-clause-told
 returns-clause-told g c =

@@ -1,0 +1,142 @@
+//! A view of a store that tells of one tree alone.
+
+use super::{Row, deliver, judge, prepare, requests};
+use crate::View;
+use cfdp_actions::{Entry, Filestore, Kind, ListStore, Protected, Standing};
+use cfdp_leases::footprint;
+use cfdp_paths::{Memory, Path};
+use cfdp_status::Action;
+use std::alloc::{AllocError, Global};
+use std::test::Fail;
+
+/// A store that has no memory for a listing, nor for what stands at and below a path outside of one tree.
+#[derive(Drop)]
+struct OneTree<S: Filestore> {
+    inner: S,
+    root: Path,
+}
+
+impl<S: Filestore> Filestore for OneTree<S> {
+    ghost state = { λ s. S.state s.inner };
+
+    fn kind(&self, path: &Path) -> Option<Kind> {
+        self.inner.kind(path)
+    }
+
+    fn parent_is_good(&self, path: &Path) -> bool {
+        self.inner.parent_is_good(path)
+    }
+
+    fn has_entries(&self, path: &Path) -> bool {
+        self.inner.has_entries(path)
+    }
+
+    fn size(&self, path: &Path) -> u64 {
+        self.inner.size(path)
+    }
+
+    fn read(&self, path: &Path, at: u64, buffer: &mut [u8]) {
+        self.inner.read(path, at, buffer);
+    }
+
+    fn deepest(&self, path: &Path) -> u8 {
+        self.inner.deepest(path)
+    }
+
+    fn staged_size(&self, slot: u8) -> u64 {
+        self.inner.staged_size(slot)
+    }
+
+    fn read_staged(&self, slot: u8, at: u64, buffer: &mut [u8]) {
+        self.inner.read_staged(slot, at, buffer);
+    }
+
+    fn free(&self) -> u32 {
+        self.inner.free()
+    }
+
+    fn takes_no_memory(&self) -> bool {
+        self.inner.takes_no_memory()
+    }
+
+    fn listing(&self, _alloc: Global) -> Result<Vec<Entry>, Memory> {
+        Err(AllocError)
+    }
+
+    fn standing(&self, alloc: Global, path: &Path) -> Result<Vec<Standing>, Memory> {
+        if path.is_at_or_below(&self.root) {
+            self.inner.standing(alloc, path)
+        } else {
+            Err(AllocError)
+        }
+    }
+
+    fn make_file(&mut self, path: &Path) -> Result<u32, Memory> {
+        self.inner.make_file(path)
+    }
+
+    fn make_dir(&mut self, path: &Path) -> Result<u32, Memory> {
+        self.inner.make_dir(path)
+    }
+
+    fn remove(&mut self, path: &Path) -> Result<u32, Memory> {
+        self.inner.remove(path)
+    }
+
+    fn rename(&mut self, from: &Path, to: &Path) -> Result<u32, Memory> {
+        self.inner.rename(from, to)
+    }
+
+    fn append(&mut self, first: &Path, second: &Path) -> Result<u32, Memory> {
+        self.inner.append(first, second)
+    }
+
+    fn replace(&mut self, first: &Path, second: &Path) -> Result<u32, Memory> {
+        self.inner.replace(first, second)
+    }
+
+    fn stage_extend(&mut self, slot: u8, size: u64) -> Result<u32, Memory> {
+        self.inner.stage_extend(slot, size)
+    }
+
+    fn stage_put(&mut self, slot: u8, at: u64, octets: &[u8]) {
+        self.inner.stage_put(slot, at, octets);
+    }
+
+    fn unstage(&mut self, slot: u8) -> u32 {
+        self.inner.unstage(slot)
+    }
+
+    fn install(&mut self, slot: u8, path: &Path) -> Result<u32, Memory> {
+        self.inner.install(slot, path)
+    }
+}
+
+/// What is exclusive stands in the tree, and no more than kind and size is asked of what is shared: so the view can be
+/// made, whatever else stands in the store.
+#[test]
+fn asks_for_leased_trees_alone(rt: HostRuntime) -> Result<(), Fail> {
+    let alloc = rt.alloc();
+    let mut inner = ListStore::new(alloc, 64)?;
+    assert!(&rt; deliver(&mut inner, &Path::parse(alloc, b"src")?, 600)?);
+    assert!(&rt; deliver(&mut inner, &Path::parse(alloc, b"other")?, 240)?);
+    let rows: [Row; 2] = [
+        (Action::CreateDirectory, b"d", b"", 0x50),
+        (Action::CreateFile, b"d/log", b"", 0x00),
+    ];
+    prepare(&rt, alloc, &mut inner, &rows)?;
+    let root = Path::parse(alloc, b"d")?;
+    let store = OneTree { inner, root };
+    assert!(&rt; store.listing(alloc).is_err());
+    let in_tree: [Row; 2] = [
+        (Action::AppendFile, b"d/log", b"src", 0x30),
+        (Action::RemoveDirectory, b"d", b"", 0x62),
+    ];
+    judge(&rt, alloc, &store, None, &in_tree, 5, 13)?;
+
+    // The store does not tell of this one.
+    let outside = requests(alloc, &[(Action::DeleteFile, b"other", b"", 0x10)])?;
+    let leased = footprint(alloc, &outside, None)?;
+    assert!(&rt; View::of(alloc, &store, &Protected::new(), &leased).is_err());
+    Ok(())
+}
