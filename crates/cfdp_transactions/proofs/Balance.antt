@@ -22,3 +22,15 @@ left-fresh g = omega arith
 
 pub fresh_within : (g : ℕ) → pos 0 ≤ℤ pos g
 fresh_within g = omega (arith, ints)
+
+-- of what the filestore grows by -----------------------------------------------------
+
+pub spend-even : (s : ℤ) (n : ℕ) → s ≡ spend s n n
+spend-even s n = omega (arith, ints)
+
+-- taken and given back are what the blocks in use grew by
+pub spend-grown : (s : ℤ) (taken given before now : ℕ) → now + given ≡ before + taken → spend s taken given ≡ spend s now before
+spend-grown s taken given before now h = omega (arith, ints)
+
+pub spend-then : (s t u : ℤ) (a b c : ℕ) → t ≡ spend s b a → u ≡ spend t c b → u ≡ spend s c a
+spend-then s t u a b c first second = omega (arith, ints)

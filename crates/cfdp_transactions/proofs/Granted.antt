@@ -1,7 +1,8 @@
 -- What a grant says of its items: no conflict, and alone they succeed within the grant.
 use Rattle.std.proofs.Common.{◌≡◌, ℕ, zero, suc, ◌+◌, ◌≤◌, List, [], ◌∷◌, length, refl, ap, subst, arith}
-use Rattle.std.specs.Prelude.{⊤, Option, Some, None, Bool, true, false, IsTrue, IsFalse, if◌then◌else◌, nat_lt, replicate}
+use Rattle.std.specs.Prelude.{⊤, Option, Some, None, Bool, true, false, IsTrue, IsFalse, if◌then◌else◌, nat_lt, replicate, find}
 use Rattle.std.specs.List.{AllByRecursion}
+use Rattle.std.specs.Option.{option_map}
 use Rattle.std.proofs.lemmas.Bool.{cond_both, ltb-false, or_parts, or_from}
 use Rattle.cfdp_status.specs.declared.status.Status.{Status}
 use Rattle.cfdp_status.specs.declared.transaction.TransactionId.{TransactionId}
@@ -11,9 +12,10 @@ use Rattle.cfdp_actions.specs.Filestore.{Filestore}
 use Rattle.cfdp_actions.specs.Actions.{Request, Item, Install, Perform, Answer, Performed, Installed, NotInstalled, succeeded, row}
 use Rattle.cfdp_leases.specs.Items.{performed}
 use Rattle.cfdp_leases.specs.Footprint.{Footprint, footprint_of, is_conflict, reaches}
+use Rattle.cfdp_leases.specs.Leases.{first_conflict}
 use Rattle.cfdp_states.specs.Alone.{statuses, alone, statuses_alone, need_alone, steps_alone}
 use Rattle.cfdp_tlv.specs.Values.{RequestFields}
-use Rattle.cfdp_verifier.specs.Verdict.{Proposal, Verdict, Refuse, Grant, Parsed, Bad, Good, named, request_of, and_then, parsed_from, with_file, with_destination, parsed, conflict_in, first_failure, destination_allowed, judged, judged_apart, verdict_of, verdict}
+use Rattle.cfdp_verifier.specs.Verdict.{Proposal, Verdict, Refuse, Grant, Parsed, Bad, Good, named, request_of, and_then, parsed_from, with_file, with_destination, parsed, first_failure, destination_allowed, judged, judged_apart, verdict_of, verdict}
 use Rattle.cfdp_transactions.specs.Entry.{is_live, Entry, name_of, footprint}
 use Rattle.cfdp_transactions.specs.World.{leases_of}
 use Rattle.cfdp_transactions.specs.Sound.{Each, is_next_install, requests_in}
@@ -129,7 +131,7 @@ items_good prefixes F i (Perform request ∷ items) h allowed none = requests_go
 
 pub record IsGranted (prefixes : List Path) (F : Filestore) (leases : List (TransactionId × Footprint)) (spare : ℕ) (P : Proposal) (items : List Item) (granted bound_steps : ℕ) : Type 0 where
   pub proposed : IsProposed P.destination (length P.requests) items
-  pub apart : conflict_in leases (footprint_of items) ≡ None
+  pub apart : first_conflict leases (footprint_of items) ≡ None
   pub succeed : AllSucceeded (statuses_alone prefixes F (replicate P.bound 0) items)
   pub need : need_alone prefixes F (replicate P.bound 0) items ≡ granted
   pub steps : steps_alone prefixes F (replicate P.bound 0) items ≡ bound_steps
@@ -144,7 +146,7 @@ module _ (prefixes : List Path) (F : Filestore) (leases : List (TransactionId ×
   abbrev x : List ℕ
   x = replicate P.bound 0
 
-  judged_just : (items : List Item) → IsProposed P.destination (length P.requests) items → conflict_in leases (footprint_of items) ≡ None → IsTrue (destination_allowed prefixes (alone F x) items) →
+  judged_just : (items : List Item) → IsProposed P.destination (length P.requests) items → first_conflict leases (footprint_of items) ≡ None → IsTrue (destination_allowed prefixes (alone F x) items) →
       (failure : Option (ℕ × Status)) → first_failure 0 (statuses_alone prefixes F x items) ≡ failure → IsJust (judged spare items failure (need_alone prefixes F x items) (steps_alone prefixes F x items))
   judged_just items proposed apart allowed (Some f) is = tt
   judged_just items proposed apart allowed None is =
@@ -160,7 +162,7 @@ module _ (prefixes : List Path) (F : Filestore) (leases : List (TransactionId ×
         short = ltb-false _ _ short;
       }))
 
-  apart_just : (items : List Item) → IsProposed P.destination (length P.requests) items → (conflict : Option TransactionId) → conflict_in leases (footprint_of items) ≡ conflict →
+  apart_just : (items : List Item) → IsProposed P.destination (length P.requests) items → (conflict : Option TransactionId) → first_conflict leases (footprint_of items) ≡ conflict →
       IsJust (judged_apart prefixes F spare x items conflict)
   apart_just items proposed (Some id) is = tt
   apart_just items proposed None is =
@@ -168,7 +170,7 @@ module _ (prefixes : List Path) (F : Filestore) (leases : List (TransactionId ×
 
   verdict_of_just : (q : Parsed) → GoodProposed P.destination (length P.requests) q → IsJust (verdict_of prefixes F leases spare P q)
   verdict_of_just (Bad place) h = tt
-  verdict_of_just (Good items) h = apart_just items h (conflict_in leases (footprint_of items)) refl
+  verdict_of_just (Good items) h = apart_just items h (first_conflict leases (footprint_of items)) refl
 
   pub verdict_just : IsJust (verdict prefixes F leases spare P)
   verdict_just = cond_both (nat_lt 64 (length P.requests)) _ _ IsJust (λ _. tt) (λ _. verdict_of_just (parsed P) (parsed_proposed P))
@@ -179,16 +181,16 @@ pub conflict_sym : (A B : Footprint) → IsFalse (is_conflict A B) → IsFalse (
 conflict_sym A B h = let p = or_parts (reaches A B) (reaches B A) h in or_from (reaches B A) (reaches A B) p.1 p.0
 
 none_step : (e : Entry) (t : List Entry) (fp : Footprint) (live : Bool) → is_live e.phase ≡ live →
-    conflict_in (if live then (name_of e, footprint e) ∷ leases_of t else leases_of t) fp ≡ None →
-    (IsTrue (is_live e.phase) → IsFalse (is_conflict fp (footprint e))) × (conflict_in (leases_of t) fp ≡ None)
+    first_conflict (if live then (name_of e, footprint e) ∷ leases_of t else leases_of t) fp ≡ None →
+    (IsTrue (is_live e.phase) → IsFalse (is_conflict fp (footprint e))) × (first_conflict (leases_of t) fp ≡ None)
 none_step e t fp true is none =
-    cond_both (is_conflict fp (footprint e)) (Some (name_of e)) (conflict_in (leases_of t) fp)
-    (λ (o : Option TransactionId). o ≡ None → (IsTrue (is_live e.phase) → IsFalse (is_conflict fp (footprint e))) × (conflict_in (leases_of t) fp ≡ None))
-    (λ _ q. absurd cc) (λ apart q. ((λ _. apart), q)) none
+    cond_both (is_conflict (footprint e) fp) (Some (name_of e, footprint e)) (find (λ (g : TransactionId × Footprint). is_conflict g.1 fp) (leases_of t))
+    (λ (o : Option (TransactionId × Footprint)). option_map (λ (g : TransactionId × Footprint). g.0) o ≡ None → (IsTrue (is_live e.phase) → IsFalse (is_conflict fp (footprint e))) × (first_conflict (leases_of t) fp ≡ None))
+    (λ _ q. absurd cc) (λ apart q. ((λ _. conflict_sym (footprint e) fp apart), q)) none
 none_step e t fp false is none = ((λ live. absurd cc), none)
 
 -- where none is found, no live entry conflicts
-pub none_conflicts : (t : List Entry) (fp : Footprint) → conflict_in (leases_of t) fp ≡ None → Each (λ d. IsTrue (is_live d.phase) → IsFalse (is_conflict fp (footprint d))) t
+pub none_conflicts : (t : List Entry) (fp : Footprint) → first_conflict (leases_of t) fp ≡ None → Each (λ d. IsTrue (is_live d.phase) → IsFalse (is_conflict fp (footprint d))) t
 none_conflicts [] fp none k d at = absurd cc
 none_conflicts (e ∷ t) fp none zero d at = let same : e ≡ d = cc in subst (λ (f : Entry). IsTrue (is_live f.phase) → IsFalse (is_conflict fp (footprint f))) same (none_step e t fp (is_live e.phase) refl none).0
 none_conflicts (e ∷ t) fp none (suc k) d at = none_conflicts t fp (none_step e t fp (is_live e.phase) refl none).1 k d at

@@ -1,20 +1,25 @@
 -- What a sound world gives to the calls of the layers below.
-use Rattle.std.proofs.Common.{◌≡◌, ℕ, ◌≤◌, List, [], ◌∷◌, length, drop, refl, ap, sym, subst, arith}
+use Rattle.std.proofs.Common.{◌≡◌, ℕ, ◌≤◌, List, [], ◌∷◌, length, drop, take, refl, ap, subst, arith}
 use Rattle.std.specs.Prelude.{Some, slice_get, IsTrue}
+use Rattle.std.specs.List.{AllByRecursion}
 use Rattle.std.proofs.lemmas.List.{length-replicate}
+use Rattle.cfdp_status.specs.declared.status.Status.{Status}
+use Rattle.cfdp_status.specs.declared.status.Status.TheVariants.{Successful}
 use Rattle.cfdp_actions.specs.Filestore.{staged_in, blocks_of}
 use Rattle.cfdp_actions.specs.Actions.{Item, row}
 use Rattle.cfdp_states.specs.Alone.{stage}
+use Rattle.cfdp_tlv.specs.Values.{RequestFields, IsRequest, IsResponse}
 use Rattle.cfdp_transactions.specs.Config.{Config}
 use Rattle.cfdp_transactions.specs.Entry.{Phase, Receiving, Awaiting, Executing, Refused, Done, Ended, is_live, takes_data, Entry, rest, reserve, awaited}
 use Rattle.cfdp_transactions.specs.Events.{Reply}
+use Rattle.cfdp_transactions.specs.Outcome.{answered, responses_of}
 use Rattle.cfdp_transactions.specs.World.{World, free, bound}
 use Rattle.cfdp_transactions.specs.Delivery.{limit}
 use Rattle.cfdp_transactions.specs.Execution.{act_now}
 use Rattle.cfdp_transactions.specs.Next.{next}
 use Rattle.cfdp_transactions.specs.LowerLaws.{LowerLaws}
-use Rattle.cfdp_transactions.specs.Sound.{longest_in, longest, Sound}
-use Rattle.cfdp_transactions.specs.Needs.{IsReady, StepNeeds, DataNeeds, FollowsIsSound}
+use Rattle.cfdp_transactions.specs.Sound.{longest_in, longest, all_successful, Sound}
+use Rattle.cfdp_transactions.specs.Needs.{IsReady, StepNeeds, DataNeeds, TakeNeeds, FollowsIsSound}
 use Rattle.cfdp_transactions.proofs.Change.{reserve_within}
 use Rattle.cfdp_transactions.proofs.SlotChanges.{blocks-staged}
 use Rattle.cfdp_transactions.proofs.Turning.{length-staged_of, reserve_live}
@@ -56,14 +61,14 @@ data_live Refused h = absurd cc
 data_live Done h = absurd cc
 data_live (Ended condition) h = absurd cc
 
--- octets may end where the longest list does
-limit_is : (phase : Phase) (c : Config) (e : Entry) → IsTrue (takes_data phase) → limit phase c e ≡ length (longest_in phase c e)
-limit_is Receiving c e h = sym (length-replicate {A = ℕ} (bound c e.metadata) 0)
-limit_is (Awaiting checks) c e h = sym (length-replicate {A = ℕ} (awaited e.eof) 0)
-limit_is (Executing next) c e h = absurd cc
-limit_is Refused c e h = absurd cc
-limit_is Done c e h = absurd cc
-limit_is (Ended condition) c e h = absurd cc
+-- octets end no further than the longest list does
+limit_within : (phase : Phase) (c : Config) (e : Entry) → IsTrue (takes_data phase) → limit phase c e ≤ length (longest_in phase c e)
+limit_within Receiving c e h = omega (arith, length-replicate {A = ℕ} (bound c e.metadata) 0)
+limit_within (Awaiting checks) c e h = omega (arith, length-replicate {A = ℕ} (awaited e.eof) 0)
+limit_within (Executing next) c e h = absurd cc
+limit_within Refused c e h = absurd cc
+limit_within Done c e h = absurd cc
+limit_within (Ended condition) c e h = absurd cc
 
 pub data_needs : DataNeeds
 data_needs W k e received s at takes short =
@@ -71,7 +76,7 @@ data_needs W k e received s at takes short =
     let kept = s.live k e at live in
     let x = longest W.config e in
     let old : length (staged_in W.filestore e.slot) ≡ length e.received = rw kept.staged (length-staged_of e.received) in
-    let more = blocks_of-le (length received) (length x) (omega (arith, limit_is e.phase W.config e takes)) in
+    let more = blocks_of-le (length received) (length x) (omega (arith, limit_within e.phase W.config e takes)) in
     let begins = peak_from W.config.prefixes (stage W.filestore e.slot x) e.slot (rest e) in
     let staging = blocks-staged W.filestore e.slot x kept.slot in
     record {
@@ -79,3 +84,15 @@ data_needs W k e received s at takes short =
       taken = rw (reserve_live e live) (omega (arith, kept.promise.blocks, begins, staging, ap blocks_of old, more));
       free_blocks = free_reserve W k e s at;
     }
+
+responses_whole : (rs : List RequestFields) (ss : List Status) → AllByRecursion IsRequest rs → ss ≡ take (length ss) (all_successful rs) → AllByRecursion IsResponse (responses_of rs ss)
+responses_whole [] ss whole own = tt
+responses_whole (r ∷ rs) [] whole own = (whole.0, responses_whole rs [] whole.1 refl)
+responses_whole (r ∷ rs) (s ∷ ss) whole own =
+    let first : s ≡ Successful r.action = cc in
+    let others : ss ≡ take (length ss) (all_successful rs) = cc in
+    let here : IsResponse (answered r s) = rw first whole.0 in
+    (here, responses_whole rs ss whole.1 others)
+
+pub take_needs : TakeNeeds
+take_needs W k e s at whole = responses_whole e.metadata.requests e.statuses whole (s.honest k e at).in_order

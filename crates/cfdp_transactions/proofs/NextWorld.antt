@@ -15,7 +15,7 @@ use Rattle.cfdp_transactions.specs.Next.{for_us, next}
 use Rattle.cfdp_transactions.specs.LowerLaws.{LowerLaws}
 use Rattle.cfdp_transactions.specs.Sound.{Each, Sound}
 use Rattle.cfdp_transactions.proofs.Change.{Goes}
-use Rattle.cfdp_transactions.proofs.EachEvent.{stays, cancelled_goes, taken_goes, check_goes, eof_goes, step_goes_in, data_goes}
+use Rattle.cfdp_transactions.proofs.EachEvent.{stays, cancelled_moves, taken_goes, check_moves, eof_moves, step_moves_in, data_moves}
 use Rattle.cfdp_transactions.proofs.Admitting.{metadata_sound, metadata_keeps}
 use Rattle.cfdp_transactions.proofs.Finding.{found_name, absent_name}
 
@@ -37,13 +37,13 @@ module _ (laws : LowerLaws) (W : World) (s : Sound W) where
       })
   next_goes (DataCame h piece) =
       let k = index_of W (id_of h) in
-      for_us_goes k h (data_came W k piece (entry_of W (id_of h))) (found_goes k (λ o. data_came W k piece o) refl (λ e at. data_goes laws W k e s at piece) (entry_of W (id_of h)) refl)
+      for_us_goes k h (data_came W k piece (entry_of W (id_of h))) (found_goes k (λ o. data_came W k piece o) refl (λ e at. (data_moves laws W k e s at piece).1.goes) (entry_of W (id_of h)) refl)
   next_goes (EofCame h eof) =
       let k = index_of W (id_of h) in
-      for_us_goes k h (eof_came W k eof (entry_of W (id_of h))) (found_goes k (λ o. eof_came W k eof o) refl (λ e at. eof_goes laws W k e s at eof) (entry_of W (id_of h)) refl)
-  next_goes (Step id) = let k = index_of W id in found_goes k (λ o. stepped W k o) refl (λ e at. step_goes_in laws W k e s at e.phase refl) (entry_of W id) refl
-  next_goes (Cancel id) = let k = index_of W id in found_goes k (λ o. cancelled W k o) refl (λ e at. cancelled_goes laws W k e s at) (entry_of W id) refl
-  next_goes (Check id) = let k = index_of W id in found_goes k (λ o. checked W k o) refl (λ e at. check_goes laws W k e s at e.phase refl) (entry_of W id) refl
+      for_us_goes k h (eof_came W k eof (entry_of W (id_of h))) (found_goes k (λ o. eof_came W k eof o) refl (λ e at. (eof_moves laws W k e s at eof).1.goes) (entry_of W (id_of h)) refl)
+  next_goes (Step id) = let k = index_of W id in found_goes k (λ o. stepped W k o) refl (λ e at. (step_moves_in laws W k e s at e.phase refl).1.goes) (entry_of W id) refl
+  next_goes (Cancel id) = let k = index_of W id in found_goes k (λ o. cancelled W k o) refl (λ e at. (cancelled_moves laws W k e s at).1.goes) (entry_of W id) refl
+  next_goes (Check id) = let k = index_of W id in found_goes k (λ o. checked W k o) refl (λ e at. (check_moves laws W k e s at e.phase refl).1.goes) (entry_of W id) refl
   next_goes (Take id) = let k = index_of W id in found_goes k (λ o. taken_out W k o) refl (λ e at. taken_goes laws W k e s at) (entry_of W id) refl
 
   pub next_sound : (event : Event) → Sound (next W event).0

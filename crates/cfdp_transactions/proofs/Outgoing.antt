@@ -1,23 +1,21 @@
 -- Outcomes fit a Finished PDU, where the events that came fit theirs.
-use Rattle.std.proofs.Common.{◌≡◌, ℕ, suc, ◌+◌, ◌*◌, ◌≤◌, List, [], ◌∷◌, length, refl, ap, sym, ◌∙◌, arith}
+use Rattle.std.proofs.Common.{◌≡◌, ℕ, suc, ◌+◌, ◌^◌, ◌≤◌, ◌<◌, List, [], ◌∷◌, length, refl, sym, ◌∙◌, arith}
 use Rattle.cfdp_transactions.specs.Config.{Config}
-use Rattle.std.specs.Prelude.{Option, Some, None, slice_get, true, not, ◌&&◌, ◌||◌, ◌==◌, nat_lt, nat_le, drop}
+use Rattle.std.specs.Prelude.{Option, Some, None, IfSome, slice_get, true, not, ◌&&◌, ◌||◌, ◌==◌, nat_lt, nat_le, drop}
 use Rattle.std.specs.List.{AllByRecursion}
 use Rattle.std.proofs.lemmas.Bool.{cond_both, ltb-false}
-use Rattle.cfdp_status.specs.declared.status.Status.{Status}
-use Rattle.cfdp_status.specs.declared.status.Status.TheVariants.{NotPerformed}
 use Rattle.cfdp_actions.specs.Filestore.{Change, Stages}
 use Rattle.cfdp_actions.specs.Actions.{Item, Answer, succeeded}
-use Rattle.cfdp_tlv.specs.Values.{RequestFields, ResponseFields}
 use Rattle.cfdp_pdus.specs.Values.{MetadataFields, FileDataFields}
 use Rattle.cfdp_pdus.specs.declared.header.Header.{Header}
 use Rattle.cfdp_pdus.specs.declared.eof.Eof.{Eof}
+use Rattle.cfdp_pdus.specs.Canonical.{IsHeader}
 use Rattle.cfdp_transactions.specs.Received.{kept_with, pieces, is_whole, Received, staged_of}
 use Rattle.cfdp_verifier.specs.declared.refusal.Refusal.TheVariants.{TooManyRequests}
 use Rattle.cfdp_verifier.specs.Verdict.{Verdict, Refuse, Grant, verdict}
 use Rattle.cfdp_transactions.specs.Entry.{Phase, Receiving, Awaiting, Executing, Refused, Done, Ended, is_live, is_receiving, takes_data, Entry, has_file, id_of}
 use Rattle.cfdp_transactions.specs.Events.{Event, MetadataCame, DataCame, EofCame, Step, Cancel, Check, Take, Reply}
-use Rattle.cfdp_transactions.specs.Outcome.{condition_of, is_refused, file_status_of, answered, responses_of, fault_of, outcome_of}
+use Rattle.cfdp_transactions.specs.Outcome.{condition_of, is_refused, file_status_of, fault_of, finished, outcome_of}
 use Rattle.cfdp_transactions.specs.World.{World, spare, leases_of, bound, index_of, entry_of, change_at, free_slot, start}
 use Rattle.cfdp_transactions.specs.Ending.{ended, ends, cancelled, taken_out}
 use Rattle.cfdp_transactions.specs.Delivery.{is_right_checksum, whole, limit, storing, stores, after_eof, stored, data_came, eof_came, check_at, checked}
@@ -25,73 +23,39 @@ use Rattle.cfdp_transactions.specs.Execution.{act_now, replied, phase_before, en
 use Rattle.cfdp_transactions.specs.Admission.{proposal_of, judged, is_known_checksum, metadata_came, new_entry, refused_entry, with_new}
 use Rattle.cfdp_transactions.specs.Next.{for_us, next, replies}
 use Rattle.cfdp_transactions.specs.Sound.{Each}
-use Rattle.cfdp_transactions.specs.Writable.{HeaderFits, request_length, response_length, responses_length, fault_length, FaultFits, IsWritable, FitsReply, IsReadable}
+use Rattle.cfdp_transactions.specs.Writable.{IsWritable, FitsReply, IsShort, IsReadable}
+use Rattle.cfdp_transactions.proofs.Lengths.{fields_fit}
 use Rattle.cfdp_transactions.proofs.Places.{set_each, append_each, remove_place, before, get_set_same}
 
 -- what an entry keeps for its outcome
 pub record IsSendable (e : Entry) : Type 0 where
-  pub header : HeaderFits e.header
-  pub requests : AllByRecursion (λ r. request_length r ≤ 254) e.metadata.requests
+  pub header : IsHeader e.header
+  pub requests : AllByRecursion IsShort e.metadata.requests
   pub few : length e.metadata.requests ≤ 64
-  pub condition : condition_of e.phase ≤ 15
+  pub condition : condition_of e.phase < 16
 
-sendable_in : (e : Entry) (phase : Phase) (new : Entry) → IsSendable e → new.header ≡ e.header → new.metadata ≡ e.metadata → new.phase ≡ phase → condition_of phase ≤ 15 → IsSendable new
+sendable_in : (e : Entry) (phase : Phase) (new : Entry) → IsSendable e → new.header ≡ e.header → new.metadata ≡ e.metadata → new.phase ≡ phase → condition_of phase < 16 → IsSendable new
 sendable_in e phase new s header metadata is small = record { header = rw header s.header; requests = rw metadata s.requests; few = rw metadata s.few; condition = rw is small }
 
 -- the outcome -------------------------------------------------------------------------
 
-response_fits : (r : RequestFields) (status : Status) → request_length r ≤ 254 → response_length (answered r status) ≤ 255
-response_fits r status h = omega arith
-
-responses_fit : (rs : List RequestFields) (ss : List Status) → AllByRecursion (λ r. request_length r ≤ 254) rs → AllByRecursion (λ r. response_length r ≤ 255) (responses_of rs ss)
-responses_fit [] ss h = tt
-responses_fit (r ∷ rs) [] h = (response_fits r (NotPerformed r.action) h.0, responses_fit rs [] h.1)
-responses_fit (r ∷ rs) (s ∷ ss) h = (response_fits r s h.0, responses_fit rs ss h.1)
-
-length-responses : (rs : List RequestFields) (ss : List Status) → length (responses_of rs ss) ≡ length rs
-length-responses [] ss = refl
-length-responses (r ∷ rs) [] = ap suc (length-responses rs [])
-length-responses (r ∷ rs) (s ∷ ss) = ap suc (length-responses rs ss)
-
--- 64 responses of 257 octets
-field_short : (rs : List ResponseFields) → AllByRecursion (λ r. response_length r ≤ 255) rs → responses_length rs ≤ 257 * length rs
-field_short [] h = omega arith
-field_short (r ∷ rs) h = omega (arith, h.0, field_short rs h.1)
-
-file_status_small : (e : Entry) → file_status_of e ≤ 3
+file_status_small : (e : Entry) → file_status_of e < 4
 file_status_small e =
-    cond_both (not (has_file e.metadata)) _ _ (λ (n : ℕ). n ≤ 3) (λ _. omega arith)
-    (λ _. cond_both e.installed _ _ (λ (n : ℕ). n ≤ 3) (λ _. omega arith)
-    (λ _. cond_both (is_refused e.phase) _ _ (λ (n : ℕ). n ≤ 3) (λ _. omega arith) (λ _. omega arith)))
+    cond_both (not (has_file e.metadata)) _ _ (λ (n : ℕ). n < 4) (λ _. omega arith)
+    (λ _. cond_both e.installed _ _ (λ (n : ℕ). n < 4) (λ _. omega arith)
+    (λ _. cond_both (is_refused e.phase) _ _ (λ (n : ℕ). n < 4) (λ _. omega arith) (λ _. omega arith)))
 
-fault_fits : (e : Entry) → HeaderFits e.header → FaultFits e.header (fault_of e)
+fault_fits : (e : Entry) → IsHeader e.header → IfSome (fault_of e) (λ entity. entity < 256 ^ e.header.id_len)
 fault_fits e h =
-    cond_both ((condition_of e.phase == 0) || (condition_of e.phase == 11)) _ _ (λ (o : Option ℕ). FaultFits e.header o) (λ _. tt)
-    (λ _. cond_both e.ended_by_eof _ _ (λ (o : Option ℕ). FaultFits e.header o) (λ _. h.source) (λ _. h.destination))
-
-fault_short : (h : Header) (fault : Option ℕ) → h.id_len ≤ 8 → fault_length h fault ≤ 10
-fault_short h None short = omega arith
-fault_short h (Some entity) short = omega arith
+    cond_both ((condition_of e.phase == 0) || (condition_of e.phase == 11)) _ _ (λ (o : Option ℕ). IfSome o (λ entity. entity < 256 ^ e.header.id_len)) (λ _. tt)
+    (λ _. cond_both e.ended_by_eof _ _ (λ (o : Option ℕ). IfSome o (λ entity. entity < 256 ^ e.header.id_len)) (λ _. h.source) (λ _. h.destination))
 
 pub outcome_fits : (e : Entry) → IsSendable e → IsWritable (outcome_of e)
-outcome_fits e s =
-    let rs = responses_of e.metadata.requests e.statuses in
-    let fit = responses_fit e.metadata.requests e.statuses s.requests in
-    record {
-      header = record { id_some = s.header.id_some; id_short = s.header.id_short; number_some = s.header.number_some; number_short = s.header.number_short; source = s.header.source; destination = s.header.destination; number = s.header.number };
-      condition = s.condition;
-      file_status = file_status_small e;
-      responses = fit;
-      fault = faults (fault_of e) (fault_fits e s.header);
-      data_field = omega (arith, field_short rs fit, length-responses e.metadata.requests e.statuses, s.few, fault_shorts (fault_of e));
-    }
-  where
-    faults : (o : Option ℕ) → FaultFits e.header o → FaultFits (record e.header { toward_sender = true }) o
-    faults None h = tt
-    faults (Some entity) h = h
-
-    fault_shorts : (o : Option ℕ) → fault_length (record e.header { toward_sender = true }) o ≤ 10
-    fault_shorts o = fault_short (record e.header { toward_sender = true }) o s.header.id_short
+outcome_fits e s = record {
+  header = record { id_low = s.header.id_low; id_high = s.header.id_high; number_low = s.header.number_low; number_high = s.header.number_high; source = s.header.source; number = s.header.number; destination = s.header.destination };
+  sized = record { condition = s.condition; file_status = file_status_small e; fault = fault_fits e s.header };
+  fits = fields_fit (outcome_of e).header (finished e) e.metadata.requests e.statuses refl s.header.id_high s.few s.requests;
+}
 
 -- the events --------------------------------------------------------------------------
 
@@ -105,14 +69,14 @@ module _ (W : World) (all : Each IsSendable W.table) where
     changed_fits changes new s = set_each (λ _ (d : Entry). IsSendable d) W.table k new s (λ j d here ne. all j d here)
 
     -- to a phase with a small condition
-    goes_to : (changes : List Change) (new : Entry) (phase : Phase) (reply : Reply) → new.header ≡ e.header → new.metadata ≡ e.metadata → new.phase ≡ phase → condition_of phase ≤ 15 → FitsReply reply →
+    goes_to : (changes : List Change) (new : Entry) (phase : Phase) (reply : Reply) → new.header ≡ e.header → new.metadata ≡ e.metadata → new.phase ≡ phase → condition_of phase < 16 → FitsReply reply →
         AnswerFits (change_at W k changes new, reply)
     goes_to changes new phase reply header metadata is small fits = record { table = changed_fits changes new (sendable_in e phase new (all k e at) header metadata is small); reply = fits }
 
     stays_fit : (reply : Reply) → FitsReply reply → AnswerFits (W, reply)
     stays_fit reply fits = record { table = all; reply = fits }
 
-    ends_fit : (now : Entry) (condition : ℕ) (reply : Reply) → now.header ≡ e.header → now.metadata ≡ e.metadata → condition ≤ 15 → FitsReply reply → AnswerFits (ends W k now condition, reply)
+    ends_fit : (now : Entry) (condition : ℕ) (reply : Reply) → now.header ≡ e.header → now.metadata ≡ e.metadata → condition < 16 → FitsReply reply → AnswerFits (ends W k now condition, reply)
     ends_fit now condition reply header metadata small fits = goes_to (Stages now.slot [] ∷ []) (ended W.filestore now condition) (Ended condition) reply header metadata refl small fits
 
     cancelled_fits : AnswerFits (cancelled W k (Some e))
@@ -135,7 +99,7 @@ module _ (W : World) (all : Each IsSendable W.table) where
     whole_fits sum = cond_both (is_right_checksum e sum) _ _ AnswerFits
         (λ _. goes_to [] _ (Executing 0) Reply.Complete refl refl refl (omega arith) tt) (λ _. ends_fit e 5 (Reply.Faulted 5) refl refl (omega arith) tt)
 
-    eof_fits : (eof : Eof) → eof.condition ≤ 15 → AnswerFits (eof_came W k eof (Some e))
+    eof_fits : (eof : Eof) → eof.condition < 16 → AnswerFits (eof_came W k eof (Some e))
     eof_fits eof small =
         cond_both (not (is_live e.phase)) _ _ AnswerFits (λ _. stays_fit Reply.Idle tt)
         (λ _. cond_both (not (eof.condition == 0)) _ _ AnswerFits
@@ -147,7 +111,7 @@ module _ (W : World) (all : Each IsSendable W.table) where
         (λ _. cond_both (not (is_whole eof.size e.received)) _ _ AnswerFits (λ _. goes_to [] _ (Awaiting 0) Reply.Waiting refl refl refl (omega arith) tt)
         (λ _. whole_fits eof.checksum)))))))
 
-    small_before : (n : ℕ) (items : List Item) → condition_of (phase_before n items) ≤ 15
+    small_before : (n : ℕ) (items : List Item) → condition_of (phase_before n items) < 16
     small_before n [] = omega arith
     small_before n (item ∷ items) = omega arith
 
@@ -218,7 +182,7 @@ module _ (W : World) (all : Each IsSendable W.table) where
   added_fits : (new : Entry) (reply : Reply) → IsSendable new → FitsReply reply → AnswerFits (with_new W new, reply)
   added_fits new reply s fits = record { table = append_each (λ _ (d : Entry). IsSendable d) W.table new s (λ j d here. all j d here); reply = fits }
 
-  metadata_fits : (h : Header) (m : MetadataFields) → HeaderFits h → AllByRecursion (λ r. request_length r ≤ 254) m.requests → (o : Option Entry) → AnswerFits (metadata_came W h m o)
+  metadata_fits : (h : Header) (m : MetadataFields) → IsHeader h → AllByRecursion IsShort m.requests → (o : Option Entry) → AnswerFits (metadata_came W h m o)
   metadata_fits h m header requests (Some e) = nothing_changes Reply.Duplicate tt
   metadata_fits h m header requests None =
       cond_both (nat_le 64 (length W.table)) _ _ AnswerFits (λ _. nothing_changes Reply.TableFull tt)

@@ -142,3 +142,8 @@ pub get_append : {X : Type 0} (t : List X) (new : X) (j : ℕ) (x : X) → slice
 get_append [] new j x h = absurd cc
 get_append (y ∷ t) new zero x h = h
 get_append (y ∷ t) new (suc j) x h = get_append t new j x h
+
+pub set_get_same : {X : Type 0} (t : List X) (k : ℕ) (x : X) → slice_get t k ≡ Some x → slice_set t k x ≡ t
+set_get_same [] k x h = refl
+set_get_same (y ∷ t) zero x h = let e : y ≡ x = cc in rw e refl
+set_get_same (y ∷ t) (suc k) x h = ap (λ (r : List _). y ∷ r) (set_get_same t k x h)

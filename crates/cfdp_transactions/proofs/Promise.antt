@@ -1,41 +1,42 @@
 -- What holds from each world to the next.
-use Rattle.std.proofs.Common.{◌≡◌, ℕ, zero, suc, List, [], ◌∷◌, length, drop, ◌⊎◌, refl, ap, sym, ◌∙◌, arith}
+use Rattle.std.proofs.Common.{◌≡◌, ℕ, zero, suc, List, [], ◌∷◌, drop, ◌⊎◌, refl, ap, sym, ◌∙◌, append-nil}
 use Rattle.cfdp_transactions.specs.Config.{Config}
-use Rattle.std.specs.Prelude.{Option, Some, None, slice_get, true, not, IsTrue, IsFalse}
-use Rattle.std.specs.List.{AllByRecursion}
+use Rattle.std.specs.Prelude.{map, Option, Some, None, slice_get, true, not, IsTrue, IsFalse}
 use Rattle.std.proofs.lemmas.Bool.{both_ways, cases_eq, and_parts, not-true}
 use mathlib.Core.Logic.{inl, inr}
-use Rattle.cfdp_status.specs.declared.status.Status.{Status}
+use Rattle.cfdp_status.specs.declared.status.Status.TheVariants.{Successful}
 use Rattle.cfdp_status.specs.declared.transaction.TransactionId.{TransactionId}
-use Rattle.cfdp_status.specs.Codes.{is_successful}
 use Rattle.cfdp_actions.specs.Filestore.{after}
 use Rattle.cfdp_actions.specs.Actions.{Item, succeeded}
 use Rattle.cfdp_tlv.specs.Values.{RequestFields, ResponseFields}
 use Rattle.cfdp_transactions.specs.Entry.{Phase, Receiving, Awaiting, Executing, Refused, Done, Ended, is_executing, is_receiving, Entry, name_of}
 use Rattle.cfdp_transactions.specs.Events.{Event, MetadataCame, DataCame, EofCame, Step, Cancel, Check, Take, Reply}
-use Rattle.cfdp_transactions.specs.Outcome.{responses_of}
+use Rattle.cfdp_transactions.specs.Outcome.{answered, responses_of}
 use Rattle.cfdp_transactions.specs.World.{World, index_of, entry_of, change_at}
 use Rattle.cfdp_transactions.specs.Execution.{act_now, replied, phase_before, entry_after, step_at, step_in, stepped}
 use Rattle.cfdp_transactions.specs.Next.{next, is_done, completes}
 use Rattle.cfdp_transactions.specs.LowerLaws.{LowerLaws}
-use Rattle.cfdp_transactions.specs.Sound.{IsHonest, Sound}
+use Rattle.cfdp_transactions.specs.Sound.{all_successful, IsHonest, Sound}
 use Rattle.cfdp_transactions.specs.Headline.{IsPerformed, IsSuccessful, Promised, AtEach}
 use Rattle.cfdp_transactions.proofs.Places.{set_cases, get_same}
 use Rattle.cfdp_transactions.proofs.Finding.{found_name, absent_name}
-use Rattle.cfdp_transactions.proofs.Stepping.{enough, succeeded_now}
+use Rattle.cfdp_transactions.proofs.Lookups.{set_own}
+use Rattle.cfdp_transactions.proofs.Carried.{next_carried, next_others}
+use Rattle.cfdp_transactions.proofs.Admissions.{next_admitted}
+use Rattle.cfdp_transactions.proofs.Stepping.{drop_next, enough, succeeded_now}
 use Rattle.cfdp_transactions.proofs.NextWorld.{next_sound, next_isolated}
 
 -- done entries -----------------------------------------------------------------------
 
-responses_good : (rs : List RequestFields) (ss : List Status) → length ss ≡ length rs → AllByRecursion (λ s. IsTrue (is_successful s)) ss → AllByRecursion (λ (r : ResponseFields). IsTrue (is_successful r.status)) (responses_of rs ss)
-responses_good [] ss e h = tt
-responses_good (r ∷ rs) [] e h = absurd (omega arith)
-responses_good (r ∷ rs) (s ∷ ss) e h = (h.0, responses_good rs ss (omega arith) h.1)
+-- 'successful' for each request gives one such response for each
+responses_all : (rs : List RequestFields) → responses_of rs (all_successful rs) ≡ map (λ r. answered r (Successful r.action)) rs
+responses_all [] = refl
+responses_all (r ∷ rs) = ap (λ (behind : List ResponseFields). answered r (Successful r.action) ∷ behind) (responses_all rs)
 
 done_good : (c : Config) (e : Entry) → IsHonest c e → e.phase ≡ Done → IsSuccessful e
 done_good c e honest is =
-    let counted : length e.statuses ≡ length e.metadata.requests = (let c = honest.counted (rw is refl) in let d = rw is at c in omega arith) in
-    record { statuses = honest.statuses; one_each = counted; responses = responses_good e.metadata.requests e.statuses counted honest.statuses }
+    let all : e.statuses ≡ all_successful e.metadata.requests = sym (append-nil e.statuses) ∙ (let h = honest.to_come (rw is refl) in rw is at h) in
+    record { statuses = all; responses = rw all (responses_all e.metadata.requests) }
 
 -- places -----------------------------------------------------------------------------
 
@@ -67,12 +68,22 @@ module _ (laws : LowerLaws) (W : World) (s : Sound W) where
   performed_now id e n found is [] left = absurd ((s.live (index_of W id) e found (rw is refl)).more (rw is refl) (rw is left))
   performed_now id e n found is (item ∷ items) left =
       let step = step_is (index_of W id) e n item items found is left in
+      let o = act_now W e item in
+      let after_it = entry_after e n item items o in
+      let world : (next W (Step id)).0 ≡ change_at W (index_of W id) o.changes after_it = rw found (ap (λ (a : World × Reply). a.0) step) in
       record {
         item = item;
         is_next = get_drop n e.items items item left;
         succeeds = rw (enough laws W s (index_of W id) e n item items found is left) (succeeded_now laws W s (index_of W id) e n item items found is left);
         filestore = rw found (ap (λ (a : World × Reply). a.0.filestore) step);
         reply = rw found (ap (λ (a : World × Reply). a.1) step);
+        now = after_it;
+        here = rw world (set_own W.table id e after_it (found_name W.table id e found) found);
+        statuses = refl;
+        steps = refl;
+        blocks = refl;
+        installed = refl;
+        phase = rw (drop_next n e.items items item left) refl;
       }
 
   -- an entry after a step is as it was, or is that of the step, done or executing
@@ -145,6 +156,9 @@ module _ (laws : LowerLaws) (W : World) (s : Sound W) where
   next_promised event =
       let sound = next_sound laws W s event in
       record {
+        admitted = next_admitted W event;
+        carried = next_carried laws W s event;
+        others = next_others laws W s event;
         performed = λ id e n is found executing. performed_now id e n found executing (drop n e.items) refl;
         completed = λ k e now at h name c. done_good (next W event).0.config now (sound.honest k now h) (completes_done event k e now at h c);
         done = λ k e at is. done_good (next W event).0.config e (sound.honest k e at) is;

@@ -31,6 +31,7 @@ nowhere p = finite.get-empty path_cmp p
 
 pub start_sound : (c : Config) → Sound (start c)
 start_sound c = record {
+  covered = λ k e at. absurd cc;
   live = λ k e at. absurd cc;
   apart = λ j k d e at. absurd cc;
   honest = λ k e at. absurd cc;

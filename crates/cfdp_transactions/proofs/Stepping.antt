@@ -1,12 +1,13 @@
 -- A Step of an entry in Executing performs its next item as the action table says, and keeps the world sound.
-use Rattle.std.proofs.Common.{◌≡◌, ◌≢◌, ℕ, zero, suc, ◌+◌, ◌<◌, ◌≤◌, List, [], ◌∷◌, ◌++◌, length, drop, refl, ap, sym, ◌∙◌, arith, length-append}
-use Rattle.std.specs.Prelude.{Some, slice_get, IsTrue, IsFalse, if◌then◌else◌}
+use Rattle.std.proofs.Common.{◌≡◌, ◌≢◌, ℕ, zero, suc, ◌+◌, ◌<◌, ◌≤◌, List, [], ◌∷◌, ◌++◌, length, drop, refl, ap, sym, ◌∙◌, arith, append_assoc, length-append}
+use Rattle.std.specs.Prelude.{true, Some, slice_get, IsTrue, IsFalse, if◌then◌else◌}
 use Rattle.std.specs.List.{AllByRecursion}
 use Rattle.cfdp_status.specs.declared.status.Status.{Status}
+use Rattle.cfdp_status.specs.declared.status.Status.TheVariants.{Successful}
 use Rattle.cfdp_status.specs.Codes.{is_successful}
 use Rattle.cfdp_paths.specs.Paths.{Path}
 use Rattle.cfdp_actions.specs.Filestore.{Filestore, staged_in, blocks}
-use Rattle.cfdp_actions.specs.Actions.{Item, Install, Perform, Answer, succeeded, Outcome, ticks, row, act_item}
+use Rattle.cfdp_actions.specs.Actions.{action_in, Item, Install, Perform, Answer, succeeded, Outcome, ticks, row, act_item}
 use Rattle.cfdp_leases.specs.Items.{performed, step_bound}
 use Rattle.cfdp_states.specs.Alone.{Succeed, steps, need, stage}
 use Rattle.cfdp_transactions.specs.Config.{Config}
@@ -15,12 +16,13 @@ use Rattle.cfdp_transactions.specs.Entry.{Executing, is_live, Entry, rest_in, re
 use Rattle.cfdp_transactions.specs.World.{World, free, change_at}
 use Rattle.cfdp_transactions.specs.Execution.{is_install, noted, phase_before, entry_after}
 use Rattle.cfdp_transactions.specs.LowerLaws.{LowerLaws}
-use Rattle.cfdp_transactions.specs.Sound.{longest, is_next_install, requests_in, IsKept, IsHonest, Sound}
-use Rattle.cfdp_transactions.proofs.Balance.{spend_within, left-spend}
+use Rattle.cfdp_transactions.specs.Sound.{longest, is_next_install, requests_in, successes, all_successful, IsKept, IsHonest, Sound}
+use Rattle.cfdp_transactions.proofs.Balance.{spend_within, left-spend, spend-grown}
 use Rattle.cfdp_transactions.proofs.SlotChanges.{after-slots}
 use Rattle.cfdp_transactions.proofs.RowAnswers.{HasStatus, HasNone, row_of_request, row_of_install, row_in_slot, install_empties, request_keeps_staged}
+use Rattle.cfdp_transactions.proofs.OwnStatuses.{own_row, begins}
 use Rattle.cfdp_transactions.proofs.Kept.{rest_within}
-use Rattle.cfdp_transactions.proofs.Change.{Goes, change_goes, reserve_within}
+use Rattle.cfdp_transactions.proofs.Change.{MovesTo, change_moves, reserve_within}
 use Rattle.cfdp_transactions.proofs.Turning.{reserve_live, live_counted, length-staged_of, empty_by_length}
 use Rattle.cfdp_transactions.proofs.Storing.{stage-same}
 
@@ -47,6 +49,12 @@ noted_counts : (prefixes : List Path) (F : Filestore) (slot : ℕ) (item : Item)
     length (noted ss (row prefixes F slot item).answer) + requests_in items ≡ length ss + requests_in (item ∷ items)
 noted_counts prefixes F slot (Install p) items ss = rw (noted_none ss _ (row_of_install prefixes F slot p).answer) refl
 noted_counts prefixes F slot (Perform request) items ss = omega (arith, noted_one ss _ (row_of_request prefixes F slot request).answer)
+
+-- 'successful' of its own action, in its place
+noted_in_order : (prefixes : List Path) (F : Filestore) (slot : ℕ) (item : Item) (items : List Item) (ss : List Status) → IsTrue (succeeded (row prefixes F slot item).answer) →
+    noted ss (row prefixes F slot item).answer ++ successes items ≡ ss ++ successes (item ∷ items)
+noted_in_order prefixes F slot (Install p) items ss good = rw (noted_none ss _ (row_of_install prefixes F slot p).answer) refl
+noted_in_order prefixes F slot (Perform request) items ss good = rw (own_row prefixes F slot request good) (append_assoc ss (Successful (action_in request) ∷ []) (successes items))
 
 all_with : (P : Status → Type 0) (ss : List Status) (status : Status) → AllByRecursion P ss → P status → AllByRecursion P (ss ++ status ∷ [])
 all_with P [] status h here = (here, tt)
@@ -180,6 +188,8 @@ module _ (laws : LowerLaws) (W : World) (s : Sound W) (k : ℕ) (e : Entry) (n :
   honest_now : IsHonest c new
   honest_now =
       let honest = s.honest k e at in
+      let in_order : new.statuses ++ successes items ≡ all_successful e.metadata.requests =
+      noted_in_order c.prefixes F e.slot item items e.statuses succeeded_now ∙ (rw rest_is at (honest.to_come (live_counted e.phase live))) in
       let counted : length new.statuses + requests_in items ≡ length e.metadata.requests = noted_counts c.prefixes F e.slot item items e.statuses ∙ (rw rest_is at (honest.counted (live_counted e.phase live))) in
       record {
         blocks = spend_within e.blocks_granted e.blocks_spent o.taken o.given honest.blocks takes_within;
@@ -187,6 +197,8 @@ module _ (laws : LowerLaws) (W : World) (s : Sound W) (k : ℕ) (e : Entry) (n :
         limits = honest.limits;
         no_more = omega (arith, counted);
         statuses = noted_successful e.statuses o.answer honest.statuses succeeded_now;
+        in_order = begins new.statuses (successes items) (all_successful e.metadata.requests) in_order;
+        to_come = λ _. rw rest_now in_order;
         counted = λ _. rw rest_now counted;
       }
 
@@ -194,15 +206,23 @@ module _ (laws : LowerLaws) (W : World) (s : Sound W) (k : ℕ) (e : Entry) (n :
   room_now =
       rw live (omega (arith, left-spend e.blocks_granted e.blocks_spent o.taken o.given (s.honest k e at).blocks takes_within, laws.growth c.prefixes F e.slot item s.rooted kept.slot))
 
-  pub step_goes : Goes k W (change_at W k o.changes new)
-  step_goes = change_goes laws W s k e o.changes new (record {
+  pub step_moves : MovesTo true k e new W (change_at W k o.changes new)
+  step_moves = change_moves laws W s true k e o.changes new (record {
     at = at;
     live = live;
     isolated = λ fp apart. laws.isolation c.prefixes (footprint e) fp F e.slot item (let w = rw rest_is at (rest_within laws e) in w.0) apart;
     in_slot = row_in_slot c.prefixes F e.slot item;
-    items = refl;
     slot = refl;
-    header = refl;
+    carried = record {
+      header = refl;
+      metadata = refl;
+      items = refl;
+      blocks_granted = refl;
+      steps_granted = refl;
+      blocks_spent = spend-grown e.blocks_spent o.taken o.given (blocks F) (blocks G) (laws.growth c.prefixes F e.slot item s.rooted kept.slot);
+      steps_spent = λ no. absurd cc;
+      statuses = λ no. absurd cc;
+    };
     rooted = laws.stays_rooted c.prefixes F e.slot item s.rooted;
     kept = kept_now;
     emptied = λ _. gone.staged ∙ ap staged_of (empty_by_length new.received gone.none);

@@ -1,6 +1,6 @@
 -- Octets that come are staged, and their blocks are taken from the reserve.
 use Rattle.std.proofs.Common.{◌≡◌, ℕ, ◌+◌, ◌-◌, ◌≤◌, List, [], ◌∷◌, length, refl, ap, arith, get_or-set_same, length-set}
-use Rattle.std.specs.Prelude.{Some, slice_get, IsTrue}
+use Rattle.std.specs.Prelude.{false, Some, slice_get, IsTrue}
 use Rattle.std.proofs.lemmas.Bool.{both_ways}
 use Rattle.std.proofs.lemmas.List.{set-set, set-get_or}
 use Rattle.cfdp_paths.specs.Paths.{Path}
@@ -13,10 +13,10 @@ use Rattle.cfdp_transactions.specs.World.{World}
 use Rattle.cfdp_transactions.specs.Delivery.{storing, stores}
 use Rattle.cfdp_transactions.specs.LowerLaws.{LowerLaws}
 use Rattle.cfdp_transactions.specs.Sound.{longest, IsKept, Sound}
-use Rattle.cfdp_transactions.proofs.Balance.{spend_within, left-spend}
+use Rattle.cfdp_transactions.proofs.Balance.{spend_within, left-spend, spend-grown}
 use Rattle.cfdp_transactions.proofs.SlotChanges.{blocks-staged}
 use Rattle.cfdp_transactions.proofs.Turning.{length-staged_of}
-use Rattle.cfdp_transactions.proofs.Change.{Goes, change_goes}
+use Rattle.cfdp_transactions.proofs.Change.{MovesTo, change_moves}
 
 pub blocks_of-le : (m n : ℕ) → m ≤ n → blocks_of m ≤ blocks_of n
 unfolding blocks_of
@@ -85,17 +85,25 @@ module _ (laws : LowerLaws) (W : World) (s : Sound W) (k : ℕ) (e : Entry) (rec
     };
   }
 
-  pub stores_goes : Goes k W (stores W k e received)
-  stores_goes =
+  pub stores_moves : MovesTo false k e new W (stores W k e received)
+  stores_moves =
       let honest = s.honest k e at in
-      change_goes laws W s k e (Stages e.slot (staged_of received) ∷ []) new (record {
+      change_moves laws W s false k e (Stages e.slot (staged_of received) ∷ []) new (record {
         at = at;
         live = live;
         isolated = λ fp _ p _. refl;
         in_slot = (refl, tt);
-        items = refl;
         slot = refl;
-        header = refl;
+        carried = record {
+          header = refl;
+          metadata = refl;
+          items = refl;
+          blocks_granted = refl;
+          steps_granted = refl;
+          blocks_spent = spend-grown e.blocks_spent more 0 (blocks F) (blocks G) (omega (arith, grows));
+          steps_spent = λ _. refl;
+          statuses = λ _. refl;
+        };
         rooted = s.rooted;
         kept = λ _. stored_kept;
         emptied = λ final. absurd (both_ways (is_live e.phase) final live);
@@ -105,6 +113,8 @@ module _ (laws : LowerLaws) (W : World) (s : Sound W) (k : ℕ) (e : Entry) (rec
           limits = honest.limits;
           no_more = honest.no_more;
           statuses = honest.statuses;
+          in_order = honest.in_order;
+          to_come = honest.to_come;
           counted = honest.counted;
         };
         room = rw live (omega (arith, grows, left-spend e.blocks_granted e.blocks_spent more 0 honest.blocks (omega (arith, stores_room))));

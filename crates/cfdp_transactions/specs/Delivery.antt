@@ -1,14 +1,20 @@
 -- The delivery of a transaction's file: file data, the EOF, and checks for what is missing (CCSDS 727.0-B-5 §4.6.1 and §4.6.4).
---     turns W k e phase eof complete    the entry comes to another phase
---     stores W k e received             what came is staged, and its blocks are taken
+--     turned, turns W k e phase eof complete      an entry that comes to another phase;  the world after it
+--     is_right_checksum e sum           the octets have the EOF's checksum, or it is not looked at
 --     whole W k e checksum              all octets are there: Executing, where the checksum is right
---     data_came, eof_came, checked
-use Rattle.std.specs.Prelude.{ℕ, ◌+◌, ◌-◌, Bool, true, not, ◌||◌, ◌==◌, if◌then◌else◌, nat_lt, nat_le, [], ◌∷◌, length, Option, Some, None}
+--     storing, stores W k e received    an entry for which what came is staged, its blocks being taken;  the world after it
+--     limit phase c e                   where octets may end
+--     stored, after_eof                 what follows once they are staged: in Awaiting they may have been the last
+--     data_came, data_at                file data;  for an entry that takes data
+--     eof_came, eof_at                  the EOF;  without an error, for an entry in Receiving
+--     checked, check_at                 a check;  of an entry by its phase
+use Rattle.std.specs.Prelude.{ℕ, ◌+◌, ◌-◌, min, Bool, true, not, ◌||◌, ◌==◌, if◌then◌else◌, nat_lt, nat_le, [], ◌∷◌, length, Option, Some, None}
 use Rattle.cfdp_actions.specs.Filestore.{Filestore, staged_in, blocks_of, Stages}
 use Rattle.cfdp_transactions.specs.Config.{Config}
+use Rattle.cfdp_pdus.specs.Checksum.{checksum}
 use Rattle.cfdp_pdus.specs.Values.{FileDataFields}
 use Rattle.cfdp_pdus.specs.declared.eof.Eof.{Eof}
-use Rattle.cfdp_transactions.specs.Received.{Received, kept_with, staged_of, pieces, is_whole, checksum}
+use Rattle.cfdp_transactions.specs.Received.{Received, kept_with, staged_of, pieces, is_whole}
 use Rattle.cfdp_transactions.specs.Entry.{Phase, Awaiting, Executing, Done, is_live, is_receiving, takes_data, Entry, has_file, spend, awaited}
 use Rattle.cfdp_transactions.specs.Events.{Reply}
 use Rattle.cfdp_transactions.specs.World.{World, bound, change_at}
@@ -41,9 +47,9 @@ storing F e received = record e {
 abbrev pub stores : World → ℕ → Entry → Received → World
 stores W k e received = change_at W k (Stages e.slot (staged_of received) ∷ []) (storing W.filestore e received)
 
--- where octets may end
+-- where octets may end: at the bound; in Awaiting at the EOF's size too
 abbrev pub limit : Phase → Config → Entry → ℕ
-limit (Awaiting checks) c e = awaited e.eof
+limit (Awaiting checks) c e = min (bound c e.metadata) (awaited e.eof)
 limit phase c e = bound c e.metadata
 
 -- in Awaiting, what came may have been the last

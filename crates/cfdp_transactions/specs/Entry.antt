@@ -1,13 +1,17 @@
 -- Transactions at the receiving entity, from their Metadata to their outcome (CCSDS 727.0-B-5 §4.6).
 --     Phase                     how far it is;  is_live: not yet refused, done or ended
+--     is_receiving, is_awaiting, takes_data, is_executing      in Receiving;  in Awaiting;  in one of these;  in Executing
 --     Entry                     a transaction of the table
 --     id_of h, name_of e        its name: source entity ID and transaction sequence number
---     rest e                    the items that are left
+--     has_file m                the Metadata has a destination
+--     rest e, rest_in           the items that are left;  by the phase
 --     footprint e               the paths that its items lease
 --     spend spent taken given   blocks spent, after more were taken and given back
---     reserve e                 the blocks granted less those spent, while it is live
---     gaps e                    the offsets that a NAK would ask for (§4.6.4.3)
-use Rattle.std.specs.Prelude.{ℕ, suc, ◌+◌, ◌-◌, ℤ, pos, negsuc, ◌+ℤ◌, ◌-ℤ◌, Bool, true, false, ◌&&◌, ◌==◌, if◌then◌else◌, List, [], drop, length, Option, Some, None}
+--     left_of granted spent     the blocks granted less those spent
+--     reserve e                 these, while the entry is live, else 0
+--     awaited eof               the size that the EOF gave
+--     gaps e, gaps_in           the offsets that a NAK would ask for (§4.6.4.3);  by the phase
+use Rattle.std.specs.Prelude.{ℕ, suc, ◌+◌, ◌-◌, ℤ, pos, negsuc, ◌+ℤ◌, ◌-ℤ◌, Bool, true, false, ◌==◌, if◌then◌else◌, List, [], drop, length, Option, Some, None}
 use Rattle.cfdp_status.specs.declared.status.Status.{Status}
 use Rattle.cfdp_status.specs.declared.transaction.TransactionId.{TransactionId}
 use Rattle.cfdp_actions.specs.Actions.{Item}
@@ -71,9 +75,6 @@ pub record Entry : Type 0 where
 abbrev pub id_of : Header → TransactionId
 id_of h = record { source = h.source; number = h.number }
 
-abbrev pub same_id : TransactionId → TransactionId → Bool
-same_id a b = (a.source == b.source) && (a.number == b.number)
-
 abbrev pub name_of : Entry → TransactionId
 name_of e = id_of e.header
 
@@ -102,7 +103,6 @@ left_of granted (negsuc less) = granted + suc less
 abbrev pub reserve : Entry → ℕ
 reserve e = if is_live e.phase then left_of e.blocks_granted e.blocks_spent else 0
 
--- the size that the EOF gave
 abbrev pub awaited : Option Eof → ℕ
 awaited None = 0
 awaited (Some eof) = eof.size

@@ -2,15 +2,18 @@
 -- room in the filestore.
 --     IsReady W e n             the entry's item n: it is there, and may be performed
 --     HasRoomFor W e received   octets that may be staged for the entry
---     StepNeeds, DataNeeds      for each entry of a sound world
+--     StepNeeds, DataNeeds, TakeNeeds   for each entry of a sound world
 --     Follows W event reply V   what a call may do: nothing, where memory was refused, and else what the table says
 --     FollowsIsSound            then the world stays sound
 use Rattle.std.specs.Prelude.{◌≡◌, ℕ, ◌+◌, ◌-◌, ◌≤◌, IsTrue, length, Some, slice_get}
+use Rattle.std.specs.List.{AllByRecursion}
 use Rattle.cfdp_actions.specs.Filestore.{staged_in, blocks_of}
 use Rattle.cfdp_actions.specs.Actions.{Item, succeeded, ticks, row}
+use Rattle.cfdp_tlv.specs.Values.{IsRequest, IsResponse}
 use Rattle.cfdp_transactions.specs.Received.{Received, staged_of}
 use Rattle.cfdp_transactions.specs.Entry.{Executing, takes_data, Entry, reserve}
 use Rattle.cfdp_transactions.specs.Events.{Event, Reply}
+use Rattle.cfdp_transactions.specs.Outcome.{finished}
 use Rattle.cfdp_transactions.specs.World.{World, free}
 use Rattle.cfdp_transactions.specs.Delivery.{limit}
 use Rattle.cfdp_transactions.specs.Execution.{act_now}
@@ -38,6 +41,12 @@ abbrev pub DataNeeds : Type 0
 DataNeeds =
     (W : World) (k : ℕ) (e : Entry) (received : Received) → Sound W → slice_get W.table k ≡ Some e → IsTrue (takes_data e.phase) →
     length received ≤ limit e.phase W.config e → HasRoomFor W e received
+
+-- a response has a second name exactly where its action has one, where the requests do
+abbrev pub TakeNeeds : Type 0
+TakeNeeds =
+    (W : World) (k : ℕ) (e : Entry) → Sound W → slice_get W.table k ≡ Some e → AllByRecursion IsRequest e.metadata.requests →
+    AllByRecursion IsResponse (finished e).responses
 
 abbrev pub Follows : World → Event → Reply → World → Type 0
 Follows W event Reply.Memory V = V ≡ W

@@ -3,6 +3,7 @@
 --     free, reserves, spare     free blocks;  the live transactions' reserves;  the blocks that nobody was granted
 --     place_of, index_of, entry_of      where a transaction is in the table, and its entry
 --     leases_of                 the live transactions' footprints
+--     has_slot, slot_from       a live transaction has the slot;  the least from a slot on, of so many, that none has
 --     free_slot                 the least slot that no live transaction has
 --     bound                     how long a transaction's file may be
 --     next_runnable             the first transaction in Executing
@@ -14,7 +15,8 @@ use Rattle.cfdp_actions.specs.Filestore.{Filestore, empty_filestore, blocks, Cha
 use Rattle.cfdp_transactions.specs.Config.{Config}
 use Rattle.cfdp_pdus.specs.Values.{MetadataFields}
 use Rattle.cfdp_leases.specs.Footprint.{Footprint}
-use Rattle.cfdp_transactions.specs.Entry.{is_live, is_executing, Entry, same_id, name_of, has_file, footprint, reserve}
+use Rattle.cfdp_leases.specs.Leases.{is_same}
+use Rattle.cfdp_transactions.specs.Entry.{is_live, is_executing, Entry, name_of, has_file, footprint, reserve}
 
 pub record World : Type 0 where
   pub config : Config
@@ -37,7 +39,7 @@ spare W = free W - reserves W.table
 -- the table's length where it is not there
 abbrev pub place_of : TransactionId → List Entry → ℕ
 place_of id [] = 0
-place_of id (e ∷ es) = if same_id (name_of e) id then 0 else suc (place_of id es)
+place_of id (e ∷ es) = if is_same (name_of e) id then 0 else suc (place_of id es)
 
 abbrev pub index_of : World → TransactionId → ℕ
 index_of W id = place_of id W.table

@@ -1,10 +1,13 @@
 //! What is true of the definitions of the core, whatever the code does. Each function does nothing:
 //! its contract is the law.
 
+ghost use Rattle.std.specs.Prelude.{◌≡◌, ℕ, List};
+ghost use Rattle.cfdp_actions.specs.Store.{checksum_of};
+ghost use Rattle.cfdp_pdus.specs.Checksum.{checksum};
 ghost use Rattle.cfdp_transactions.specs.LowerLaws.{LowerLaws};
 ghost use Rattle.cfdp_transactions.specs.Headline.{StartIsSound, NextIsSound, NextIsPromised, Headline};
-ghost use Rattle.cfdp_transactions.specs.Needs.{StepNeeds, DataNeeds, FollowsIsSound};
-ghost use Rattle.cfdp_transactions.specs.Writable.{OutcomesFit};
+ghost use Rattle.cfdp_transactions.specs.Needs.{StepNeeds, DataNeeds, TakeNeeds, FollowsIsSound};
+ghost use Rattle.cfdp_transactions.specs.Writable.{OutcomesFit, ReadIsReadable};
 
 pub mod received;
 
@@ -40,10 +43,12 @@ pub fn next_is_sound()
     lower_laws();
 }
 
-/// From each sound world to the next, whatever the event: items are performed as the action table
-/// says and succeed, a transaction that completes has 'successful' for every request and 'not
-/// performed' for none, no more is spent than granted, and no event of one transaction changes a
-/// path leased to another.
+/// From each sound world to the next, whatever the event: a transaction that is admitted has what
+/// the reply grants and has spent nothing; items are performed as the action table says, succeed,
+/// and are paid for; a transaction keeps its requests, items and grant, and spends just the blocks
+/// that the filestore grows by; one that completes has 'successful' for every request, in order, and
+/// 'not performed' for none; no more is spent than granted; and no event of one transaction changes
+/// another's entry or a path leased to it.
 pub fn next_is_promised()
     ensures { NextIsPromised }
 {
@@ -60,9 +65,19 @@ pub fn headline()
 
 /// Where each PDU event of a list has a header whose lengths are 1 to 8 octets and whose numbers fit
 /// them, an EOF's condition is at most 15 and request values have at most 254 octets, every outcome
-/// of the run can be written as a Finished PDU: all its numbers and lengths fit.
+/// of the run meets what the writer of Finished PDUs needs, and all its lengths fit.
 pub fn outcomes_fit()
     ensures { OutcomesFit }
+{}
+
+/// The event of each PDU that was read is one of these.
+pub fn what_was_read_is_readable()
+    ensures { ReadIsReadable }
+{}
+
+/// The checksum by which an EOF is judged is the one that a listing tells of the file.
+pub fn one_checksum()
+    ensures { (octets : List ℕ) → checksum octets ≡ checksum_of octets }
 {}
 
 /// A call that does what the table says, or nothing where memory was refused, keeps an entity sound.
@@ -83,4 +98,10 @@ pub fn step_needs()
 /// In a sound world, an entry that takes data has the blocks in its reserve, and they are free.
 pub fn data_needs()
     ensures { DataNeeds }
+{}
+
+/// In a sound world, each response that an entry's Finished PDU gives is one: it has a second name
+/// exactly where its action has one, as the requests do.
+pub fn take_needs()
+    ensures { TakeNeeds }
 {}

@@ -1,5 +1,4 @@
 pub mod Prepended
-pub mod Conflicts
 pub mod Covered
 pub mod Running
 pub mod Judged

@@ -5,7 +5,8 @@ use Rattle.std.proofs.Math.Seq.{drop-cons}
 use Rattle.cfdp_paths.specs.Paths.{path_of}
 use Rattle.cfdp_actions.specs.Actions.{Item, Perform, Request}
 use Rattle.cfdp_tlv.specs.Values.{RequestFields}
-use Rattle.cfdp_verifier.specs.Verdict.{At, Parsed, Bad, Good, named, request_of, and_then, parsed_from}
+use Rattle.cfdp_verifier.specs.declared.refusal.Place.TheVariants as places
+use Rattle.cfdp_verifier.specs.Verdict.{Parsed, Bad, Good, named, request_of, and_then, parsed_from}
 
 abbrev pub prepended : List Item → Parsed → Parsed
 prepended items (Bad place) = Bad place
@@ -35,6 +36,6 @@ good_next items rs k r request within is parsed =
 
 pub bad_next : (items : List Item) (rs : List RequestFields) (k : ℕ) (r : RequestFields) → k < length rs → r ≡ get_or rs k r →
     None ≡ request_of r.action (path_of r.first) (named r.second) →
-    prepended items (parsed_from k (drop k rs)) ≡ Bad (At k)
+    prepended items (parsed_from k (drop k rs)) ≡ Bad (places.Request k)
 bad_next items rs k r within is parsed =
     ap (prepended items) (rest_from rs k r within is ∙ ap (λ p. and_then p k (parsed_from (k + 1) (drop (k + 1) rs))) (sym parsed))

@@ -8,8 +8,7 @@ use Rattle.cfdp_actions.specs.Filestore.{Filestore}
 use Rattle.cfdp_actions.specs.Actions.{Item}
 use Rattle.cfdp_leases.specs.Footprint.{Footprint, footprint_of}
 use Rattle.cfdp_leases.specs.Leases.{first_conflict}
-use Rattle.cfdp_verifier.specs.Verdict.{Proposal, Refuse, TooManyRequests, Good, parsed, conflict_in, judged_apart, verdict_of, verdict}
-use Rattle.cfdp_verifier.proofs.Conflicts.{first_in_order}
+use Rattle.cfdp_verifier.specs.Verdict.{Proposal, Refuse, TooManyRequests, Good, parsed, judged_apart, verdict_of, verdict}
 
 not_more : (n : ℕ) → n ≤ 64 → nat_lt 64 n ≡ false
 not_more n le = grind arith
@@ -20,5 +19,5 @@ module _ (prefixes : List Path) (F : Filestore) (leases : List (TransactionId ×
   past_tests items fp way few names is first =
       ap (λ b. cond b (Refuse TooManyRequests) (verdict_of prefixes F leases spare P (parsed P))) (not_more (length P.requests) few)
       ∙ ap (verdict_of prefixes F leases spare P) names
-      ∙ ap (λ (fp : Footprint). judged_apart prefixes F spare (replicate P.bound 0) items (conflict_in leases fp)) (sym is)
-      ∙ ap (judged_apart prefixes F spare (replicate P.bound 0) items) (sym (first_in_order leases fp) ∙ first)
+      ∙ ap (λ (fp : Footprint). judged_apart prefixes F spare (replicate P.bound 0) items (first_conflict leases fp)) (sym is)
+      ∙ ap (judged_apart prefixes F spare (replicate P.bound 0) items) first

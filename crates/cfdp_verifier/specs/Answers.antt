@@ -9,7 +9,7 @@ use Rattle.cfdp_actions.specs.Actions.{Request, Item, Perform}
 use Rattle.cfdp_leases.specs.Footprint.{footprint_of}
 use Rattle.cfdp_leases.specs.Items.{items_of}
 use Rattle.cfdp_verifier.specs.declared.verdict.Verdict.{Verdict as Answer}
-use Rattle.cfdp_verifier.specs.declared.verdict.Verdict.TheVariants.{Refused, Granted}
+use Rattle.cfdp_verifier.specs.declared.verdict.Verdict.TheVariants as given
 use Rattle.cfdp_verifier.specs.declared.verdict.Grant.{Grant as Granted_to}
 use Rattle.cfdp_verifier.specs.declared.refusal.NotGranted.{NotGranted}
 use Rattle.cfdp_verifier.specs.declared.refusal.NotGranted.TheVariants as no
@@ -21,12 +21,12 @@ abbrev pub granted_items : Granted_to → List Item
 granted_items grant = items_of grant.destination grant.requests.items
 
 abbrev pub answered : Answer → Verdict
-answered (Refused refusal) = Refuse refusal
-answered (Granted grant) = Grant (granted_items grant) grant.blocks grant.steps
+answered (given.Refuse refusal) = Refuse refusal
+answered (given.Grant grant) = Grant (granted_items grant) grant.blocks grant.steps
 
 abbrev pub HasFootprint : Answer → Type 0
-HasFootprint (Refused refusal) = ⊤
-HasFootprint (Granted grant) = grant.footprint ≡ footprint_of (granted_items grant)
+HasFootprint (given.Refuse refusal) = ⊤
+HasFootprint (given.Grant grant) = grant.footprint ≡ footprint_of (granted_items grant)
 
 -- what was parsed is the definition's; want of memory says nothing
 abbrev pub IsBad : NotGranted → Parsed → Type 0

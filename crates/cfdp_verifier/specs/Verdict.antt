@@ -2,11 +2,14 @@
 -- (CCSDS 727.0-B-5 §4.9 performs the requests once the file is there; that they are judged before is this project's own.)
 --     Proposal                  a list as it was sent, with its file's destination and the bound of its length
 --     Verdict                   why it is refused (a Refusal, which may name a Place), or what it is granted
---     parsed P                  its items, or the first name that is no path
---     conflict_in leases fp     the first transaction whose footprint conflicts
+--     named, request_of         the path of a second name;  a request of its paths
+--     Parsed, parsed P          its items, or the first name that is no path: parsed_from (and_then) goes through the requests, and
+--                               with_destination (with_file) puts the install before them
 --     first_failure i answers   the first request that is not successful, counted from i
 --     destination_allowed       whether the file may be installed as things stand
---     verdict prefixes F leases spare P
+--     capped                    a number as 32 bits carry it
+--     verdict prefixes F leases spare P      by the number of requests; verdict_of: by the names; judged_apart: by the leases and the
+--                               install; judged: by the first failure, the steps and the blocks
 use Rattle.std.specs.Prelude.{ℕ, ◌+◌, min, Bool, true, if◌then◌else◌, nat_lt, List, [], ◌∷◌, length, replicate, Option, Some, None}
 use Rattle.cfdp_status.specs.declared.action.Action.{Action}
 use Rattle.cfdp_status.specs.declared.action.Action.TheVariants as action
@@ -16,11 +19,13 @@ use Rattle.cfdp_status.specs.Codes.{is_successful}
 use Rattle.cfdp_paths.specs.Paths.{Path, path_of}
 use Rattle.cfdp_actions.specs.Filestore.{Filestore}
 use Rattle.cfdp_actions.specs.Actions.{Request, CreateFile, DeleteFile, RenameFile, AppendFile, ReplaceFile, CreateDirectory, RemoveDirectory, DenyFile, DenyDirectory, Item, Install, Perform, Answer, Performed, Installed, NotInstalled, succeeded, row}
-use Rattle.cfdp_leases.specs.Footprint.{Footprint, footprint_of, is_conflict}
+use Rattle.cfdp_leases.specs.Footprint.{footprint_of}
+use Rattle.cfdp_leases.specs.Leases.{Grants, first_conflict}
 use Rattle.cfdp_states.specs.Alone.{alone, statuses_alone, need_alone, steps_alone}
 use Rattle.cfdp_tlv.specs.Values.{RequestFields}
 pub use Rattle.cfdp_verifier.specs.declared.refusal.Place.{Place}
-pub use Rattle.cfdp_verifier.specs.declared.refusal.Place.TheVariants.{Destination, At}
+pub use Rattle.cfdp_verifier.specs.declared.refusal.Place.TheVariants.{Destination}
+use Rattle.cfdp_verifier.specs.declared.refusal.Place.TheVariants as places
 pub use Rattle.cfdp_verifier.specs.declared.refusal.Refusal.{Refusal}
 pub use Rattle.cfdp_verifier.specs.declared.refusal.Refusal.TheVariants.{TooManyRequests, BadPath, Conflict, DestinationNotAllowed, WouldFail, TooLong, NoRoom}
 
@@ -59,7 +64,7 @@ request_of action.DenyDirectory (Some p) q = Some (DenyDirectory p)
 request_of action p q = None
 
 abbrev pub and_then : Option Request → ℕ → Parsed → Parsed
-and_then None i rest = Bad (At i)
+and_then None i rest = Bad (places.Request i)
 and_then (Some r) i (Bad place) = Bad place
 and_then (Some r) i (Good items) = Good (Perform r ∷ items)
 
@@ -81,11 +86,6 @@ abbrev pub parsed : Proposal → Parsed
 parsed P = with_destination P.destination (parsed_from 0 P.requests)
 
 -- what is in the way -------------------------------------------------------------
-
--- the first in order of admission whose footprint conflicts
-abbrev pub conflict_in : List (TransactionId × Footprint) → Footprint → Option TransactionId
-conflict_in [] fp = None
-conflict_in (l ∷ ls) fp = if is_conflict fp l.1 then Some l.0 else conflict_in ls fp
 
 -- the first request that is not successful; the install is no request
 abbrev pub first_failure : ℕ → List Answer → Option (ℕ × Status)
@@ -119,9 +119,9 @@ judged_apart prefixes F spare x items None =
     then judged spare items (first_failure 0 (statuses_alone prefixes F x items)) (need_alone prefixes F x items) (steps_alone prefixes F x items)
     else Refuse DestinationNotAllowed
 
-abbrev pub verdict_of : List Path → Filestore → List (TransactionId × Footprint) → ℕ → Proposal → Parsed → Verdict
+abbrev pub verdict_of : List Path → Filestore → Grants → ℕ → Proposal → Parsed → Verdict
 verdict_of prefixes F leases spare P (Bad place) = Refuse (BadPath place)
-verdict_of prefixes F leases spare P (Good items) = judged_apart prefixes F spare (replicate P.bound 0) items (conflict_in leases (footprint_of items))
+verdict_of prefixes F leases spare P (Good items) = judged_apart prefixes F spare (replicate P.bound 0) items (first_conflict leases (footprint_of items))
 
-abbrev pub verdict : List Path → Filestore → List (TransactionId × Footprint) → ℕ → Proposal → Verdict
+abbrev pub verdict : List Path → Filestore → Grants → ℕ → Proposal → Verdict
 verdict prefixes F leases spare P = if nat_lt 64 (length P.requests) then Refuse TooManyRequests else verdict_of prefixes F leases spare P (parsed P)

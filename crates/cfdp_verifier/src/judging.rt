@@ -1,6 +1,6 @@
 //! A list that is run alone on a view, what it costs, and whether that can be had.
 
-ghost use Rattle.std.specs.Prelude.{◌≡◌, ◌≤◌, IfNone, map, replicate, length, vec_len, None};
+ghost use Rattle.std.specs.Prelude.{◌≡◌, ◌<◌, ◌≤◌, IfNone, map, replicate, length, vec_len, None};
 ghost use Rattle.cfdp_actions.specs.Actions.{Perform};
 ghost use Rattle.cfdp_leases.specs.Footprint.{footprint_of};
 ghost use Rattle.cfdp_leases.specs.Items.{items_of};
@@ -38,7 +38,7 @@ pub fn judge<S: Filestore>(
     requires footprint { footprint.now ≡ footprint_of (items_of items.now.destination items.now.requests.items) }
     requires few { vec_len items.now.requests ≤ 64 }
     requires bound { IfNone items.now.destination (bound ≡ 0) }
-    requires spare { spare ≤ 65536 }
+    requires spare { spare < 4294967295 }
     ensures { let list = items_of items.now.destination items.now.requests.items in
         Judges list (judged_apart protected.now (S.state store.now).filestore spare (replicate bound 0) list None) result }
 {
@@ -48,7 +48,7 @@ pub fn judge<S: Filestore>(
 
 /// The costs, where the list may have them.
 fn afford(costs: Costs, spare: u32) -> Result<Costs, NotGranted>
-    requires { spare ≤ 65536 }
+    requires { spare < 4294967295 }
     ensures { Affords costs spare result }
 {
     if costs.steps > MOST_STEPS {

@@ -54,7 +54,7 @@ fn parse_requests(alloc: Global, requests: &[FilestoreRequest]) -> Result<Vec<Re
     for (number, request) in requests.iter().enumerate() {
         match parse_request(alloc, request)? {
             None => {
-                let place = Place::At(number as u8);
+                let place = Place::Request(number as u8);
                 return Err(NotGranted::Refused(Refusal::BadPath(place)));
             }
             Some(request) => parsed.push(request)?,

@@ -12,7 +12,7 @@ pub enum Place {
     /// That of the file's destination.
     Destination,
     /// A name of the request with this number, counted from 0.
-    At(u8),
+    Request(u8),
 }
 
 /// Why a list of filestore requests is refused, in the order in which it is tested. Numbers above 4,294,967,295 are

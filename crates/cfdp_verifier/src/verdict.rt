@@ -24,7 +24,7 @@ pub struct Grant {
 #[derive(Debug, Drop)]
 pub enum Verdict {
     /// It is refused, for the first reason that there is.
-    Refused(Refusal),
+    Refuse(Refusal),
     /// It is granted.
-    Granted(Grant),
+    Grant(Grant),
 }

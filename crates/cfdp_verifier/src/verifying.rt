@@ -1,6 +1,6 @@
 //! The verdict, from its first test to its last.
 
-ghost use Rattle.std.specs.Prelude.{◌≡◌, ◌≤◌, IfNone, IfOk};
+ghost use Rattle.std.specs.Prelude.{◌≡◌, ◌<◌, IfNone, IfOk};
 ghost use Rattle.cfdp_quota.specs.Budget.{spare};
 ghost use Rattle.cfdp_verifier.specs.Answers.{Grants, HasFootprint, answered};
 ghost use Rattle.cfdp_verifier.specs.Verdict.{verdict};
@@ -23,11 +23,13 @@ use std::alloc::{AllocError, Global};
 /// unlimited room and a file of as many octets as the bound, its file may be installed, and each request is successful;
 /// it takes at most 65,536 steps; and it needs no more blocks than are to spare.
 ///
-/// The list is run on a view of kinds and sizes, never on the store. Without a destination the bound has to be 0.
+/// The list is run on a view of kinds and sizes, never on the store. Without a destination the bound has to be 0. Fewer
+/// blocks than the greatest u32 have to be to spare, as they are in every filestore.
 ///
 /// # Errors
 ///
-/// Want of memory. Cost: a listing of the store, and for each request a few passes over what the list leases.
+/// Want of memory. Cost: what stands at and below the paths that the list leases, each looked at once, and for each request a few
+/// passes over that.
 pub fn verify<S: Filestore>(
     alloc: Global,
     store: &S,
@@ -37,15 +39,15 @@ pub fn verify<S: Filestore>(
     proposal: &Proposal<'_>,
 ) -> Result<Verdict, Memory>
     requires bound { IfNone proposal.now.destination (proposal.now.bound ≡ 0) }
-    // The quota is of a filestore, which has at most 65,536 blocks.
-    requires spare { spare quota.now ≤ 65536 }
+    // A need is told up to the greatest u32. A filestore has at most 65,536 blocks.
+    requires spare { spare quota.now < 4294967295 }
     ensures verdict { IfOk result (λ answer. answered answer
         ≡ verdict protected.now (S.state store.now).filestore leases.now (spare quota.now) proposal.now) }
     ensures footprint { IfOk result HasFootprint }
 {
     match find_grant(alloc, store, leases, quota, protected, proposal) {
-        Ok(grant) => Ok(Verdict::Granted(grant)),
-        Err(NotGranted::Refused(refusal)) => Ok(Verdict::Refused(refusal)),
+        Ok(grant) => Ok(Verdict::Grant(grant)),
+        Err(NotGranted::Refused(refusal)) => Ok(Verdict::Refuse(refusal)),
         Err(NotGranted::Memory) => Err(AllocError),
     }
 }
@@ -60,7 +62,7 @@ fn find_grant<S: Filestore>(
     proposal: &Proposal<'_>,
 ) -> Result<Grant, NotGranted>
     requires bound { IfNone proposal.now.destination (proposal.now.bound ≡ 0) }
-    requires spare { spare quota.now ≤ 65536 }
+    requires spare { spare quota.now < 4294967295 }
     ensures { Grants (verdict protected.now (S.state store.now).filestore leases.now (spare quota.now) proposal.now) result }
 {
     if proposal.requests.len() > MOST_REQUESTS {

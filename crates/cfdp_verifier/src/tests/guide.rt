@@ -1,0 +1,227 @@
+//! The lists of the section on admission in the repository's `docs/GUIDE.md`, octet for octet, with their verdicts.
+
+ghost use Rattle.std.specs.Prelude.{◌≡◌, ◌<◌, IfNone};
+ghost use Rattle.cfdp_quota.specs.Budget.{spare};
+
+use super::scene::{Before, Row, Scene, Told, check, read};
+use crate::{Proposal, Verdict, verify};
+use cfdp_paths::Memory;
+use cfdp_quota::Quota;
+use std::alloc::Global;
+use std::process::Abort;
+
+/// The filestore of 32 blocks on which they are judged.
+const BEFORE: &[Before] = &[
+    Before::Protected(b"sys"),
+    Before::Delivered(b"img", 600),
+    Before::Performed(b"\x00\x03\x50\x01\x64"),
+    Before::Delivered(b"d/old", 240),
+    Before::Performed(b"\x00\x05\x50\x03\x73\x79\x73"),
+    Before::Delivered(b"sys/boot", 120),
+    Before::Admitted(22, &[b"\x00\x05\x00\x03\x64\x2f\x78"], 1, 2),
+];
+
+/// Denies file `z`.
+const DENY: &[u8] = b"\x00\x03\x70\x01\x7a";
+
+/// Appends `img` to itself.
+const APPEND: &[u8] = b"\x00\x09\x30\x03\x69\x6d\x67\x03\x69\x6d\x67";
+
+fn check_on(rt: &impl Abort, alloc: Global, rows: &[Row]) -> Result<(), Memory> {
+    check(rt, alloc, 32, BEFORE, rows)
+}
+
+#[test]
+fn an_update_is_granted(rt: HostRuntime) -> Result<(), Memory> {
+    check_on(
+        &rt,
+        rt.alloc(),
+        &[(
+            Some((b"d/new", 480)),
+            &[
+                b"\x00\x0b\x30\x03\x69\x6d\x67\x05\x64\x2f\x6e\x65\x77",
+                b"\x00\x07\x70\x05\x64\x2f\x6f\x6c\x64",
+                b"\x00\x0d\x20\x05\x64\x2f\x6e\x65\x77\x05\x64\x2f\x6f\x6c\x64",
+            ],
+            Told::Granted(9, 16),
+        )],
+    )?;
+    // What is given back first need not be to spare.
+    check_on(
+        &rt,
+        rt.alloc(),
+        &[(
+            Some((b"d/new", 480)),
+            &[
+                b"\x00\x07\x70\x05\x64\x2f\x6f\x6c\x64",
+                b"\x00\x0b\x30\x03\x69\x6d\x67\x05\x64\x2f\x6e\x65\x77",
+                b"\x00\x0d\x20\x05\x64\x2f\x6e\x65\x77\x05\x64\x2f\x6f\x6c\x64",
+            ],
+            Told::Granted(6, 16),
+        )],
+    )
+}
+
+#[test]
+fn a_directory_has_two_users(rt: HostRuntime) -> Result<(), Memory> {
+    check_on(
+        &rt,
+        rt.alloc(),
+        &[
+            (
+                None,
+                &[b"\x00\x05\x00\x03\x64\x2f\x79"],
+                Told::Granted(1, 2),
+            ),
+            (None, &[b"\x00\x03\x60\x01\x64"], Told::Conflict(22)),
+        ],
+    )
+}
+
+#[test]
+fn sixty_five_denials(rt: HostRuntime) -> Result<(), Memory> {
+    check_on(
+        &rt,
+        rt.alloc(),
+        &[
+            (None, &[DENY; 65], Told::TooManyRequests),
+            (None, &[DENY; 64], Told::Granted(0, 64)),
+        ],
+    )
+}
+
+#[test]
+fn names_that_are_no_paths(rt: HostRuntime) -> Result<(), Memory> {
+    check_on(
+        &rt,
+        rt.alloc(),
+        &[
+            (
+                None,
+                &[b"\x00\x06\x00\x04\x64\x2f\x2f\x79"],
+                Told::BadName(0),
+            ),
+            (
+                Some((b"d/..", 15)),
+                &[b"\x00\x06\x00\x04\x64\x2f\x2f\x79"],
+                Told::BadDestination,
+            ),
+        ],
+    )
+}
+
+#[test]
+fn files_that_cannot_be_installed(rt: HostRuntime) -> Result<(), Memory> {
+    check_on(
+        &rt,
+        rt.alloc(),
+        &[
+            (Some((b"e/new", 15)), &[], Told::DestinationNotAllowed),
+            (Some((b"sys", 15)), &[], Told::DestinationNotAllowed),
+            (Some((b"sys/boot", 15)), &[], Told::DestinationNotAllowed),
+            (Some((b"sys/next", 15)), &[], Told::Granted(2, 2)),
+        ],
+    )
+}
+
+#[test]
+fn requests_that_would_fail(rt: HostRuntime) -> Result<(), Memory> {
+    check_on(
+        &rt,
+        rt.alloc(),
+        &[
+            (
+                None,
+                &[
+                    b"\x00\x03\x00\x01\x62",
+                    b"\x00\x05\x20\x01\x62\x01\x63",
+                    b"\x00\x03\x10\x01\x62",
+                ],
+                Told::WouldFail(2, 0x11),
+            ),
+            (
+                None,
+                &[b"\x00\x0a\x10\x08\x73\x79\x73\x2f\x62\x6f\x6f\x74"],
+                Told::WouldFail(0, 0x12),
+            ),
+        ],
+    )
+}
+
+#[test]
+fn lists_that_are_too_long_or_have_no_room(rt: HostRuntime) -> Result<(), Memory> {
+    check_on(
+        &rt,
+        rt.alloc(),
+        &[
+            (None, &[APPEND; 13], Told::TooLong(81_923)),
+            (None, &[APPEND; 12], Told::NoRoom(20_475, 18)),
+        ],
+    )
+}
+
+#[test]
+fn a_file_without_room(rt: HostRuntime) -> Result<(), Memory> {
+    check_on(
+        &rt,
+        rt.alloc(),
+        &[(Some((b"big", 2400)), &[], Told::NoRoom(21, 18))],
+    )
+}
+
+/// The call as the guide shows it.
+fn tell(
+    alloc: Global,
+    scene: &Scene,
+    quota: &Quota,
+    proposal: &Proposal<'_>,
+) -> Result<String, Memory>
+    requires bound { IfNone proposal.now.destination (proposal.now.bound ≡ 0) }
+    requires spare { spare quota.now < 4294967295 }
+{
+    let (store, leases, protected) = (&scene.store, &scene.leases, &scene.protected);
+    let text = match verify(alloc, store, leases, quota, protected, proposal)? {
+        Verdict::Grant(grant) => format!(in alloc;
+            "{} blocks, {} steps",
+            grant.blocks, grant.steps
+        )?,
+        Verdict::Refuse(refusal) => format!(in alloc; "{refusal:?}")?,
+    };
+    Ok(text)
+}
+
+fn try_call(rt: &impl Abort, alloc: Global) -> Result<(), Memory> {
+    let scene = Scene::new(rt, alloc, 32, BEFORE)?;
+    let quota = scene.quota(rt);
+    assert!(rt; quota.spare() < u32::MAX);
+    let mut requests = Vec::new(alloc);
+    requests.push(read(rt, alloc, b"\x00\x07\x70\x05\x64\x2f\x6f\x6c\x64")?)?;
+    let proposal = Proposal {
+        destination: Some(b"d/new"),
+        bound: 480,
+        requests: &requests,
+    };
+    assert_eq!(rt;
+        tell(alloc, &scene, &quota, &proposal)?.as_str(),
+        "5 blocks, 6 steps"
+    );
+    requests.push(read(rt, alloc, b"\x00\x03\x00\x01\x64")?)?;
+    let proposal = Proposal {
+        destination: Some(b"d/.."),
+        bound: 480,
+        requests: &requests,
+    };
+    assert_eq!(rt;
+        tell(alloc, &scene, &quota, &proposal)?.as_str(),
+        "BadPath(Destination)"
+    );
+    Ok(())
+}
+
+#[test]
+fn the_call_of_the_guide(rt: HostRuntime) -> Result<(), Memory> {
+    match try_call(&rt, rt.alloc()) {
+        Ok(()) => Ok(()),
+        Err(_) => try_call(&rt, rt.alloc()),
+    }
+}

@@ -1,0 +1,74 @@
+//! Lists that two tests refuse: the one that comes first is answered.
+
+use super::scene::{Before, Told, check};
+use cfdp_paths::Memory;
+
+/// A directory in which a live transaction is about to create a file, and a file of one block.
+const BEFORE: &[Before] = &[
+    Before::Delivered(b"a", 120),
+    Before::Performed(b"\x00\x03\x50\x01d"),
+    Before::Admitted(22, &[b"\x00\x05\x00\x03d/x"], 1, 2),
+];
+
+/// Removes the directory.
+const REMOVE: &[u8] = b"\x00\x03\x60\x01d";
+
+/// Deletes a file that does not stand.
+const DELETE: &[u8] = b"\x00\x03\x10\x01z";
+
+/// Appends the file to itself.
+const DOUBLE: &[u8] = b"\x00\x05\x30\x01a\x01a";
+
+/// Creates a file whose name is no path.
+const CREATE: &[u8] = b"\x00\x06\x00\x04a//b";
+
+#[test]
+fn from_the_number_of_requests_to_a_conflict(rt: HostRuntime) -> Result<(), Memory> {
+    check(
+        &rt,
+        rt.alloc(),
+        64,
+        BEFORE,
+        &[
+            (None, &[CREATE; 65], Told::TooManyRequests),
+            (None, &[REMOVE, CREATE], Told::BadName(1)),
+        ],
+    )
+}
+
+#[test]
+fn from_a_conflict_to_a_failure(rt: HostRuntime) -> Result<(), Memory> {
+    check(
+        &rt,
+        rt.alloc(),
+        64,
+        BEFORE,
+        &[
+            (Some((b"d", 0)), &[], Told::Conflict(22)),
+            (None, &[DELETE, REMOVE], Told::Conflict(22)),
+            (Some((b"e/f", 0)), &[DELETE], Told::DestinationNotAllowed),
+        ],
+    )
+}
+
+#[test]
+fn from_a_failure_to_want_of_room(rt: HostRuntime) -> Result<(), Memory> {
+    check(
+        &rt,
+        rt.alloc(),
+        64,
+        BEFORE,
+        &[
+            (Some((b"f", u64::MAX)), &[DELETE], Told::WouldFail(0, 0x11)),
+            (
+                None,
+                &[
+                    DOUBLE, DOUBLE, DOUBLE, DOUBLE, DOUBLE, DOUBLE, DOUBLE, DOUBLE, DOUBLE, DOUBLE,
+                    DOUBLE, DOUBLE, DOUBLE, DOUBLE, DOUBLE, DELETE,
+                ],
+                Told::WouldFail(15, 0x11),
+            ),
+            (None, &[DOUBLE; 15], Told::TooLong(65_549)),
+        ],
+    )
+}

@@ -1,0 +1,374 @@
+//! What a list is judged on, how it came about, and the verdict in numbers.
+
+ghost use Rattle.std.specs.Prelude.{◌≡◌, ◌<◌, ◌≤◌, IfNone};
+
+use crate::{Place, Proposal, Refusal, Verdict, verify};
+use cfdp_actions::{Filestore, Kind, ListStore, Protected, Request, perform};
+use cfdp_leases::Leases;
+use cfdp_paths::{Memory, Path, PathFault};
+use cfdp_quota::Quota;
+use cfdp_status::TransactionId;
+use cfdp_tlv::{FILESTORE_REQUEST, FilestoreRequest, TlvFault, read_request, read_tlv};
+use std::alloc::{AllocError, Global};
+use std::process::Abort;
+
+/// What came before a list is judged. Requests are whole TLVs, and the transactions are of entity 1.
+#[derive(Clone, Copy)]
+pub enum Before {
+    /// The configuration protects this path.
+    Protected(&'static [u8]),
+    /// A transaction that is over delivered a file of so many octets.
+    Delivered(&'static [u8], u64),
+    /// A transaction that is over had this request performed.
+    Performed(&'static [u8]),
+    /// The transaction with this number was admitted with these requests, and granted so many blocks and steps.
+    Admitted(u8, &'static [&'static [u8]], u32, u32),
+    /// This request of it was performed.
+    Stepped(u8, &'static [u8]),
+    /// It is over.
+    Completed(u8),
+}
+
+/// A verdict in numbers.
+#[derive(Clone, Copy, Debug, PartialEq, Eq)]
+pub enum Told {
+    /// So many blocks and steps are granted.
+    Granted(u32, u32),
+    TooManyRequests,
+    BadDestination,
+    /// By the number of the request.
+    BadName(u8),
+    /// By the number of the transaction.
+    Conflict(u64),
+    DestinationNotAllowed,
+    /// By the number of the request and the octet of its status.
+    WouldFail(u8, u8),
+    TooLong(u32),
+    NoRoom(u32, u32),
+}
+
+impl Told {
+    pub fn of(rt: &impl Abort, verdict: &Verdict) -> Told {
+        match verdict {
+            Verdict::Grant(grant) => Told::Granted(grant.blocks, grant.steps),
+            Verdict::Refuse(Refusal::TooManyRequests) => Told::TooManyRequests,
+            Verdict::Refuse(Refusal::BadPath(Place::Destination)) => Told::BadDestination,
+            Verdict::Refuse(Refusal::BadPath(Place::Request(number))) => Told::BadName(*number),
+            Verdict::Refuse(Refusal::Conflict(transaction)) => {
+                assert_eq!(rt; transaction.source, 1);
+                Told::Conflict(transaction.number)
+            }
+            Verdict::Refuse(Refusal::DestinationNotAllowed) => Told::DestinationNotAllowed,
+            Verdict::Refuse(Refusal::WouldFail(number, status)) => {
+                Told::WouldFail(*number, status.octet())
+            }
+            Verdict::Refuse(Refusal::TooLong(steps)) => Told::TooLong(*steps),
+            Verdict::Refuse(Refusal::NoRoom(needed, spare)) => Told::NoRoom(*needed, *spare),
+        }
+    }
+}
+
+/// The destination and the bound of a file, where there is one; the requests' TLVs; and the verdict.
+pub type Row = (Option<(&'static [u8], u64)>, &'static [&'static [u8]], Told);
+
+/// What a list is judged on.
+#[derive(Drop)]
+pub struct Scene {
+    blocks: u32,
+    pub store: ListStore,
+    pub leases: Leases,
+    reserves: [Option<u32>; 64],
+    pub protected: Protected,
+}
+
+fn id(number: u8) -> TransactionId {
+    TransactionId {
+        source: 1,
+        number: u64::from(number),
+    }
+}
+
+/// Each transaction has the slot of its number.
+fn slot_of(rt: &impl Abort, number: u8) -> usize
+    ensures { result < 64 }
+{
+    assert!(rt; number < 64);
+    usize::from(number)
+}
+
+/// The request of a TLV, which has to be one, and nothing behind it.
+pub fn read(rt: &impl Abort, alloc: Global, tlv: &[u8]) -> Result<FilestoreRequest, Memory> {
+    let request = match read_tlv(tlv) {
+        Ok(field) => {
+            assert!(rt;
+                field.kind == FILESTORE_REQUEST && field.rest.is_empty(),
+                "on {tlv:?}"
+            );
+            read_request(alloc, field.value)
+        }
+        Err(fault) => Err(fault),
+    };
+    match request {
+        Ok(request) => Ok(request),
+        Err(fault) => {
+            assert_eq!(rt; fault, TlvFault::Memory, "on {tlv:?}");
+            Err(AllocError)
+        }
+    }
+}
+
+/// The path of a name, which has to spell one.
+fn path_of(rt: &impl Abort, alloc: Global, name: &[u8]) -> Result<Path, Memory> {
+    match Path::parse(alloc, name) {
+        Ok(path) => Ok(path),
+        Err(fault) => {
+            assert_eq!(rt; fault, PathFault::Memory, "on {name:?}");
+            Err(AllocError)
+        }
+    }
+}
+
+/// The request of a TLV with paths for its names.
+pub fn parse(rt: &impl Abort, alloc: Global, tlv: &[u8]) -> Result<Request, Memory> {
+    let sent = read(rt, alloc, tlv)?;
+    let second = match sent.second() {
+        None => None,
+        Some(name) => Some(path_of(rt, alloc, name)?),
+    };
+    let first = path_of(rt, alloc, sent.first())?;
+    let request = Request::new(sent.action(), first, second);
+    assert!(rt; request.is_some(), "on {tlv:?}");
+    request.ok_or(AllocError)
+}
+
+/// Puts a file of so many octets at the path; false where it does not fit or may not be.
+#[tactic(auto, unfolding(cfdp_actions::specs::Filestore::blocks_of))]
+fn deliver(store: &mut ListStore, path: &Path, size: u64) -> Result<bool, Memory>
+    requires { size ≤ 7864320 }
+{
+    if store.staged_size(0) > 0 || (size + 119) / 120 > u64::from(store.free()) {
+        return Ok(false);
+    }
+    store.stage_extend(0, size)?;
+    if !store.parent_is_good(path) || store.free() == 0 {
+        return Ok(false);
+    }
+    match store.kind(path) {
+        Some(Kind::Directory) => Ok(false),
+        Some(Kind::File) | None => {
+            store.install(0, path)?;
+            Ok(true)
+        }
+    }
+}
+
+impl Scene {
+    pub fn new(
+        rt: &impl Abort,
+        alloc: Global,
+        blocks: u32,
+        before: &[Before],
+    ) -> Result<Scene, Memory> {
+        assert!(rt; 1 <= blocks && blocks <= 65_536);
+        let mut scene = Scene {
+            blocks,
+            store: ListStore::new(alloc, blocks)?,
+            leases: Leases::new(alloc),
+            reserves: [None; 64],
+            protected: Protected::new(),
+        };
+        for event in before {
+            scene.happen(rt, alloc, *event)?;
+        }
+        Ok(scene)
+    }
+
+    fn happen(&mut self, rt: &impl Abort, alloc: Global, event: Before) -> Result<(), Memory> {
+        match event {
+            Before::Protected(name) => {
+                let path = path_of(rt, alloc, name)?;
+                assert!(rt; self.protected.add(path).is_ok());
+            }
+            Before::Delivered(name, size) => {
+                assert!(rt; size <= 7_864_320);
+                let path = path_of(rt, alloc, name)?;
+                assert!(rt; deliver(&mut self.store, &path, size)?, "on {name:?}");
+            }
+            Before::Performed(tlv) => self.perform(rt, alloc, tlv)?,
+            Before::Admitted(number, tlvs, blocks, steps) => {
+                let told = Told::Granted(blocks, steps);
+                self.admit(rt, alloc, number, tlvs, told)?;
+            }
+            Before::Stepped(number, tlv) => {
+                let slot = slot_of(rt, number);
+                let free = self.store.free();
+                self.perform(rt, alloc, tlv)?;
+                let reserve = u64::from(self.reserves[slot].unwrap_or(0));
+                let had = reserve + u64::from(self.store.free());
+                assert!(rt; u64::from(free) <= had && had - u64::from(free) <= 65_536);
+                self.reserves[slot] = Some((had - u64::from(free)) as u32);
+            }
+            Before::Completed(number) => {
+                self.leases.release(id(number));
+                self.reserves[slot_of(rt, number)] = None;
+            }
+        }
+        Ok(())
+    }
+
+    /// Performs a request on the store, which has to be successful.
+    fn perform(&mut self, rt: &impl Abort, alloc: Global, tlv: &[u8]) -> Result<(), Memory> {
+        let request = parse(rt, alloc, tlv)?;
+        let done = perform(&mut self.store, &self.protected, &request)?;
+        assert!(rt; done.status.is_successful(), "on {tlv:?}");
+        Ok(())
+    }
+
+    /// Lets a transaction hold what it is granted.
+    fn admit(
+        &mut self,
+        rt: &impl Abort,
+        alloc: Global,
+        number: u8,
+        tlvs: &[&[u8]],
+        told: Told,
+    ) -> Result<(), Memory> {
+        let verdict = self.judge(rt, alloc, None, tlvs)?;
+        assert_eq!(rt; Told::of(rt, &verdict), told, "on {tlvs:?}");
+        if let Verdict::Grant(grant) = verdict {
+            let transaction = id(number);
+            assert!(rt; self.leases.conflict(&grant.footprint).is_none());
+            assert!(rt; !self.leases.holds(transaction));
+            self.leases.grant(transaction, grant.footprint)?;
+            self.reserves[slot_of(rt, number)] = Some(grant.blocks);
+        }
+        Ok(())
+    }
+
+    /// The blocks of the store, and what live transactions have reserved of the free ones.
+    pub fn quota(&self, rt: &impl Abort) -> Quota {
+        let mut quota = Quota::new(self.blocks);
+        let free = self.store.free();
+        assert!(rt; free <= self.blocks);
+        let used = self.blocks - free;
+        quota.reserve(0, used);
+        quota.took(0, used);
+        quota.close(0);
+        for slot in 0..64u8 {
+            if let Some(reserve) = self.reserves[usize::from(slot)] {
+                assert!(rt; reserve <= quota.spare() && !quota.is_open(slot));
+                quota.reserve(slot, reserve);
+            }
+        }
+        quota
+    }
+
+    /// The verdict on a list with a file, where there is one, by its destination and its bound.
+    pub fn judge(
+        &self,
+        rt: &impl Abort,
+        alloc: Global,
+        file: Option<(&[u8], u64)>,
+        tlvs: &[&[u8]],
+    ) -> Result<Verdict, Memory> {
+        let mut requests = Vec::new(alloc);
+        for tlv in tlvs {
+            requests.push(read(rt, alloc, tlv)?)?;
+        }
+        let verdict = match file {
+            None => {
+                let list = Proposal {
+                    destination: None,
+                    bound: 0,
+                    requests: &requests,
+                };
+                self.ask(rt, alloc, &list)?
+            }
+            Some((name, bound)) => {
+                let list = Proposal {
+                    destination: Some(name),
+                    bound,
+                    requests: &requests,
+                };
+                self.ask(rt, alloc, &list)?
+            }
+        };
+        Ok(verdict)
+    }
+
+    pub fn ask(
+        &self,
+        rt: &impl Abort,
+        alloc: Global,
+        list: &Proposal<'_>,
+    ) -> Result<Verdict, Memory>
+        requires { IfNone list.now.destination (list.now.bound ≡ 0) }
+    {
+        let quota = self.quota(rt);
+        assert!(rt; quota.spare() < u32::MAX);
+        verify(
+            alloc,
+            &self.store,
+            &self.leases,
+            &quota,
+            &self.protected,
+            list,
+        )
+    }
+}
+
+fn try_rows(
+    rt: &impl Abort,
+    alloc: Global,
+    blocks: u32,
+    before: &[Before],
+    rows: &[Row],
+) -> Result<(), Memory> {
+    let scene = Scene::new(rt, alloc, blocks, before)?;
+    for (file, tlvs, told) in rows {
+        let verdict = scene.judge(rt, alloc, *file, tlvs)?;
+        assert_eq!(rt; Told::of(rt, &verdict), *told, "on {file:?} {tlvs:?}");
+    }
+    Ok(())
+}
+
+/// Compares the verdicts on lists that are judged after the same events on a store of so many blocks. Where memory is
+/// refused, which is no verdict, all is tried once more: `rt try --test --fail-alloc N` refuses one growth.
+pub fn check(
+    rt: &impl Abort,
+    alloc: Global,
+    blocks: u32,
+    before: &[Before],
+    rows: &[Row],
+) -> Result<(), Memory> {
+    match try_rows(rt, alloc, blocks, before, rows) {
+        Ok(()) => Ok(()),
+        Err(_) => try_rows(rt, alloc, blocks, before, rows),
+    }
+}
+
+fn try_list(
+    rt: &impl Abort,
+    alloc: Global,
+    blocks: u32,
+    tlvs: &[&[u8]],
+    told: Told,
+) -> Result<(), Memory> {
+    let verdict = Scene::new(rt, alloc, blocks, &[])?.judge(rt, alloc, None, tlvs)?;
+    assert_eq!(rt; Told::of(rt, &verdict), told);
+    Ok(())
+}
+
+/// The same for one list that a test puts together, on an empty store.
+pub fn check_list(
+    rt: &impl Abort,
+    alloc: Global,
+    blocks: u32,
+    tlvs: &[&[u8]],
+    told: Told,
+) -> Result<(), Memory> {
+    match try_list(rt, alloc, blocks, tlvs, told) {
+        Ok(()) => Ok(()),
+        Err(_) => try_list(rt, alloc, blocks, tlvs, told),
+    }
+}
