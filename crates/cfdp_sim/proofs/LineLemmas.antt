@@ -1,9 +1,10 @@
 -- Where a script is cut into lines.
-use Rattle.std.proofs.Common.{◌≡◌, ℕ, ◌<◌, ◌==◌, true, false, List, [], ◌∷◌, ◌++◌, length, refl, ap, ◌∙◌, arith, length-append, rules}
+use Rattle.std.proofs.Common.{◌≡◌, ℕ, ◌<◌, ◌≤◌, ◌==◌, Bool, true, false, List, [], ◌∷◌, ◌++◌, length, refl, ap, ◌∙◌, arith, length-append, rules}
 use Rattle.std.specs.List.{slice_split, onto_first}
 use Rattle.std.proofs.lemmas.List.Splits.{slice_split_at, slice_split_none, slice_split-cons_no, slice_split-cons_yes}
 use Rattle.std.proofs.lemmas.List.Elements.{All-head, All-tail, All-nil}
-use Rattle.cfdp_sim.specs.Lines.{is_newline, without_empty_last, lines_of, IsOneLine}
+use Rattle.cfdp_sim.specs.Lines.{is_newline, is_overlong, line_limit, without_empty_last, lines_of, without_open_last, settled_lines, IsOneLine}
+use Rattle.cfdp_sim.specs.Session.{lines_by}
 
 -- the first of some parts begins so
 pub record FirstBegins (parts : List (List ℕ)) (front : List ℕ) : Type 0 where
@@ -42,12 +43,21 @@ without_empty_last-parts : (part : List ℕ) (parts : List (List ℕ)) → First
 without_empty_last-parts part [] b = cc b.are
 without_empty_last-parts part (next ∷ parts) b = refl
 
+-- it is settled
+without_open_last-parts : (part : List ℕ) (parts : List (List ℕ)) → FirstBegins parts []
+    → without_open_last (part ∷ parts) ≡ part ∷ without_open_last parts
+without_open_last-parts part [] b = cc b.are
+without_open_last-parts part (next ∷ parts) b = refl
+
 -- a newline ends the first line
-pub lines_of-newline : (line rest : List ℕ) (octet : ℕ) → IsOneLine line → is_newline octet ≡ true
-    → lines_of (line ++ octet ∷ rest) ≡ line ∷ lines_of rest
-lines_of-newline line rest octet h e =
+pub lines_by-newline : (ends : Bool) (line rest : List ℕ) (octet : ℕ) → IsOneLine line → is_newline octet ≡ true
+    → lines_by ends (line ++ octet ∷ rest) ≡ line ∷ lines_by ends rest
+lines_by-newline true line rest octet h e =
     ap without_empty_last (slice_split_at is_newline line octet rest h e)
     ∙ without_empty_last-parts line (slice_split is_newline rest) (parts_of [] rest (All-nil (λ (x : ℕ). is_newline x ≡ false)))
+lines_by-newline false line rest octet h e =
+    ap without_open_last (slice_split_at is_newline line octet rest h e)
+    ∙ without_open_last-parts line (slice_split is_newline rest) (parts_of [] rest (All-nil (λ (x : ℕ). is_newline x ≡ false)))
 
 -- a part that is not empty counts, also as the last
 without_empty_last-first : (part : List ℕ) (others : List (List ℕ)) → 0 < length part
@@ -61,13 +71,34 @@ pub lines_of-last : (line : List ℕ) → IsOneLine line → 0 < length line →
 lines_of-last line h n =
     ap without_empty_last (slice_split_none is_newline line h) ∙ without_empty_last-first line [] n
 
--- octets before a newline are the front of the first line
-pub lines_of-begun : (line rest : List ℕ) → IsOneLine line → 0 < length line → FirstBegins (lines_of (line ++ rest)) line
-lines_of-begun line rest h n =
+-- a last line without a newline is not settled
+pub settled_lines-none : (line : List ℕ) → IsOneLine line → length line ≤ line_limit → settled_lines line ≡ []
+settled_lines-none line h n =
+    let short : is_overlong line ≡ false = search rules in
+    ap without_open_last (slice_split_none is_newline line h) ∙ rw short refl
+
+-- an overlong part counts, also as the last
+without_open_last-first : (part : List ℕ) (others : List (List ℕ)) → line_limit < length part
+    → without_open_last (part ∷ others) ≡ part ∷ without_open_last others
+without_open_last-first part [] n = let over : is_overlong part ≡ true = search rules in rw over refl
+without_open_last-first part (next ∷ parts) n = refl
+
+-- an overlong line is the front of the first line
+pub lines_by-begun : (ends : Bool) (line rest : List ℕ) → IsOneLine line → line_limit < length line
+    → FirstBegins (lines_by ends (line ++ rest)) line
+lines_by-begun true line rest h n =
     let parts = parts_of line rest h in
     record {
       more = parts.more;
       others = without_empty_last parts.others;
       are = ap without_empty_last parts.are
           ∙ without_empty_last-first (line ++ parts.more) parts.others (omega (arith, length-append line parts.more));
+    }
+lines_by-begun false line rest h n =
+    let parts = parts_of line rest h in
+    record {
+      more = parts.more;
+      others = without_open_last parts.others;
+      are = ap without_open_last parts.are
+          ∙ without_open_last-first (line ++ parts.more) parts.others (omega (arith, length-append line parts.more));
     }

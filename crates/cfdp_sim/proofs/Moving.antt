@@ -1,14 +1,14 @@
 -- How a run moves on, stops and breaks off.
-use Rattle.std.proofs.Common.{◌≡◌, ℕ, suc, ◌+◌, ◌<◌, true, false, List, [], ◌∷◌, ◌++◌, Option, Some, None, length, refl, sym, ap, ◌∙◌, append_assoc, arith, length-append, rules, take, drop, get_or}
+use Rattle.std.proofs.Common.{◌≡◌, ℕ, suc, ◌+◌, ◌<◌, Bool, true, false, List, [], ◌∷◌, ◌++◌, Option, Some, None, length, refl, sym, ap, ◌∙◌, append_assoc, arith, length-append, rules, take, drop, get_or}
 use Rattle.std.proofs.lemmas.List.{append-nil, take_more, take-append-drop}
 use Rattle.std.proofs.lemmas.List.Elements.{All-push}
 use Rattle.cfdp_sim.specs.Lines.{is_newline, is_overlong, line_limit, lines_of, IsOneLine}
 use Rattle.cfdp_sim.specs.Report.{Report, report, and_then, wrote, stopped_at, finished, line_answer}
-use Rattle.cfdp_sim.specs.Session.{Place, place, report_at, Moves, StopsBad, Breaks, Runs, RunsBad, RunsPart, RunsLost, Finishes, FinishesBad, FinishesLost}
+use Rattle.cfdp_sim.specs.Session.{Place, place, lines_by, report_at, Moves, StopsBad, Breaks, Runs, RunsBad, RunsPart, RunsLost, Finishes, FinishesBad, FinishesLost}
 use Rattle.std.specs.Io.KnownBytes.{Appends, Keeps}
 use Rattle.cfdp_sim.specs.Streams.{Begins, AppendsOrLost}
 use Rattle.cfdp_sim.proofs.Streaming.{Appends-none, Appends-kept, Appends-more, Appends-more_or_lost}
-use Rattle.cfdp_sim.proofs.LineLemmas.{lines_of-newline, lines_of-last, lines_of-begun}
+use Rattle.cfdp_sim.proofs.LineLemmas.{lines_by-newline, lines_of-last, lines_by-begun}
 
 wrote-wrote : (a b : List ℕ) (r : Report) → wrote a (wrote b r) ≡ wrote (a ++ b) r
 wrote-wrote a b r = simp append_assoc
@@ -27,22 +27,22 @@ report-overlong answer n state line others lines are h =
 module _ (State : Type 0) (answer : State → List ℕ → Option (State × List ℕ)) where
   -- nothing moves nowhere
   pub Moves-none : (here : Place State) → Moves answer here here [] []
-  Moves-none here = record { goes_on = λ rest. refl }
+  Moves-none here = record { goes_on = λ ends rest. refl }
 
   -- some octets, and then others
   pub Moves-then : (p q r : Place State) (a b v w : List ℕ) → Moves answer p q a v → Moves answer q r b w
       → Moves answer p r (a ++ b) (v ++ w)
   Moves-then p q r a b v w f g = record {
-    goes_on = λ rest.
-        ap (report_at answer p) (append_assoc a b rest) ∙ f.goes_on (b ++ rest) ∙ ap (wrote v) (g.goes_on rest)
-        ∙ wrote-wrote v w (report_at answer r rest);
+    goes_on = λ ends rest.
+        ap (report_at answer ends p) (append_assoc a b rest) ∙ f.goes_on ends (b ++ rest) ∙ ap (wrote v) (g.goes_on ends rest)
+        ∙ wrote-wrote v w (report_at answer ends r rest);
   }
 
   pub Moves-then_stops : (p q : Place State) (a b v w : List ℕ) (n : ℕ) → Moves answer p q a v → StopsBad answer q b w n
       → StopsBad answer p (a ++ b) (v ++ w) n
   Moves-then_stops p q a b v w n f g = record {
-    stops = λ rest.
-        ap (report_at answer p) (append_assoc a b rest) ∙ f.goes_on (b ++ rest) ∙ ap (wrote v) (g.stops rest)
+    stops = λ ends rest.
+        ap (report_at answer ends p) (append_assoc a b rest) ∙ f.goes_on ends (b ++ rest) ∙ ap (wrote v) (g.stops ends rest)
         ∙ wrote-wrote v w (stopped_at n);
   }
 
@@ -52,8 +52,8 @@ module _ (State : Type 0) (answer : State → List ℕ → Option (State × List
     begins = λ rest.
         let later = g.begins rest in (
           later.0,
-          ap (λ (octets : List ℕ). (report_at answer p octets).text) (append_assoc a b rest)
-              ∙ ap (λ (r : Report). r.text) (f.goes_on (b ++ rest))
+          ap (λ (octets : List ℕ). (report_at answer true p octets).text) (append_assoc a b rest)
+              ∙ ap (λ (r : Report). r.text) (f.goes_on true (b ++ rest))
               ∙ ap (λ (text : List ℕ). v ++ text) later.1
               ∙ sym (append_assoc v w later.0),
         );
@@ -62,7 +62,7 @@ module _ (State : Type 0) (answer : State → List ℕ → Option (State × List
   -- what comes behind a bad line makes no difference
   pub StopsBad-before : (p : Place State) (a b w : List ℕ) (n : ℕ) → StopsBad answer p a w n → StopsBad answer p (a ++ b) w n
   StopsBad-before p a b w n f = record {
-    stops = λ rest. ap (report_at answer p) (append_assoc a b rest) ∙ f.stops (b ++ rest);
+    stops = λ ends rest. ap (report_at answer ends p) (append_assoc a b rest) ∙ f.stops ends (b ++ rest);
   }
 
   pub Breaks-before : (p : Place State) (a b w : List ℕ) → Breaks answer p a w → Breaks answer p (a ++ b) w
@@ -70,42 +70,42 @@ module _ (State : Type 0) (answer : State → List ℕ → Option (State × List
     begins = λ rest.
         let later = f.begins (b ++ rest) in (
           later.0,
-          ap (λ (octets : List ℕ). (report_at answer p octets).text) (append_assoc a b rest) ∙ later.1,
+          ap (λ (octets : List ℕ). (report_at answer true p octets).text) (append_assoc a b rest) ∙ later.1,
         );
   }
 
   -- a run that wrote nothing more may break off anywhere
   pub Breaks-none : (p : Place State) (a : List ℕ) → Breaks answer p a []
-  Breaks-none p a = record { begins = λ rest. ((report_at answer p (a ++ rest)).text, refl) }
+  Breaks-none p a = record { begins = λ rest. ((report_at answer true p (a ++ rest)).text, refl) }
 
   -- an octet of the line
   pub Moves-gather : (n : ℕ) (state : State) (line : List ℕ) (octet : ℕ)
       → Moves answer (place n state line) (place n state (line ++ octet ∷ [])) (octet ∷ []) []
   Moves-gather n state line octet = record {
-    goes_on = λ rest. ap (λ (octets : List ℕ). report answer n state (lines_of octets)) (sym (append_assoc line (octet ∷ []) rest));
+    goes_on = λ ends rest. ap (λ (octets : List ℕ). report answer n state (lines_by ends octets)) (sym (append_assoc line (octet ∷ []) rest));
   }
 
   -- the end of a line
-  line_ended : (n : ℕ) (state : State) (line rest : List ℕ) (octet : ℕ) → IsOneLine line → is_newline octet ≡ true
-      → report_at answer (place n state line) (octet ∷ rest)
-      ≡ and_then n (line_answer answer state line) (λ after. report answer (n + 1) after (lines_of rest))
-  line_ended n state line rest octet h e = ap (report answer n state) (lines_of-newline line rest octet h e)
+  line_ended : (ends : Bool) (n : ℕ) (state : State) (line rest : List ℕ) (octet : ℕ) → IsOneLine line → is_newline octet ≡ true
+      → report_at answer ends (place n state line) (octet ∷ rest)
+      ≡ and_then n (line_answer answer state line) (λ after. report answer (n + 1) after (lines_by ends rest))
+  line_ended ends n state line rest octet h e = ap (report answer n state) (lines_by-newline ends line rest octet h e)
 
   pub Moves-newline : (n : ℕ) (state after : State) (line text : List ℕ) (octet : ℕ) → IsOneLine line → is_newline octet ≡ true
       → line_answer answer state line ≡ Some (after, text)
       → Moves answer (place n state line) (place (n + 1) after []) (octet ∷ []) text
   Moves-newline n state after line text octet h e a = record {
-    goes_on = λ rest.
-        line_ended n state line rest octet h e
-        ∙ ap (λ (o : Option (State × List ℕ)). and_then n o (λ later. report answer (n + 1) later (lines_of rest))) a;
+    goes_on = λ ends rest.
+        line_ended ends n state line rest octet h e
+        ∙ ap (λ (o : Option (State × List ℕ)). and_then n o (λ later. report answer (n + 1) later (lines_by ends rest))) a;
   }
 
   pub StopsBad-newline : (n : ℕ) (state : State) (line : List ℕ) (octet : ℕ) → IsOneLine line → is_newline octet ≡ true
       → line_answer answer state line ≡ None → StopsBad answer (place n state line) (octet ∷ []) [] n
   StopsBad-newline n state line octet h e a = record {
-    stops = λ rest.
-        line_ended n state line rest octet h e
-        ∙ ap (λ (o : Option (State × List ℕ)). and_then n o (λ later. report answer (n + 1) later (lines_of rest))) a;
+    stops = λ ends rest.
+        line_ended ends n state line rest octet h e
+        ∙ ap (λ (o : Option (State × List ℕ)). and_then n o (λ later. report answer (n + 1) later (lines_by ends rest))) a;
   }
 
   pub Breaks-newline : (n : ℕ) (state after : State) (line text written : List ℕ) (octet : ℕ) → IsOneLine line
@@ -113,7 +113,7 @@ module _ (State : Type 0) (answer : State → List ℕ → Option (State × List
       → Breaks answer (place n state line) (octet ∷ []) written
   Breaks-newline n state after line text written octet h e a b = record {
     begins = λ rest.
-        let whole = (Moves-newline n state after line text octet h e a).goes_on rest in
+        let whole = (Moves-newline n state after line text octet h e a).goes_on true rest in
         let later = (report answer (n + 1) after (lines_of rest)).text in (
           b.0 ++ later,
           ap (λ (r : Report). r.text) whole ∙ ap (λ (t : List ℕ). t ++ later) b.1 ∙ append_assoc written b.0 later,
@@ -128,15 +128,15 @@ module _ (State : Type 0) (answer : State → List ℕ → Option (State × List
       let one_line : IsOneLine longer = All-push (λ (x : ℕ). is_newline x ≡ false) line octet h e in
       let long : length longer ≡ suc line_limit = omega (arith, length-append line (octet ∷ [])) in
       record {
-        stops = λ rest.
-            let begun = lines_of-begun longer rest one_line (omega arith) in
+        stops = λ ends rest.
+            let begun = lines_by-begun ends longer rest one_line (omega arith) in
             let over : line_limit < length (longer ++ begun.more) = omega (arith, length-append longer begun.more) in
-            ap (λ (octets : List ℕ). report answer n state (lines_of octets)) (sym (append_assoc line (octet ∷ []) rest))
-            ∙ report-overlong answer n state (longer ++ begun.more) begun.others (lines_of (longer ++ rest)) begun.are over;
+            ap (λ (octets : List ℕ). report answer n state (lines_by ends octets)) (sym (append_assoc line (octet ∷ []) rest))
+            ∙ report-overlong answer n state (longer ++ begun.more) begun.others (lines_by ends (longer ++ rest)) begun.are over;
       }
 
   pub report_at-last : (n : ℕ) (state : State) (line : List ℕ) → IsOneLine line → 0 < length line
-      → report_at answer (place n state line) [] ≡ and_then n (line_answer answer state line) (λ after. finished)
+      → report_at answer true (place n state line) [] ≡ and_then n (line_answer answer state line) (λ after. finished)
   report_at-last n state line h few =
       ap (λ (octets : List ℕ). report answer n state (lines_of octets)) (append-nil line)
       ∙ ap (report answer n state) (lines_of-last line h few)
@@ -273,7 +273,7 @@ module _ (State : Type 0) (answer : State → List ℕ → Option (State × List
       → 0 < length line → line_answer answer state line ≡ Some (after, text) → AppendsOrLost old new written → Begins text written
       → FinishesLost answer (place n state line) old new
   FinishesLost-last n state after line text written old new h few a p b =
-      let whole : report_at answer (place n state line) [] ≡ wrote text finished =
+      let whole : report_at answer true (place n state line) [] ≡ wrote text finished =
       report_at-last n state line h few ∙ ap (λ (o : Option (State × List ℕ)). and_then n o (λ later. finished)) a in
       record {
         written = written;

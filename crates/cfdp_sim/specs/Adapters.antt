@@ -2,8 +2,10 @@
 --
 --   reader_of, read_failed    the reader inside, and whether it has failed
 --   writer_of, write_failed   the writer inside, and whether it has failed
-use Rattle.std.specs.Prelude.{Bool}
+--   rest_of                   the octets in memory that are still to be read
+use Rattle.std.specs.Prelude.{ℕ, Bool, List}
 use Rattle.cfdp_sim.specs.declared.from_read.FromRead.{FromRead}
+use Rattle.cfdp_sim.specs.declared.from_slice.FromSlice.{FromSlice}
 use Rattle.cfdp_sim.specs.declared.to_write.ToWrite.{ToWrite}
 
 abbrev pub reader_of : {R : Type 0} → FromRead R → R
@@ -17,3 +19,6 @@ writer_of stream = stream.inner
 
 abbrev pub write_failed : {W : Type 0} → ToWrite W → Bool
 write_failed stream = stream.failed
+
+abbrev pub rest_of : FromSlice → List ℕ
+rest_of stream = stream.octets.now

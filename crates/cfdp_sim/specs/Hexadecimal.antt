@@ -1,6 +1,9 @@
 -- Hexadecimal in a line.
 --
---   hex_octets   the octets that a line of hexadecimal spells, if it does
+--   is_space         the octet between words
+--   octets_before    what a word spells, and then what the others do
+--   octets_of_words  what words spell, if each does
+--   hex_octets       the octets that a line of hexadecimal spells, if it does
 --
 -- A line is words with spaces between them, before and behind; each word is pairs of digits, in either case.
 use Rattle.std.specs.Prelude.{ℕ, ◌==◌, Bool, List, [], ◌∷◌, ◌++◌, Option, Some, None, Result, Ok, Err}

@@ -1,10 +1,20 @@
 -- What `plain` does: filestore requests, line by line, on one filestore (CCSDS 727.0-B-5 §4.9).
 --
---   PlainState     the filestore, and whether a request of this list was not successful
---   outcome_on     what a request comes to, by the action table with nothing protected
---   performed_on   the state after it, and its status
---   plain_answer   what a line does: begins a new list, is dropped or answered, or is bad
---   plain_report   what a whole script writes, and the bad line that ends it, if one does
+--   plain_blocks     the blocks of the filestore
+--   PlainState       the filestore, and whether a request of this list was not successful
+--   plain_state      what a store and that flag are seen as
+--   at_start         an empty filestore, and no such request
+--   new_list         the next list on the same filestore
+--   request_by       the request with its names read as paths (with_first, with_second, with_both), if they are paths
+--   outcome_by       what that request comes to, by the action table with nothing protected; of no paths: not allowed
+--   outcome_on       the same, of the request as it was spelled
+--   status_in        the status in an outcome's answer
+--   comes_to         the state after an outcome, and the status that answers the request
+--   performed_on     the state after a request, and its status: not performed where the list has stopped (when_stopped)
+--   answer_to        the state after a line that is not empty, and its text: dropped or answered
+--   octets_answer    the state and text of a line's octets; none begin a new list
+--   plain_answer     what a line does; one that is no hexadecimal is bad (hex_answer)
+--   plain_report     what a whole script writes, and the bad line that ends it, if one does
 use Rattle.std.specs.Prelude.{ℕ, ◌-◌, Bool, true, false, not, List, [], ◌∷◌, Option, Some, None, Result, Ok, Err}
 use Rattle.cfdp_status.specs.Codes.{is_successful}
 use Rattle.cfdp_status.specs.declared.action.Action.{Action}

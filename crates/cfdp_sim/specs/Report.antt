@@ -1,14 +1,18 @@
 -- What a script writes, and how it ends.
 --
---   Report         a text, and the number of the bad line that ended it, if one did
---   wrote          a report with some text before it
---   line_answer    what one line does: the state after it and its text, or nothing where it is bad
---   report         the report of a list of lines
---   script_report  the report of a script's octets, from its first line on
+--   Report           a text, and the number of the bad line that ended it, if one did
+--   finished         the report of no lines
+--   stopped_at       the report of a bad line
+--   wrote            a report with some text before it
+--   line_answer      what one line does: the state after it and its text, or nothing where it is bad
+--   and_then         the report of a line and those behind it
+--   report           the report of a list of lines
+--   script_report    the report of a script's octets, from its first line on
+--   limited_report   the report of those of its lines that are run: all, unless it is longer than the input limit
 --
 -- A kind of script is a state and an `answer`: what a line does that is neither overlong nor a comment.
 use Rattle.std.specs.Prelude.{ℕ, ◌+◌, if◌then◌else◌, List, [], ◌∷◌, ◌++◌, Option, Some, None}
-use Rattle.cfdp_sim.specs.Lines.{is_overlong, is_comment, lines_of}
+use Rattle.cfdp_sim.specs.Lines.{is_overlong, is_comment, lines_of, limited_lines}
 
 pub record Report : Type 0 where
   pub text : List ℕ
@@ -47,3 +51,7 @@ report answer number state (line ∷ lines) =
 -- lines count from 1
 abbrev pub script_report : {State : Type 0} → (State → List ℕ → Option (State × List ℕ)) → State → List ℕ → Report
 script_report answer start octets = report answer 1 start (lines_of octets)
+
+-- of a script longer than the limit, what can be told from as many octets as the limit
+abbrev pub limited_report : {State : Type 0} → (State → List ℕ → Option (State × List ℕ)) → State → List ℕ → Report
+limited_report answer start octets = report answer 1 start (limited_lines octets)

@@ -1,9 +1,14 @@
 -- The filestore request that a line of `plain` brings, as a TLV (CCSDS 727.0-B-5 §5.4.1), or why it brings none.
 --
 --   dropped_for     why a line is dropped whose value is no request
---   request_on      the request, or the first fault: TLV cut, octets after it, another type, a value that is no
---                   request, a value of 255 octets, whose response would be longer than a TLV can be
+--   answerable      the request of a value, if it can be answered: one of 255 octets cannot, because its response
+--                   would be longer than a TLV can be
+--   request_alone   the request of a TLV's type and value, with nothing behind it
+--   request_in      the request of a TLV that was read, or of one that is cut
+--   request_on      the request of a line's octets, or the first fault: TLV cut, octets after it, another type, a value
+--                   that is no request, a value of 255 octets
 --   dropped_text    the line that is written for a line that is dropped
+--   response_to     the response to a request
 --   response_line   the line that is written for a request: its response TLV in hexadecimal (§5.4.2)
 use Rattle.std.specs.Prelude.{ℕ, ◌==◌, nat_lt, if◌then◌else◌, List, [], ◌∷◌, ◌++◌, length, Result, Ok, Err, codes}
 use Rattle.hex.specs.Hex.{encode_lower}
@@ -16,7 +21,7 @@ use Rattle.cfdp_tlv.specs.declared.fault.TlvFault.TheVariants as fault
 use Rattle.cfdp_sim.specs.declared.dropped.Dropped.{Dropped}
 use Rattle.cfdp_sim.specs.declared.dropped.Dropped.TheVariants.{Truncated, Trailing, NotARequest, BadAction, RequestTooLong}
 
--- the fault of a value that is no request; the last three are never one
+-- a value that is no request has one of the first three faults; the others have an answer so that each fault has one
 abbrev pub dropped_for : TlvFault → Dropped
 dropped_for fault.Truncated = Truncated
 dropped_for fault.BadAction = BadAction

@@ -3,8 +3,9 @@
 --   KeptOrLost      the octets that a stream tells after a call that failed
 --   AppendsOrLost   a writer holds some octets more, or no longer tells what it holds
 --   ReadsOff        some octets were read off a reader
+--   ReadsAtMost     so many octets, or fewer, were read off it
 --   Begins          a text begins with another
-use Rattle.std.specs.Prelude.{◌≡◌, ℕ, List, Option, Some, None, ◌++◌, ⊤}
+use Rattle.std.specs.Prelude.{◌≡◌, ℕ, ◌≤◌, List, length, Option, Some, None, ◌++◌, ⊤}
 
 -- a failed call left the told octets as they were, or they are no longer told
 abbrev pub KeptOrLost : Option (List ℕ) → Option (List ℕ) → Type 0
@@ -27,3 +28,9 @@ abbrev pub ReadsOff : Option (List ℕ) → Option (List ℕ) → List ℕ → T
 ReadsOff None new octets = ⊤
 ReadsOff (Some old) None octets = Begins old octets
 ReadsOff (Some old) (Some new) octets = old ≡ octets ++ new
+
+-- of the told ones; where the rest is no longer told, so many octets or fewer begin them
+pub record ReadsAtMost (most : ℕ) (old new : Option (List ℕ)) : Type 0 where
+  pub octets : List ℕ
+  pub read : ReadsOff old new octets
+  pub within : length octets ≤ most

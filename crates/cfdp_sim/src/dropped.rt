@@ -20,7 +20,9 @@ pub(crate) enum Dropped {
 }
 
 impl Dropped {
-    /// Why a line is dropped whose value is no request.
+    /// Why a line is dropped whose value is no request. Such a value has been cut, or has an unknown action or octets
+    /// behind its last name; the faults of responses, of writers and of memory have an answer only so that each
+    /// fault has one, as in the definition.
     pub(crate) fn of_fault(fault: TlvFault) -> Self
         ensures { result ≡ dropped_for fault }
     {

@@ -21,7 +21,8 @@ pub enum RunFault {
     BadLine(u64),
 }
 
-/// What the program ends with. Its text is the line on standard error, empty where there is none.
+/// What the program ends with. Its text is the line on standard error, empty where there is none, and takes no
+/// memory.
 #[derive(Clone, Copy, Debug, PartialEq, Eq, Drop, Error)]
 pub enum ProgramEnd {
     /// The whole input was run.
@@ -37,7 +38,7 @@ pub enum ProgramEnd {
 
 impl ProgramEnd {
     /// The exit status: 0 where the whole input was run, 1 for a read, a write or memory that failed, 2 for
-    /// unknown words, 3 for a bad line.
+    /// unknown words, 3 for a bad line. It takes no memory.
     pub fn status(&self) -> u8
         ensures { result ≡ status_of self.now }
     {

@@ -1,13 +1,14 @@
 //! The scripts of `plain`: filestore requests, a TLV a line, on one filestore.
-ghost use Rattle.std.specs.Prelude.{◌≡◌, ◌≢◌, ℕ, ◌<◌, ◌⊎◌, true, length, None, Some, IfSome, IfOk, OnOk, Err};
+ghost use Rattle.std.specs.Prelude.{◌≡◌, ◌≢◌, ℕ, ◌+◌, ◌<◌, ◌≤◌, ◌⊎◌, true, length, None, Some, IfOk, OnOk, Err};
 ghost use Rattle.std.specs.Io.KnownBytes.{IsAtEnd};
 ghost use Rattle.cfdp_sim.specs.Lines.{input_limit};
-ghost use Rattle.cfdp_sim.specs.Outcome.{WholeRun, BadRun, PartRun, LostRun};
+ghost use Rattle.cfdp_sim.specs.Outcome.{WholeRun, BadRun, LongRun, PartRun, LostRun};
 ghost use Rattle.cfdp_sim.specs.Plain.{plain_answer, at_start, plain_report};
+ghost use Rattle.cfdp_sim.specs.Report.{limited_report};
 ghost use Rattle.cfdp_sim.specs.declared.faults.RunFault.TheVariants.{Read, Write, Memory, BadLine};
 
 use crate::faults::RunFault;
-use crate::from_read::FromRead;
+use crate::from_slice::FromSlice;
 use crate::requests::Requests;
 use crate::run::run;
 use crate::streams::{ScriptIn, ScriptOut};
@@ -29,8 +30,9 @@ const BLOCKS: u32 = 64;
 /// # Errors
 ///
 /// [`RunFault::BadLine`] for the first line that has more than 200,000 octets, even if it begins with `#`, or is
-/// no hexadecimal; [`RunFault::Read`] where the reader failed, or gave more than 268,435,456 octets;
-/// [`RunFault::Write`] where the writer failed; [`RunFault::Memory`].
+/// no hexadecimal; [`RunFault::Read`] where the reader failed, or gave more than 268,435,456 octets, unless a line is
+/// bad that ends within those or is too long within them; [`RunFault::Write`] where the writer failed;
+/// [`RunFault::Memory`].
 ///
 /// Memory: the filestore, one line and its answer. Cost: one pass over the octets, and that of the requests.
 pub fn plain<R: ScriptIn, W: ScriptOut>(
@@ -44,19 +46,24 @@ pub fn plain<R: ScriptIn, W: ScriptOut>(
     // Nothing is left unread.
     ensures all { OnOk result (IsAtEnd (R.remaining reader.new)) }
 
-    // The report up to the first bad line was written, and this is its number.
-    ensures bad_line { (number : ℕ) → result ≡ Err (BadLine number)
-        → BadRun plain_answer at_start number (R.remaining reader.old) (W.contents writer.old) (W.contents writer.new) }
-
-    // What was written is a beginning of the report of what was read.
-    ensures begun { (result ≡ Err Read) ⊎ (result ≡ Err Memory) → PartRun plain_answer at_start
-        (R.remaining reader.old) (R.remaining reader.new) (W.contents writer.old) (W.contents writer.new) }
-    ensures begun_or_lost { result ≡ Err Write → LostRun plain_answer at_start
+    // The report up to the first bad line was written, and this is its number. As many octets as the input limit
+    // show that it is bad, and no more were read.
+    ensures bad_line { (number : ℕ) → result ≡ Err (BadLine number) → BadRun plain_answer at_start number
         (R.remaining reader.old) (R.remaining reader.new) (W.contents writer.old) (W.contents writer.new) }
 
-    // The reader or the input is to blame, or the writer; otherwise neither has failed.
-    ensures read { result ≡ Err Read
-        → (R.failed reader.new ≡ true) ⊎ IfSome (R.remaining reader.old) (λ input. input_limit < length input) }
+    // What was written is a beginning of the report of what was read: at most the limit, and one octet more where
+    // that is the fault.
+    ensures begun { result ≡ Err Read → PartRun plain_answer at_start (input_limit + 1)
+        (R.remaining reader.old) (R.remaining reader.new) (W.contents writer.old) (W.contents writer.new) }
+    ensures begun_memory { result ≡ Err Memory → PartRun plain_answer at_start input_limit
+        (R.remaining reader.old) (R.remaining reader.new) (W.contents writer.old) (W.contents writer.new) }
+    ensures begun_or_lost { result ≡ Err Write → LostRun plain_answer at_start input_limit
+        (R.remaining reader.old) (R.remaining reader.new) (W.contents writer.old) (W.contents writer.new) }
+
+    // The reader is to blame, or an input longer than the limit, within which no line is bad; or the writer is.
+    // Otherwise neither has failed.
+    ensures read { result ≡ Err Read → (R.failed reader.new ≡ true)
+        ⊎ LongRun plain_answer at_start (R.remaining reader.old) (W.contents writer.old) (W.contents writer.new) }
     ensures write { result ≡ Err Write → W.failed writer.new ≡ true }
     ensures well_read { result ≢ Err Read → R.failed reader.new ≡ R.failed reader.old }
     ensures well_written { result ≢ Err Write → W.failed writer.new ≡ W.failed writer.old }
@@ -71,13 +78,24 @@ pub fn plain<R: ScriptIn, W: ScriptOut>(
 ///
 /// # Errors
 ///
-/// Those of [`plain`]; [`RunFault::Write`] where memory for the text was refused.
+/// [`RunFault::BadLine`] for the first bad line; [`RunFault::Read`] for a script of more than 268,435,456 octets;
+/// [`RunFault::Memory`], also for the text.
+///
+/// Memory: what [`plain`] takes, and the text. Cost: that of [`plain`].
 pub fn plain_text(alloc: Global, script: &[u8]) -> Result<Vec<u8>, RunFault>
     ensures text { IfOk result (λ text. text.items ≡ (plain_report script.now).text) }
     ensures fine { OnOk result ((plain_report script.now).bad_line ≡ None) }
+    ensures short { OnOk result (length script.now ≤ input_limit) }
     ensures bad_line { (number : ℕ) → result ≡ Err (BadLine number) → (plain_report script.now).bad_line ≡ Some number }
+    ensures within { (number : ℕ) → result ≡ Err (BadLine number)
+        → (limited_report plain_answer at_start script.now).bad_line ≡ Some number }
+    ensures read { result ≡ Err Read → input_limit < length script.now }
+    ensures written { result ≢ Err Write }
 {
     let mut writer = ToWrite::new(Vec::new(alloc));
-    plain(alloc, &mut FromRead::new(script), &mut writer)?;
-    Ok(writer.into_inner())
+    match plain(alloc, &mut FromSlice::new(script), &mut writer) {
+        Ok(()) => Ok(writer.into_inner()),
+        Err(RunFault::Write) => Err(RunFault::Memory),
+        Err(fault) => Err(fault),
+    }
 }

@@ -2,7 +2,7 @@
 ghost use Rattle.std.specs.Prelude.{◌≡◌, ◌≢◌, ℕ, ◌+◌, ◌<◌, ◌≤◌, true, List, [], ◌++◌, length, Option, Some, None, IfSome, OnOk, Err, ◌⊎◌};
 ghost use Rattle.std.specs.Io.KnownBytes.{Appends, IsAtEnd};
 ghost use Rattle.cfdp_sim.specs.Lines.{input_limit};
-ghost use Rattle.cfdp_sim.specs.Outcome.{WholeRun, BadRun, PartRun, LostRun};
+ghost use Rattle.cfdp_sim.specs.Outcome.{WholeRun, BadRun, LongRun, PartRun, LostRun};
 ghost use Rattle.cfdp_sim.specs.declared.faults.RunFault.TheVariants.{Read, Write, Memory, BadLine};
 
 use crate::faults::RunFault;
@@ -24,6 +24,7 @@ fn room_for(left: usize) -> usize
     ensures some { 0 < result }
     ensures fits { result ≤ PIECE }
     ensures within { 0 < left → result ≤ left }
+    ensures one_more { left ≡ 0 → result ≡ 1 }
 {
     left.clamp(1, PIECE)
 }
@@ -41,15 +42,18 @@ where
     ensures ok { OnOk result (WholeRun S.answer (S.state script) (R.remaining reader.old) (W.contents writer.old) (W.contents writer.new)) }
     // Nothing is left unread.
     ensures all { OnOk result (IsAtEnd (R.remaining reader.new)) }
-    // The text before the first bad line was written, and its number is right.
+    // The text before the first bad line was written, and its number is right, of a line that is run.
     ensures bad { (n : ℕ) → result ≡ Err (BadLine n)
-        → BadRun S.answer (S.state script) n (R.remaining reader.old) (W.contents writer.old) (W.contents writer.new) }
-    // What was written is a beginning of what is reported of the octets read.
-    ensures begun { (result ≡ Err Read) ⊎ (result ≡ Err Memory)
-        → PartRun S.answer (S.state script) (R.remaining reader.old) (R.remaining reader.new) (W.contents writer.old) (W.contents writer.new) }
-    ensures begun_lost { result ≡ Err Write
-        → LostRun S.answer (S.state script) (R.remaining reader.old) (R.remaining reader.new) (W.contents writer.old) (W.contents writer.new) }
-    ensures read { result ≡ Err Read → (R.failed reader.new ≡ true) ⊎ IfSome (R.remaining reader.old) (λ input. input_limit < length input) }
+        → BadRun S.answer (S.state script) n (R.remaining reader.old) (R.remaining reader.new) (W.contents writer.old) (W.contents writer.new) }
+    // What was written is a beginning of what is reported of the octets read, at most so many.
+    ensures begun { result ≡ Err Read → PartRun S.answer (S.state script) (input_limit + 1)
+        (R.remaining reader.old) (R.remaining reader.new) (W.contents writer.old) (W.contents writer.new) }
+    ensures begun_memory { result ≡ Err Memory → PartRun S.answer (S.state script) input_limit
+        (R.remaining reader.old) (R.remaining reader.new) (W.contents writer.old) (W.contents writer.new) }
+    ensures begun_lost { result ≡ Err Write → LostRun S.answer (S.state script) input_limit
+        (R.remaining reader.old) (R.remaining reader.new) (W.contents writer.old) (W.contents writer.new) }
+    ensures read { result ≡ Err Read → (R.failed reader.new ≡ true)
+        ⊎ LongRun S.answer (S.state script) (R.remaining reader.old) (W.contents writer.old) (W.contents writer.new) }
     ensures write { result ≡ Err Write → W.failed writer.new ≡ true }
     ensures well_read { result ≢ Err Read → R.failed reader.new ≡ R.failed reader.old }
     ensures well_written { result ≢ Err Write → W.failed writer.new ≡ W.failed writer.old }

@@ -1,8 +1,8 @@
-// `cfdpsim`: runs scripts of filestore requests over the receiving side of CFDP (CCSDS 727.0-B-5).
-//
-// `cfdpsim plain` reads a script from standard input and writes its report to standard output. What goes wrong is
-// told in one line on standard error and by the exit status: 1 for a read, a write or memory that failed, 2 for
-// unknown words, 3 for a bad line.
+//! `cfdpsim`: runs scripts of filestore requests over the receiving side of CFDP (CCSDS 727.0-B-5).
+//!
+//! `cfdpsim plain` reads a script from standard input and writes its report to standard output. What goes wrong is
+//! told in one line on standard error and by the exit status: 1 for a read, a write or memory that failed, 2 for
+//! unknown words, 3 for a bad line.
 #![tactic(auto)]
 
 mod words;

@@ -1,7 +1,10 @@
 //! The words of the command line.
-ghost use Rattle.std.specs.Prelude.{◌≡◌, ◌⊎◌, IfErr};
+ghost use Rattle.std.specs.Prelude.{◌≡◌, ◌≢◌, ◌⊎◌, ℕ, List, [], ◌∷◌, map, true, codes, OnOk, IfErr, Err};
+ghost use Rattle.clap.specs.Words.{takes, fault_of, kind_of};
+ghost use Rattle.clap.specs.declared.error.kind.ErrorKind.TheVariants as kind;
 ghost use Rattle.cfdp_sim.specs.declared.faults.ProgramEnd.TheVariants.{Usage, Run};
 ghost use Rattle.cfdp_sim.specs.declared.faults.RunFault.TheVariants.{Memory};
+ghost use Rattle.cfdpsim.specs.Words.{program};
 
 use cfdp_sim::{ProgramEnd, RunFault};
 use clap::error::ErrorKind;
@@ -37,7 +40,12 @@ pub fn parse<R: AllocGlobal + Env>(rt: &R) -> Result<Asked, ProgramEnd>
 
 /// What these words ask for, of which the first is the program's own name. A call for help is no command.
 pub fn parse_words<S: AsStr>(alloc: Global, words: &[S]) -> Result<Asked, ProgramEnd>
-    ensures { IfErr result (λ end. (end ≡ Usage) ⊎ (end ≡ Run Memory)) }
+    // The words of a command leave `clap` nothing to refuse, and only words that it does not take are unknown.
+    ensures taken { OnOk result (fault_of program (map S.text words.now) ≡ []) }
+    ensures refused { result ≡ Err Usage → takes program (map S.text words.now) ≢ true }
+    // Whatever the program's own name, `plain` alone is a command.
+    ensures plain { (name : List ℕ) → map S.text words.now ≡ name ∷ codes "plain" ∷ [] → result ≢ Err Usage }
+    ensures ends { IfErr result (λ end. (end ≡ Usage) ⊎ (end ≡ Run Memory)) }
 {
     match parse_command(alloc, words) {
         Ok(asked) => Ok(asked),
@@ -48,11 +56,15 @@ pub fn parse_words<S: AsStr>(alloc: Global, words: &[S]) -> Result<Asked, Progra
     }
 }
 
-fn parse_command<S: AsStr>(alloc: Global, words: &[S]) -> Result<Asked, Error> {
-    Command::new(alloc, "cfdpsim")
+fn parse_command<S: AsStr>(alloc: Global, words: &[S]) -> Result<Asked, Error>
+    ensures taken { OnOk result (fault_of program (map S.text words.now) ≡ []) }
+    ensures refused { IfErr result (λ error. takes program (map S.text words.now) ≡ true → kind_of error ≡ kind.OutOfMemory) }
+{
+    let plain = Command::new(alloc, "plain");
+    let program = Command::new(alloc, "cfdpsim")
         .subcommand_required(true)
-        .subcommand(Command::new(alloc, "plain"))?
-        .try_get_matches_from(words)?;
+        .subcommand(plain)?;
+    program.try_get_matches_from(words)?;
     Ok(Asked::Plain)
 }
 

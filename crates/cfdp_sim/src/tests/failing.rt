@@ -1,7 +1,8 @@
 //! Reads and writes that fail in mid-stream, and std's streams that are interrupted.
 use super::fakes::{Call, Reader, Scripted, Writer};
+use super::runs::run;
 use super::{REPORT, SCRIPT};
-use crate::{Failed, FromRead, RunFault, ScriptIn, ScriptOut, ToWrite, plain};
+use crate::{Failed, FromRead, RunFault, ScriptIn, ScriptOut, ToWrite};
 
 /// How many lines of a script that begins with a request are requests.
 fn requests(octets: &[u8]) -> usize {
@@ -16,25 +17,26 @@ fn requests(octets: &[u8]) -> usize {
 fn reads(rt: HostRuntime) {
     let script = SCRIPT.as_bytes();
     for k in 0..script.len() + 2 {
-        let mut reader = Reader::new(script, 1, Some(k));
-        let mut writer = Writer::new(rt.alloc(), 100, None);
-        let end = plain(rt.alloc(), &mut reader, &mut writer);
+        let ran = run(&rt, rt.alloc(), REPORT, || {
+            let reader = Reader::new(script, 1, Some(k));
+            (reader, Writer::new(rt.alloc(), 100, None))
+        });
         let fails = k <= script.len();
         assert_eq!(rt;
-            end,
+            ran.end,
             if fails { Err(RunFault::Read) } else { Ok(()) },
             "the read {k}"
         );
-        assert_eq!(rt; reader.has_failed(), fails);
-        assert!(rt; !writer.has_failed());
+        assert_eq!(rt; ran.reader.has_failed(), fails);
+        assert!(rt; !ran.writer.has_failed());
         let read = script.get(..k).unwrap_or(script);
         assert_eq!(rt;
-            requests(&writer.text),
+            requests(&ran.writer.text),
             requests(read),
             "the text before the read {k}"
         );
         assert!(rt;
-            REPORT.as_bytes().starts_with(&writer.text),
+            REPORT.as_bytes().starts_with(&ran.writer.text),
             "the text before the read {k}"
         );
     }
@@ -45,38 +47,35 @@ fn reads(rt: HostRuntime) {
 fn writes(rt: HostRuntime) {
     let script = SCRIPT.as_bytes();
     for k in 0..REPORT.len() + 1 {
-        let mut reader = Reader::new(script, 100, None);
-        let mut writer = Writer::new(rt.alloc(), 1, Some(k));
-        let end = plain(rt.alloc(), &mut reader, &mut writer);
+        let ran = run(&rt, rt.alloc(), REPORT, || {
+            let reader = Reader::new(script, 100, None);
+            (reader, Writer::new(rt.alloc(), 1, Some(k)))
+        });
         let fails = k < REPORT.len();
         assert_eq!(rt;
-            end,
+            ran.end,
             if fails { Err(RunFault::Write) } else { Ok(()) },
             "the write {k}"
         );
-        assert_eq!(rt; writer.has_failed(), fails);
-        assert!(rt; !reader.has_failed());
-        assert_eq!(rt; writer.text.len(), k, "the text before the write {k}");
+        assert_eq!(rt; ran.writer.has_failed(), fails);
+        assert!(rt; !ran.reader.has_failed());
+        assert_eq!(rt; ran.writer.text.len(), k, "the text before the write {k}");
         assert!(rt;
-            REPORT.as_bytes().starts_with(&writer.text),
+            REPORT.as_bytes().starts_with(&ran.writer.text),
             "the text before the write {k}"
         );
     }
 }
 
-/// Where memory is refused, it is told, and what was written is a beginning of the report.
+/// Where memory is refused, it is told, and what was written is a beginning of the report; run once more, all is written.
 #[test]
 fn memory(rt: HostRuntime) {
-    let mut reader = Reader::new(SCRIPT.as_bytes(), 100, None);
-    let mut writer = Writer::new(rt.alloc(), 100, None);
-    let end = plain(rt.alloc(), &mut reader, &mut writer);
-    assert!(rt; REPORT.as_bytes().starts_with(&writer.text));
-    let whole = writer.text.len() == REPORT.len();
-    match end {
-        Ok(()) => assert!(rt; whole),
-        Err(RunFault::Write) => assert!(rt; writer.has_failed()),
-        Err(fault) => assert_eq!(rt; fault, RunFault::Memory),
-    }
+    let ran = run(&rt, rt.alloc(), REPORT, || {
+        let reader = Reader::new(SCRIPT.as_bytes(), 100, None);
+        (reader, Writer::new(rt.alloc(), 100, None))
+    });
+    assert_eq!(rt; ran.end, Ok(()));
+    assert_eq!(rt; ran.writer.text.as_slice(), REPORT.as_bytes());
 }
 
 /// A write that takes nothing has failed; an interrupted call is made again.

@@ -58,6 +58,8 @@ pub(super) struct Writer {
     pub(super) fails_at: Option<usize>,
     pub(super) calls: usize,
     pub(super) failed: bool,
+    /// Whether it failed since it was refused memory for its own text.
+    pub(super) refused: bool,
 }
 
 impl Writer {
@@ -68,6 +70,7 @@ impl Writer {
             fails_at,
             calls: 0,
             failed: false,
+            refused: false,
         }
     }
 }
@@ -80,8 +83,13 @@ impl ScriptOut for Writer {
     fn write(&mut self, octets: &[u8]) -> Result<usize, Failed> {
         let count = octets.len().min(self.most.max(1));
         let (piece, _) = octets.split_at(count);
-        if self.fails_at == Some(self.calls) || self.text.extend_from_slice(piece).is_err() {
+        if self.fails_at == Some(self.calls) {
             self.failed = true;
+            return Err(Failed);
+        }
+        if self.text.extend_from_slice(piece).is_err() {
+            self.failed = true;
+            self.refused = true;
             return Err(Failed);
         }
         self.calls = self.calls.saturating_add(1);

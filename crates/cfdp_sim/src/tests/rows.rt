@@ -1,13 +1,14 @@
 //! Worked scripts of `plain`, and what they write.
 use super::fakes::{Reader, Writer};
+use super::runs::{run, text_of};
 use super::{REPORT, SCRIPT};
-use crate::{RunFault, plain, plain_text};
+use crate::RunFault;
 use std::alloc::Global;
 use std::process::Abort;
 use std::test::Fail;
 
 /// Runs a script in memory, and once more octet by octet, and compares what is written.
-fn expect<R: Abort>(
+fn expect<R: Abort + Print>(
     rt: &R,
     alloc: Global,
     script: &str,
@@ -15,17 +16,18 @@ fn expect<R: Abort>(
     end: Result<(), RunFault>,
 ) -> Result<(), Fail> {
     let script = script.as_bytes();
-    match plain_text(alloc, script) {
+    match text_of(rt, alloc, script) {
         Ok(text) => {
             assert_eq!(rt; end, Ok(()));
             assert_eq!(rt; text.as_slice(), report.as_bytes());
         }
         Err(fault) => assert_eq!(rt; end, Err(fault)),
     }
-    let mut writer = Writer::new(alloc, 1, None);
-    let ran = plain(alloc, &mut Reader::new(script, 1, None), &mut writer);
-    assert_eq!(rt; ran, end);
-    assert_eq!(rt; writer.text.as_slice(), report.as_bytes());
+    let ran = run(rt, alloc, report, || {
+        (Reader::new(script, 1, None), Writer::new(alloc, 1, None))
+    });
+    assert_eq!(rt; ran.end, end);
+    assert_eq!(rt; ran.writer.text.as_slice(), report.as_bytes());
     Ok(())
 }
 
@@ -53,6 +55,9 @@ fn lists(rt: HostRuntime) -> Result<(), Fail> {
 #[test]
 fn actions(rt: HostRuntime) -> Result<(), Fail> {
     expect(&rt, rt.alloc(), SCRIPT, REPORT, Ok(()))?;
+    let script = "0003000161\n0003000162\n00054001620161\n0003100161\n";
+    let report = "010400016100\n010400016200\n0106400162016100\n010410016100\n";
+    expect(&rt, rt.alloc(), script, report, Ok(()))?;
     // A directory moves with what stands below it, but not below itself.
     let script = "0003500164\n00050003642f78\n00052001640165\n00051003652f78\n000720016503652f66\n";
     let report =

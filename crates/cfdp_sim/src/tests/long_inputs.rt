@@ -1,0 +1,72 @@
+//! Inputs longer than the input limit, with a bad line within the limit or behind it.
+use super::fakes::Writer;
+use crate::{Failed, RunFault, ScriptIn, plain};
+
+/// The input limit, in octets.
+const LIMIT: usize = 268_435_456;
+
+/// The most octets of a comment line, its newline among them.
+const COMMENT: usize = 4096;
+
+/// Comment lines of so many octets in all, then a bad line, and then comment lines without end.
+#[derive(Drop)]
+struct Comments<'a> {
+    before: usize,
+    bad: &'a [u8],
+}
+
+impl<'a> ScriptIn for Comments<'a> {
+    ghost use Rattle.std.specs.Prelude.{None, false};
+
+    ghost remaining = { λ s. None };
+
+    ghost failed = { λ s. false };
+
+    fn read(&mut self, buffer: &mut [u8]) -> Result<usize, Failed> {
+        if self.before == 0 && !self.bad.is_empty() {
+            let count = buffer.len().min(self.bad.len());
+            let (piece, rest) = self.bad.split_at(count);
+            buffer[..count].copy_from_slice(piece);
+            self.bad = rest;
+            return Ok(count);
+        }
+        let most = if self.bad.is_empty() {
+            COMMENT
+        } else {
+            self.before.min(COMMENT)
+        };
+        let count = buffer.len().min(most);
+        let line = &mut buffer[..count];
+        line.fill(b'#');
+        if let Some(last) = line.last_mut() {
+            *last = b'\n';
+        }
+        self.before = self.before.saturating_sub(count);
+        Ok(count)
+    }
+
+    fn has_failed(&self) -> bool {
+        false
+    }
+}
+
+/// Of an input longer than the limit, a bad line is told that ends within the limit, and no other.
+#[test]
+fn bad_lines(rt: HostRuntime) {
+    let cases = [
+        (0, RunFault::BadLine(1)),
+        (LIMIT - 2, RunFault::BadLine(65_537)),
+        (LIMIT - 1, RunFault::Read),
+        (LIMIT, RunFault::Read),
+    ];
+    for (before, fault) in cases {
+        let mut reader = Comments {
+            before,
+            bad: b"0\n",
+        };
+        let mut writer = Writer::new(rt.alloc(), 1, None);
+        let end = plain(rt.alloc(), &mut reader, &mut writer);
+        assert_eq!(rt; end, Err(fault), "a bad line after {before} octets");
+        assert!(rt; writer.text.is_empty());
+    }
+}
