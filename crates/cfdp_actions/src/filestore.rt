@@ -17,6 +17,8 @@ use std::alloc::Global;
 /// takes one block, and each 120 octets of a file or of a staged list one more. Slots are numbers below 64. A change
 /// answers its ticks: the blocks that it took, those that it gave back, and the blocks whose octets it moved. After
 /// want of memory the state is as before; where `takes_no_memory` answers true, no change answers it.
+///
+/// Ticks count blocks, not time: what a call costs is for each store to say.
 pub trait Filestore: Drop {
     ghost state: { Self → Store };
 

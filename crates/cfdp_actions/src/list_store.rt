@@ -15,7 +15,11 @@ pub const SLOTS: usize = 64;
 
 /// A store that keeps its paths in a plain list, in path order: the program that other stores are measured by.
 ///
-/// Its changes take memory. A look-up goes through the list.
+/// Its changes take memory. Cost: a look-up goes through the list up to its path, and a change also moves what stands
+/// after it; `free`, `has_entries`, `deepest`, `standing`, `rename` and `listing` go through the whole list. Octets are
+/// copied by `read`, `read_staged` and `stage_put`, which copy those that they are asked for, and by `append` and
+/// `replace`, which make the first file's new octets anew; `listing` reads all octets, for the checksums. A staged list is
+/// moved into its file, not copied.
 #[derive(Drop)]
 pub struct ListStore {
     entries: Vec<Listed>,

@@ -17,7 +17,8 @@ pub const PREFIXES: usize = 8;
 /// Up to eight paths, the prefixes: what stands at or below one of them is neither changed nor removed, and what stands
 /// above one of them is not moved. New paths may be made there.
 ///
-/// Contracts see it as the list of its paths. It takes no memory.
+/// Contracts see it as the list of its paths. It takes no memory, and a question compares its path with each prefix, of
+/// which there are eight at most.
 #[derive(Drop)]
 pub struct Protected {
     prefixes: ArrayVec<Option<Path>, PREFIXES>,
@@ -44,7 +45,7 @@ impl Protected {
         }
     }
 
-    /// Protects what stands at or below the path; hands the path back exactly where 8 stand there.
+    /// Protects what stands at or below the path; hands the path back exactly where eight are protected.
     pub fn add(&mut self, path: Path) -> Result<(), Path>
         ensures full { IsErr result ↔ (length self.old ≡ 8) }
         ensures ok { OnOk result (self.new ≡ self.old ++ path ∷ []) }

@@ -49,6 +49,9 @@ impl Leases {
     }
 
     /// The first transaction, in order of admission, whose footprint conflicts with this one. Takes no memory.
+    ///
+    /// Cost: for each grant up to that one, a comparison of each exclusive path of either footprint with each path of the
+    /// other.
     pub fn conflict(&self, footprint: &Footprint) -> Option<TransactionId>
         ensures first { result ≡ first_conflict self.now footprint.now }
         ensures apart { AreApart self.now }
@@ -56,7 +59,7 @@ impl Leases {
         find_conflict(&self.grants, footprint)
     }
 
-    /// Whether the transaction holds a footprint. Takes no memory.
+    /// Whether the transaction holds a footprint. Takes no memory, and goes through the transactions.
     pub fn holds(&self, transaction: TransactionId) -> bool
         ensures { result ≡ holds self.now transaction }
     {
@@ -67,7 +70,8 @@ impl Leases {
     ///
     /// # Errors
     ///
-    /// Want of memory: nothing has changed then, and the footprint is dropped.
+    /// Want of memory: nothing has changed then, and the footprint is dropped. Cost: one growth at most, for the grant's
+    /// place; the footprint is moved, not copied.
     pub fn grant(&mut self, transaction: TransactionId, footprint: Footprint) -> Result<(), Memory>
         requires free { first_conflict self.old footprint ≡ None }
         requires unheld { IsFalse (holds self.old transaction) }
@@ -81,7 +85,8 @@ impl Leases {
         Ok(())
     }
 
-    /// Takes a transaction's footprint away; nothing changes where it holds none. Takes no memory.
+    /// Takes a transaction's footprint away; nothing changes where it holds none. Takes no memory, and goes through the
+    /// transactions.
     pub fn release(&mut self, transaction: TransactionId)
         ensures { self.new ≡ without self.old transaction }
     {

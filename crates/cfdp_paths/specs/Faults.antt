@@ -1,4 +1,4 @@
--- Why the octets of a file name (CCSDS 727.0-B-5, sections 4.9 and 5.4) spell no path.
+-- Why the octets of a file name (CCSDS 727.0-B-5 §4.9 and §5.4) spell no path.
 --     fault_of_name name        what is wrong with the name alone, if anything
 --     first_fault room names    the leftmost fault, where at most `room` names may come
 --     fault_of octets           the fault of the octets, if they have one

@@ -1,5 +1,5 @@
 -- Paths of the filestore, as lists of names, and what it is to spell one. The standard carries file names as octets
--- (CCSDS 727.0-B-5, sections 4.9 and 5.4) and leaves their form to the filestore: this is the form here.
+-- (CCSDS 727.0-B-5 §4.9 and §5.4) and leaves their form to the filestore: this is the form here.
 --     Name, Path                          a list of octets, a list of names
 --     names_of vectors                    the names that vectors of octets hold
 --     IsName, IsPath, is_name, is_path    within the limits, as a fact and as a test

@@ -1,7 +1,7 @@
 //! Paths of the filestore: lists of 1 to 8 names of 1 to 96 octets, read from octets and compared by
 //! their names. Contracts see a [`Path`] as its list of names, each a list of octets; `Rattle.cfdp_paths.specs.Paths`
 //! has the words. What is read is exactly what a path's names spell when they are joined by `/`
-//! (CCSDS 727.0-B-5, sections 4.9 and 5.4).
+//! (CCSDS 727.0-B-5 §4.9 and §5.4).
 #![tactic(auto)]
 
 mod copying;

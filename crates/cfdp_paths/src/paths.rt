@@ -18,7 +18,7 @@ use std::marker::Model;
 
 /// A path of the filestore: 1 to 8 names of 1 to 96 octets, none of which holds `/` or the octet 0, or is `.` or `..`.
 ///
-/// Filestore requests (CCSDS 727.0-B-5, section 5.4) and Metadata PDUs carry the octets that spell one. Contracts see a
+/// Filestore requests (CCSDS 727.0-B-5 §5.4) and Metadata PDUs carry the octets that spell one. Contracts see a
 /// path as the list of its names. Paths are ordered by their names, and names by their octets, so that a path stands
 /// before all that is below it.
 #[derive(Debug, Drop)]
@@ -175,7 +175,7 @@ impl Path {
     }
 
     /// The path `to/r`, where this path is `from/r`: where what is at or below a directory stands once it is renamed
-    /// (CCSDS 727.0-B-5, section 4.9).
+    /// (CCSDS 727.0-B-5 §4.9).
     ///
     /// # Errors
     ///

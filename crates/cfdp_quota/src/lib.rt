@@ -3,7 +3,7 @@
 //! A [`Quota`] keeps, for each of 64 slots, how many free blocks of the filestore are set aside for the
 //! transaction that has the slot: what it takes comes out of its reserve, what it gives back goes into it, and
 //! what nobody has reserved is spare. A [`Meter`] counts the steps that one transaction may take. Both are
-//! plain numbers: no call takes memory, and none can fail.
+//! plain numbers: no call takes memory, none can fail, and each takes constant time.
 #![tactic(auto)]
 
 mod meter;

@@ -24,14 +24,14 @@ impl Model for Meter {
 }
 
 impl Meter {
-    /// A meter of `granted` steps, none of them spent. Takes constant time.
+    /// A meter of `granted` steps, none of them spent.
     pub const fn new(granted: u32) -> Meter
         ensures { result ≡ record { granted = granted; spent = 0 } }
     {
         Meter { granted, spent: 0 }
     }
 
-    /// Spends `n` of the steps that are left. Takes constant time.
+    /// Spends `n` of the steps that are left.
     pub fn spend(&mut self, n: u32)
         requires { n ≤ left self.old }
         ensures spent { self.new.spent ≡ self.old.spent + n }

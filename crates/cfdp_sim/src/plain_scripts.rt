@@ -19,7 +19,7 @@ use std::alloc::Global;
 /// The blocks of the filestore.
 const BLOCKS: u32 = 64;
 
-/// Runs a script of filestore requests (CCSDS 727.0-B-5, §4.9 and §5.4.1).
+/// Runs a script of filestore requests (CCSDS 727.0-B-5 §4.9 and §5.4.1).
 ///
 /// Each line is a request TLV in hexadecimal of either case, with spaces between pairs of digits, before and
 /// behind. It is answered by a line: its response TLV in lower case, or `dropped` and why. An empty line, or one

@@ -1,4 +1,4 @@
-//! The filestore request that a line of `plain` brings, and the line that answers it (CCSDS 727.0-B-5, §5.4).
+//! The filestore request that a line of `plain` brings, and the line that answers it (CCSDS 727.0-B-5 §5.4).
 ghost use Rattle.std.specs.Prelude.{◌≡◌, ℕ, ◌+◌, ◌≤◌, length, Ok, Err, IfOk, Some};
 ghost use Rattle.cfdp_status.specs.Codes.{action_of};
 ghost use Rattle.cfdp_tlv.specs.Grammar.{names_of, request_at};

@@ -1,4 +1,4 @@
-//! Filestore requests in lists, performed on one filestore (CCSDS 727.0-B-5, §4.9).
+//! Filestore requests in lists, performed on one filestore (CCSDS 727.0-B-5 §4.9).
 ghost use Rattle.std.specs.Prelude.{◌≡◌, ◌≤◌, false, length, Some, Ok, IfOk, Err};
 ghost use Rattle.cfdp_paths.specs.Paths.{path_of};
 ghost use Rattle.cfdp_sim.specs.Plain.{plain_blocks, request_by, performed_on, plain_answer};

@@ -53,11 +53,11 @@ impl<'a> View<'a> {
     ///
     /// Want of memory.
     ///
-    /// Cost: one `standing` of the store for each exclusive path that is not at or below an earlier one, and a `kind` and a
-    /// `size` for each other shared path; no listing, no octets and no checksum. What the footprint does not cover is not
-    /// asked for. Each thing that stands below an exclusive path is compared with the exclusive paths before that one, and
-    /// each shared path with all exclusive ones and with the shared ones that stand: the comparisons grow with the products
-    /// of these counts.
+    /// Cost: one `free` of the store, one `standing` for each exclusive path that is not at or below an earlier one, and a
+    /// `kind` and a `size` for each other shared path; no listing, no octets and no checksum. What the footprint does not
+    /// cover is not asked for. Each thing that stands below an exclusive path is compared with the exclusive paths before
+    /// that one, and each shared path with all exclusive ones and with the shared ones that stand: the comparisons grow
+    /// with the products of these counts.
     pub fn of<S: Filestore>(
         alloc: Global,
         store: &S,
