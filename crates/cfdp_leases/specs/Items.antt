@@ -3,7 +3,7 @@
 --     items_of destination requests      the install, where there is a destination, and then the requests in order
 --     performed prefixes F slot item     the filestore after the item's row
 --     content                            the blocks of the octets of what stands at a path
---     step_bound F item                  how many ticks the item may take, by what stands at its names
+--     bound_by octets all item           how many ticks the item may take, by the blocks at its names;  step_bound F item: in a filestore
 use Rattle.std.specs.Prelude.{ℕ, ◌+◌, ◌*◌, if◌then◌else◌, List, ◌++◌, [], ◌∷◌, Option, Some, None, length, map}
 use Rattle.cfdp_paths.specs.Paths.{Path, same_path}
 use Rattle.cfdp_actions.specs.Filestore.{Node, Directory, File, Filestore, node_at, blocks_of, weight, after}
@@ -24,14 +24,18 @@ content None = 0
 content (Some Directory) = 0
 content (Some (File octets)) = blocks_of (length octets)
 
+-- how many ticks an item may take, by the blocks at a path: those of its octets, and all of them
+abbrev pub bound_by : (Path → ℕ) → (Path → ℕ) → Item → ℕ
+bound_by octets all (Install p) = 1 + octets p
+bound_by octets all (Perform (CreateFile p)) = 1
+bound_by octets all (Perform (DeleteFile p)) = 1 + octets p
+bound_by octets all (Perform (RenameFile p q)) = 0
+bound_by octets all (Perform (AppendFile p q)) = 2 * octets q
+bound_by octets all (Perform (ReplaceFile p q)) = if same_path p q then 0 else octets p + 2 * octets q
+bound_by octets all (Perform (CreateDirectory p)) = 1
+bound_by octets all (Perform (RemoveDirectory p)) = 1
+bound_by octets all (Perform (DenyFile p)) = all p
+bound_by octets all (Perform (DenyDirectory p)) = all p
+
 unfoldable pub step_bound : Filestore → Item → ℕ
-step_bound F (Install p) = 1 + content (node_at F p)
-step_bound F (Perform (CreateFile p)) = 1
-step_bound F (Perform (DeleteFile p)) = 1 + content (node_at F p)
-step_bound F (Perform (RenameFile p q)) = 0
-step_bound F (Perform (AppendFile p q)) = 2 * content (node_at F q)
-step_bound F (Perform (ReplaceFile p q)) = if same_path p q then 0 else content (node_at F p) + 2 * content (node_at F q)
-step_bound F (Perform (CreateDirectory p)) = 1
-step_bound F (Perform (RemoveDirectory p)) = 1
-step_bound F (Perform (DenyFile p)) = weight (node_at F p)
-step_bound F (Perform (DenyDirectory p)) = weight (node_at F p)
+step_bound F = bound_by (λ p. content (node_at F p)) (λ p. weight (node_at F p))

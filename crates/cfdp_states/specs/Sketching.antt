@@ -24,7 +24,7 @@ use Rattle.cfdp_actions.specs.Filestore.{Node, Directory, File, Filestore, node_
 use Rattle.cfdp_actions.specs.Actions.{Request, CreateFile, DeleteFile, RenameFile, AppendFile, ReplaceFile, CreateDirectory, RemoveDirectory, DenyFile, DenyDirectory, Item, Install, Perform, Performed, is_protected, table, row}
 use Rattle.cfdp_actions.specs.Store.{is_file_kind}
 use Rattle.cfdp_actions.specs.declared.kind.Standing.{Standing}
-use Rattle.cfdp_leases.specs.Items.{performed}
+use Rattle.cfdp_leases.specs.Items.{performed, bound_by}
 use Rattle.cfdp_states.specs.declared.extent.Extent.{Extent}
 use Rattle.cfdp_states.specs.declared.extent.Extent.TheVariants as extent
 use Rattle.cfdp_states.specs.declared.extent.Outline.{Outline}
@@ -99,16 +99,7 @@ weight_in (Some e) = extent_weight e
 
 -- how many ticks an item may take, by the sizes of a list of outlines
 abbrev pub bound_on : List Outline → Item → ℕ
-bound_on os (Install p) = 1 + content_in (found os p)
-bound_on os (Perform (CreateFile p)) = 1
-bound_on os (Perform (DeleteFile p)) = 1 + content_in (found os p)
-bound_on os (Perform (RenameFile p q)) = 0
-bound_on os (Perform (AppendFile p q)) = 2 * content_in (found os q)
-bound_on os (Perform (ReplaceFile p q)) = if same_path p q then 0 else content_in (found os p) + 2 * content_in (found os q)
-bound_on os (Perform (CreateDirectory p)) = 1
-bound_on os (Perform (RemoveDirectory p)) = 1
-bound_on os (Perform (DenyFile p)) = weight_in (found os p)
-bound_on os (Perform (DenyDirectory p)) = weight_in (found os p)
+bound_on os = bound_by (λ p. content_in (found os p)) (λ p. weight_in (found os p))
 
 -- the root or a directory
 abbrev pub is_folder : Option Extent → Bool
