@@ -1,137 +1,184 @@
+//! Worked leases and footprints, and grants for which there is no memory.
+
 use super::*;
 use cfdp_actions::Request;
-use cfdp_paths::{Memory, Path};
+use cfdp_paths::{Memory, Path, PathFault};
 use cfdp_status::{Action, TransactionId};
-use std::alloc::Global;
+use std::alloc::{AllocError, Global};
 use std::process::Abort;
-use std::test::Fail;
+
+/// A request by its action and names, the second one empty where there is none.
+type Named = (Action, &'static [u8], &'static [u8]);
+
+/// What happens to the leases, and what they answer. Transactions are of entity 1, and go by their numbers.
+#[derive(Clone, Copy)]
+enum Event {
+    /// The transaction is granted the footprint of the request.
+    Granted(u64, Named),
+    /// The first transaction whose footprint conflicts with that of the request.
+    Asked(Named, Option<u64>),
+    /// The transaction's footprint is taken away.
+    Released(u64),
+}
 
 fn id(number: u64) -> TransactionId {
     TransactionId { source: 1, number }
 }
 
-/// The footprint of one request, where there is memory for it.
-fn of(alloc: Global, action: Action, first: &[u8], second: &[u8]) -> Option<Footprint> {
-    let first = Path::parse(alloc, first).ok()?;
+/// The path of a name, which has to spell one.
+fn path_of(rt: &impl Abort, alloc: Global, name: &[u8]) -> Result<Path, Memory> {
+    match Path::parse(alloc, name) {
+        Ok(path) => Ok(path),
+        Err(fault) => {
+            assert_eq!(rt; fault, PathFault::Memory, "on {name:?}");
+            Err(AllocError)
+        }
+    }
+}
+
+fn request(rt: &impl Abort, alloc: Global, named: Named) -> Result<Request, Memory> {
+    let (action, first, second) = named;
     let second = if second.is_empty() {
         None
     } else {
-        Some(Path::parse(alloc, second).ok()?)
+        Some(path_of(rt, alloc, second)?)
     };
-    let request = Request::new(action, first, second)?;
-    footprint(alloc, &[request], None).ok()
+    let request = Request::new(action, path_of(rt, alloc, first)?, second);
+    assert!(rt; request.is_some(), "on {named:?}");
+    request.ok_or(AllocError)
+}
+
+/// The footprint of one request.
+fn footprint_of(rt: &impl Abort, alloc: Global, named: Named) -> Result<Footprint, Memory> {
+    let request = request(rt, alloc, named)?;
+    footprint(alloc, &[request], None)
 }
 
 fn admit(
     rt: &impl Abort,
     leases: &mut Leases,
-    transaction: TransactionId,
+    number: u64,
     footprint: Footprint,
 ) -> Result<(), Memory> {
+    let transaction = id(number);
     assert!(rt; leases.conflict(&footprint).is_none());
     assert!(rt; !leases.holds(transaction));
     leases.grant(transaction, footprint)
 }
 
-#[test]
-fn a_directory_is_shared_and_not_removed(rt: HostRuntime) -> Result<(), Fail> {
-    let alloc = rt.alloc();
-    let mut leases = Leases::new(alloc);
-    admit(
-        &rt,
-        &mut leases,
-        id(22),
-        of(alloc, Action::CreateFile, b"d/x", b"").ok_or("memory")?,
-    )?;
-    assert_eq!(rt;
-        leases.conflict(&of(alloc, Action::CreateFile, b"d/y", b"").ok_or("memory")?),
-        None
-    );
-    assert_eq!(rt;
-        leases.conflict(&of(alloc, Action::RemoveDirectory, b"d", b"").ok_or("memory")?),
-        Some(id(22))
-    );
-    assert_eq!(rt;
-        leases.conflict(&of(alloc, Action::RenameFile, b"d", b"e").ok_or("memory")?),
-        Some(id(22))
-    );
-    assert_eq!(rt;
-        leases.conflict(&of(alloc, Action::AppendFile, b"z", b"d/x").ok_or("memory")?),
-        Some(id(22))
-    );
-    Ok(())
-}
-
-#[test]
-fn the_first_admitted_is_named(rt: HostRuntime) -> Result<(), Fail> {
-    let alloc = rt.alloc();
-    let mut leases = Leases::new(alloc);
-    admit(
-        &rt,
-        &mut leases,
-        id(31),
-        of(alloc, Action::CreateFile, b"d/p", b"").ok_or("memory")?,
-    )?;
-    admit(
-        &rt,
-        &mut leases,
-        id(32),
-        of(alloc, Action::CreateFile, b"d/q", b"").ok_or("memory")?,
-    )?;
-    admit(
-        &rt,
-        &mut leases,
-        id(33),
-        of(alloc, Action::CreateFile, b"d/r", b"").ok_or("memory")?,
-    )?;
-    let whole = of(alloc, Action::RemoveDirectory, b"d", b"").ok_or("memory")?;
-    assert_eq!(rt; leases.conflict(&whole), Some(id(31)));
-    leases.release(id(31));
-    assert!(rt; !leases.holds(id(31)));
-    assert_eq!(rt; leases.conflict(&whole), Some(id(32)));
-    leases.release(id(33));
-    leases.release(id(31));
-    assert_eq!(rt; leases.conflict(&whole), Some(id(32)));
-    leases.release(id(32));
-    assert_eq!(rt; leases.conflict(&whole), None);
-    Ok(())
-}
-
-#[test]
-fn a_footprint_covers_its_paths(rt: HostRuntime) -> Result<(), Fail> {
-    let alloc = rt.alloc();
-    let append = Request::new(
-        Action::AppendFile,
-        Path::parse(alloc, b"a/b")?,
-        Some(Path::parse(alloc, b"c/d/e")?),
-    );
-    let moving = Request::new(
-        Action::RenameFile,
-        Path::parse(alloc, b"old")?,
-        Some(Path::parse(alloc, b"new")?),
-    );
-    let requests = [append.ok_or("append")?, moving.ok_or("rename")?];
-    let held = footprint(alloc, &requests, Some(&Path::parse(alloc, b"in/file")?))?;
-    for (octets, lease) in [
-        (b"in/file".as_slice(), Some(Lease::Exclusive)),
-        (b"in".as_slice(), Some(Lease::Shared)),
-        (b"a/b".as_slice(), Some(Lease::Exclusive)),
-        (b"a/b/x".as_slice(), Some(Lease::Exclusive)),
-        (b"a".as_slice(), Some(Lease::Shared)),
-        (b"c/d/e".as_slice(), Some(Lease::Shared)),
-        (b"c/d/e/x".as_slice(), None),
-        (b"c/d".as_slice(), Some(Lease::Shared)),
-        (b"c".as_slice(), Some(Lease::Shared)),
-        (b"old/x".as_slice(), Some(Lease::Exclusive)),
-        (b"new".as_slice(), Some(Lease::Exclusive)),
-        (b"newer".as_slice(), None),
-    ] {
-        assert_eq!(rt; covers(&held, &Path::parse(alloc, octets)?), lease);
+fn happen(rt: &impl Abort, alloc: Global, leases: &mut Leases, event: Event) -> Result<(), Memory> {
+    match event {
+        Event::Granted(number, named) => {
+            admit(rt, leases, number, footprint_of(rt, alloc, named)?)?;
+            assert!(rt; leases.holds(id(number)));
+        }
+        Event::Asked(named, first) => {
+            let found = leases.conflict(&footprint_of(rt, alloc, named)?);
+            assert_eq!(rt; found, first.map(id), "on {named:?}");
+        }
+        Event::Released(number) => {
+            leases.release(id(number));
+            assert!(rt; !leases.holds(id(number)));
+        }
     }
     Ok(())
 }
 
-/// What the leases and a footprint answer.
+fn try_events(rt: &impl Abort, alloc: Global, events: &[Event]) -> Result<(), Memory> {
+    let mut leases = Leases::new(alloc);
+    for event in events {
+        happen(rt, alloc, &mut leases, *event)?;
+    }
+    Ok(())
+}
+
+/// Goes through the events on leases of nothing. Where memory is refused all is tried once more.
+fn check(rt: &impl Abort, alloc: Global, events: &[Event]) -> Result<(), Memory> {
+    match try_events(rt, alloc, events) {
+        Ok(()) => Ok(()),
+        Err(_) => try_events(rt, alloc, events),
+    }
+}
+
+#[test]
+fn a_directory_is_shared_and_not_removed(rt: HostRuntime) -> Result<(), Memory> {
+    check(
+        &rt,
+        rt.alloc(),
+        &[
+            Event::Granted(22, (Action::CreateFile, b"d/x", b"")),
+            Event::Asked((Action::CreateFile, b"d/y", b""), None),
+            Event::Asked((Action::RemoveDirectory, b"d", b""), Some(22)),
+            Event::Asked((Action::RenameFile, b"d", b"e"), Some(22)),
+            Event::Asked((Action::AppendFile, b"z", b"d/x"), Some(22)),
+        ],
+    )
+}
+
+/// Removes the directory in which three transactions create a file each.
+const REMOVE: Named = (Action::RemoveDirectory, b"d", b"");
+
+#[test]
+fn the_first_admitted_is_named(rt: HostRuntime) -> Result<(), Memory> {
+    check(
+        &rt,
+        rt.alloc(),
+        &[
+            Event::Granted(31, (Action::CreateFile, b"d/p", b"")),
+            Event::Granted(32, (Action::CreateFile, b"d/q", b"")),
+            Event::Granted(33, (Action::CreateFile, b"d/r", b"")),
+            Event::Asked(REMOVE, Some(31)),
+            Event::Released(31),
+            Event::Asked(REMOVE, Some(32)),
+            Event::Released(33),
+            Event::Released(31),
+            Event::Asked(REMOVE, Some(32)),
+            Event::Released(32),
+            Event::Asked(REMOVE, None),
+        ],
+    )
+}
+
+/// How the footprint of an append of `c/d/e` to `a/b`, of a rename of `old` to `new` and of a file `in/file` holds paths.
+const COVERED: &[(&[u8], Option<Lease>)] = &[
+    (b"in/file", Some(Lease::Exclusive)),
+    (b"in", Some(Lease::Shared)),
+    (b"a/b", Some(Lease::Exclusive)),
+    (b"a/b/x", Some(Lease::Exclusive)),
+    (b"a", Some(Lease::Shared)),
+    (b"c/d/e", Some(Lease::Shared)),
+    (b"c/d/e/x", None),
+    (b"c/d", Some(Lease::Shared)),
+    (b"c", Some(Lease::Shared)),
+    (b"old/x", Some(Lease::Exclusive)),
+    (b"new", Some(Lease::Exclusive)),
+    (b"newer", None),
+];
+
+fn try_covers(rt: &impl Abort, alloc: Global) -> Result<(), Memory> {
+    let requests = [
+        request(rt, alloc, (Action::AppendFile, b"a/b", b"c/d/e"))?,
+        request(rt, alloc, (Action::RenameFile, b"old", b"new"))?,
+    ];
+    let destination = path_of(rt, alloc, b"in/file")?;
+    let held = footprint(alloc, &requests, Some(&destination))?;
+    for (name, lease) in COVERED {
+        let path = path_of(rt, alloc, name)?;
+        assert_eq!(rt; covers(&held, &path), *lease, "on {name:?}");
+    }
+    Ok(())
+}
+
+#[test]
+fn a_footprint_covers_its_paths(rt: HostRuntime) -> Result<(), Memory> {
+    match try_covers(&rt, rt.alloc()) {
+        Ok(()) => Ok(()),
+        Err(_) => try_covers(&rt, rt.alloc()),
+    }
+}
+
+/// The first transaction whose footprint conflicts with each of these, how the first of them holds the paths, and which of
+/// five transactions hold one.
 fn answers(
     leases: &Leases,
     probes: &[Footprint; 2],
@@ -143,44 +190,51 @@ fn answers(
     (conflicts, leased, held)
 }
 
+/// The footprints of five creates, of `a` to `e`.
+fn five(rt: &impl Abort, alloc: Global) -> Result<Vec<Footprint>, Memory> {
+    let creates: [Named; 5] = [
+        (Action::CreateFile, b"a", b""),
+        (Action::CreateFile, b"b", b""),
+        (Action::CreateFile, b"c", b""),
+        (Action::CreateFile, b"d", b""),
+        (Action::CreateFile, b"e", b""),
+    ];
+    let mut footprints = Vec::with_capacity(alloc, 5)?;
+    for named in creates {
+        footprints.push(footprint_of(rt, alloc, named)?)?;
+    }
+    Ok(footprints)
+}
+
 /// Five grants one after another. All else that takes memory comes before them, so that only a grant can be refused
-/// from then on: that changes no answer, and the same is granted when it is asked for again. `None` where there was no
-/// memory for what comes before them.
-fn grant_five(rt: &impl Abort, alloc: Global) -> Option<()> {
+/// from then on: that changes no answer, and the same is granted when it is asked for again.
+fn grant_five(rt: &impl Abort, alloc: Global) -> Result<(), Memory> {
     let probes = [
-        of(alloc, Action::DeleteFile, b"a", b"")?,
-        of(alloc, Action::DeleteFile, b"e", b"")?,
+        footprint_of(rt, alloc, (Action::DeleteFile, b"a", b""))?,
+        footprint_of(rt, alloc, (Action::DeleteFile, b"e", b""))?,
     ];
-    let paths = [
-        Path::parse(alloc, b"a").ok()?,
-        Path::parse(alloc, b"e").ok()?,
-    ];
-    let wanted = [
-        (1, of(alloc, Action::CreateFile, b"a", b"")?),
-        (2, of(alloc, Action::CreateFile, b"b", b"")?),
-        (3, of(alloc, Action::CreateFile, b"c", b"")?),
-        (4, of(alloc, Action::CreateFile, b"d", b"")?),
-        (5, of(alloc, Action::CreateFile, b"e", b"")?),
-    ];
-    let names = [b"a", b"b", b"c", b"d", b"e"];
+    let paths = [path_of(rt, alloc, b"a")?, path_of(rt, alloc, b"e")?];
+    let wanted = five(rt, alloc)?.into_iter().zip(five(rt, alloc)?);
     let mut leases = Leases::new(alloc);
-    for ((number, footprint), name) in wanted.into_iter().zip(names) {
+    for (number, (footprint, again)) in (1..=5u64).zip(wanted) {
         let before = answers(&leases, &probes, &paths);
-        if admit(rt, &mut leases, id(number), footprint).is_err() {
+        if admit(rt, &mut leases, number, footprint).is_err() {
             assert_eq!(rt; answers(&leases, &probes, &paths), before);
-            let again = of(alloc, Action::CreateFile, name, b"")?;
-            assert_eq!(rt; admit(rt, &mut leases, id(number), again), Ok(()));
+            assert_eq!(rt; admit(rt, &mut leases, number, again), Ok(()));
         }
         assert!(rt; leases.holds(id(number)));
     }
     assert_eq!(rt; leases.conflict(&probes[0]), Some(id(1)));
     assert_eq!(rt; leases.conflict(&probes[1]), Some(id(5)));
-    Some(())
+    Ok(())
 }
 
-/// Shows its point where `rt try --test --fail-alloc N` refuses each growth in turn: this test then answers want of memory
-/// where what comes before the grants was refused, and passes where a grant was, or nothing.
+/// Shows its point where `rt try --test --fail-alloc N` refuses each growth in turn. Where that is one before the grants,
+/// all is tried once more.
 #[test]
-fn a_refused_grant_changes_nothing(rt: HostRuntime) -> Result<(), Fail> {
-    Ok(grant_five(&rt, rt.alloc()).ok_or("memory")?)
+fn a_refused_grant_changes_nothing(rt: HostRuntime) -> Result<(), Memory> {
+    match grant_five(&rt, rt.alloc()) {
+        Ok(()) => Ok(()),
+        Err(_) => grant_five(&rt, rt.alloc()),
+    }
 }

@@ -16,6 +16,3 @@ mod view;
 
 pub use extent::Extent;
 pub use view::View;
-
-#[cfg(test)]
-mod tests;

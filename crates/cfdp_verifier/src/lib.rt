@@ -11,8 +11,6 @@ mod judging;
 mod parsing;
 mod proposal;
 mod refusal;
-#[cfg(test)]
-mod tests;
 mod verdict;
 mod verifying;
 

@@ -2,13 +2,13 @@
 
 ghost use Rattle.std.specs.Prelude.{◌≡◌, ◌<◌, ◌≤◌, IfNone};
 
-use crate::{Place, Proposal, Refusal, Verdict, verify};
 use cfdp_actions::{Filestore, Kind, ListStore, Protected, Request, perform};
 use cfdp_leases::Leases;
 use cfdp_paths::{Memory, Path, PathFault};
 use cfdp_quota::Quota;
-use cfdp_status::TransactionId;
+use cfdp_status::{Action, TransactionId};
 use cfdp_tlv::{FILESTORE_REQUEST, FilestoreRequest, TlvFault, read_request, read_tlv};
+use cfdp_verifier::{Place, Proposal, Refusal, Verdict, verify};
 use std::alloc::{AllocError, Global};
 use std::process::Abort;
 
@@ -118,7 +118,7 @@ pub fn read(rt: &impl Abort, alloc: Global, tlv: &[u8]) -> Result<FilestoreReque
 }
 
 /// The path of a name, which has to spell one.
-fn path_of(rt: &impl Abort, alloc: Global, name: &[u8]) -> Result<Path, Memory> {
+pub fn path_of(rt: &impl Abort, alloc: Global, name: &[u8]) -> Result<Path, Memory> {
     match Path::parse(alloc, name) {
         Ok(path) => Ok(path),
         Err(fault) => {
@@ -128,17 +128,29 @@ fn path_of(rt: &impl Abort, alloc: Global, name: &[u8]) -> Result<Path, Memory> 
     }
 }
 
+/// The request for an action at its names, the second of which is empty where there is none.
+pub fn request(
+    rt: &impl Abort,
+    alloc: Global,
+    action: Action,
+    first: &[u8],
+    second: &[u8],
+) -> Result<Request, Memory> {
+    let other = if second.is_empty() {
+        None
+    } else {
+        Some(path_of(rt, alloc, second)?)
+    };
+    let request = Request::new(action, path_of(rt, alloc, first)?, other);
+    assert!(rt; request.is_some(), "on {first:?} {second:?}");
+    request.ok_or(AllocError)
+}
+
 /// The request of a TLV with paths for its names.
 pub fn parse(rt: &impl Abort, alloc: Global, tlv: &[u8]) -> Result<Request, Memory> {
     let sent = read(rt, alloc, tlv)?;
-    let second = match sent.second() {
-        None => None,
-        Some(name) => Some(path_of(rt, alloc, name)?),
-    };
-    let first = path_of(rt, alloc, sent.first())?;
-    let request = Request::new(sent.action(), first, second);
-    assert!(rt; request.is_some(), "on {tlv:?}");
-    request.ok_or(AllocError)
+    let second = sent.second().unwrap_or(b"");
+    request(rt, alloc, sent.action(), sent.first(), second)
 }
 
 /// Puts a file of so many octets at the path; false where it does not fit or may not be.

@@ -1,11 +1,11 @@
 //! Verdicts for which memory is refused: `rt try --test --fail-alloc N` refuses the Nth growth, and no other.
 
 use super::scene::{Before, Scene, Told, parse, read};
-use crate::Proposal;
 use cfdp_actions::Filestore;
 use cfdp_leases::footprint;
 use cfdp_paths::Memory;
 use cfdp_status::TransactionId;
+use cfdp_verifier::Proposal;
 use std::alloc::Global;
 use std::process::Abort;
 

@@ -4,9 +4,9 @@ ghost use Rattle.std.specs.Prelude.{◌≡◌, ◌<◌, IfNone};
 ghost use Rattle.cfdp_quota.specs.Budget.{spare};
 
 use super::scene::{Before, Row, Scene, Told, check, read};
-use crate::{Proposal, Verdict, verify};
 use cfdp_paths::Memory;
 use cfdp_quota::Quota;
+use cfdp_verifier::{Proposal, Verdict, verify};
 use std::alloc::Global;
 use std::process::Abort;
 
