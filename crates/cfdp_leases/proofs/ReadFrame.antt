@@ -1,7 +1,7 @@
 -- A row reads only what the footprint covers.
 --     covered_names, covered_above      what `IsWithin` says of the item's names and of what is above them
 --     frame_of_reads
-use Rattle.std.proofs.Common.{◌≡◌, ◌≢◌, refl, sym, ◌∙◌, ap, ℕ, ◌+◌, ◌*◌, Bool, true, false, cond, not, ◌&&◌, List, [], ◌∷◌, ◌++◌, arith}
+use Rattle.std.proofs.Common.{◌≡◌, ◌≢◌, refl, sym, ◌∙◌, ap, ℕ, ◌+◌, ◌*◌, Bool, true, false, cond, not, ◌&&◌, List, [], ◌∷◌, ◌++◌, min, arith}
 use Rattle.std.specs.Prelude.{flat_map, Option, None, is_some, if◌then◌else◌, ◌==◌}
 use Rattle.std.specs.FinMap as finite
 use Rattle.std.specs.declared.cmp.Ordering.TheVariants.{Equal}
@@ -130,7 +130,7 @@ module _ (fp : Footprint) (F G : Filestore) (slot : ℕ) (alike : IsAlike fp slo
   bound_alike (Perform (CreateDirectory p)) w = refl
   bound_alike (Perform (RemoveDirectory p)) w = refl
   bound_alike (Perform (DenyFile p)) w = ap weight (node_alike p w.exclusive.0)
-  bound_alike (Perform (DenyDirectory p)) w = ap weight (node_alike p w.exclusive.0)
+  bound_alike (Perform (DenyDirectory p)) w = ap (λ node. min 1 (weight node)) (node_alike p w.exclusive.0)
 
 pub frame_of_reads : FrameOfReads
 frame_of_reads prefixes fp F G slot item alike w = (row_alike fp F G slot alike prefixes item w, bound_alike fp F G slot alike item w)

@@ -92,4 +92,4 @@ bound-counted os F h item = by_item item
     by_item (Perform (CreateDirectory p)) = refl
     by_item (Perform (RemoveDirectory p)) = refl
     by_item (Perform (DenyFile p)) = sym (weighed p)
-    by_item (Perform (DenyDirectory p)) = sym (weighed p)
+    by_item (Perform (DenyDirectory p)) = let e = weighed p in omega (arith, e)

@@ -183,4 +183,4 @@ module _ (slot other m n : ℕ) (F G : Filestore) (h : IsLonger slot other m n F
   step_bound-longer (Perform (CreateDirectory p)) = le_refl 1
   step_bound-longer (Perform (RemoveDirectory p)) = le_refl 1
   step_bound-longer (Perform (DenyFile p)) = longer-weight (h.nodes p)
-  step_bound-longer (Perform (DenyDirectory p)) = longer-weight (h.nodes p)
+  step_bound-longer (Perform (DenyDirectory p)) = let more = longer-weight (h.nodes p) in omega (arith, more)

@@ -1,5 +1,5 @@
 -- Each row: its growth, and its ticks against the step bound.
-use Rattle.std.proofs.Common.{◌≡◌, refl, ap, Bool, true, false, Option, Some, None, ℕ, ◌+◌, ◌*◌, ◌<◌, ◌≤◌, List, [], ◌++◌, length, arith, if◌then◌else◌, zero-le, le_refl}
+use Rattle.std.proofs.Common.{◌≡◌, refl, ap, Bool, true, false, Option, Some, None, ℕ, ◌+◌, ◌*◌, ◌<◌, ◌≤◌, min, List, [], ◌++◌, length, arith, if◌then◌else◌, zero-le, le_refl}
 use Rattle.cfdp_paths.specs.Paths.{Path, same_path, is_at_or_below}
 use Rattle.cfdp_status.specs.declared.action.Action.{Action}
 use Rattle.cfdp_status.specs.declared.action.Action.TheVariants as action
@@ -107,7 +107,7 @@ deny_file-ticks p None = zero-le
 deny_file-ticks p (Some Directory) = zero-le
 deny_file-ticks p (Some (File octets)) = omega arith
 
-deny_directory-ticks : (p : Path) (a : Option Node) (entries : Bool) → ticks (deny_directory p a entries) ≤ weight a
+deny_directory-ticks : (p : Path) (a : Option Node) (entries : Bool) → ticks (deny_directory p a entries) ≤ min 1 (weight a)
 unfolding deny_directory
 deny_directory-ticks p None entries = zero-le
 deny_directory-ticks p (Some (File octets)) entries = zero-le

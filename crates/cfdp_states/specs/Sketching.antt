@@ -15,13 +15,13 @@
 --     DoesOrNot, PerformsOrNot                   or there was no memory, and it is as before
 --     gives_way, can_install                     whether a file may come to stand where this stands, or at a path
 --     extent_standing, outlines_where test es    what stands at a path as an outline has it;  of those whose paths pass the test
-use Rattle.std.specs.Prelude.{◌≡◌, ⊤, ℕ, suc, ◌+◌, ◌*◌, min, Bool, true, false, cond, not, ◌&&◌, is_some, nat_lt, if◌then◌else◌, List, [], ◌∷◌, ◌++◌, Option, Some, None, length, Result, Ok, Err}
+use Rattle.std.specs.Prelude.{◌≡◌, ⊤, ℕ, suc, ◌+◌, min, Bool, true, false, cond, not, ◌&&◌, is_some, nat_lt, if◌then◌else◌, List, [], ◌∷◌, ◌++◌, Option, Some, None, length, Result, Ok, Err}
 use Rattle.std.specs.List.{list_any}
 use Rattle.cfdp_paths.specs.Paths.{Path, parent, same_path, is_at_or_below, rebased}
 use Rattle.std.specs.declared.alloc.AllocError.{AllocError}
 use Rattle.cfdp_status.specs.declared.status.Status.{Status}
 use Rattle.cfdp_actions.specs.Filestore.{Node, Directory, File, Filestore, node_at, blocks_of, after}
-use Rattle.cfdp_actions.specs.Actions.{Request, CreateFile, DeleteFile, RenameFile, AppendFile, ReplaceFile, CreateDirectory, RemoveDirectory, DenyFile, DenyDirectory, Item, Install, Perform, Performed, is_protected, table, row}
+use Rattle.cfdp_actions.specs.Actions.{Request, Item, Perform, Performed, is_protected, table, row}
 use Rattle.cfdp_actions.specs.Store.{is_file_kind}
 use Rattle.cfdp_actions.specs.declared.kind.Standing.{Standing}
 use Rattle.cfdp_leases.specs.Items.{performed, bound_by}

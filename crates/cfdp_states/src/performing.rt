@@ -67,7 +67,8 @@ pub fn step_bound(outlines: &[Outline], request: &Request) -> u64
         Action::CreateFile | Action::CreateDirectory | Action::RemoveDirectory => 1,
         Action::RenameFile => 0,
         Action::DeleteFile => 1 + content(outlines, first),
-        Action::DenyFile | Action::DenyDirectory => weight(outlines, first),
+        Action::DenyFile => weight(outlines, first),
+        Action::DenyDirectory => weight(outlines, first).min(1),
         Action::AppendFile => 2 * content(outlines, request.second().unwrap()),
         Action::ReplaceFile => {
             let second = request.second().unwrap();
