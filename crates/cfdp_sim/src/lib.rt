@@ -1,8 +1,9 @@
 //! The simulator's scripts: what `cfdpsim` reads, does and writes, without its command line.
 //!
 //! A script is a stream of octets in lines. Each line is answered by itself, in order, and its answer is
-//! written whole before the next line is read. `plain` is the one kind of script there is so far: filestore
-//! requests as hexadecimal TLVs (CCSDS 727.0-B-5 §5.4), performed on one filestore (§4.9).
+//! written whole before the next line is run; octets are read some thousand at a time. `plain` is the one kind
+//! of script there is so far: filestore requests as hexadecimal TLVs (CCSDS 727.0-B-5 §5.4), performed on one
+//! filestore (§4.9).
 //! Input and output go through two small traits, so that a theorem can name their octets.
 #![tactic(auto)]
 

@@ -8,7 +8,7 @@ mod long_inputs;
 mod rows;
 mod runs;
 
-/// Three lists of requests in which each of the nine actions succeeds once; rename moves a file.
+/// Three lists of requests in which each of the nine actions succeeds at least once; rename moves a file.
 const SCRIPT: &str = "0003500164\n00050003642f78\n0003600164\n\n\
     00072003642f780162\n00054001620163\n\n\
     0003600164\n0003800164\n00053001620162\n0003000161\n00054001620161\n0003100161\n0003700162\n";

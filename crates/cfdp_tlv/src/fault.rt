@@ -48,6 +48,6 @@ impl From<AllocError> for TlvFault {
     ghost from_gives = { λ _ e. e ≡ Memory };
 
     fn from(_e: AllocError) -> TlvFault {
-        TlvFault::Memory
+        Self::Memory
     }
 }

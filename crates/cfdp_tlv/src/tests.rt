@@ -1,5 +1,7 @@
 use crate::*;
 use cfdp_status::{Action, Status};
+use std::alloc::Global;
+use std::process::Abort;
 use std::test::Fail;
 
 // A request TLV, its names, and the response TLV to it with a status.
@@ -339,33 +341,36 @@ fn longest_values(rt: HostRuntime) -> Result<(), Fail> {
     Ok(())
 }
 
-// Run with each allocation refused in turn: what is answered is the value, or `Memory` with the
-// vector as before.
-#[test]
-fn refused_memory(rt: HostRuntime) {
-    let alloc = rt.alloc();
-    let request = match read_request(alloc, b"\x20\x01a\x01b") {
-        Ok(request) => request,
-        Err(fault) => {
-            assert_eq!(rt; fault, TlvFault::Memory);
-            return;
-        }
-    };
-    let response = match read_response(alloc, b"\x20\x01a\x01b\x01m") {
-        Ok(response) => response,
-        Err(fault) => {
-            assert_eq!(rt; fault, TlvFault::Memory);
-            return;
-        }
-    };
-    let mut out = Vec::new(alloc);
-    match write_request(&request, &mut out) {
-        Ok(()) => assert_eq!(rt; out.as_slice(), b"\x00\x05\x20\x01a\x01b".as_slice()),
-        Err(fault) => assert!(rt; fault == TlvFault::Memory && out.is_empty()),
+/// Reads and writes a request and a response. A write for which memory is refused leaves the vector as before, and is
+/// made once more.
+fn read_and_write(rt: &impl Abort, alloc: Global) -> Result<(), TlvFault> {
+    let request = read_request(alloc, b"\x20\x01a\x01b")?;
+    let response = read_response(alloc, b"\x20\x01a\x01b\x01m")?;
+    let mut out = Vec::from_slice(alloc, b"x")?;
+    if let Err(fault) = write_request(&request, &mut out) {
+        assert_eq!(rt; fault, TlvFault::Memory);
+        assert_eq!(rt; out.as_slice(), b"x".as_slice());
+        write_request(&request, &mut out)?;
     }
-    let mut out = Vec::new(alloc);
-    match write_response(&response, &mut out) {
-        Ok(()) => assert_eq!(rt; out.as_slice(), b"\x01\x07\x20\x01a\x01b\x01m".as_slice()),
-        Err(fault) => assert!(rt; fault == TlvFault::Memory && out.is_empty()),
+    assert_eq!(rt; out.as_slice(), b"x\x00\x05\x20\x01a\x01b".as_slice());
+    let mut out = Vec::from_slice(alloc, b"x")?;
+    if let Err(fault) = write_response(&response, &mut out) {
+        assert_eq!(rt; fault, TlvFault::Memory);
+        assert_eq!(rt; out.as_slice(), b"x".as_slice());
+        write_response(&response, &mut out)?;
+    }
+    assert_eq!(rt; out.as_slice(), b"x\x01\x07\x20\x01a\x01b\x01m".as_slice());
+    Ok(())
+}
+
+/// Shows its point where each allocation is refused in turn: where a read's is, all is done once more.
+#[test]
+fn refused_memory(rt: HostRuntime) -> Result<(), TlvFault> {
+    match read_and_write(&rt, rt.alloc()) {
+        Ok(()) => Ok(()),
+        Err(fault) => {
+            assert_eq!(rt; fault, TlvFault::Memory);
+            read_and_write(&rt, rt.alloc())
+        }
     }
 }

@@ -22,6 +22,10 @@ pub enum Asked {
 }
 
 /// What the words of the command line ask for. Words that are no text are unknown ones.
+///
+/// # Errors
+///
+/// `Usage` for words that are no command, and the run's `Memory` where memory was refused.
 pub fn parse<R: AllocGlobal + Env>(rt: &R) -> Result<Asked, ProgramEnd>
     ensures { IfErr result (λ end. (end ≡ Usage) ⊎ (end ≡ Run Memory)) }
 {
@@ -38,7 +42,8 @@ pub fn parse<R: AllocGlobal + Env>(rt: &R) -> Result<Asked, ProgramEnd>
     parse_words(rt.alloc(), &words)
 }
 
-/// What these words ask for, of which the first is the program's own name. A call for help is no command.
+/// What these words ask for, of which the first is the program's own name. A call for help is no command. The errors are
+/// those of [`parse`].
 pub fn parse_words<S: AsStr>(alloc: Global, words: &[S]) -> Result<Asked, ProgramEnd>
     // The words of a command leave `clap` nothing to refuse, and only words that it does not take are unknown.
     ensures taken { OnOk result (fault_of program (map S.text words.now) ≡ []) }

@@ -292,11 +292,20 @@ fn what_stands(rt: HostRuntime) -> Result<(), Fail> {
     ];
     let stand: [Stands; 2] = [(b"d", Kind::Directory, 0, 0), (b"d/x", Kind::File, 0, 0)];
     run(&rt, alloc, &mut store, &rows, &stand)?;
-    let d = parsed(alloc, b"d")?;
-    let x = parsed(alloc, b"d/x")?;
-    let found = answered(&rt, "standing", || store.standing(alloc, &d))?;
+    let names = [parsed(alloc, b"d")?, parsed(alloc, b"d/x")?];
+    Ok(stand_below(&rt, alloc, &store, &names)?)
+}
+
+/// Just a directory and an empty file in it stand at and below the directory.
+fn stand_below<R: Abort + Print>(
+    rt: &R,
+    alloc: Global,
+    store: &ListStore,
+    names: &[Path; 2],
+) -> Result<(), Memory> {
+    let found = answered(rt, "standing", || store.standing(alloc, &names[0]))?;
     assert_eq!(rt; found.len(), 2);
-    assert!(rt; found[0].path == d && found[0].kind == Kind::Directory);
-    assert!(rt; found[1].path == x && found[1].kind == Kind::File && found[1].size == 0);
+    assert!(rt; found[0].path == names[0] && found[0].kind == Kind::Directory);
+    assert!(rt; found[1].path == names[1] && found[1].kind == Kind::File && found[1].size == 0);
     Ok(())
 }

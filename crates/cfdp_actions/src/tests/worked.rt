@@ -3,7 +3,7 @@
 use super::calls::{checksum, contents, deepest, deliver, extend, request, staged};
 use super::counted::Counted;
 use crate::{Filestore, Kind, ListStore, Protected, perform};
-use cfdp_paths::Path;
+use cfdp_paths::{Memory, Path};
 use cfdp_status::Action;
 use std::alloc::Global;
 use std::process::Abort;
@@ -117,13 +117,11 @@ fn moves_no_deeper_than_eight_names(rt: HostRuntime) -> Result<(), Fail> {
     ];
     let mut store = ListStore::new(alloc, 64)?;
     run(&rt, alloc, &mut store, &Protected::new(), &rows)?;
-    assert_eq!(rt; deepest(&store, &Path::parse(alloc, b"z")?), Some(8));
-    assert_eq!(rt; deepest(&store, &Path::parse(alloc, b"e")?), Some(1));
-    assert_eq!(rt; deepest(&store, &Path::parse(alloc, b"a")?), None);
-    assert_eq!(rt;
-        store.standing(alloc, &Path::parse(alloc, b"z/b")?)?.len(),
-        7
-    );
+    for (name, names) in [(b"z", Some(8)), (b"e", Some(1)), (b"a", None)] {
+        assert_eq!(rt; deepest(&store, &Path::parse(alloc, name)?), names);
+    }
+    let below = store.standing(alloc, &Path::parse(alloc, b"z/b")?)?;
+    assert_eq!(rt; below.len(), 7);
     Ok(())
 }
 
@@ -160,75 +158,118 @@ fn protects_eight_paths(rt: HostRuntime) -> Result<(), Fail> {
     Ok(())
 }
 
+/// The file is all that stands, and has so many octets and this checksum.
+fn stands_alone(
+    rt: &impl Abort,
+    alloc: Global,
+    store: &ListStore,
+    file: &Path,
+    size: u64,
+    sum: u32,
+) -> Result<(), Memory> {
+    let listing = store.listing(alloc)?;
+    assert_eq!(rt; listing.len(), 1);
+    let entry = &listing[0];
+    assert_eq!(rt; entry.path, *file);
+    assert_eq!(rt;
+        (entry.kind, entry.size, entry.checksum),
+        (Kind::File, size, sum)
+    );
+    Ok(())
+}
+
+/// A file of so many octets, all 1, and what it comes to once it is appended to itself.
+fn append_to_itself(
+    rt: &impl Abort,
+    alloc: Global,
+    octets: &[u8],
+    size: u64,
+    sum: u32,
+) -> Result<(), Fail> {
+    let mut store = ListStore::new(alloc, 64)?;
+    let file = Path::parse(alloc, b"a")?;
+    assert_eq!(rt; deliver(&mut store, &file, octets)?, Some((1, 1)));
+    assert_eq!(rt; store.free(), 62);
+    let rows: [Row; 1] = [(Action::AppendFile, b"a", b"a", 0x30, 2, 61)];
+    run(rt, alloc, &mut store, &Protected::new(), &rows)?;
+    Ok(stands_alone(rt, alloc, &store, &file, size, sum)?)
+}
+
 #[test]
 fn appends_a_file_to_itself(rt: HostRuntime) -> Result<(), Fail> {
-    let alloc = rt.alloc();
-    for (size, whole, sum) in [(120, 240, 0x3c3c_3c3c), (119, 238, 0x3c3c_3b3b)] {
-        let mut store = ListStore::new(alloc, 64)?;
-        let octets = vec![in alloc; 1; size]?;
-        let file = Path::parse(alloc, b"a")?;
-        assert_eq!(rt; deliver(&mut store, &file, &octets)?, Some((1, 1)));
-        assert_eq!(rt; store.free(), 62);
-        let rows: [Row; 1] = [(Action::AppendFile, b"a", b"a", 0x30, 2, 61)];
-        run(&rt, alloc, &mut store, &Protected::new(), &rows)?;
-        let listing = store.listing(alloc)?;
-        assert_eq!(rt; listing.len(), 1);
-        assert_eq!(rt; listing[0].path, file);
-        assert_eq!(rt; listing[0].kind, Kind::File);
-        assert_eq!(rt; listing[0].size, whole);
-        assert_eq!(rt; listing[0].checksum, sum);
-    }
+    append_to_itself(&rt, rt.alloc(), &[1; 120], 240, 0x3c3c_3c3c)?;
+    append_to_itself(&rt, rt.alloc(), &[1; 119], 238, 0x3c3c_3b3b)
+}
+
+/// The file at the path has these octets, and this checksum.
+fn holds(
+    rt: &impl Abort,
+    alloc: Global,
+    store: &ListStore,
+    file: &Path,
+    octets: &[u8],
+    sum: u32,
+) -> Result<(), Memory> {
+    assert_eq!(rt; checksum(store, file), Some(sum));
+    let found = contents(store, alloc, file)?;
+    assert_eq!(rt; found.as_deref(), Some(octets));
     Ok(())
+}
+
+/// A file of three octets over one of 120.
+fn deliver_over(
+    rt: &impl Abort,
+    alloc: Global,
+    store: &mut ListStore,
+    file: &Path,
+) -> Result<(), Memory> {
+    let free = store.free();
+    assert_eq!(rt; deliver(store, file, b"xyz")?, Some((1, 1)));
+    assert_eq!(rt; store.free(), free);
+    let found = store.standing(alloc, file)?;
+    assert_eq!(rt; found.len(), 1);
+    assert_eq!(rt; found[0].size, 3);
+    holds(rt, alloc, store, file, b"xyz", 0x7879_7a00)
 }
 
 #[test]
 fn replaces(rt: HostRuntime) -> Result<(), Fail> {
     let alloc = rt.alloc();
     let mut store = ListStore::new(alloc, 64)?;
-    let octets = vec![in alloc; 1; 120]?;
     let first = Path::parse(alloc, b"a")?;
     let second = Path::parse(alloc, b"b")?;
-    assert_eq!(rt; deliver(&mut store, &first, &octets)?, Some((1, 1)));
+    assert_eq!(rt; deliver(&mut store, &first, &[1; 120])?, Some((1, 1)));
     let rows: [Row; 3] = [
         (Action::ReplaceFile, b"a", b"a", 0x40, 0, 62),
         (Action::CreateFile, b"b", b"", 0x00, 1, 61),
         (Action::ReplaceFile, b"b", b"a", 0x40, 2, 60),
     ];
     run(&rt, alloc, &mut store, &Protected::new(), &rows)?;
-    assert_eq!(rt; checksum(&store, &first), Some(0x1e1e_1e1e));
-    assert_eq!(rt; contents(&store, alloc, &first)?, Some(octets));
-    assert_eq!(rt;
-        contents(&store, alloc, &second)?,
-        contents(&store, alloc, &first)?
-    );
-    assert_eq!(rt; checksum(&store, &second), Some(0x1e1e_1e1e));
-    assert_eq!(rt; deliver(&mut store, &second, b"xyz")?, Some((1, 1)));
-    assert_eq!(rt; store.free(), 60);
-    let found = store.standing(alloc, &second)?;
-    assert_eq!(rt; found.len(), 1);
-    assert_eq!(rt; found[0].size, 3);
-    assert_eq!(rt;
-        contents(&store, alloc, &second)?,
-        Some(b"xyz".to_vec(alloc)?)
-    );
+    for file in [&first, &second] {
+        holds(&rt, alloc, &store, file, &[1; 120], 0x1e1e_1e1e)?;
+    }
+    Ok(deliver_over(&rt, alloc, &mut store, &second)?)
+}
+
+/// 121 octets in the last slot: zeros, but for the last two.
+fn stage(rt: &impl Abort, alloc: Global, store: &mut ListStore) -> Result<(), Memory> {
+    assert_eq!(rt; extend(store, 63, 121)?, Some(2));
+    assert!(rt; store.staged_size(63) == 121);
+    store.stage_put(63, 119, b"ab");
+    let octets = staged(store, alloc, 63)?;
+    assert_eq!(rt; octets.len(), 121);
+    assert!(rt; octets.ends_with(&[0, b'a', b'b']));
     Ok(())
 }
 
 #[test]
-fn stages(rt: HostRuntime) -> Result<(), Fail> {
+fn stages(rt: HostRuntime) -> Result<(), Memory> {
     let alloc = rt.alloc();
     let mut store = ListStore::new(alloc, 2)?;
     assert!(rt; !store.takes_no_memory());
     assert_eq!(rt; store.free(), 2);
-    assert_eq!(rt; extend(&mut store, 63, 121)?, Some(2));
+    stage(&rt, alloc, &mut store)?;
     assert_eq!(rt; store.free(), 0);
-    assert!(rt; store.staged_size(63) == 121);
-    store.stage_put(63, 119, b"ab");
-    let octets = staged(&store, alloc, 63)?;
-    assert_eq!(rt; octets.len(), 121);
-    assert_eq!(rt; octets[118], 0);
-    assert_eq!(rt; octets[119], b'a');
-    assert_eq!(rt; octets[120], b'b');
     assert_eq!(rt; store.unstage(63), 2);
     assert_eq!(rt; store.free(), 2);
     assert_eq!(rt; store.staged_size(63), 0);

@@ -107,6 +107,18 @@ fn a_file_alone(rt: HostRuntime) -> Result<(), Memory> {
     )
 }
 
+/// While a file is staged, the one in whose place it is installed is still there.
+#[test]
+fn a_file_in_place_of_another(rt: HostRuntime) -> Result<(), Memory> {
+    check(
+        &rt,
+        rt.alloc(),
+        64,
+        &[Before::Delivered(b"a", 120)],
+        &[(Some((b"a", 240)), &[], Told::Granted(2, 3))],
+    )
+}
+
 #[test]
 fn a_file_replaces_itself_and_another(rt: HostRuntime) -> Result<(), Memory> {
     check(

@@ -1,7 +1,7 @@
 //! A view of a store that tells of one tree alone.
 
 use super::scene::{Before, Scene, path_of};
-use super::views::{Item, judge, requests};
+use super::views::{Item, requests, run};
 use cfdp_actions::{Entry, Filestore, Kind, Standing};
 use cfdp_leases::footprint;
 use cfdp_paths::{Memory, Path};
@@ -139,7 +139,7 @@ fn look(rt: &impl Abort, alloc: Global) -> Result<(), Memory> {
     let root = path_of(rt, alloc, b"d")?;
     let store = OneTree { inner: store, root };
     assert!(rt; store.listing(alloc).is_err());
-    judge(rt, alloc, &store, &protected, &(None, IN_TREE, 5, 13))?;
+    run(rt, alloc, &store, &protected, &(None, IN_TREE, 5, 13))?;
     let leased = footprint(alloc, &requests(rt, alloc, OUTSIDE)?, None)?;
     assert!(rt; View::of(alloc, &store, &protected, &leased).is_err());
     Ok(())

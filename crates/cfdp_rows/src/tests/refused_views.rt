@@ -92,7 +92,7 @@ fn run(rt: &impl Abort, alloc: Global) -> Result<(), Memory> {
     Ok(())
 }
 
-/// Once more where memory was refused before the first item: a test whose one refused growth is an item's passes.
+/// Where memory was refused before the first item, all is tried once more; where an item was refused it, the test goes on.
 #[test]
 fn a_refused_item_changes_nothing(rt: HostRuntime) -> Result<(), Memory> {
     match run(&rt, rt.alloc()) {

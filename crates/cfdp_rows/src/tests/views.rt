@@ -51,7 +51,7 @@ fn view_of<'a, S: Filestore>(
 }
 
 /// Runs a row on a view of the store.
-pub fn judge<S: Filestore>(
+pub fn run<S: Filestore>(
     rt: &impl Abort,
     alloc: Global,
     store: &S,
@@ -84,7 +84,7 @@ fn try_rows(
 ) -> Result<(), Memory> {
     let scene = Scene::new(rt, alloc, blocks, before)?;
     for row in rows {
-        judge(rt, alloc, &scene.store, &scene.protected, row)?;
+        run(rt, alloc, &scene.store, &scene.protected, row)?;
     }
     Ok(())
 }
@@ -138,7 +138,6 @@ fn each_request_stands_on_those_before(rt: HostRuntime) -> Result<(), Memory> {
 
 const DOUBLED: &[Item] = &[(Action::AppendFile, b"a", b"a", 0x30)];
 
-/// Sizes and counts stop at the greatest numbers.
 #[test]
 fn a_delivered_file_is_doubled(rt: HostRuntime) -> Result<(), Memory> {
     check(
@@ -149,6 +148,7 @@ fn a_delivered_file_is_doubled(rt: HostRuntime) -> Result<(), Memory> {
         &[
             (Some((b"a", 120)), DOUBLED, 3, 5),
             (Some((b"a", 119)), DOUBLED, 3, 5),
+            // Sizes and counts stop at the greatest numbers.
             (Some((b"a", u64::MAX)), DOUBLED, u32::MAX, u32::MAX),
         ],
     )
@@ -217,26 +217,34 @@ fn what_is_protected_stays(rt: HostRuntime) -> Result<(), Memory> {
         rt.alloc(),
         64,
         PROTECTED,
-        &[(None, KEPT, 0, 4), (Some((b"sys/b", 15)), &[], 2, 2)],
+        &[
+            (None, KEPT, 0, 4),
+            (Some((b"sys/b", 15)), &[], 2, 2),
+            (Some((b"sys/b", 15)), KEPT, 2, 6),
+        ],
     )
 }
 
 fn install_refused(rt: &impl Abort, alloc: Global) -> Result<(), Memory> {
     let scene = Scene::new(rt, alloc, 64, PROTECTED)?;
+    let kept = requests(rt, alloc, KEPT)?;
+    let allowed = path_of(rt, alloc, b"sys/b")?;
     for name in [b"sys/a".as_slice(), b"sys", b"x/y"] {
         let path = path_of(rt, alloc, name)?;
-        let mut view = view_of(alloc, &scene.store, &scene.protected, &[], Some(&path))?;
+        let mut view = view_of(alloc, &scene.store, &scene.protected, &kept, Some(&path))?;
         let bound = view.bound(&path);
         assert!(rt; !view.install(&path, 15)?, "on {name:?}");
         assert_eq!(rt;
             (view.bound(&path), view.need(), view.steps()),
             (bound, 0, 0)
         );
+        assert!(rt; view.install(&allowed, 15)?, "after {name:?}");
+        assert_eq!(rt; (view.need(), view.steps()), (2, 2));
     }
     Ok(())
 }
 
-/// In place of a protected file, of a directory, and where there is no parent.
+/// In place of a protected file, of a directory, and where there is no parent; the view then goes on.
 #[test]
 fn an_install_that_is_not_allowed_changes_nothing(rt: HostRuntime) -> Result<(), Memory> {
     match install_refused(&rt, rt.alloc()) {

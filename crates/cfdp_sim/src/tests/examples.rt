@@ -1,4 +1,4 @@
-//! The first example of the repository, `examples/first.plain`, and what is written for it.
+//! The examples of the repository, `examples/first.plain` and `examples/actions.plain`, and what is written for them.
 use crate::plain_text;
 use std::test::Fail;
 
@@ -24,5 +24,55 @@ const REPORT: &str = "010400016100\n010401016100\n01041f016100\n010410016100\ndr
 fn first(rt: HostRuntime) -> Result<(), Fail> {
     let text = plain_text(rt.alloc(), SCRIPT.as_bytes()).map_err(|_| "the first example")?;
     assert_eq!(rt; text.as_slice(), REPORT.as_bytes());
+    Ok(())
+}
+
+/// All nine actions, `examples/actions.plain`.
+const ACTIONS: &str = "\
+    # Create directory 'd', create file 'd/x' in it. Remove directory 'd' is then not allowed: it has an entry.\n\
+    0003500164\n\
+    00050003642f78\n\
+    0003600164\n\
+    \n\
+    # Rename 'd/x' to 'b'. Replace 'b' by 'c': there is no 'c'.\n\
+    00072003642f780162\n\
+    00054001620163\n\
+    \n\
+    # Remove 'd', now empty. Deny directory 'd': it is absent already. Append 'b' to itself. Deny file 'b'.\n\
+    0003600164\n\
+    0003800164\n\
+    00053001620162\n\
+    0003700162\n\
+    \n\
+    # Renaming a directory moves what stands below it: 'd' with 'd/x' becomes 'e', and 'e/x' can be deleted.\n\
+    0003500164\n\
+    00050003642f78\n\
+    00052001640165\n\
+    00051003652f78\n\
+    # It can't move into itself.\n\
+    000720016503652f66\n";
+
+/// What is written for it, `examples/actions.out`.
+const ANSWERS: &str = "\
+    010450016400\n\
+    01060003642f7800\n\
+    010462016400\n\
+    01082003642f78016200\n\
+    0106420162016300\n\
+    010460016400\n\
+    010480016400\n\
+    0106300162016200\n\
+    010470016200\n\
+    010450016400\n\
+    01060003642f7800\n\
+    0106200164016500\n\
+    01061003652f7800\n\
+    010823016503652f6600\n";
+
+/// The example of all nine actions gives its report.
+#[test]
+fn actions(rt: HostRuntime) -> Result<(), Fail> {
+    let text = plain_text(rt.alloc(), ACTIONS.as_bytes()).map_err(|_| "the nine actions")?;
+    assert_eq!(rt; text.as_slice(), ANSWERS.as_bytes());
     Ok(())
 }

@@ -1,4 +1,4 @@
-//! Inputs longer than the input limit, with a bad line within the limit or behind it.
+//! Inputs as long as the input limit and longer, with a bad line within the limit or behind it.
 use super::fakes::Writer;
 use crate::{Failed, RunFault, ScriptIn, plain};
 
@@ -8,11 +8,12 @@ const LIMIT: usize = 268_435_456;
 /// The most octets of a comment line, its newline among them.
 const COMMENT: usize = 4096;
 
-/// Comment lines of so many octets in all, then a bad line, and then comment lines without end.
+/// Comment lines of so many octets in all, then a bad line, and behind it comment lines of so many octets.
 #[derive(Drop)]
 struct Comments<'a> {
     before: usize,
     bad: &'a [u8],
+    behind: usize,
 }
 
 impl<'a> ScriptIn for Comments<'a> {
@@ -30,18 +31,19 @@ impl<'a> ScriptIn for Comments<'a> {
             self.bad = rest;
             return Ok(count);
         }
-        let most = if self.bad.is_empty() {
-            COMMENT
-        } else {
-            self.before.min(COMMENT)
-        };
-        let count = buffer.len().min(most);
+        let is_behind = self.bad.is_empty();
+        let left = if is_behind { self.behind } else { self.before };
+        let count = buffer.len().min(COMMENT).min(left);
         let line = &mut buffer[..count];
         line.fill(b'#');
         if let Some(last) = line.last_mut() {
             *last = b'\n';
         }
-        self.before = self.before.saturating_sub(count);
+        if is_behind {
+            self.behind = left.saturating_sub(count);
+        } else {
+            self.before = left.saturating_sub(count);
+        }
         Ok(count)
     }
 
@@ -63,10 +65,27 @@ fn bad_lines(rt: HostRuntime) {
         let mut reader = Comments {
             before,
             bad: b"0\n",
+            behind: LIMIT,
         };
         let mut writer = Writer::new(rt.alloc(), 1, None);
         let end = plain(rt.alloc(), &mut reader, &mut writer);
         assert_eq!(rt; end, Err(fault), "a bad line after {before} octets");
+        assert!(rt; writer.text.is_empty());
+    }
+}
+
+/// An input of as many octets as the limit is taken, and none of one octet more.
+#[test]
+fn ends(rt: HostRuntime) {
+    for (octets, end) in [(LIMIT, Ok(())), (LIMIT + 1, Err(RunFault::Read))] {
+        let mut reader = Comments {
+            before: 0,
+            bad: b"",
+            behind: octets,
+        };
+        let mut writer = Writer::new(rt.alloc(), 1, None);
+        let found = plain(rt.alloc(), &mut reader, &mut writer);
+        assert_eq!(rt; found, end, "{octets} octets");
         assert!(rt; writer.text.is_empty());
     }
 }
