@@ -15,11 +15,13 @@ pub const SLOTS: usize = 64;
 
 /// A store that keeps its paths in a plain list, in path order: the program that other stores are measured by.
 ///
-/// Its changes take memory. Cost: a look-up goes through the list up to its path, and a change also moves what stands
-/// after it; `free`, `has_entries`, `deepest`, `standing`, `rename` and `listing` go through the whole list. Octets are
-/// copied by `read`, `read_staged` and `stage_put`, which copy those that they are asked for, and by `append` and
-/// `replace`, which make the first file's new octets anew; `listing` reads all octets, for the checksums. A staged list is
-/// moved into its file, not copied.
+/// Most of its changes take memory. Cost: a look-up goes through the list up to its path, or through all of it where
+/// nothing stands there; `make_file`, `make_dir`, `remove`, and an `install` where nothing stood, also move what stands
+/// after the path. `free`, `has_entries`, `deepest`, `standing` and `listing` go through the list once at most, `rename` a
+/// few times and once more for each path that it moves. Octets are copied by `read`, `read_staged` and `stage_put`, which
+/// copy those that they are asked for, by `append` and `replace`, which make the first file's new octets anew, and by
+/// `stage_extend`, where the staged list has to move to grow; `listing` reads all octets, for the checksums. A staged list
+/// is moved into its file, not copied.
 #[derive(Drop)]
 pub struct ListStore {
     entries: Vec<Listed>,
@@ -44,6 +46,10 @@ impl Model for ListStore {
 
 impl ListStore {
     /// A store of so many blocks, 1 to 65,536, in which nothing stands and nothing is staged.
+    ///
+    /// # Errors
+    ///
+    /// [`Memory`] where there was none for the slots: one allocation.
     pub fn new(alloc: Global, blocks: u32) -> Result<ListStore, Memory>
         requires some { 1 ≤ blocks }
         requires few { blocks ≤ 65536 }

@@ -20,8 +20,8 @@ pub struct Performed {
 
 /// Performs a filestore request on a store (CCSDS 727.0-B-5 §4.9), except where the prefixes bar it.
 ///
-/// Status, state after and ticks are those of the action table. After want of memory the store is as before. Cost: a
-/// comparison with each prefix, a few reads of the store, and its change.
+/// Status, state after and ticks are those of the action table. After want of memory the store is as before. Cost: at
+/// most two comparisons with each prefix, a few reads of the store, and its change.
 pub fn perform<S: Filestore>(
     store: &mut S,
     protected: &Protected,

@@ -17,8 +17,8 @@ pub const PREFIXES: usize = 8;
 /// Up to eight paths, the prefixes: what stands at or below one of them is neither changed nor removed, and what stands
 /// above one of them is not moved. New paths may be made there.
 ///
-/// Contracts see it as the list of its paths. It takes no memory, and a question compares its path with each prefix, of
-/// which there are eight at most.
+/// Contracts see it as the list of its paths. It takes no memory, and a question compares its path at most twice with
+/// each prefix, of which there are eight at most.
 #[derive(Drop)]
 pub struct Protected {
     prefixes: ArrayVec<Option<Path>, PREFIXES>,

@@ -72,7 +72,7 @@ impl Footprint {
 }
 
 /// How a footprint holds a path: exclusively at or below an exclusive path, else shared where it is a shared one, else not
-/// at all. Takes no memory, and looks at each path of the footprint once.
+/// at all. Takes no memory, and looks at each path of the footprint once at most.
 pub fn covers(footprint: &Footprint, path: &Path) -> Option<Lease>
     ensures { result ≡ covers footprint.now path.now }
 {

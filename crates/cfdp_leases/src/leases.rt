@@ -50,8 +50,8 @@ impl Leases {
 
     /// The first transaction, in order of admission, whose footprint conflicts with this one. Takes no memory.
     ///
-    /// Cost: for each grant up to that one, a comparison of each exclusive path of either footprint with each path of the
-    /// other.
+    /// Cost: for each grant up to that one, at most a comparison of each exclusive path of either footprint with each path
+    /// of the other.
     pub fn conflict(&self, footprint: &Footprint) -> Option<TransactionId>
         ensures first { result ≡ first_conflict self.now footprint.now }
         ensures apart { AreApart self.now }

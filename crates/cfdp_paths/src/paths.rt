@@ -42,7 +42,8 @@ impl Path {
     ///
     /// # Errors
     ///
-    /// The leftmost faulty name decides, and a ninth name is [`PathFault::TooDeep`] before it is looked at. Octets
+    /// The leftmost faulty name decides; within a name [`PathFault::EmptyName`], [`PathFault::BadName`] and
+    /// [`PathFault::NameTooLong`] come in this order. A ninth name is [`PathFault::TooDeep`] before it is looked at. Octets
     /// that spell no path are told so whether or not there is memory; [`PathFault::Memory`] comes only where a path is
     /// spelled. Cost: one pass over the octets, and, where they spell a path, one copy of them.
     pub fn parse(alloc: Global, octets: &[u8]) -> Result<Path, PathFault>

@@ -14,5 +14,4 @@ mod surveying;
 mod table;
 mod view;
 
-pub use extent::Extent;
 pub use view::View;

@@ -24,6 +24,7 @@ pub fn survey<S: Filestore>(
         IsSurvey outlines.items (is_covered footprint.now) (S.state store.now).filestore) }
     ensures small { blocks (S.state store.now).filestore ≤ 65536 }
 {
+    // Its contract says that few blocks are in use, so that no size passes what an extent can tell.
     let _free = store.free();
     let exclusive = footprint.exclusive();
     let mut outlines = survey_trees(alloc, store, exclusive)?;

@@ -53,9 +53,9 @@ impl<'a> View<'a> {
     ///
     /// Want of memory.
     ///
-    /// Cost: one `free` of the store, one `standing` for each exclusive path that is not at or below an earlier one, and a
-    /// `kind` and a `size` for each other shared path; no listing, no octets and no checksum. What the footprint does not
-    /// cover is not asked for. Each thing that stands below an exclusive path is compared with the exclusive paths before
+    /// Cost: one `free` of the store, one `standing` for each exclusive path that is not at or below an earlier one, and
+    /// for each other shared path a `kind`, and a `size` where that is a file; no listing, no octets and no checksum. What
+    /// the footprint does not cover is not asked for (a `ListStore` finds what is asked for by going through its list). Each thing that stands below an exclusive path is compared with the exclusive paths before
     /// that one, and each shared path with all exclusive ones and with the shared ones that stand: the comparisons grow
     /// with the products of these counts.
     pub fn of<S: Filestore>(
@@ -80,7 +80,8 @@ impl<'a> View<'a> {
     }
 
     /// Performs the next request on the view, with unlimited room, and answers its status (CCSDS 727.0-B-5 §4.9); a
-    /// request that is not successful changes nothing. The blocks that it needs and the steps that it takes are counted.
+    /// request that is not successful changes nothing that stands. The blocks that it needs and the steps that it may take are
+    /// counted.
     ///
     /// # Errors
     ///

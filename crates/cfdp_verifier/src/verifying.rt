@@ -28,8 +28,8 @@ use std::alloc::{AllocError, Global};
 ///
 /// # Errors
 ///
-/// Want of memory. Cost: what stands at and below the paths that the list leases, each looked at once, and for each request a few
-/// passes over that.
+/// Want of memory. Cost: that of `Leases::conflict` and of `View::of` on the list's footprint, and for each request a few
+/// passes over what the view has.
 pub fn verify<S: Filestore>(
     alloc: Global,
     store: &S,
