@@ -8,7 +8,7 @@ use Rattle.cfdp_leases.specs.Items.{performed, step_bound}
 use Rattle.cfdp_leases.specs.Footprint.{Footprint, IsWithin}
 use Rattle.cfdp_states.specs.Alone.{Succeed, statuses, steps, peak, reached, alone, statuses_alone}
 use Rattle.cfdp_states.specs.Sketching.{extent_in}
-use Rattle.cfdp_states.specs.Views.{most_count, Sketch, size_of, length_in, only, IsViewOf, HasRun}
+use Rattle.cfdp_states.specs.Views.{most_count, most_need, Sketch, size_of, length_in, only, IsViewOf, HasRun}
 use Rattle.cfdp_states.specs.Laws.{SucceedByStatuses, Appended, OnlyLeased, ViewBegins, ViewInstalls, ViewRefuses, ViewGoesOn, ViewBounds}
 
 twice_max : (b p q : ℕ) → max b (max p q) ≡ max (max b p) q
@@ -35,7 +35,7 @@ within_append fp [] item all one = (one, tt)
 within_append fp (first ∷ items) item all one = (all.0, within_append fp items item all.1 one)
 
 -- what is needed at most, where the start counts too
-above_start : (start p : ℕ) → min (max start p - start) most_count ≡ min (p - start) most_count
+above_start : (start p : ℕ) → min (max start p - start) most_need ≡ min (p - start) most_need
 above_start start p = omega arith
 
 module _ (leased : OnlyLeased) where
@@ -49,7 +49,7 @@ module _ (leased : OnlyLeased) where
       record {
         answered = answered ∙ same.0;
         extents = λ p covered. seen.extents p ∙ ap extent_in (same.3 p covered);
-        need = seen.need ∙ above_start (blocks (alone (only fp F) [])) (peak v.prefixes (alone (only fp F) x) 0 items) ∙ ap (λ n. min n most_count) same.1;
+        need = seen.need ∙ above_start (blocks (alone (only fp F) [])) (peak v.prefixes (alone (only fp F) x) 0 items) ∙ ap (λ n. min n most_need) same.1;
         steps = seen.steps ∙ ap (λ n. min n most_count) same.2;
         within = within;
         seen = seen;

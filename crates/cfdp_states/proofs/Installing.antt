@@ -8,7 +8,7 @@ use Rattle.cfdp_states.specs.declared.extent.Extent.TheVariants as extent
 use Rattle.cfdp_states.specs.declared.extent.Outline.{Outline}
 use Rattle.cfdp_states.specs.Alone.{alone}
 use Rattle.cfdp_states.specs.Sketching.{most_octets, extent_in, extent_at, total_weight, with_outline, bound_on, gives_way, can_install, AreDistinct, IsOutline}
-use Rattle.cfdp_states.specs.Views.{most_count, Sketch, IsViewOf, TellsInstall}
+use Rattle.cfdp_states.specs.Views.{most_count, most_need, Sketch, IsViewOf, TellsInstall}
 use Rattle.cfdp_states.proofs.Order.{node_at-becomes}
 use Rattle.cfdp_states.proofs.Found.{found-with, distinct-with}
 use Rattle.cfdp_states.proofs.Sketched.{here, extent-cond, good_parent-is}
@@ -89,13 +89,13 @@ fits_u64 n size e le = omega arith
 with_file : (weight here more : ℕ) → min weight enough ≡ min here enough → min (min weight most_octets + more) enough ≡ min (here + more) enough
 with_file weight here more e = omega arith
 
-twice : (need need' peak start h g : ℕ) → need ≡ min (max peak h - start) most_count → need' ≡ min (max (max peak h) g - start) most_count → need' ≡ min (max peak (max h g) - start) most_count
+twice : (need need' peak start h g : ℕ) → need ≡ min (max peak h - start) most_need → need' ≡ min (max (max peak h) g - start) most_need → need' ≡ min (max peak (max h g) - start) most_need
 twice need need' peak start h g one two = omega arith
 
 pub tells_installed : (v : Sketch) (prefixes : List Path) (os os' : List Outline) (base need need' need'' steps steps' : ℕ) (p : Path) (size ticks staged weight : ℕ) →
     sketch prefixes os base need steps ≡ v → AreDistinct os → p ≢ [] → can_install prefixes os p ≡ true → size ≤ most_octets →
     os' ≡ with_outline p (extent.File size) os → ticks ≡ bound_on os (Install p) → staged ≡ min (min (total_weight os) most_octets + blocks_of size) most_octets → weight ≡ min (total_weight os') most_octets →
-    need' ≡ max need (min (staged - base) most_count) → need'' ≡ max need' (min (weight - base) most_count) → steps' ≡ min (steps + (1 + ticks)) most_count →
+    need' ≡ max need (min (staged - base) most_need) → need'' ≡ max need' (min (weight - base) most_need) → steps' ≡ min (steps + (1 + ticks)) most_count →
     TellsInstall v (sketch prefixes os' base need'' steps') p size true
 tells_installed v prefixes os os' base need need' need'' steps steps' p size ticks staged weight is distinct named can small now ticks_is staged_is weight_is need_is more_is steps_is =
     subst (λ (v : Sketch). TellsInstall v (sketch prefixes os' base need'' steps') p size true) is (λ F start peak taken x h long.
@@ -107,10 +107,10 @@ tells_installed v prefixes os os' base need need' need'' steps steps' p size tic
     let distinct' : AreDistinct os' = subst AreDistinct (sym now) (distinct-with p (extent.File size) os distinct) in
     let first : min (total_weight os) enough ≡ min (blocks F) enough = blocks-counted ([] ∷ []) nothing_staged os F h.staged distinct here in
     let more : blocks H ≡ blocks F + blocks_of size = staged_more F x h.staged ∙ ap (λ n. blocks F + blocks_of n) long in
-    let one : need' ≡ min (max peak (blocks H) - start) most_count =
+    let one : need' ≡ min (max peak (blocks H) - start) most_need =
     need_is ∙ needs need base staged (min (total_weight os) most_octets + blocks_of size) (blocks H) peak start h.need h.base h.small staged_is
     (with_file (total_weight os) (blocks F) (blocks_of size) first ∙ ap (λ n. min n enough) (sym more)) in
-    let two : need'' ≡ min (max (max peak (blocks H)) (blocks G) - start) most_count =
+    let two : need'' ≡ min (max (max peak (blocks H)) (blocks G) - start) most_need =
     more_is ∙ needs need' base weight (total_weight os') (blocks G) (max peak (blocks H)) start one h.base h.small weight_is (blocks-counted ([] ∷ []) nothing_staged os' G refl distinct' there) in (
       sym allowed.0,
       λ _. subst (λ (cs : List Change). IsViewOf (sketch prefixes os' base need'' steps') (after H cs) start (max peak (max (blocks H) (blocks (after H cs)))) (taken + (1 + step_bound H (Install p)))) (sym allowed.1) (record {

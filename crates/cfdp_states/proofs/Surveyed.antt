@@ -12,7 +12,7 @@ use Rattle.cfdp_states.specs.declared.extent.Extent.{Extent}
 use Rattle.cfdp_states.specs.declared.extent.Outline.{Outline}
 use Rattle.cfdp_states.specs.Alone.{alone}
 use Rattle.cfdp_states.specs.Sketching.{most_octets, extent_in, extent_at, total_weight, IsOutline, IsSurvey}
-use Rattle.cfdp_states.specs.Views.{most_count, only, IsViewOf}
+use Rattle.cfdp_states.specs.Views.{most_count, most_need, only, IsViewOf}
 use Rattle.cfdp_states.proofs.Order.{paths_total, paths_exact}
 use Rattle.cfdp_states.proofs.Weights.{entries-retain_keys}
 use Rattle.cfdp_states.proofs.Counting.{enough, blocks-counted}
@@ -66,8 +66,8 @@ survey-outlines os fp F survey = record {
 start-is : (weight total now : ℕ) → weight ≡ min total most_octets → min total enough ≡ min now enough → now ≤ 65536 → weight ≡ now
 start-is weight total now one two three = omega arith
 
-none_yet : (n : ℕ) → 0 ≡ min (n - n) most_count
-none_yet n = omega arith
+none_yet : (n most : ℕ) → 0 ≡ min (n - n) most
+none_yet n most = omega arith
 
 pub view_of : (fp : Footprint) (F : Filestore) (prefixes : List Path) (os : List Outline) (base : ℕ) → IsSurvey os (is_covered fp) F → blocks F ≤ 65536 → base ≡ min (total_weight os) most_octets →
     IsViewOf (sketch prefixes os base 0 0) (alone (only fp F) []) (blocks (alone (only fp F) [])) (blocks (alone (only fp F) [])) 0
@@ -79,6 +79,6 @@ view_of fp F prefixes os base survey le base_is =
       staged = refl;
       base = start-is base (total_weight os) (blocks G) base_is (blocks-counted ([] ∷ []) nothing_staged os G refl survey.distinct here) (only-small fp F le);
       small = only-small fp F le;
-      need = none_yet (blocks G);
-      steps = none_yet 0;
+      need = none_yet (blocks G) most_need;
+      steps = none_yet 0 most_count;
     }

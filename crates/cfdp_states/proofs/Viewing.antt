@@ -10,7 +10,7 @@ use Rattle.cfdp_leases.specs.Items.{performed, step_bound}
 use Rattle.cfdp_states.specs.declared.extent.Extent.{Extent}
 use Rattle.cfdp_states.specs.declared.extent.Outline.{Outline}
 use Rattle.cfdp_states.specs.Sketching.{most_octets, found, total_weight, bound_on, AreDistinct, IsOutline, Performs}
-use Rattle.cfdp_states.specs.Views.{most_count, Sketch, extents_of, size_of, IsViewOf, Tells}
+use Rattle.cfdp_states.specs.Views.{most_count, most_need, Sketch, extents_of, size_of, IsViewOf, Tells}
 use Rattle.cfdp_states.proofs.Order.{paths_total}
 use Rattle.cfdp_states.proofs.Growth.{blocks_of-zero}
 use Rattle.cfdp_states.proofs.Counting.{enough, blocks-counted, bound-counted}
@@ -32,7 +32,7 @@ outlined prefixes os base need steps F start peak taken h = record { found = λ 
 pub nothing_staged : sum_by (λ (octets : List ℕ). blocks_of (length octets)) ([] ∷ []) ≡ 0
 nothing_staged = let e = blocks_of-zero in omega (arith, e)
 
-pub needs : (need base blocks weight now peak start : ℕ) → need ≡ min (peak - start) most_count → base ≡ start → start ≤ 65536 → blocks ≡ min weight most_octets → min weight enough ≡ min now enough → max need (min (blocks - base) most_count) ≡ min (max peak now - start) most_count
+pub needs : (need base blocks weight now peak start : ℕ) → need ≡ min (peak - start) most_need → base ≡ start → start ≤ 65536 → blocks ≡ min weight most_octets → min weight enough ≡ min now enough → max need (min (blocks - base) most_need) ≡ min (max peak now - start) most_need
 needs need base blocks weight now peak start one two three four five = omega arith
 
 pub takes : (steps bound told taken : ℕ) → steps ≡ min taken most_count → min bound enough ≡ min told enough → min (steps + (1 + bound)) most_count ≡ min (taken + (1 + told)) most_count
@@ -40,7 +40,7 @@ takes steps bound told taken one two = omega arith
 
 pub tells_next : (v : Sketch) (prefixes : List Path) (os os' : List Outline) (base need steps need' steps' : ℕ) (request : Request) (told : Status) (bound weight : ℕ) →
     sketch prefixes os base need steps ≡ v → Performs prefixes os os' request told → AreDistinct os → bound ≡ bound_on os (Perform request) → weight ≡ min (total_weight os') most_octets →
-    need' ≡ max need (min (weight - base) most_count) → steps' ≡ min (steps + (1 + bound)) most_count →
+    need' ≡ max need (min (weight - base) most_need) → steps' ≡ min (steps + (1 + bound)) most_count →
     Tells v (sketch prefixes os' base need' steps') (Perform request) (Performed told)
 tells_next v prefixes os os' base need steps need' steps' request told bound weight is performs distinct bound_is weight_is need_is steps_is =
     subst (λ (v : Sketch). Tells v (sketch prefixes os' base need' steps') (Perform request) (Performed told)) is (λ F start peak taken h.

@@ -1,5 +1,6 @@
 -- Views: what stands at and below some leased paths, a file being 'at most n octets', while a list of items runs alone.
---     most_count                    the greatest u32, at which counts stop
+--     most_count                    the greatest u32, at which steps stop, and what a view tells of its need
+--     most_need                     at which the need itself stops: one more than any that can be told
 --     Sketch, sketch_code           what contracts see of a view;  that it is so seen
 --     extents_of                    what a list of outlines has at each path
 --     size_of                       the greatest size of a file that is outlined
@@ -26,6 +27,9 @@ use Rattle.std.specs.List.{AllByRecursion}
 
 abbrev pub most_count : ℕ
 most_count = 4294967295
+
+abbrev pub most_need : ℕ
+most_need = 4294967296
 
 pub record Sketch : Type 0 where
   pub prefixes : List Path  -- those that are protected
@@ -68,7 +72,7 @@ pub record IsViewOf (v : Sketch) (F : Filestore) (start peak taken : ℕ) : Type
   pub staged : F.staged ≡ [] ∷ []
   pub base : v.base ≡ start
   pub small : start ≤ 65536
-  pub need : v.need ≡ min (peak - start) most_count
+  pub need : v.need ≡ min (peak - start) most_need
   pub steps : v.steps ≡ min taken most_count
 
 -- the item is answered as on the filestore, and the view after it tells of the filestore after it
@@ -101,5 +105,5 @@ pub record HasRun (v : Sketch) (fp : Footprint) (F : Filestore) (x : List ℕ) (
       IsViewOf v (reached v.prefixes G 0 items) start (max start (peak v.prefixes G 0 items)) (steps v.prefixes G 0 items)
   pub answered : answers ≡ statuses_alone v.prefixes F x items
   pub extents : (p : Path) → IsTrue (is_covered fp p) → finite.get v.extents p ≡ extent_at (reached v.prefixes (alone F x) 0 items) p
-  pub need : v.need ≡ min (need_alone v.prefixes F x items) most_count
+  pub need : v.need ≡ min (need_alone v.prefixes F x items) most_need
   pub steps : v.steps ≡ min (steps_alone v.prefixes F x items) most_count

@@ -1,12 +1,12 @@
 //! The view: a list of filestore requests is run on it to be judged.
 
-ghost use Rattle.std.specs.Prelude.{◌≡◌, ◌+◌, ◌-◌, ◌≤◌, min, max, ◌^◌, false, Some, None, [], IfOk, OnOk, OnErr, IsFalse, Ok};
+ghost use Rattle.std.specs.Prelude.{◌≡◌, ◌+◌, ◌-◌, ◌≤◌, min, max, not, nat_lt, ◌^◌, false, Some, None, [], IfOk, OnOk, OnErr, IsFalse, Ok};
 ghost use Rattle.std.specs.FinMap as finite;
 ghost use Rattle.cfdp_actions.specs.Filestore.{blocks};
 ghost use Rattle.cfdp_actions.specs.Actions.{Perform, Performed};
 ghost use Rattle.cfdp_states.specs.Alone.{alone};
 ghost use Rattle.cfdp_states.specs.Sketching.{AreDistinct};
-ghost use Rattle.cfdp_states.specs.Views.{most_count, size_of, only, IsViewOf, Tells, TellsInstall, extents_of};
+ghost use Rattle.cfdp_states.specs.Views.{most_count, most_need, size_of, only, IsViewOf, Tells, TellsInstall, extents_of};
 
 use crate::extent::{Extent, Outline};
 use crate::outlines::{blocks, find, put};
@@ -19,16 +19,20 @@ use cfdp_status::Status;
 use std::alloc::Global;
 use std::marker::Model;
 
+/// At which the need stops: one more than the greatest that can be told.
+const MOST_NEED: u64 = 1 << 32;
+
 /// What stands at and below some leased paths, a file being 'at most n octets', without contents: enough to say how a
 /// list of items goes when it runs alone (CCSDS 727.0-B-5 §4.9), how many blocks it needs and how many steps it takes.
 ///
-/// Sizes stop at the greatest u64, and counts at the greatest u32.
+/// Sizes stop at the greatest u64, and what is told of blocks and steps at the greatest u32. The need is counted one
+/// further, so that one that no u32 can tell still differs from the greatest that one can.
 #[derive(Drop)]
 pub struct View<'a> {
     protected: &'a Protected,
     outlines: Vec<Outline>,
     base: u64,
-    need: u32,
+    need: u64,
     steps: u32,
 }
 
@@ -141,9 +145,17 @@ impl<'a> View<'a> {
 
     /// How many blocks more than at first were in use at most, or the greatest u32 where that is more.
     pub fn need(&self) -> u32
-        ensures { result ≡ self.now.need }
+        ensures { result ≡ min self.now.need most_count }
     {
-        self.need
+        capped(self.need)
+    }
+
+    /// Whether at most so many blocks more than at first were in use at any time. It is exact for the greatest u32 too,
+    /// which `need` tells of greater needs as well.
+    pub fn needs_at_most(&self, blocks: u32) -> bool
+        ensures { result ≡ not (nat_lt blocks self.now.need) }
+    {
+        self.need <= u64::from(blocks)
     }
 
     /// How many steps were taken at most, or the greatest u32 where that is more.
@@ -163,10 +175,10 @@ fn add_steps(steps: u32, bound: u64) -> u32
 }
 
 /// The need, where so many blocks are in use.
-fn raise_need(need: u32, base: u64, blocks: u64) -> u32
-    ensures { result ≡ max need (min (blocks - base) most_count) }
+fn raise_need(need: u64, base: u64, blocks: u64) -> u64
+    ensures { result ≡ max need (min (blocks - base) most_need) }
 {
-    need.max(capped(blocks.saturating_sub(base)))
+    need.max(blocks.saturating_sub(base).min(MOST_NEED))
 }
 
 /// The count, or the greatest u32 where it is more.

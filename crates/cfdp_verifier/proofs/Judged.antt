@@ -3,7 +3,7 @@
 --     without_file, with_file        so it is with no destination;  and where the install is allowed
 --     not_installed                  the verdict where it is not
 --     all_done, one_failed           the verdict after the requests
-use Rattle.std.proofs.Common.{◌≡◌, refl, sym, ◌∙◌, ap, subst, Bool, true, false, cond, ℕ, ◌+◌, ◌-◌, ◌≤◌, max, List, [], ◌∷◌, length, map, Option, Some, None, Result, Ok, Err, replicate, arith}
+use Rattle.std.proofs.Common.{◌≡◌, refl, sym, ◌∙◌, ap, subst, Bool, true, false, cond, ℕ, ◌+◌, ◌-◌, ◌≤◌, min, max, List, [], ◌∷◌, length, map, Option, Some, None, Result, Ok, Err, replicate, arith}
 use Rattle.std.proofs.lemmas.List.{length-replicate}
 use Rattle.std.specs.Prelude.{IfNone}
 use Rattle.cfdp_paths.specs.Paths.{Path}
@@ -12,10 +12,9 @@ use Rattle.cfdp_actions.specs.Actions.{Item, Install, Perform, Request, Installe
 use Rattle.cfdp_leases.specs.Items.{performed, step_bound, items_of}
 use Rattle.cfdp_leases.specs.Footprint.{Footprint, footprint_of}
 use Rattle.cfdp_states.specs.Alone.{statuses, steps, peak, alone, statuses_alone, need_alone, steps_alone}
-use Rattle.cfdp_states.specs.Views.{Sketch, IsViewOf, TellsInstall, only, installed_if}
+use Rattle.cfdp_states.specs.Views.{most_need, Sketch, IsViewOf, TellsInstall, only, installed_if}
 use Rattle.cfdp_verifier.specs.declared.refusal.NotGranted.{NotGranted}
 use Rattle.cfdp_verifier.specs.declared.refusal.NotGranted.TheVariants as no
-use Rattle.cfdp_verifier.specs.declared.judging.Costs.{Costs}
 use Rattle.cfdp_verifier.specs.Verdict.{DestinationNotAllowed, Refuse, first_failure, destination_allowed, judged, judged_apart, capped}
 use Rattle.cfdp_verifier.specs.Judging.{TellsRun, EndsSo, JudgesAlone}
 use Rattle.cfdp_verifier.proofs.Covered.{covered}
@@ -160,14 +159,14 @@ module _ (prefixes : List Path) (F : Filestore) (x : List ℕ) (items : List Ite
   ended result tells =
       subst (λ (ps : List Path). EndsSo ps at.here (map Perform requests) at.start at.high at.taken w result) at.same (tells at.here at.start at.high at.taken at.seen at.within)
 
-  pub all_done : {X : Type 0} (y : X) (costs : Costs) → TellsRun v w (map Perform requests) (Ok y) → costs.blocks ≡ w.need → costs.steps ≡ w.steps → JudgesAlone prefixes F x items (Ok costs)
-  all_done y costs tells blocks_are steps_are =
+  pub all_done : {X : Type 0} (y : X) → TellsRun v w (map Perform requests) (Ok y) → JudgesAlone prefixes F x items (Ok w)
+  all_done y tells =
       let run = ended (Ok y) tells in (
         need_alone prefixes F x items,
         steps_alone prefixes F x items,
         λ spare. judged_so spare ∙ ap (λ f. judged spare items f (need_alone prefixes F x items) (steps_alone prefixes F x items)) run.0,
-        blocks_are ∙ run.1 ∙ ap capped (sym at.needs),
-        steps_are ∙ run.2 ∙ ap capped (sym at.counts),
+        run.1 ∙ ap (λ n. min n most_need) (sym at.needs),
+        run.2 ∙ ap capped (sym at.counts),
       )
 
   pub one_failed : (X : Type 0) (fault : NotGranted) → TellsRun {X = X} v w (map Perform requests) (Err fault) → JudgesAlone prefixes F x items (Err fault)

@@ -1,7 +1,7 @@
 -- A list of requests, run one after another on a view.
 --     GoesOn          so far each request was successful, and the rest of the list goes from here as the list from its start
 --     begins, goes, fails, ends      the first place, the next place, a request that is not successful, the last place
-use Rattle.std.proofs.Common.{◌≡◌, refl, sym, ◌∙◌, ap, subst, true, false, cond, ℕ, suc, ◌+◌, ◌-◌, ◌≤◌, max, List, [], ◌∷◌, Some, Ok, zero, map, drop, length, get_or, ◌<◌, arith, add-zero, add-one}
+use Rattle.std.proofs.Common.{◌≡◌, refl, sym, ◌∙◌, ap, subst, true, false, cond, ℕ, suc, ◌+◌, ◌-◌, ◌≤◌, min, max, List, [], ◌∷◌, Some, Ok, zero, map, drop, length, get_or, ◌<◌, arith, add-zero, add-one}
 use Rattle.std.proofs.Math.Seq.{drop-cons}
 use Rattle.cfdp_status.specs.declared.status.Status.{Status}
 use Rattle.cfdp_status.specs.Codes.{is_successful}
@@ -10,7 +10,7 @@ use Rattle.cfdp_actions.specs.Filestore.{Filestore, blocks}
 use Rattle.cfdp_actions.specs.Actions.{Item, Perform, Request, Performed, Answer, row}
 use Rattle.cfdp_leases.specs.Items.{performed, step_bound}
 use Rattle.cfdp_states.specs.Alone.{statuses, steps, peak}
-use Rattle.cfdp_states.specs.Views.{Sketch, IsViewOf, Tells}
+use Rattle.cfdp_states.specs.Views.{most_need, Sketch, IsViewOf, Tells}
 use Rattle.cfdp_verifier.specs.Verdict.{capped, first_failure}
 use Rattle.cfdp_verifier.specs.Judging.{EndsSo}
 
@@ -125,4 +125,4 @@ module _ (prefixes : List Path) (F : Filestore) (items : List Item) (start high 
       let none = ap (map Perform) (drop-past requests number all) in
       let last = subst (λ (rest : List Item). GoesOn prefixes F items start high taken w number rest) none g in
       let highest : last.most ≡ max high (peak prefixes F 0 items) = omega (arith, last.peaks, last.within) in
-      (last.failure, last.seen.need ∙ ap (λ n. capped (n - start)) highest, last.seen.steps ∙ ap capped (sym (last.counts ∙ add-zero last.spent)))
+      (last.failure, last.seen.need ∙ ap (λ n. min (n - start) most_need) highest, last.seen.steps ∙ ap capped (sym (last.counts ∙ add-zero last.spent)))

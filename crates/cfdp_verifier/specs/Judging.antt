@@ -1,16 +1,16 @@
 -- How a list goes on a view, in the words of the verdict.
 --     TellsRun v w items result        on whatever filestore the view tells of: each item is successful, and the view after them tells
 --                                      what they need and take; or the first one that is not successful is named
---     JudgesAlone, Judges              a list whose file may be installed and whose requests succeed, with what it needs and takes, or why
---                                      it is refused;  and what it is granted
---     Affords costs spare result       whether a list that costs so much is granted it
-use Rattle.std.specs.Prelude.{◌≡◌, ⊤, ℕ, ◌+◌, ◌-◌, ◌≤◌, max, List, Option, Some, None, Result, Ok, Err}
+--     JudgesAlone, Judges              a list whose file may be installed and whose requests succeed, with the view that tells what it needs
+--                                      and takes, or why it is refused;  and what it is granted
+--     Affords w spare result           whether a list of which the view tells this is granted what it costs
+use Rattle.std.specs.Prelude.{◌≡◌, ⊤, ℕ, ◌+◌, ◌-◌, ◌≤◌, min, max, List, Option, Some, None, Result, Ok, Err}
 use Rattle.cfdp_status.specs.declared.status.Status.{Status}
 use Rattle.cfdp_paths.specs.Paths.{Path}
 use Rattle.cfdp_actions.specs.Filestore.{Filestore, blocks}
 use Rattle.cfdp_actions.specs.Actions.{Item}
 use Rattle.cfdp_states.specs.Alone.{statuses, steps, peak}
-use Rattle.cfdp_states.specs.Views.{Sketch, IsViewOf}
+use Rattle.cfdp_states.specs.Views.{most_need, Sketch, IsViewOf}
 use Rattle.cfdp_verifier.specs.declared.refusal.NotGranted.{NotGranted}
 use Rattle.cfdp_verifier.specs.declared.refusal.NotGranted.TheVariants as no
 use Rattle.cfdp_verifier.specs.declared.judging.Costs.{Costs}
@@ -24,7 +24,7 @@ FailsSo no.Memory failure = ⊤
 abbrev pub EndsSo : {X : Type 0} → List Path → Filestore → List Item → ℕ → ℕ → ℕ → Sketch → Result X NotGranted → Type 0
 EndsSo prefixes F items start high taken w (Ok _) =
     (first_failure 0 (statuses prefixes F 0 items) ≡ None)
-    × (w.need ≡ capped (max high (peak prefixes F 0 items) - start))
+    × (w.need ≡ min (max high (peak prefixes F 0 items) - start) most_need)
     × (w.steps ≡ capped (taken + steps prefixes F 0 items))
 EndsSo prefixes F items start high taken w (Err fault) = FailsSo fault (first_failure 0 (statuses prefixes F 0 items))
 
@@ -38,17 +38,17 @@ RefusesSo (no.Refused refusal) v = v ≡ Refuse refusal
 RefusesSo no.Memory v = ⊤
 
 -- whatever is to spare
-abbrev pub JudgesAlone : List Path → Filestore → List ℕ → List Item → Result Costs NotGranted → Type 0
-JudgesAlone prefixes F x items (Ok costs) =
+abbrev pub JudgesAlone : List Path → Filestore → List ℕ → List Item → Result Sketch NotGranted → Type 0
+JudgesAlone prefixes F x items (Ok w) =
     (needed : ℕ) × (taken : ℕ) × ((spare : ℕ) → judged_apart prefixes F spare x items None ≡ judged spare items None needed taken)
-    × (costs.blocks ≡ capped needed) × (costs.steps ≡ capped taken)
+    × (w.need ≡ min needed most_need) × (w.steps ≡ capped taken)
 JudgesAlone prefixes F x items (Err fault) = (spare : ℕ) → RefusesSo fault (judged_apart prefixes F spare x items None)
 
 abbrev pub Judges : List Item → Verdict → Result Costs NotGranted → Type 0
 Judges items v (Ok costs) = v ≡ Grant items costs.blocks costs.steps
 Judges items v (Err fault) = RefusesSo fault v
 
--- where the costs are those of a list, as far as they can be told
-abbrev pub Affords : Costs → ℕ → Result Costs NotGranted → Type 0
-Affords costs spare result =
-    (items : List Item) (needed taken : ℕ) → costs.blocks ≡ capped needed → costs.steps ≡ capped taken → Judges items (judged spare items None needed taken) result
+-- where the view tells of a list that needs and takes so much
+abbrev pub Affords : Sketch → ℕ → Result Costs NotGranted → Type 0
+Affords w spare result =
+    (items : List Item) (needed taken : ℕ) → w.need ≡ min needed most_need → w.steps ≡ capped taken → Judges items (judged spare items None needed taken) result

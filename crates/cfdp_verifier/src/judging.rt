@@ -1,6 +1,6 @@
 //! A list that is run alone on a view, what it costs, and whether that can be had.
 
-ghost use Rattle.std.specs.Prelude.{◌≡◌, ◌<◌, ◌≤◌, IfNone, map, replicate, length, vec_len, None};
+ghost use Rattle.std.specs.Prelude.{◌≡◌, ◌≤◌, IfNone, map, replicate, length, vec_len, None};
 ghost use Rattle.cfdp_actions.specs.Actions.{Perform};
 ghost use Rattle.cfdp_leases.specs.Footprint.{footprint_of};
 ghost use Rattle.cfdp_leases.specs.Items.{items_of};
@@ -15,7 +15,7 @@ use cfdp_leases::Footprint;
 use cfdp_states::View;
 use std::alloc::Global;
 
-/// What a list takes at most when it runs alone; each number stops at the greatest u32.
+/// What a list takes at most when it runs alone; what is told of each stops at the greatest u32.
 #[derive(Clone, Copy, Debug)]
 pub struct Costs {
     /// How many blocks more than now are in use at most.
@@ -38,38 +38,40 @@ pub fn judge<S: Filestore>(
     requires footprint { footprint.now ≡ footprint_of (items_of items.now.destination items.now.requests.items) }
     requires few { vec_len items.now.requests ≤ 64 }
     requires bound { IfNone items.now.destination (bound ≡ 0) }
-    requires spare { spare < 4294967295 }
     ensures { let list = items_of items.now.destination items.now.requests.items in
         Judges list (judged_apart protected.now (S.state store.now).filestore spare (replicate bound 0) list None) result }
 {
-    let costs = run_alone(alloc, store, protected, footprint, items, bound)?;
-    afford(costs, spare)
+    let view = run_alone(alloc, store, protected, footprint, items, bound)?;
+    afford(&view, spare)
 }
 
-/// The costs, where the list may have them.
-fn afford(costs: Costs, spare: u32) -> Result<Costs, NotGranted>
-    requires { spare < 4294967295 }
-    ensures { Affords costs spare result }
+/// What the list cost that ran on the view, where it may have that.
+fn afford(view: &View<'_>, spare: u32) -> Result<Costs, NotGranted>
+    ensures { Affords view.now spare result }
 {
+    let costs = Costs {
+        blocks: view.need(),
+        steps: view.steps(),
+    };
     if costs.steps > MOST_STEPS {
         Err(NotGranted::Refused(Refusal::TooLong(costs.steps)))
-    } else if costs.blocks > spare {
+    } else if !view.needs_at_most(spare) {
         Err(NotGranted::Refused(Refusal::NoRoom(costs.blocks, spare)))
     } else {
         Ok(costs)
     }
 }
 
-/// Runs the items alone, with a file of as many octets as the bound: what they cost, or the install or the first request
-/// that does not succeed.
-fn run_alone<S: Filestore>(
+/// Runs the items alone, with a file of as many octets as the bound: the view after them, which tells what they cost, or
+/// the install or the first request that does not succeed.
+fn run_alone<'a, S: Filestore>(
     alloc: Global,
     store: &S,
-    protected: &Protected,
+    protected: &'a Protected,
     footprint: &Footprint,
     items: &Items,
     bound: u64,
-) -> Result<Costs, NotGranted>
+) -> Result<View<'a>, NotGranted>
     requires footprint { footprint.now ≡ footprint_of (items_of items.now.destination items.now.requests.items) }
     requires few { vec_len items.now.requests ≤ 64 }
     requires bound { IfNone items.now.destination (bound ≡ 0) }
@@ -83,10 +85,7 @@ fn run_alone<S: Filestore>(
         }
     }
     run_requests(&mut view, &items.requests)?;
-    Ok(Costs {
-        blocks: view.need(),
-        steps: view.steps(),
-    })
+    Ok(view)
 }
 
 /// Runs the requests one after another on the view, up to the first that is not successful.

@@ -1,6 +1,6 @@
 //! The verdict, from its first test to its last.
 
-ghost use Rattle.std.specs.Prelude.{◌≡◌, ◌<◌, IfNone, IfOk};
+ghost use Rattle.std.specs.Prelude.{◌≡◌, IfNone, IfOk};
 ghost use Rattle.cfdp_quota.specs.Budget.{spare};
 ghost use Rattle.cfdp_verifier.specs.Answers.{Grants, HasFootprint, answered};
 ghost use Rattle.cfdp_verifier.specs.Verdict.{verdict};
@@ -23,8 +23,7 @@ use std::alloc::{AllocError, Global};
 /// unlimited room and a file of as many octets as the bound, its file may be installed, and each request is successful;
 /// it takes at most 65,536 steps; and it needs no more blocks than are to spare.
 ///
-/// The list is run on a view of kinds and sizes, never on the store. Without a destination the bound has to be 0. Fewer
-/// blocks than the greatest u32 have to be to spare, as they are in every filestore.
+/// The list is run on a view of kinds and sizes, never on the store. Without a destination the bound has to be 0.
 ///
 /// # Errors
 ///
@@ -39,8 +38,6 @@ pub fn verify<S: Filestore>(
     proposal: &Proposal<'_>,
 ) -> Result<Verdict, Memory>
     requires bound { IfNone proposal.now.destination (proposal.now.bound ≡ 0) }
-    // A need is told up to the greatest u32. A filestore has at most 65,536 blocks.
-    requires spare { spare quota.now < 4294967295 }
     ensures verdict { IfOk result (λ answer. answered answer
         ≡ verdict protected.now (S.state store.now).filestore leases.now (spare quota.now) proposal.now) }
     ensures footprint { IfOk result HasFootprint }
@@ -62,7 +59,6 @@ fn find_grant<S: Filestore>(
     proposal: &Proposal<'_>,
 ) -> Result<Grant, NotGranted>
     requires bound { IfNone proposal.now.destination (proposal.now.bound ≡ 0) }
-    requires spare { spare quota.now < 4294967295 }
     ensures { Grants (verdict protected.now (S.state store.now).filestore leases.now (spare quota.now) proposal.now) result }
 {
     if proposal.requests.len() > MOST_REQUESTS {

@@ -1,7 +1,6 @@
 //! The lists of the section on admission in the repository's `docs/GUIDE.md`, octet for octet, with their verdicts.
 
-ghost use Rattle.std.specs.Prelude.{◌≡◌, ◌<◌, IfNone};
-ghost use Rattle.cfdp_quota.specs.Budget.{spare};
+ghost use Rattle.std.specs.Prelude.{◌≡◌, IfNone};
 
 use super::scene::{Before, Row, Scene, Told, check, read};
 use cfdp_paths::Memory;
@@ -177,7 +176,6 @@ fn tell(
     proposal: &Proposal<'_>,
 ) -> Result<String, Memory>
     requires bound { IfNone proposal.now.destination (proposal.now.bound ≡ 0) }
-    requires spare { spare quota.now < 4294967295 }
 {
     let (store, leases, protected) = (&scene.store, &scene.leases, &scene.protected);
     let text = match verify(alloc, store, leases, quota, protected, proposal)? {
@@ -193,7 +191,6 @@ fn tell(
 fn try_call(rt: &impl Abort, alloc: Global) -> Result<(), Memory> {
     let scene = Scene::new(rt, alloc, 32, BEFORE)?;
     let quota = scene.quota(rt);
-    assert!(rt; quota.spare() < u32::MAX);
     let mut requests = Vec::new(alloc);
     requests.push(read(rt, alloc, b"\x00\x07\x70\x05\x64\x2f\x6f\x6c\x64")?)?;
     let proposal = Proposal {

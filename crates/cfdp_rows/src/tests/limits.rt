@@ -1,7 +1,11 @@
-//! The longest lists, the most steps, and the longest request.
+//! The longest lists, the most steps, the greatest needs, and the longest request.
 
-use super::scene::{Before, Told, check, check_list};
+use super::scene::{Before, Scene, Told, check, check_list};
 use cfdp_paths::Memory;
+use cfdp_quota::Quota;
+use cfdp_verifier::{Proposal, verify};
+use std::alloc::Global;
+use std::process::Abort;
 
 #[test]
 fn sixty_four_requests_and_one_more(rt: HostRuntime) -> Result<(), Memory> {
@@ -63,6 +67,60 @@ fn exactly_the_most_steps(rt: HostRuntime) -> Result<(), Memory> {
             ),
         ],
     )
+}
+
+/// How many octets a file has at most, how many blocks are to spare, and the verdict on it alone. A file of 4,294,967,294
+/// blocks of 120 octets needs one more for its name.
+const NEEDS: &[(u64, u32, Told)] = &[
+    (
+        515_396_075_280,
+        4_294_967_295,
+        Told::Granted(4_294_967_295, 2),
+    ),
+    (
+        515_396_075_280,
+        4_294_967_294,
+        Told::NoRoom(4_294_967_295, 4_294_967_294),
+    ),
+    (
+        515_396_075_281,
+        4_294_967_295,
+        Told::NoRoom(4_294_967_295, 4_294_967_295),
+    ),
+    (
+        u64::MAX,
+        4_294_967_295,
+        Told::NoRoom(4_294_967_295, 4_294_967_295),
+    ),
+];
+
+fn try_needs(rt: &impl Abort, alloc: Global) -> Result<(), Memory> {
+    let scene = Scene::new(rt, alloc, 64, &[])?;
+    for (bound, spare, told) in NEEDS {
+        let list = Proposal {
+            destination: Some(b"a"),
+            bound: *bound,
+            requests: &[],
+        };
+        let quota = Quota::new(*spare);
+        let (store, leases, protected) = (&scene.store, &scene.leases, &scene.protected);
+        let verdict = verify(alloc, store, leases, &quota, protected, &list)?;
+        assert_eq!(rt;
+            Told::of(rt, &verdict),
+            *told,
+            "{bound} octets, {spare} blocks"
+        );
+    }
+    Ok(())
+}
+
+/// A need that no u32 can tell is told from the greatest that one can.
+#[test]
+fn needs_that_no_count_tells(rt: HostRuntime) -> Result<(), Memory> {
+    match try_needs(&rt, rt.alloc()) {
+        Ok(()) => Ok(()),
+        Err(_) => try_needs(&rt, rt.alloc()),
+    }
 }
 
 /// A value of 254 octets: its response would have 255.

@@ -47,6 +47,11 @@ fn from_a_conflict_to_a_failure(rt: HostRuntime) -> Result<(), Memory> {
             (Some((b"d", 0)), &[], Told::Conflict(22)),
             (None, &[DELETE, REMOVE], Told::Conflict(22)),
             (Some((b"e/f", 0)), &[DELETE], Told::DestinationNotAllowed),
+            (
+                Some((b"e/f", u64::MAX)),
+                &[DOUBLE; 15],
+                Told::DestinationNotAllowed,
+            ),
         ],
     )
 }

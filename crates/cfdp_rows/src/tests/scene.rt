@@ -317,7 +317,6 @@ impl Scene {
         requires { IfNone list.now.destination (list.now.bound ≡ 0) }
     {
         let quota = self.quota(rt);
-        assert!(rt; quota.spare() < u32::MAX);
         verify(
             alloc,
             &self.store,

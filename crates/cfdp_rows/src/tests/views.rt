@@ -72,6 +72,9 @@ pub fn run<S: Filestore>(
     };
     apply(rt, &mut view, &requests, items)?;
     assert_eq!(rt; (view.need(), view.steps()), (need, steps), "on {file:?}");
+    // The row that is told the greatest u32 needs more.
+    assert_eq!(rt; view.needs_at_most(need), need < u32::MAX, "on {file:?}");
+    assert!(rt; need == 0 || !view.needs_at_most(need - 1), "on {file:?}");
     Ok(())
 }
 

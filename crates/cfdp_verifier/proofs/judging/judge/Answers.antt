@@ -7,5 +7,5 @@ use Rattle.cfdp_verifier.proofs.judging.judge.Goals as goal
 pub returns : goal.returns
 returns g c =
     let list = items_of c.args.items.now.destination c.args.items.now.requests.items in
-    let alone = c.in_ok-costs.ensures in
+    let alone = c.in_ok-view.ensures in
     subst (λ (v : Verdict). Judges list v c.afford.result) (sym (alone.2 c.args.spare)) (c.afford.ensures list alone.0 alone.1 alone.3 alone.4)

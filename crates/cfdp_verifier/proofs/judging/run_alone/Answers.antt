@@ -36,4 +36,4 @@ returns g c =
     ] in
     all_done c.args.protected.now (g.S.Filestore.state c.args.store.now).filestore (replicate c.args.bound 0)
     (items_of c.args.items.now.destination c.args.items.now.requests.items) c.args.items.now.requests.items c.match-items.view c.run_requests.new.view at c.in_ok-run_requests.field-0
-    (record { blocks = c.need.result; steps = c.steps.result }) (rw c.deref.ensures.value at c.in_ok-run_requests.ensures) c.need.ensures c.steps.ensures
+    (rw c.deref.ensures.value at c.in_ok-run_requests.ensures)
