@@ -72,9 +72,11 @@ pub trait Filestore: Drop {
         ensures in_use { blocks (state self.now).filestore ≤ (state self.now).capacity }
         ensures capacity { (state self.now).capacity ≤ 65536 };
 
-    /// Whether no change of this store takes memory, so that none can answer want of it.
+    /// Whether no change of this store takes memory, so that none can answer want of it. Like `free` it tells that no more
+    /// than 65,536 blocks are in use, at no cost that grows with the store.
     fn takes_no_memory(&self) -> bool
-        ensures { result ≡ (state self.now).takes_no_memory };
+        ensures value { result ≡ (state self.now).takes_no_memory }
+        ensures in_use { blocks (state self.now).filestore ≤ 65536 };
 
     /// All that stands, each path once, in path order.
     fn listing(&self, alloc: Global) -> Result<Vec<Entry>, Memory>

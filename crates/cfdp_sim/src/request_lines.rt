@@ -9,7 +9,7 @@ ghost use Rattle.cfdp_sim.specs.declared.request_lines.NoRequest.TheVariants as 
 use crate::dropped::Dropped;
 use cfdp_status::Status;
 use cfdp_tlv::{
-    FILESTORE_REQUEST, FilestoreRequest, FilestoreResponse, TlvFault, read_request, read_tlv,
+    FILESTORE_REQUEST, FilestoreRequest, FilestoreResponse, TlvFault, read_tlv, request_parts,
     write_response,
 };
 use std::alloc::{AllocError, Global};
@@ -26,7 +26,7 @@ pub(crate) enum NoRequest {
     Memory,
 }
 
-/// The request that a TLV's value spells, if it can be answered.
+/// The request that a TLV's value spells, if it can be answered. A value that is dropped takes no memory.
 fn read_answerable(alloc: Global, value: &[u8]) -> Result<FilestoreRequest, NoRequest>
     ensures request { IfOk result (λ request. answerable value.now (request_at value.now) ≡ Ok request) }
     ensures dropped { (dropped : Dropped) → result ≡ Err (no.Dropped dropped)
@@ -34,15 +34,17 @@ fn read_answerable(alloc: Global, value: &[u8]) -> Result<FilestoreRequest, NoRe
     ensures names { IfOk result (λ request. length (names_of request.first request.second) + 1 ≡ length value.now) }
     ensures short { IfOk result (λ request. length (names_of request.first request.second) ≤ 253) }
 {
-    let request = match read_request(alloc, value) {
-        Ok(request) => request,
-        Err(TlvFault::Memory) => return Err(NoRequest::Memory),
+    let parts = match request_parts(value) {
+        Ok(parts) => parts,
         Err(fault) => return Err(NoRequest::Dropped(Dropped::of_fault(fault))),
     };
     if value.len() > LONGEST_VALUE {
         return Err(NoRequest::Dropped(Dropped::RequestTooLong));
     }
-    Ok(request)
+    match parts.copy(alloc) {
+        Ok(request) => Ok(request),
+        Err(_) => Err(NoRequest::Memory),
+    }
 }
 
 /// The request that a line brings.

@@ -25,7 +25,7 @@ pub fn survey<S: Filestore>(
     ensures small { blocks (S.state store.now).filestore ≤ 65536 }
 {
     // Its contract says that few blocks are in use, so that no size passes what an extent can tell.
-    let _free = store.free();
+    let _ = store.takes_no_memory();
     let exclusive = footprint.exclusive();
     let mut outlines = survey_trees(alloc, store, exclusive)?;
     let mut others = survey_others(alloc, store, footprint.shared(), exclusive)?;

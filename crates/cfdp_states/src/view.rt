@@ -57,11 +57,11 @@ impl<'a> View<'a> {
     ///
     /// Want of memory.
     ///
-    /// Cost: one `free` of the store, one `standing` for each exclusive path that is not at or below an earlier one, and
-    /// for each other shared path a `kind`, and a `size` where that is a file; no listing, no octets and no checksum. What
-    /// the footprint does not cover is not asked for (a `ListStore` finds what is asked for by going through its list). Each thing that stands below an exclusive path is compared with the exclusive paths before
-    /// that one, and each shared path with all exclusive ones and with the shared ones that stand: the comparisons grow
-    /// with the products of these counts.
+    /// Cost: one `standing` for each exclusive path that is not at or below an earlier one, and for each other shared path
+    /// a `kind`, and a `size` where that is a file; no listing, no octets and no checksum. What the footprint does not
+    /// cover is not asked for (a `ListStore` finds what is asked for by going through its list). Each thing that stands
+    /// below an exclusive path is compared with the exclusive paths before that one, and each shared path with all
+    /// exclusive ones and with the shared ones that stand: the comparisons grow with the products of these counts.
     pub fn of<S: Filestore>(
         alloc: Global,
         store: &S,
@@ -89,8 +89,8 @@ impl<'a> View<'a> {
     ///
     /// # Errors
     ///
-    /// Want of memory; the view is then as before. Cost: a few passes over what the view has, and for a rename a copy of
-    /// it.
+    /// Want of memory; the view is then as before. Cost: a few passes over what the view has; a rename copies it, and
+    /// compares each thing that stays with each that moves.
     pub fn apply(&mut self, request: &Request) -> Result<Status, Memory>
         ensures told { IfOk result (λ status. Tells self.old self.new (Perform request.now) (Performed status)) }
         ensures prefixes { OnOk result (self.new.prefixes ≡ self.old.prefixes) }
@@ -131,8 +131,8 @@ impl<'a> View<'a> {
     }
 
     /// The most octets that the file at the path has, from 0 to the greatest u64, which also stands for more. `None` where
-    /// no file stands, and where the path is none of those that the view was made of. Takes no memory. Cost: a pass over
-    /// what the view has.
+    /// the view has no file at it: what the view's footprint does not cover it never saw. Takes no memory. Cost: a pass
+    /// over what the view has.
     pub fn bound(&self, path: &Path) -> Option<u64>
         ensures { result ≡ size_of (finite.get self.now.extents path.now) }
     {

@@ -4,13 +4,13 @@
 //! A reader answers the value exactly where the octets spell one, and otherwise the first fault;
 //! `specs/Grammar.antt` says what spells what. A writer appends the one canonical spelling, or
 //! answers [`TlvFault::TooLong`] exactly where a value is longer than a length octet can say.
-//! Reading goes over the octets once, refuses before it allocates, and allocates only what it
-//! hands out.
+//! Reading refuses before it allocates, and allocates only what it hands out: one pass looks for a
+//! fault, and a second one copies.
 #![tactic(auto)]
 
 mod fault;
 mod field;
-mod laws;
+pub mod laws;
 mod names;
 mod request;
 mod response;
@@ -18,7 +18,6 @@ mod room;
 
 pub use fault::TlvFault;
 pub use field::{FILESTORE_REQUEST, FILESTORE_RESPONSE, Tlv, read_lv, read_tlv};
-pub use laws::{requests_have_one_reading, responses_have_one_reading};
 pub use request::{FilestoreRequest, RequestParts, read_request, request_parts, write_request};
 pub use response::{
     FilestoreResponse, ResponseParts, read_response, response_parts, write_response,

@@ -136,9 +136,7 @@ fn exchanges(rt: HostRuntime) -> Result<(), Fail> {
     Ok(())
 }
 
-#[test]
-fn ample(rt: HostRuntime) -> Result<(), Fail> {
-    let alloc = rt.alloc();
+fn write_requests(rt: &impl Abort, alloc: Global) -> Result<(), Fail> {
     let requests = [
         FilestoreRequest {
             action: Action::CreateFile,
@@ -220,9 +218,7 @@ const TOLD: [Told; 6] = [
     },
 ];
 
-#[test]
-fn ample_responses(rt: HostRuntime) -> Result<(), Fail> {
-    let alloc = rt.alloc();
+fn read_responses(rt: &impl Abort, alloc: Global) -> Result<(), Fail> {
     for told in TOLD {
         let second = match told.second {
             None => None,
@@ -237,6 +233,12 @@ fn ample_responses(rt: HostRuntime) -> Result<(), Fail> {
         assert!(rt; read_response(alloc, told.value)? == want);
     }
     Ok(())
+}
+
+#[test]
+fn ample(rt: HostRuntime) -> Result<(), Fail> {
+    write_requests(&rt, rt.alloc())?;
+    read_responses(&rt, rt.alloc())
 }
 
 #[test]

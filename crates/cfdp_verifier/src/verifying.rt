@@ -27,8 +27,8 @@ use std::alloc::{AllocError, Global};
 ///
 /// # Errors
 ///
-/// Want of memory. Cost: that of `Leases::conflict` and of `View::of` on the list's footprint, and for each request a few
-/// passes over what the view has.
+/// Want of memory. Cost: that of reading the names, of `footprint`, `Leases::conflict` and `View::of` on what they name,
+/// and of one `View::install` and a `View::apply` for each request.
 pub fn verify<S: Filestore>(
     alloc: Global,
     store: &S,
