@@ -20,14 +20,8 @@ use Rattle.cfdp_pdus.specs.Values.{MetadataFields}
 use Rattle.cfdp_pdus.specs.declared.header.Header.{Header}
 use Rattle.cfdp_pdus.specs.declared.eof.Eof.{Eof}
 use Rattle.cfdp_transactions.specs.Received.{Received, gaps_below}
-
-pub data Phase : Type 0 where
-  Receiving : Phase  -- file data, before an EOF
-  Awaiting : ℕ → Phase  -- the EOF came, and octets are missing; so many checks were made
-  Executing : ℕ → Phase  -- the item of this number is next
-  Refused : Phase
-  Done : Phase
-  Ended : ℕ → Phase  -- with this condition
+pub use Rattle.cfdp_transactions.specs.declared.phase.Phase.{Phase}
+pub use Rattle.cfdp_transactions.specs.declared.phase.Phase.TheVariants.{Receiving, Awaiting, Executing, Refused, Done, Ended}
 
 abbrev pub is_live : Phase → Bool
 is_live Receiving = true

@@ -6,7 +6,6 @@
 --     about      whose transaction an event is
 --     event_of   the event that a PDU is: none, where it goes toward the sender or the core does not take it
 use Rattle.std.specs.Prelude.{ℕ, Bool, if◌then◌else◌, Option, Some, None}
-use Rattle.cfdp_status.specs.declared.status.Status.{Status}
 use Rattle.cfdp_status.specs.declared.transaction.TransactionId.{TransactionId}
 use Rattle.cfdp_pdus.specs.Values.{MetadataFields, FileDataFields, FinishedFields}
 use Rattle.cfdp_pdus.specs.declared.header.Header.{Header}
@@ -14,42 +13,10 @@ use Rattle.cfdp_pdus.specs.declared.eof.Eof.{Eof}
 use Rattle.cfdp_pdus.specs.declared.pdu.Pdu.{Pdu}
 use Rattle.cfdp_pdus.specs.declared.pdu.Pdu.TheVariants as pdu
 use Rattle.cfdp_transactions.specs.Entry.{id_of}
-use Rattle.cfdp_verifier.specs.declared.refusal.Refusal.{Refusal}
-
-pub data Event : Type 0 where
-  MetadataCame : Header → MetadataFields → Event
-  DataCame : Header → FileDataFields → Event
-  EofCame : Header → Eof → Event
-  Step : TransactionId → Event
-  Cancel : TransactionId → Event
-  Check : TransactionId → Event
-  Take : TransactionId → Event
-
-pub record Outcome : Type 0 where
-  pub header : Header
-  pub finished : FinishedFields
-  pub send : Bool
-
-pub data Reply : Type 0 where
-  Admitted : ℕ → ℕ → Reply  -- blocks and steps granted
-  Refused : Refusal → Reply
-  Stored : Reply
-  Dropped : Reply
-  Complete : Reply
-  Waiting : Reply
-  Faulted : ℕ → Reply
-  Performed : Status → Reply
-  Installed : Reply
-  Done : Reply
-  Cancelled : Reply
-  Taken : Outcome → Reply
-  Duplicate : Reply
-  Unknown : Reply
-  Idle : Reply
-  NotForUs : Reply
-  TableFull : Reply
-  Memory : Reply  -- none of the table's: memory was refused, and nothing changed
-  JournalFull : Reply  -- nor this: the event was not taken
+pub use Rattle.cfdp_transactions.specs.declared.event.Event.{Event}
+pub use Rattle.cfdp_transactions.specs.declared.event.Event.TheVariants.{Metadata as MetadataCame, Data as DataCame, Eof as EofCame, Step, Cancel, Check, Take}
+pub use Rattle.cfdp_transactions.specs.declared.outcome.Outcome.{Outcome}
+pub use Rattle.cfdp_transactions.specs.declared.reply.Reply.{Reply}
 
 abbrev pub about : Event → TransactionId
 about (MetadataCame h m) = id_of h

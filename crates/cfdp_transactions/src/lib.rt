@@ -6,4 +6,13 @@
 //! its functions do nothing, and their contracts are the laws.
 #![tactic(auto)]
 
+mod event;
 pub mod laws;
+mod outcome;
+mod phase;
+mod reply;
+
+pub use event::{Event, NotOurs, event_of};
+pub use outcome::{Outcome, SharedOutcome};
+pub use phase::Phase;
+pub use reply::Reply;
