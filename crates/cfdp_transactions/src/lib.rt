@@ -10,6 +10,7 @@ mod event;
 pub mod laws;
 mod outcome;
 mod phase;
+mod ranges;
 mod reply;
 
 pub use event::{Event, NotOurs, event_of};
