@@ -37,3 +37,5 @@ pub mod PieceRanges
 pub mod Writing
 pub mod Needs
 pub mod RangeSteps
+pub mod Overwriting
+pub mod KeepingSteps

@@ -17,3 +17,4 @@ pub mod ReceivedLaws
 pub mod Pieces
 pub mod PieceLaws
 pub mod Needs
+pub mod Keeping

@@ -7,6 +7,7 @@
 #![tactic(auto)]
 
 mod event;
+mod keeping;
 pub mod laws;
 mod outcome;
 mod phase;
