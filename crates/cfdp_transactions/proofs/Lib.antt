@@ -36,3 +36,11 @@ pub mod StepExamples
 pub mod PieceRanges
 pub mod Writing
 pub mod Needs
+mod RowTable
+pub mod Accounts
+pub mod RowWorld
+pub mod Budgets
+pub mod RowChange
+pub mod Closed
+pub mod Turned
+pub mod Answering

@@ -1,5 +1,6 @@
 pub mod LowerLaws
 pub mod Config
+pub mod ConfigWords
 pub mod Received
 pub mod Entry
 pub mod Events
@@ -17,3 +18,6 @@ pub mod ReceivedLaws
 pub mod Pieces
 pub mod PieceLaws
 pub mod Needs
+pub mod Rows
+pub mod RowChanges
+pub mod Books
