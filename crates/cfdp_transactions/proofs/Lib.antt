@@ -39,3 +39,11 @@ pub mod Needs
 pub mod RangeSteps
 pub mod Overwriting
 pub mod KeepingSteps
+mod RowTable
+pub mod Accounts
+pub mod RowWorld
+pub mod Budgets
+pub mod RowChange
+pub mod Closed
+pub mod Turned
+pub mod Answering

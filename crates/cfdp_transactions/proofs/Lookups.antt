@@ -9,7 +9,7 @@ use Rattle.cfdp_transactions.specs.Entry.{Entry, name_of}
 use Rattle.cfdp_transactions.specs.World.{place_of}
 use Rattle.cfdp_transactions.proofs.Finding.{is_same-true, is_same-same}
 
-differs : (a b : TransactionId) → a ≢ b → is_same a b ≡ false
+pub differs : (a b : TransactionId) → a ≢ b → is_same a b ≡ false
 differs a b ne = elim (cases_Bool (is_same a b)) [ inl same ↦ absurd (ne (is_same-true a b same)) | inr other ↦ other ]
 
 -- the entry in front is the one looked for, or the search goes on behind it

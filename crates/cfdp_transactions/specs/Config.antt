@@ -1,9 +1,10 @@
 -- The configuration of a receiving entity: what CCSDS 727.0-B-5 §8 leaves to the management information base.
 --     Config                    its values
---     ConfigFault, first_fault  what is wrong with the numbers, in the order of tests
---     IsWithinLimits            nothing is
-use Rattle.std.specs.Prelude.{◌≡◌, ℕ, ◌≤◌, ◌||◌, if◌then◌else◌, nat_lt, List, length, Option, Some, None}
+--     first_fault               what is wrong with the numbers, in the order of tests
+use Rattle.std.specs.Prelude.{ℕ, ◌||◌, if◌then◌else◌, nat_lt, List, Option, Some, None}
 use Rattle.cfdp_paths.specs.Paths.{Path}
+pub use Rattle.cfdp_transactions.specs.declared.config.ConfigFault.{ConfigFault}
+pub use Rattle.cfdp_transactions.specs.declared.config.ConfigFault.TheVariants.{BadBlocks, BadCap, BadChecks, BadJournal}
 
 pub record Config : Type 0 where
   pub entity : ℕ  -- this entity's ID
@@ -13,12 +14,6 @@ pub record Config : Type 0 where
   pub journal : ℕ  -- entries
   pub prefixes : List Path  -- what stands at or below them is protected
 
-pub data ConfigFault : Type 0 where
-  BadBlocks : ConfigFault
-  BadCap : ConfigFault
-  BadChecks : ConfigFault
-  BadJournal : ConfigFault
-
 abbrev pub first_fault : (blocks cap checks journal : ℕ) → Option ConfigFault
 first_fault blocks cap checks journal =
     if nat_lt blocks 16 || nat_lt 65536 blocks then Some BadBlocks
@@ -26,6 +21,3 @@ first_fault blocks cap checks journal =
     else if nat_lt checks 1 || nat_lt 1000 checks then Some BadChecks
     else if nat_lt journal 16 || nat_lt 1000000 journal then Some BadJournal
     else None
-
-abbrev pub IsWithinLimits : Config → Type 0
-IsWithinLimits c = (first_fault c.blocks c.cap c.checks c.journal ≡ None) × (length c.prefixes ≤ 8)

@@ -1,5 +1,6 @@
 pub mod LowerLaws
 pub mod Config
+pub mod ConfigWords
 pub mod Received
 pub mod Entry
 pub mod Events
@@ -18,3 +19,6 @@ pub mod Pieces
 pub mod PieceLaws
 pub mod Needs
 pub mod Keeping
+pub mod Rows
+pub mod RowChanges
+pub mod Books

@@ -6,6 +6,10 @@
 //! its functions do nothing, and their contracts are the laws.
 #![tactic(auto)]
 
+mod books;
+mod closing;
+mod config;
+mod entry;
 mod event;
 mod keeping;
 pub mod laws;
@@ -13,7 +17,9 @@ mod outcome;
 mod phase;
 mod ranges;
 mod reply;
+mod table;
 
+pub use config::{Config, ConfigFault};
 pub use event::{Event, NotOurs, event_of};
 pub use outcome::{Outcome, SharedOutcome};
 pub use phase::Phase;

@@ -1,5 +1,8 @@
 //! How far a transaction is.
 
+ghost use Rattle.std.specs.Prelude.{◌≡◌};
+ghost use Rattle.cfdp_transactions.specs.Entry.{is_live};
+
 /// How far a transaction is at the receiving entity (CCSDS 727.0-B-5 §4.6).
 #[derive(Clone, Copy, Debug, PartialEq, Eq)]
 pub enum Phase {
@@ -15,4 +18,16 @@ pub enum Phase {
     Done,
     /// It ended before it was done, with this condition code (§4.11 and §4.8).
     Ended(u8),
+}
+
+impl Phase {
+    /// Whether the transaction is live: not yet refused, done or ended.
+    pub fn is_live(self) -> bool
+        ensures { result ≡ is_live self }
+    {
+        match self {
+            Phase::Receiving | Phase::Awaiting(_) | Phase::Executing(_) => true,
+            Phase::Refused | Phase::Done | Phase::Ended(_) => false,
+        }
+    }
 }

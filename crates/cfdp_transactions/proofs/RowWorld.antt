@@ -1,0 +1,60 @@
+-- The program's rows, and the world that they and the store are.
+use Rattle.std.proofs.Common.{◌≡◌, ◌≢◌, ℕ, zero, suc, List, [], ◌∷◌, ◌++◌, length, map, refl, ap, sym, ◌∙◌, arith}
+use Rattle.std.specs.Prelude.{Bool, true, false, Option, Some, None, slice_get, slice_set, remove, option_map, IsTrue, IsFalse, if◌then◌else◌}
+use Rattle.std.proofs.lemmas.Bool.{cases_Bool}
+use mathlib.Core.Logic.{inl, inr}
+use Rattle.cfdp_status.specs.declared.transaction.TransactionId.{TransactionId}
+use Rattle.cfdp_actions.specs.Filestore.{Filestore, staged_in}
+use Rattle.cfdp_leases.specs.Leases.{is_same}
+use Rattle.cfdp_transactions.specs.Received.{Received}
+use Rattle.cfdp_transactions.specs.Pieces.{received_in}
+use Rattle.cfdp_transactions.specs.Entry.{is_live, Entry}
+use Rattle.cfdp_transactions.specs.World.{place_of}
+use Rattle.cfdp_transactions.specs.Rows.{Row, received_by, entry_in, table_of, row_name, row_place}
+
+pub place_in : (F : Filestore) (id : TransactionId) (rows : List Row) → place_of id (table_of F rows) ≡ row_place id rows
+place_in F id [] = refl
+place_in F id (r ∷ rows) = rw (place_in F id rows) refl
+
+pub get_in : (F : Filestore) (rows : List Row) (k : ℕ) → slice_get (table_of F rows) k ≡ option_map (entry_in F) (slice_get rows k)
+get_in F [] k = refl
+get_in F (r ∷ rows) zero = refl
+get_in F (r ∷ rows) (suc k) = get_in F rows k
+
+pub row_at : (F : Filestore) (rows : List Row) (k : ℕ) (r : Row) → slice_get rows k ≡ Some r → slice_get (table_of F rows) k ≡ Some (entry_in F r)
+row_at F rows k r at = rw (get_in F rows k, at) refl
+
+pub length_in : (F : Filestore) (rows : List Row) → length (table_of F rows) ≡ length rows
+length_in F [] = refl
+length_in F (r ∷ rows) = ap suc (length_in F rows)
+
+-- the filestore changes elsewhere ----------------------------------------------------
+
+same_received : (F G : Filestore) (r : Row) (live : Bool) → is_live r.phase ≡ live → (IsTrue (is_live r.phase) → staged_in G r.slot ≡ staged_in F r.slot) → received_by G r ≡ received_by F r
+same_received F G r true is same = rw (is, same is) refl
+same_received F G r false is same = rw is refl
+
+pub same_entry : (F G : Filestore) (r : Row) → (IsTrue (is_live r.phase) → staged_in G r.slot ≡ staged_in F r.slot) → entry_in G r ≡ entry_in F r
+same_entry F G r same = let received = same_received F G r (is_live r.phase) refl same in ap (λ (xs : Received). record (entry_in F r) { received = xs }) received
+
+pub same_table : (F G : Filestore) (rows : List Row) → ((j : ℕ) (r : Row) → slice_get rows j ≡ Some r → IsTrue (is_live r.phase) → staged_in G r.slot ≡ staged_in F r.slot) → table_of G rows ≡ table_of F rows
+same_table F G [] same = refl
+same_table F G (r ∷ rows) same = rw (same_entry F G r (same 0 r refl), same_table F G rows (λ j q at. same (suc j) q at)) refl
+
+pub set_in : (F G : Filestore) (rows : List Row) (k : ℕ) (new : Row) →
+    ((j : ℕ) (r : Row) → slice_get rows j ≡ Some r → j ≢ k → IsTrue (is_live r.phase) → staged_in G r.slot ≡ staged_in F r.slot) →
+    table_of G (slice_set rows k new) ≡ slice_set (table_of F rows) k (entry_in G new)
+set_in F G [] k new same = refl
+set_in F G (r ∷ rows) zero new same = rw (same_table F G rows (λ j q at. same (suc j) q at (λ n. absurd (omega arith)))) refl
+set_in F G (r ∷ rows) (suc k) new same =
+    rw (same_entry F G r (same 0 r refl (λ n. absurd (omega arith))), set_in F G rows k new (λ j q at ne. same (suc j) q at (λ n. ne (omega arith)))) refl
+
+pub append_in : (F : Filestore) (rows : List Row) (new : Row) → table_of F (rows ++ new ∷ []) ≡ table_of F rows ++ entry_in F new ∷ []
+append_in F [] new = refl
+append_in F (r ∷ rows) new = rw (append_in F rows new) refl
+
+pub remove_in : (F : Filestore) (rows : List Row) (k : ℕ) → table_of F (remove rows k) ≡ remove (table_of F rows) k
+remove_in F [] zero = refl
+remove_in F [] (suc k) = refl
+remove_in F (r ∷ rows) zero = refl
+remove_in F (r ∷ rows) (suc k) = ap (λ (t : List Entry). entry_in F r ∷ t) (remove_in F rows k)

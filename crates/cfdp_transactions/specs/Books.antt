@@ -1,0 +1,57 @@
+-- What the program keeps of the receiving entity beside the store: its configuration, the table, and what follows from the
+-- table, the leases and the budget of blocks.
+--     world_of s b              the world that a store and the books are
+--     FitsBudget q W            the quota has the free blocks, and the reserve of each live transaction in its slot
+--     ArePiecesIn F r           a live transaction's ranges lie within what is staged for it
+--     IsBooked s b              leases, quota and pieces say what the world says
+--     IsLiveAt W k              the entry at k is live
+--     EndsAt, TurnsAt           the entry at k ends;  comes to another phase;  and nothing else changes
+--     AnswersAt W V k f reply   to an event of the entry at k the reply and the next world are what f says
+use Rattle.std.specs.Prelude.{◌≡◌, ◌≢◌, ℕ, ◌+◌, ◌≤◌, Bool, ◌||◌, IsTrue, length, Option, Some, None, slice_get}
+use Rattle.cfdp_pdus.specs.declared.eof.Eof.{Eof}
+use Rattle.cfdp_actions.specs.Filestore.{Filestore, staged_in}
+use Rattle.cfdp_actions.specs.Store.{Store}
+use Rattle.cfdp_quota.specs.Budget.{Budget, entry_at, spare}
+use Rattle.cfdp_transactions.specs.Entry.{Phase, is_live, Entry, reserve}
+use Rattle.cfdp_transactions.specs.World.{World, free, reserves, leases_of}
+use Rattle.cfdp_transactions.specs.PieceLaws.{ArePieces}
+use Rattle.cfdp_transactions.specs.Sound.{Each, IsVacant}
+use Rattle.cfdp_transactions.specs.Events.{Reply}
+use Rattle.cfdp_transactions.specs.Ending.{ends}
+use Rattle.cfdp_transactions.specs.Delivery.{turns}
+use Rattle.cfdp_transactions.specs.Rows.{Row, table_of}
+use Rattle.cfdp_transactions.specs.declared.books.Books.{Books}
+
+abbrev pub world_of : Store → Books → World
+world_of s b = record { config = b.config; filestore = s.filestore; table = table_of s.filestore b.table }
+
+pub record FitsBudget (q : Budget) (W : World) : Type 0 where
+  pub in_all : q.capacity ≡ W.config.blocks
+  pub not_used : q.free ≡ free W
+  pub not_granted : spare q + reserves W.table ≡ free W
+  pub opened : Each (λ e. IsTrue (is_live e.phase) → entry_at q e.slot ≡ Some (reserve e)) W.table
+  pub closed : (slot : ℕ) → IsVacant W.table slot → entry_at q slot ≡ None
+
+abbrev pub ArePiecesIn : Filestore → Row → Type 0
+ArePiecesIn F r = IsTrue (is_live r.phase) → ArePieces r.ranges (staged_in F r.slot)
+
+pub record IsBooked (s : Store) (b : Books) : Type 0 where
+  pub leases : b.leases ≡ leases_of (world_of s b).table
+  pub budget : FitsBudget b.quota (world_of s b)
+  pub capacity : s.capacity ≡ b.config.blocks
+  pub few : b.config.blocks ≤ 65536
+  pub pieces : (k : ℕ) (r : Row) → slice_get b.table k ≡ Some r → ArePiecesIn s.filestore r
+
+abbrev pub IsLiveAt : World → ℕ → Type 0
+IsLiveAt W k = (e : Entry) × (slice_get W.table k ≡ Some e) × IsTrue (is_live e.phase)
+
+abbrev pub EndsAt : World → World → ℕ → Bool → ℕ → Type 0
+EndsAt W V k by_eof condition =
+    (e : Entry) → slice_get W.table k ≡ Some e → V ≡ ends W k (record e { ended_by_eof = e.ended_by_eof || by_eof }) condition
+
+abbrev pub TurnsAt : World → World → ℕ → Phase → Option Eof → Bool → Type 0
+TurnsAt W V k phase eof complete = (e : Entry) → slice_get W.table k ≡ Some e → V ≡ turns W k e phase eof complete
+
+-- of the entry at k: the reply, and the world after
+abbrev pub AnswersAt : World → World → ℕ → (Option Entry → World × Reply) → Reply → Type 0
+AnswersAt W V k answer reply = (e : Entry) → slice_get W.table k ≡ Some e → (V, reply) ≡ answer (Some e)

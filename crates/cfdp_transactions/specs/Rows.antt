@@ -1,0 +1,101 @@
+-- Transactions as the program keeps them: received octets are ranges, whose octets lie in the filestore, and statuses are a
+-- number, since each request that was performed was successful.
+--     Row                       a transaction of the program's table
+--     received_by F r           what was received, by its ranges and what is staged in its slot
+--     entry_in F r, table_of    the entry that it is, over a filestore;  all of them
+--     row_name, row_place       its name;  where a transaction is in the table: the length where it is not there
+--     fresh_row                 a row with nothing received and nothing spent
+--     row_ended, row_turned     a row that ends, as `ended` says;  that comes to another phase
+use Rattle.std.specs.Prelude.{ℕ, zero, suc, ℤ, pos, Bool, true, false, ◌||◌, if◌then◌else◌, List, [], ◌∷◌, map, take, Option, None}
+use Rattle.cfdp_status.specs.declared.transaction.TransactionId.{TransactionId}
+use Rattle.cfdp_pdus.specs.Values.{MetadataFields}
+use Rattle.cfdp_pdus.specs.declared.header.Header.{Header}
+use Rattle.cfdp_pdus.specs.declared.eof.Eof.{Eof}
+use Rattle.cfdp_actions.specs.Actions.{Item}
+use Rattle.cfdp_actions.specs.Filestore.{Filestore, staged_in}
+use Rattle.cfdp_leases.specs.Leases.{is_same}
+use Rattle.cfdp_transactions.specs.Received.{Received}
+use Rattle.cfdp_transactions.specs.Pieces.{Ranges, received_in}
+use Rattle.cfdp_transactions.specs.Entry.{Phase, Ended, is_live, id_of, Entry, spend}
+use Rattle.cfdp_transactions.specs.Sound.{all_successful}
+
+pub record Row : Type 0 where
+  pub header : Header
+  pub metadata : MetadataFields
+  pub phase : Phase
+  pub eof : Option Eof
+  pub complete : Bool
+  pub installed : Bool
+  pub ended_by_eof : Bool
+  pub ranges : Ranges
+  pub slot : ℕ
+  pub items : List Item
+  pub performed : ℕ
+  pub blocks_granted : ℕ
+  pub steps_granted : ℕ
+  pub blocks_spent : ℤ
+  pub steps_spent : ℕ
+
+-- nothing, once it is no longer live
+abbrev pub received_by : Filestore → Row → Received
+received_by F r = if is_live r.phase then received_in r.ranges (staged_in F r.slot) else []
+
+abbrev pub entry_in : Filestore → Row → Entry
+entry_in F r = record {
+  header = r.header;
+  metadata = r.metadata;
+  phase = r.phase;
+  eof = r.eof;
+  complete = r.complete;
+  installed = r.installed;
+  ended_by_eof = r.ended_by_eof;
+  received = received_by F r;
+  slot = r.slot;
+  items = r.items;
+  statuses = take r.performed (all_successful r.metadata.requests);
+  blocks_granted = r.blocks_granted;
+  steps_granted = r.steps_granted;
+  blocks_spent = r.blocks_spent;
+  steps_spent = r.steps_spent;
+}
+
+abbrev pub table_of : Filestore → List Row → List Entry
+table_of F rows = map (entry_in F) rows
+
+abbrev pub row_name : Row → TransactionId
+row_name r = id_of r.header
+
+abbrev pub row_place : TransactionId → List Row → ℕ
+row_place id [] = 0
+row_place id (r ∷ rs) = if is_same (row_name r) id then 0 else suc (row_place id rs)
+
+abbrev pub fresh_row : Header → MetadataFields → Phase → ℕ → List Item → ℕ → ℕ → Row
+fresh_row h m phase slot items blocks steps = record {
+  header = h;
+  metadata = m;
+  phase = phase;
+  eof = None;
+  complete = false;
+  installed = false;
+  ended_by_eof = false;
+  ranges = [];
+  slot = slot;
+  items = items;
+  performed = 0;
+  blocks_granted = blocks;
+  steps_granted = steps;
+  blocks_spent = pos 0;
+  steps_spent = 0;
+}
+
+-- the blocks of what was staged are given back
+abbrev pub row_ended : Row → ℕ → Bool → ℕ → Row
+row_ended r condition by_eof given = record r {
+  phase = Ended condition;
+  ended_by_eof = r.ended_by_eof || by_eof;
+  ranges = [];
+  blocks_spent = spend r.blocks_spent 0 given;
+}
+
+abbrev pub row_turned : Row → Phase → Option Eof → Bool → Row
+row_turned r phase eof complete = record r { phase = phase; eof = eof; complete = complete }

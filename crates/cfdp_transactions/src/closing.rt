@@ -1,0 +1,109 @@
+//! How a transaction ends, and how its outcome is handed out.
+
+ghost use Rattle.std.specs.Prelude.{◌≡◌, ◌<◌, IsTrue, length};
+ghost use Rattle.cfdp_transactions.specs.Entry.{is_live};
+ghost use Rattle.cfdp_transactions.specs.Sound.{Sound};
+ghost use Rattle.cfdp_transactions.specs.Ending.{cancelled};
+ghost use Rattle.cfdp_transactions.specs.Delivery.{checked};
+ghost use Rattle.cfdp_transactions.specs.Books.{AnswersAt, EndsAt, IsBooked, IsLiveAt, TurnsAt, world_of};
+
+use crate::books::Books;
+use crate::{Phase, Reply};
+use cfdp_actions::Filestore;
+use cfdp_pdus::Eof;
+
+/// Condition code 10: the check limit is reached (CCSDS 727.0-B-5 §5.2.2).
+const CHECK_LIMIT_REACHED: u8 = 10;
+
+/// Condition code 15: a cancel request came (§5.2.2).
+const CANCEL_REQUEST_RECEIVED: u8 = 15;
+
+/// The transaction at a place ends (CCSDS 727.0-B-5 §4.11): what is staged for it is given back, and its reserve and its
+/// leases go.
+pub(crate) fn end<S: Filestore>(
+    store: &mut S,
+    books: &mut Books,
+    place: usize,
+    by_eof: bool,
+    condition: u8,
+)
+    requires sound { Sound (world_of (S.state store.old) books.old) }
+    requires booked { IsBooked (S.state store.old) books.old }
+    requires live { IsLiveAt (world_of (S.state store.old) books.old) place }
+    ensures ends { EndsAt (world_of (S.state store.old) books.old) (world_of (S.state store.new) books.new) place by_eof condition }
+    ensures booked { IsBooked (S.state store.new) books.new }
+{
+    let entry = books.table.at(place);
+    let slot = entry.slot();
+    let transaction = entry.name();
+    let given = store.unstage(slot);
+    books.quota.gave(slot, given);
+    books.quota.close(slot);
+    books.leases.release(transaction);
+    books.table.end(place, condition, by_eof, given);
+}
+
+/// The transaction at a place comes to another phase.
+pub(crate) fn turn<S: Filestore>(
+    store: &S,
+    books: &mut Books,
+    place: usize,
+    phase: Phase,
+    eof: Option<Eof>,
+    complete: bool,
+)
+    requires sound { Sound (world_of (S.state store.now) books.old) }
+    requires booked { IsBooked (S.state store.now) books.old }
+    requires live { IsLiveAt (world_of (S.state store.now) books.old) place }
+    requires still { IsTrue (is_live phase) }
+    ensures turns { TurnsAt (world_of (S.state store.now) books.old) (world_of (S.state store.now) books.new) place phase eof complete }
+    ensures booked { IsBooked (S.state store.now) books.new }
+{
+    let _entry = books.table.at(place);
+    books.table.turn(place, phase, eof, complete);
+}
+
+/// A request to cancel the transaction at a place (CCSDS 727.0-B-5 §4.11).
+pub(crate) fn cancel<S: Filestore>(store: &mut S, books: &mut Books, place: usize) -> Reply
+    requires sound { Sound (world_of (S.state store.old) books.old) }
+    requires booked { IsBooked (S.state store.old) books.old }
+    requires within { place < length books.old.table }
+    ensures answer { let W = world_of (S.state store.old) books.old in
+        AnswersAt W (world_of (S.state store.new) books.new) place (cancelled W place) result }
+    ensures booked { IsBooked (S.state store.new) books.new }
+{
+    if !books.table.at(place).phase().is_live() {
+        return Reply::Idle;
+    }
+    end(store, books, place, false, CANCEL_REQUEST_RECEIVED);
+    Reply::Cancelled
+}
+
+/// A check timer of the transaction at a place expired (§4.6.4).
+pub(crate) fn check<S: Filestore>(store: &mut S, books: &mut Books, place: usize) -> Reply
+    requires sound { Sound (world_of (S.state store.old) books.old) }
+    requires booked { IsBooked (S.state store.old) books.old }
+    requires within { place < length books.old.table }
+    ensures answer { let W = world_of (S.state store.old) books.old in
+        AnswersAt W (world_of (S.state store.new) books.new) place (checked W place) result }
+    ensures booked { IsBooked (S.state store.new) books.new }
+{
+    let entry = books.table.at(place);
+    let Phase::Awaiting(checks) = entry.phase() else {
+        return Reply::Idle;
+    };
+    if checks >= books.config.checks().saturating_sub(1) {
+        end(store, books, place, false, CHECK_LIMIT_REACHED);
+        return Reply::Faulted(CHECK_LIMIT_REACHED);
+    }
+    let (eof, complete) = (entry.eof(), entry.is_complete());
+    turn(
+        store,
+        books,
+        place,
+        Phase::Awaiting(checks + 1),
+        eof,
+        complete,
+    );
+    Reply::Waiting
+}

@@ -1,0 +1,98 @@
+//! The table of transactions.
+
+ghost use Rattle.std.specs.Prelude.{◌≡◌, ◌≤◌, ◌<◌, pos, negsuc, ◌≤ℤ◌, Some, None, [], IfSome, IfNone, IfOk, length, slice_get, remove};
+ghost use Rattle.cfdp_transactions.specs.Rows.{row_place, row_ended, row_turned};
+ghost use Rattle.cfdp_transactions.specs.RowChanges.{Becomes};
+
+use crate::Phase;
+use crate::entry::Entry;
+use cfdp_pdus::Eof;
+use cfdp_status::TransactionId;
+use indexmap::IndexMap;
+use std::alloc::Global;
+use std::marker::Model;
+
+/// The transactions in order of admission, which are found by name. Contracts see them as a list of rows.
+#[derive(Drop)]
+pub(crate) struct Table {
+    entries: IndexMap<TransactionId, Entry>,
+}
+
+impl Model for Table {
+    ghost use Rattle.std.specs.Prelude.{List, map};
+    ghost use Rattle.cfdp_transactions.specs.Rows as words;
+    ghost use Rattle.cfdp_transactions.specs.RowChanges.{AreNamed};
+
+    ghost Value = { List words.Row };
+
+    ghost view = { λ t. map (λ e. e.1) t.entries.entries };
+
+    ghost invariant = { λ t. AreNamed t.entries.entries };
+}
+
+impl Table {
+    /// No transactions.
+    pub(crate) fn new(alloc: Global) -> Table
+        ensures { result ≡ [] }
+    {
+        Table {
+            entries: IndexMap::new(alloc),
+        }
+    }
+
+    /// How many there are.
+    pub(crate) fn len(&self) -> usize
+        ensures { result ≡ length self.now }
+    {
+        self.entries.len()
+    }
+
+    /// Where a transaction is. Costs the same however many there are.
+    pub(crate) fn find(&self, id: TransactionId) -> Option<usize>
+        ensures found { IfSome result (λ place. place ≡ row_place id self.now) }
+        ensures within { IfSome result (λ place. place < length self.now) }
+        ensures absent { IfNone result (row_place id self.now ≡ length self.now) }
+    {
+        self.entries.get_index_of(&id)
+    }
+
+    /// The transaction at a place.
+    pub(crate) fn at(&self, place: usize) -> &Entry
+        requires { place < length self.now }
+        ensures { slice_get self.now place ≡ Some result.now }
+    {
+        self.entries.get_index(place).unwrap().1
+    }
+
+    /// The transaction at a place ends.
+    pub(crate) fn end(&mut self, place: usize, condition: u8, by_eof: bool, given: u32)
+        requires within { place < length self.old }
+        requires least { IfSome (slice_get self.old place) (λ r. negsuc 65535 ≤ℤ r.blocks_spent) }
+        requires most { IfSome (slice_get self.old place) (λ r. r.blocks_spent ≤ℤ pos 65536) }
+        ensures { Becomes self.old self.new place (λ r. row_ended r condition by_eof given) }
+    {
+        self.entries
+            .get_index_mut(place)
+            .unwrap()
+            .end(condition, by_eof, given);
+    }
+
+    /// The transaction at a place comes to another phase.
+    pub(crate) fn turn(&mut self, place: usize, phase: Phase, eof: Option<Eof>, complete: bool)
+        requires { place < length self.old }
+        ensures { Becomes self.old self.new place (λ r. row_turned r phase eof complete) }
+    {
+        self.entries
+            .get_index_mut(place)
+            .unwrap()
+            .turn(phase, eof, complete);
+    }
+
+    /// The transaction at a place is forgotten. Costs a move of each one behind it.
+    pub(crate) fn forget(&mut self, place: usize)
+        requires { place < length self.old }
+        ensures { self.new ≡ remove self.old place }
+    {
+        self.entries.shift_remove_index(place);
+    }
+}
