@@ -12,6 +12,9 @@ pub const FILESTORE_REQUEST: u8 = 0;
 /// The type of a filestore response TLV.
 pub const FILESTORE_RESPONSE: u8 = 1;
 
+/// The longest value of an LV or TLV field, in octets: its length is one octet.
+pub const MAX_VALUE_LEN: usize = 255;
+
 /// A TLV field at the front of some octets (CCSDS 727.0-B-5 §5.1.9).
 #[derive(Clone, Copy, Debug)]
 pub struct Tlv<'a> {

@@ -4,8 +4,8 @@
 //! A reader answers the value exactly where the octets spell one, and otherwise the first fault;
 //! `specs/Grammar.antt` says what spells what. A writer appends the one canonical spelling, or
 //! answers [`TlvFault::TooLong`] exactly where a value is longer than a length octet can say.
-//! Reading refuses before it allocates, and allocates only what it hands out: one pass looks for a
-//! fault, and a second one copies.
+//! Reading refuses before it allocates: one pass looks for a fault, and then the names and the message
+//! are copied into one allocation, out of which they are lent.
 #![tactic(auto)]
 
 mod fault;
@@ -17,11 +17,14 @@ mod response;
 mod room;
 
 pub use fault::TlvFault;
-pub use field::{FILESTORE_REQUEST, FILESTORE_RESPONSE, Tlv, read_lv, read_tlv};
-pub use request::{FilestoreRequest, RequestParts, read_request, request_parts, write_request};
+pub use field::{FILESTORE_REQUEST, FILESTORE_RESPONSE, MAX_VALUE_LEN, Tlv, read_lv, read_tlv};
+pub use request::{
+    FilestoreRequest, MAX_ANSWERABLE_LEN, RequestParts, read_request, request_parts, write_request,
+};
 pub use response::{
     FilestoreResponse, ResponseParts, read_response, response_parts, write_response,
 };
+pub use room::push_lv;
 
 #[cfg(test)]
 mod tests;

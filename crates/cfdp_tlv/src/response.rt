@@ -1,45 +1,46 @@
 //! Filestore responses, read and written.
 
-ghost use Rattle.std.specs.Prelude.{◌≡◌, ◌≤◌, ◌<◌, ◌+◌, ◌↔◌, ◌⊎◌, ◌++◌, List, ℕ, length, vec_len, min, option_map, IfOk, OnOk, OnErr, IfErr, IsOk, IsErrOf, Ok, Err};
+ghost use Rattle.std.specs.Prelude.{◌≡◌, ◌≤◌, ◌<◌, ◌+◌, ◌↔◌, ◌⊎◌, ◌++◌, List, [], ℕ, length, take, drop, vec_len, min, option_map, is_some, IfOk, OnOk, OnErr, IfErr, IsOk, IsErrOf, Ok, Err};
 ghost use Rattle.std.specs.Vec.{vec_capacity};
 ghost use Rattle.cfdp_tlv.specs.Reading.{Gives};
 ghost use Rattle.cfdp_tlv.specs.Field.{tlv};
-ghost use Rattle.cfdp_tlv.specs.Values.{ResponseFields, IsResponse};
+ghost use Rattle.cfdp_status.specs.Codes.{has_second, action_of};
+ghost use Rattle.cfdp_tlv.specs.Values.{ResponseFields, IsResponse, second_of};
 ghost use Rattle.cfdp_tlv.specs.Grammar.{SpellsResponse, response_at, response_octets};
 ghost use Rattle.cfdp_tlv.specs.Equality.{same_names};
 ghost use Rattle.cfdp_tlv.specs.declared.fault.TlvFault.TheVariants.{Memory, TooLong};
 
-use crate::names::read_second;
+use crate::names::{joined, read_second};
 use crate::room::{names_len, push_lv, push_names};
-use crate::{FILESTORE_RESPONSE, TlvFault, read_lv};
+use crate::{FILESTORE_RESPONSE, MAX_VALUE_LEN, TlvFault, read_lv};
 use cfdp_status::{Action, Status};
 use std::alloc::{AllocError, Global};
 use std::marker::Model;
 
-/// A filestore response (CCSDS 727.0-B-5 §5.4.2). A contract sees its status, its names and its
-/// message as octet lists. The second name is there exactly where the status's action has one.
+/// A filestore response (CCSDS 727.0-B-5 §5.4.2), in one allocation. A contract sees its status, its
+/// names and its message as octet lists. The second name is there exactly where the status's action
+/// has one.
 #[derive(Debug, Drop)]
 pub struct FilestoreResponse {
-    /// How the request went.
-    pub status: Status,
-    /// The first file name, as the request spelled it.
-    pub first: Vec<u8>,
-    /// The second file name, for rename, append and replace.
-    pub second: Option<Vec<u8>>,
-    /// The filestore message, which may be empty.
-    pub message: Vec<u8>,
+    status: Status,
+    // The names and the message, one after the other.
+    octets: Vec<u8>,
+    // How many of these octets are the first name.
+    first_len: usize,
+    // How many of them are names.
+    names_len: usize,
 }
 
 impl Model for FilestoreResponse {
-    ghost use Rattle.std.specs.Prelude.{◌≡◌, option_map, is_some};
-    ghost use Rattle.cfdp_status.specs.Codes.{has_second, action_of};
-    ghost use Rattle.cfdp_tlv.specs.Values.{ResponseFields};
+    ghost use Rattle.std.specs.Prelude.{◌≤◌, length, take, drop};
+    ghost use Rattle.cfdp_status.specs.Codes.{action_of};
+    ghost use Rattle.cfdp_tlv.specs.Values.{ResponseFields, second_of};
 
     ghost Value = { ResponseFields };
 
-    ghost view = { λ r. record { status = r.status; first = r.first.items; second = option_map (λ name. name.items) r.second; message = r.message.items } };
+    ghost view = { λ r. record { status = r.status; first = take r.first_len r.octets.items; second = second_of (action_of r.status) (drop r.first_len (take r.names_len r.octets.items)); message = drop r.names_len r.octets.items } };
 
-    ghost invariant = { λ r. is_some r.second ≡ has_second (action_of r.status) };
+    ghost invariant = { λ r. (r.first_len ≤ r.names_len) × (r.names_len ≤ length r.octets.items) };
 }
 
 /// A filestore response that lies in the octets that it was read from. A contract sees it as it sees
@@ -76,9 +77,9 @@ impl PartialEq for FilestoreResponse {
     ghost laws = { responses_per };
 
     fn eq(&self, other: &FilestoreResponse) -> bool {
-        self.status.octet() == other.status.octet()
+        self.status == other.status
             && have_same_names(self, other)
-            && self.message == other.message
+            && self.message() == other.message()
     }
 }
 
@@ -87,7 +88,7 @@ impl PartialEq for FilestoreResponse {
 fn have_same_names(a: &FilestoreResponse, b: &FilestoreResponse) -> bool
     ensures { result ≡ same_names a.now b.now }
 {
-    a.first == b.first && a.second == b.second
+    a.first() == b.first() && a.second() == b.second()
 }
 
 impl Eq for FilestoreResponse {
@@ -97,6 +98,55 @@ impl Eq for FilestoreResponse {
 }
 
 impl FilestoreResponse {
+    /// A response with a status, the names of its request (a second one exactly where the status's
+    /// action has it) and a message. The one allocation is for their octets, which it copies.
+    pub fn new(
+        alloc: Global,
+        status: Status,
+        first: &[u8],
+        second: Option<&[u8]>,
+        message: &[u8],
+    ) -> Result<FilestoreResponse, AllocError>
+        requires { is_some second ≡ has_second (action_of status) }
+        ensures { IfOk result (λ response. response ≡ record { status = status; first = first.now; second = option_map (λ name. name.now) second.entry; message = message.now }) }
+    {
+        let octets = joined(alloc, first, second, message)?;
+        let names_len = octets.len() - message.len();
+        Ok(FilestoreResponse {
+            status,
+            octets,
+            first_len: first.len(),
+            names_len,
+        })
+    }
+
+    /// The response with a status, no message, and the names that stand one after the other.
+    pub(crate) fn of_names(status: Status, names: Vec<u8>, first_len: usize) -> FilestoreResponse
+        requires { first_len ≤ length names.items }
+        ensures { result ≡ record { status = status; first = take first_len names.items; second = second_of (action_of status) (drop first_len names.items); message = [] } }
+    {
+        let names_len = names.len();
+        FilestoreResponse {
+            status,
+            octets: names,
+            first_len,
+            names_len,
+        }
+    }
+
+    /// Another response that says the same. The one allocation is for the octets of the names and
+    /// the message.
+    pub fn copy(&self, alloc: Global) -> Result<FilestoreResponse, AllocError>
+        ensures { IfOk result (λ response. response ≡ self.now) }
+    {
+        Ok(FilestoreResponse {
+            status: self.status,
+            octets: Vec::from_slice(alloc, &self.octets)?,
+            first_len: self.first_len,
+            names_len: self.names_len,
+        })
+    }
+
     /// How the request went.
     pub fn status(&self) -> Status
         ensures value { result ≡ self.now.status }
@@ -105,39 +155,41 @@ impl FilestoreResponse {
         self.status
     }
 
-    /// The first file name.
+    /// The first file name, as the request spelled it.
     pub fn first(&self) -> &[u8]
         ensures value { result.now ≡ self.now.first }
         ensures complete { IsResponse self.now }
     {
-        &self.first
+        &self.octets[..self.first_len]
     }
 
-    /// The second file name, where the action has one.
+    /// The second file name, where the action has one: rename, append and replace.
     pub fn second(&self) -> Option<&[u8]>
         ensures value { option_map (λ name. name.now) result ≡ self.now.second }
         ensures complete { IsResponse self.now }
     {
-        match &self.second {
-            None => None,
-            Some(second) => Some(second),
+        if self.status.action().has_second() {
+            let names = &self.octets[..self.names_len];
+            Some(&names[self.first_len..])
+        } else {
+            None
         }
     }
 
-    /// The filestore message.
+    /// The filestore message, which may be empty.
     pub fn message(&self) -> &[u8]
         ensures value { result.now ≡ self.now.message }
         ensures complete { IsResponse self.now }
     {
-        &self.message
+        &self.octets[self.names_len..]
     }
 
     /// How many octets its TLV value has, or `usize::MAX` where that is too little.
     pub fn value_len(&self) -> usize
         ensures { result ≡ min (length (response_octets self.now)) usize.MAX }
     {
-        let names = names_len(&self.first, self.second());
-        let message = self.message.len().saturating_add(1);
+        let names = names_len(self.first(), self.second());
+        let message = self.message().len().saturating_add(1);
         names.saturating_add(message).saturating_add(1)
     }
 }
@@ -171,23 +223,12 @@ pub fn response_parts(value: &[u8]) -> Result<ResponseParts<'_>, TlvFault>
 }
 
 impl<'a> ResponseParts<'a> {
-    /// The response with names and a message of its own. It copies and allocates those and nothing else;
-    /// the only fault is want of memory.
+    /// The response with names and a message of its own, in one allocation. The only fault is want
+    /// of memory.
     pub fn copy(&self, alloc: Global) -> Result<FilestoreResponse, AllocError>
         ensures { IfOk result (λ response. response ≡ self.now) }
     {
-        let first = Vec::from_slice(alloc, self.first)?;
-        let second = match self.second {
-            None => None,
-            Some(second) => Some(Vec::from_slice(alloc, second)?),
-        };
-        let message = Vec::from_slice(alloc, self.message)?;
-        Ok(FilestoreResponse {
-            status: self.status,
-            first,
-            second,
-            message,
-        })
+        FilestoreResponse::new(alloc, self.status, self.first, self.second, self.message)
     }
 }
 
@@ -202,8 +243,8 @@ fn copied(alloc: Global, value: &[u8]) -> Result<FilestoreResponse, TlvFault>
 /// The response that a whole TLV value spells (CCSDS 727.0-B-5 §5.4.2).
 ///
 /// The faults are those of [`response_parts`], found in one pass that takes no memory. Where there is
-/// none, each name and the message is allocated at its length and copied, and nothing else is;
-/// `Memory` says that this was refused.
+/// none, the names and the message are copied into one allocation; `Memory` says that this was
+/// refused.
 pub fn read_response(alloc: Global, value: &[u8]) -> Result<FilestoreResponse, TlvFault>
     // What is read is spelled so.
     ensures found { IfOk result (SpellsResponse value.now) }
@@ -220,7 +261,7 @@ pub fn read_response(alloc: Global, value: &[u8]) -> Result<FilestoreResponse, T
 /// The faults are `TooLong`, where the value has more than 255 octets, and `Memory`.
 /// Cost: the octets that it appends, and one growth of the vector at most.
 pub fn write_response(response: &FilestoreResponse, out: &mut Vec<u8>) -> Result<(), TlvFault>
-    ensures ok { OnOk result (out.new.items ≡ out.old.items ++ tlv FILESTORE_RESPONSE (response_octets response.now)) }
+    ensures ok { OnOk result (out.new.items ≡ out.old.items ++ tlv 1 (response_octets response.now)) }
     ensures too_long { IsErrOf result TooLong ↔ (255 < length (response_octets response.now)) }
     ensures faults { IfErr result (λ fault. (fault ≡ TooLong) ⊎ (fault ≡ Memory)) }
     ensures err { OnErr result (out.new.items ≡ out.old.items) }
@@ -230,7 +271,7 @@ pub fn write_response(response: &FilestoreResponse, out: &mut Vec<u8>) -> Result
     ensures capacity { vec_capacity out.old ≤ vec_capacity out.new }
 {
     let len = response.value_len();
-    if len > 255 {
+    if len > MAX_VALUE_LEN {
         return Err(TlvFault::TooLong);
     }
     out.reserve(len + 2)?;

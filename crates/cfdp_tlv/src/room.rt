@@ -16,7 +16,7 @@ pub fn names_len(first: &[u8], second: Option<&[u8]>) -> usize
     }
 }
 
-/// Appends an LV field. It cannot fail, since there is room for it.
+/// Appends an LV field (CCSDS 727.0-B-5 §5.1.8). It cannot fail, since there is room for it.
 pub fn push_lv(out: &mut Vec<u8>, value: &[u8])
     requires short { length value.now < 256 }
     requires room { vec_len out.old + (length value.now + 1) ≤ vec_capacity out.old }

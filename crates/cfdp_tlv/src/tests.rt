@@ -1,6 +1,6 @@
 use crate::*;
 use cfdp_status::{Action, Status};
-use std::alloc::Global;
+use std::alloc::{AllocError, Global};
 use std::process::Abort;
 use std::test::Fail;
 
@@ -138,26 +138,10 @@ fn exchanges(rt: HostRuntime) -> Result<(), Fail> {
 
 fn write_requests(rt: &impl Abort, alloc: Global) -> Result<(), Fail> {
     let requests = [
-        FilestoreRequest {
-            action: Action::CreateFile,
-            first: Vec::from_slice(alloc, b"a")?,
-            second: None,
-        },
-        FilestoreRequest {
-            action: Action::RenameFile,
-            first: Vec::from_slice(alloc, b"a")?,
-            second: Some(Vec::from_slice(alloc, b"b")?),
-        },
-        FilestoreRequest {
-            action: Action::DeleteFile,
-            first: Vec::from_slice(alloc, b"a")?,
-            second: None,
-        },
-        FilestoreRequest {
-            action: Action::CreateFile,
-            first: Vec::from_slice(alloc, b"/a")?,
-            second: None,
-        },
+        FilestoreRequest::new(alloc, Action::CreateFile, b"a", None)?,
+        FilestoreRequest::new(alloc, Action::RenameFile, b"a", Some(b"b"))?,
+        FilestoreRequest::new(alloc, Action::DeleteFile, b"a", None)?,
+        FilestoreRequest::new(alloc, Action::CreateFile, b"/a", None)?,
     ];
     let mut out = Vec::new(alloc);
     for request in &requests {
@@ -220,17 +204,11 @@ const TOLD: [Told; 6] = [
 
 fn read_responses(rt: &impl Abort, alloc: Global) -> Result<(), Fail> {
     for told in TOLD {
-        let second = match told.second {
-            None => None,
-            Some(second) => Some(Vec::from_slice(alloc, second)?),
-        };
-        let want = FilestoreResponse {
-            status: told.status,
-            first: Vec::from_slice(alloc, told.first)?,
-            second,
-            message: Vec::new(alloc),
-        };
-        assert!(rt; read_response(alloc, told.value)? == want);
+        let response = read_response(alloc, told.value)?;
+        assert_eq!(rt; response.status(), told.status);
+        assert_eq!(rt; response.first(), told.first);
+        assert!(rt; response.second() == told.second);
+        assert!(rt; response.message().is_empty());
     }
     Ok(())
 }
@@ -306,17 +284,9 @@ fn spare_bits(rt: HostRuntime) -> Result<(), Fail> {
 fn longest_values(rt: HostRuntime) -> Result<(), Fail> {
     let alloc = rt.alloc();
     for len in [252usize, 253, 254] {
-        let request = FilestoreRequest {
-            action: Action::DeleteFile,
-            first: vec![in alloc; b'p'; len]?,
-            second: None,
-        };
-        let response = FilestoreResponse {
-            status: Status::DeleteAbsent,
-            first: vec![in alloc; b'p'; len]?,
-            second: None,
-            message: Vec::new(alloc),
-        };
+        let name = vec![in alloc; b'p'; len]?;
+        let request = FilestoreRequest::new(alloc, Action::DeleteFile, &name, None)?;
+        let response = FilestoreResponse::new(alloc, Status::DeleteAbsent, &name, None, &[])?;
         let mut out = Vec::from_slice(alloc, b"x")?;
         let written = write_request(&request, &mut out);
         assert_eq!(rt;
@@ -343,6 +313,42 @@ fn longest_values(rt: HostRuntime) -> Result<(), Fail> {
     Ok(())
 }
 
+// The longest values are read back, with two names and with a long message.
+#[test]
+fn longest_values_read_back(rt: HostRuntime) -> Result<(), Fail> {
+    let alloc = rt.alloc();
+    let first = vec![in alloc; b'p'; 152usize]?;
+    let second = vec![in alloc; b'q'; 100usize]?;
+    let request = FilestoreRequest::new(alloc, Action::AppendFile, &first, Some(&second))?;
+    let mut out = Vec::new(alloc);
+    write_request(&request, &mut out)?;
+    assert_eq!(rt; out.len(), 257);
+    let field = read_tlv(&out)?;
+    assert_eq!(rt; field.value.len(), MAX_VALUE_LEN);
+    assert!(rt; read_request(alloc, field.value)? == request);
+
+    let name = vec![in alloc; b'p'; 52usize]?;
+    let message = vec![in alloc; b'm'; 200usize]?;
+    let response = FilestoreResponse::new(alloc, Status::DeleteAbsent, &name, None, &message)?;
+    let mut out = Vec::new(alloc);
+    write_response(&response, &mut out)?;
+    assert_eq!(rt; out.len(), 257);
+    let field = read_tlv(&out)?;
+    assert_eq!(rt; field.value.len(), MAX_VALUE_LEN);
+    assert!(rt; read_response(alloc, field.value)? == response);
+    Ok(())
+}
+
+// A field is appended behind what stands there.
+#[test]
+fn appended_field(rt: HostRuntime) -> Result<(), Fail> {
+    let mut out = Vec::with_capacity(rt.alloc(), 4)?;
+    out.push(b'x')?;
+    push_lv(&mut out, b"ab");
+    assert_eq!(rt; out.as_slice(), b"x\x02ab".as_slice());
+    Ok(())
+}
+
 /// Reads and writes a request and a response. A write for which memory is refused leaves the vector as before, and is
 /// made once more.
 fn read_and_write(rt: &impl Abort, alloc: Global) -> Result<(), TlvFault> {
@@ -363,6 +369,30 @@ fn read_and_write(rt: &impl Abort, alloc: Global) -> Result<(), TlvFault> {
     }
     assert_eq!(rt; out.as_slice(), b"x\x01\x07\x20\x01a\x01b\x01m".as_slice());
     Ok(())
+}
+
+/// Copies a request and a response, and answers the request.
+fn copy_and_answer(rt: &impl Abort, alloc: Global) -> Result<(), AllocError> {
+    let request = FilestoreRequest::new(alloc, Action::RenameFile, b"a", Some(b"bc"))?;
+    let copy = request.copy(alloc)?;
+    assert!(rt; copy == request);
+    let response = copy.into_response(Status::RenameOldAbsent);
+    assert_eq!(rt; response.status(), Status::RenameOldAbsent);
+    assert_eq!(rt; response.first(), b"a".as_slice());
+    assert!(rt; response.second() == Some(b"bc"));
+    assert!(rt; response.message().is_empty());
+    let told = FilestoreResponse::new(alloc, Status::RenameOldAbsent, b"a", Some(b"bc"), b"m")?;
+    assert!(rt; told != response);
+    assert!(rt; told.copy(alloc)? == told);
+    assert_eq!(rt; told.message(), b"m".as_slice());
+    Ok(())
+}
+
+/// The request, its copy, the told response and its copy take an allocation each. Where one is refused,
+/// all is done once more.
+#[test]
+fn refused_copies(rt: HostRuntime) -> Result<(), AllocError> {
+    copy_and_answer(&rt, rt.alloc()).or_else(|_| copy_and_answer(&rt, rt.alloc()))
 }
 
 /// Shows its point where each allocation is refused in turn: where a read's is, all is done once more.
