@@ -1,5 +1,5 @@
-ghost use Rattle.std.specs.Prelude.{◌≡◌, ◌+◌, ◌<◌, ◌≤◌, ◌↔◌, IsTrue};
-ghost use Rattle.cfdp_quota.specs.Budget.{IsBalanced, IsOpen, closing, giving, reserve_at, reserved, reserving, spare, taking, untouched, used};
+ghost use Rattle.std.specs.Prelude.{◌≡◌, ◌+◌, ◌<◌, ◌≤◌, ◌↔◌, IsTrue, Some};
+ghost use Rattle.cfdp_quota.specs.Budget.{IsBalanced, IsOpen, closing, entry_at, giving, reserve_at, reserved, reserving, spare, taking, untouched, used};
 
 use std::marker::Model;
 
@@ -80,6 +80,7 @@ impl Quota {
         requires closed { ¬ IsOpen self.old slot }
         requires room { n ≤ spare self.old }
         ensures reserved { self.new ≡ reserving self.old slot n }
+        ensures opened { entry_at self.new slot ≡ Some n }
         ensures spare { spare self.new + n ≡ spare self.old }
     {
         self.spare -= n;

@@ -47,3 +47,6 @@ pub mod RowChange
 pub mod Closed
 pub mod Turned
 pub mod Answering
+pub mod RowAdded
+pub mod RowGranted
+pub mod FirstClosed

@@ -1,19 +1,20 @@
 -- The program's table, which is kept under names, and its list of rows.
-use Rattle.std.proofs.Common.{◌≡◌, ℕ, zero, suc, ◌+◌, ◌<◌, ◌≤◌, List, [], ◌∷◌, length, map, refl, ap, sym, ◌∙◌, arith}
+use Rattle.std.proofs.Common.{◌≡◌, ℕ, zero, suc, ◌+◌, ◌<◌, ◌≤◌, List, [], ◌∷◌, ◌++◌, length, map, refl, ap, sym, ◌∙◌, arith}
 use Rattle.std.specs.Prelude.{Bool, true, false, cond, if◌then◌else◌, Option, Some, None, IfSome, IfNone, ◌&&◌, eqb, slice_get, slice_set, remove, nat_lt, position}
 use Rattle.std.proofs.lemmas.Bool.Decides.{nat_tests}
 use Rattle.std.specs.List.{AllByRecursion, position_or_len}
 use Rattle.std.proofs.lemmas.List.Recursion.{is_position_or_len}
+use Rattle.indexmap.specs.IndexMap.{insert_entry}
 use Rattle.indexmap.specs.Layout.{set_value_at}
 use Rattle.cfdp_status.specs.declared.transaction.TransactionId.{TransactionId}
 use Rattle.cfdp_leases.specs.Leases.{is_same}
 use Rattle.cfdp_transactions.specs.Rows.{Row, row_name, row_place}
 use Rattle.cfdp_transactions.specs.RowChanges.{AreNamed}
 
-abbrev Named : Type 0
+abbrev pub Named : Type 0
 Named = List (TransactionId × Row)
 
-abbrev rows_of : Named → List Row
+abbrev pub rows_of : Named → List Row
 rows_of es = map (λ e. e.1) es
 
 -- a value that is replaced by one of the same name -----------------------------------
@@ -102,3 +103,34 @@ either_way a b = grind (arith, nat_tests)
 -- the derived comparison, and that of the definitions
 pub same_either_way : (id k : TransactionId) → (eqb id.source k.source && eqb id.number k.number) ≡ is_same k id
 same_either_way id k = rw (either_way id.source k.source, either_way id.number k.number) refl
+
+-- one more of a name that is not there ------------------------------------------------
+
+push_step : (e : TransactionId × Row) (es : Named) (id : TransactionId) (new : Row) (b : Bool) → is_same (row_name e.1) id ≡ b →
+    (row_place id (rows_of es) ≡ length (rows_of es) → insert_entry (λ a k. is_same k a) es id new ≡ es ++ (id, new) ∷ []) → e.0 ≡ row_name e.1 →
+    (if b then 0 else suc (row_place id (rows_of es))) ≡ suc (length (rows_of es)) → insert_entry (λ a k. is_same k a) (e ∷ es) id new ≡ e ∷ es ++ (id, new) ∷ []
+push_step e es id new true is later named h = absurd (omega arith)
+push_step e es id new false is later named h =
+    let here : is_same e.0 id ≡ false = ap (λ k. is_same k id) named ∙ is in
+    rw here (ap (λ (xs : Named). e ∷ xs) (later (omega (arith, h))))
+
+pushed : (es : Named) (id : TransactionId) (new : Row) → AreNamed es → row_place id (rows_of es) ≡ length (rows_of es) → insert_entry (λ a k. is_same k a) es id new ≡ es ++ (id, new) ∷ []
+pushed [] id new named h = refl
+pushed (e ∷ es) id new named h = push_step e es id new (is_same (row_name e.1) id) refl (pushed es id new named.1) named.0 h
+
+same_inserted : (eq : TransactionId → TransactionId → Bool) → ((a k : TransactionId) → eq a k ≡ is_same k a) → (es : Named) (id : TransactionId) (new : Row) →
+    insert_entry eq es id new ≡ insert_entry (λ a k. is_same k a) es id new
+same_inserted eq same [] id new = refl
+same_inserted eq same (e ∷ es) id new = rw (same id e.0, same_inserted eq same es id new) refl
+
+pub push_entry : (eq : TransactionId → TransactionId → Bool) → ((a k : TransactionId) → eq a k ≡ is_same k a) → (es : Named) (id : TransactionId) (new : Row) → AreNamed es →
+    row_place id (rows_of es) ≡ length (rows_of es) → insert_entry eq es id new ≡ es ++ (id, new) ∷ []
+push_entry eq same es id new named h = same_inserted eq same es id new ∙ pushed es id new named h
+
+pub push_named : (es : Named) (id : TransactionId) (new : Row) → AreNamed es → id ≡ row_name new → AreNamed (es ++ (id, new) ∷ [])
+push_named [] id new named e = (e, tt)
+push_named (x ∷ es) id new named e = (named.0, push_named es id new named.1 e)
+
+pub rows-push : (es : Named) (id : TransactionId) (new : Row) → rows_of (es ++ (id, new) ∷ []) ≡ rows_of es ++ new ∷ []
+rows-push [] id new = refl
+rows-push (e ∷ es) id new = ap (λ (rs : List Row). e.1 ∷ rs) (rows-push es id new)

@@ -22,3 +22,4 @@ pub mod Keeping
 pub mod Rows
 pub mod RowChanges
 pub mod Books
+pub mod Adding

@@ -6,9 +6,11 @@
 //! its functions do nothing, and their contracts are the laws.
 #![tactic(auto)]
 
+mod admission;
 mod books;
 mod closing;
 mod config;
+mod copying;
 mod entry;
 mod event;
 mod keeping;

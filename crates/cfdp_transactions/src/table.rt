@@ -1,11 +1,12 @@
 //! The table of transactions.
 
-ghost use Rattle.std.specs.Prelude.{◌≡◌, ◌≤◌, ◌<◌, pos, negsuc, ◌≤ℤ◌, Some, None, [], IfSome, IfNone, IfOk, length, slice_get, remove};
-ghost use Rattle.cfdp_transactions.specs.Rows.{row_place, row_ended, row_turned};
+ghost use Rattle.std.specs.Prelude.{◌≡◌, ◌≤◌, ◌<◌, pos, negsuc, ◌≤ℤ◌, Some, None, [], IfSome, IfNone, IfOk, OnOk, OnErr, ◌∷◌, ◌++◌, length, slice_get, remove};
+ghost use Rattle.cfdp_transactions.specs.Rows.{row_name, row_place, row_ended, row_turned};
 ghost use Rattle.cfdp_transactions.specs.RowChanges.{Becomes};
 
 use crate::Phase;
 use crate::entry::Entry;
+use cfdp_paths::Memory;
 use cfdp_pdus::Eof;
 use cfdp_status::TransactionId;
 use indexmap::IndexMap;
@@ -86,6 +87,20 @@ impl Table {
             .get_index_mut(place)
             .unwrap()
             .turn(phase, eof, complete);
+    }
+
+    /// A transaction more, the last in order of admission.
+    ///
+    /// # Errors
+    ///
+    /// Want of memory: nothing has changed then, and the entry is dropped.
+    pub(crate) fn push(&mut self, entry: Entry) -> Result<(), Memory>
+        requires { row_place (row_name entry) self.old ≡ length self.old }
+        ensures ok { OnOk result (self.new ≡ self.old ++ entry ∷ []) }
+        ensures err { OnErr result (self.new ≡ self.old) }
+    {
+        self.entries.insert(entry.name(), entry)?;
+        Ok(())
     }
 
     /// The transaction at a place is forgotten. Costs a move of each one behind it.

@@ -1,0 +1,158 @@
+-- The program's table, leases and quota after a transaction was admitted, and the table's answers to its Metadata.
+use Rattle.std.proofs.Common.{◌≡◌, ◌≢◌, ℕ, zero, suc, ◌+◌, ◌-◌, ◌≤◌, ◌<◌, List, [], ◌∷◌, ◌++◌, length, refl, ap, sym, subst, ◌∙◌, arith, get_or-set_same}
+use Rattle.std.specs.Prelude.{◌⊎◌, ◌&&◌, ◌||◌, ◌==◌, not, nat_le, nat_lt, Bool, true, false, if◌then◌else◌, Some, None, slice_get, remove, IsTrue, IsFalse, IsSome}
+use Rattle.std.proofs.lemmas.Bool.{both_ways, cases_eq, cases_lt, lt-leb, le-ltb, or_cases, and_parts, eqb-true}
+use Rattle.std.proofs.lemmas.List.{append-nil}
+use mathlib.Core.Logic.{inl, inr}
+use Rattle.cfdp_pdus.specs.Values.{MetadataFields}
+use Rattle.cfdp_pdus.specs.declared.header.Header.{Header}
+use Rattle.cfdp_actions.specs.Actions.{Item}
+use Rattle.cfdp_actions.specs.Filestore.{Filestore, staged_in}
+use Rattle.cfdp_actions.specs.Store.{Store}
+use Rattle.cfdp_paths.specs.Paths.{Path}
+use Rattle.cfdp_verifier.specs.declared.refusal.Refusal.{Refusal}
+use Rattle.cfdp_verifier.specs.Verdict.{Proposal, Verdict, Refuse, Grant, verdict}
+use Rattle.cfdp_transactions.specs.Events.{Reply}
+use Rattle.cfdp_transactions.specs.World as worlds
+use Rattle.cfdp_quota.specs.Budget.{Budget, IsOpen, entry_at, reserving, spare}
+use Rattle.cfdp_status.specs.declared.transaction.TransactionId.{TransactionId}
+use Rattle.cfdp_leases.specs.Footprint.{footprint_of}
+use Rattle.cfdp_leases.specs.Leases.{Grants, is_same, holds}
+use Rattle.cfdp_transactions.specs.Entry.{Phase, Receiving, Refused, has_file, is_live, Entry, id_of, name_of, footprint, reserve}
+use Rattle.cfdp_transactions.specs.World.{World, reserves, leases_of, place_of, has_slot, slot_from, free_slot}
+use Rattle.cfdp_transactions.specs.Admission.{new_entry, refused_entry, with_new, proposal_of, judged, is_known_checksum, metadata_came}
+use Rattle.cfdp_transactions.specs.Sound.{Each, IsVacant, Sound}
+use Rattle.cfdp_transactions.specs.Adding.{AddsGranted}
+use Rattle.cfdp_transactions.specs.Rows.{Row, entry_in, table_of, row_place, fresh_row}
+use Rattle.cfdp_transactions.specs.Books.{FitsBudget, ArePiecesIn, IsBooked, world_of}
+use Rattle.cfdp_transactions.specs.declared.books.Books.{Books}
+use Rattle.cfdp_transactions.proofs.Accounts.{leases_added}
+use Rattle.cfdp_transactions.proofs.Budgets.{reserved_elsewhere}
+use Rattle.cfdp_transactions.proofs.Granted.{IsGranted, IsJust, verdict_just}
+use Rattle.cfdp_transactions.proofs.RowAdded.{reserves_added, world_added}
+use Rattle.cfdp_transactions.proofs.FreeSlots.{IsFree, free_slot_is, free_vacant, taken}
+use Rattle.cfdp_transactions.proofs.Places.{append_cases, append_each, get_append, total-append}
+use Rattle.cfdp_transactions.proofs.RowWorld.{append_in, place_in, length_in}
+
+-- one that is granted its items --------------------------------------------------------------
+
+pub got : {X : Type 0} (t : List X) (new : X) → slice_get (t ++ new ∷ []) (length t) ≡ Some new
+got [] x = refl
+got (y ∷ t) x = got t x
+
+pub remove_last : (rows : List Row) (new : Row) (place : ℕ) → place ≡ length rows → remove (rows ++ new ∷ []) place ≡ rows
+remove_last [] new zero e = refl
+remove_last [] new (suc place) e = absurd (omega arith)
+remove_last (r ∷ rows) new zero e = absurd (omega arith)
+remove_last (r ∷ rows) new (suc place) e = ap (λ (rs : List Row). r ∷ rs) (remove_last rows new place (omega (arith, e)))
+
+-- nobody of that name holds leases
+holds_step : (e : Entry) (t : List Entry) (id : TransactionId) (live b : Bool) → is_live e.phase ≡ live → is_same (name_of e) id ≡ b →
+    (place_of id t ≡ length t → IsFalse (holds (leases_of t) id)) → (if b then 0 else suc (place_of id t)) ≡ suc (length t) →
+    IsFalse (holds (if live then (name_of e, footprint e) ∷ leases_of t else leases_of t) id)
+holds_step e t id live true is same later h = absurd (omega arith)
+holds_step e t id true false is same later h = rw same (later (omega (arith, h)))
+holds_step e t id false false is same later h = later (omega (arith, h))
+
+holds_none : (t : List Entry) (id : TransactionId) → place_of id t ≡ length t → IsFalse (holds (leases_of t) id)
+holds_none [] id h = refl
+holds_none (e ∷ t) id h = holds_step e t id (is_live e.phase) (is_same (name_of e) id) refl refl (holds_none t id) h
+
+pub unheld : (s : Store) (b : Books) → IsBooked s b → (id : TransactionId) → row_place id b.table ≡ length b.table → IsFalse (holds b.leases id)
+unheld s b booked id absent =
+    rw booked.leases (holds_none (table_of s.filestore b.table) id (place_in s.filestore id b.table ∙ absent ∙ sym (length_in s.filestore b.table)))
+
+module _ (s : Store) (b : Books) (sound : Sound (world_of s b)) (booked : IsBooked s b) (few : length b.table < 64) (h : Header) (m : MetadataFields) (slot blocks steps : ℕ) (items : List Item)
+    (free_is : slot ≡ free_slot (world_of s b).table) where
+  abbrev W : World
+  W = world_of s b
+
+  abbrev row : Row
+  row = fresh_row h m Receiving slot items blocks steps
+
+  abbrev new : Entry
+  new = new_entry h m Receiving slot items blocks steps
+
+  vacant : IsVacant W.table slot
+  vacant = rw free_is (free_vacant W.table (free_slot W.table) (free_slot_is W.table (omega (arith, few, length_in s.filestore b.table))).free)
+
+  granted_entry : entry_in s.filestore row ≡ new
+  granted_entry = rw (sound.vacant slot vacant) refl
+
+  pub granted_adds : AddsGranted W (world_of s (record b { table = b.table ++ row ∷ [] })) h m items blocks steps
+  granted_adds = record { slot = slot; is_free = free_is; adds = world_added s b row ∙ ap (with_new W) granted_entry }
+
+  module _ (q : Budget) (reserved : q ≡ reserving b.quota slot blocks) (opened : entry_at q slot ≡ Some blocks) (kept : spare q + blocks ≡ spare b.quota) where
+    old_open : (k : ℕ) (d : Entry) → slice_get W.table k ≡ Some d → IsTrue (is_live d.phase) → entry_at q d.slot ≡ Some (reserve d)
+    old_open k d at live = rw reserved (reserved_elsewhere b.quota slot blocks d.slot (vacant k d at live)) ∙ booked.budget.opened k d at live
+
+    closed_now : (other : ℕ) → IsVacant (W.table ++ new ∷ []) other → entry_at q other ≡ None
+    closed_now other free =
+        let ne : other ≢ slot = λ same. free (length W.table) new (got W.table new) refl (sym same) in
+        rw reserved (reserved_elsewhere b.quota slot blocks other ne) ∙ booked.budget.closed other (λ k d at. free k d (get_append W.table new k d at))
+
+    granted_fits : FitsBudget q (with_new W new)
+    granted_fits = record {
+      in_all = rw reserved booked.budget.in_all;
+      not_used = rw reserved booked.budget.not_used;
+      not_granted = let own : reserve new ≡ blocks = omega arith in omega (arith, booked.budget.not_granted, reserves_added W.table new, own, kept);
+      opened = append_each (λ _ (d : Entry). IsTrue (is_live d.phase) → entry_at q d.slot ≡ Some (reserve d)) W.table new (λ _. opened ∙ (let own : Some blocks ≡ Some (reserve new) = ap (λ n. Some n) (omega arith) in own)) old_open;
+      closed = closed_now;
+    }
+
+    granted_pieces : (k : ℕ) (r : Row) → slice_get (b.table ++ row ∷ []) k ≡ Some r → ArePiecesIn s.filestore r
+    granted_pieces k r at = elim (append_cases b.table row k r at) [
+      | inl last ↦ λ live. rw last.1 (record { runs = tt; within = tt })
+      | inr before ↦ booked.pieces k r before.1
+    ]
+
+    pub granted_booked : IsBooked s (record { config = b.config; table = b.table ++ row ∷ []; leases = b.leases ++ (id_of h, footprint_of items) ∷ []; quota = q })
+    granted_booked =
+        let world : world_of s (record b { table = b.table ++ row ∷ [] }) ≡ with_new W new = world_added s b row ∙ ap (with_new W) granted_entry in
+        record {
+          leases = ap (λ (ls : Grants). ls ++ (id_of h, footprint_of items) ∷ []) booked.leases ∙ sym (ap (λ (V : World). leases_of V.table) world ∙ leases_added W.table new);
+          budget = rw world granted_fits;
+          capacity = booked.capacity;
+          few = booked.few;
+          pieces = granted_pieces;
+        }
+
+-- the answers -----------------------------------------------------------------------------
+
+pub just_granted : (prefixes : List Path) (F : Filestore) (leases : Grants) (left : ℕ) (P : Proposal) (items : List Item) (blocks steps : ℕ) → Grant items blocks steps ≡ verdict prefixes F leases left P →
+    IsGranted prefixes F leases left P items blocks steps
+just_granted prefixes F leases left P items blocks steps e = subst (IsJust prefixes F leases left P) (sym e) (verdict_just prefixes F leases left P)
+
+pass_three : {A : Type 0} (a b c : Bool) (x y z w : A) → a ≡ false → b ≡ false → c ≡ false → (if a then x else if b then y else if c then z else w) ≡ w
+pass_three false false false x y z w d e f = refl
+pass_three true b c x y z w d e f = absurd cc
+pass_three false true c x y z w d e f = absurd cc
+pass_three false false true x y z w d e f = absurd cc
+
+pub judged_so : (s : Store) (b : Books) (booked : IsBooked s b) (h : Header) (m : MetadataFields) (v : Verdict) → length b.table < 64 → length m.requests ≤ 64 →
+    IsFalse (has_file m && not (is_known_checksum m.checksum_type)) → v ≡ verdict b.config.prefixes s.filestore b.leases (spare b.quota) (proposal_of b.config m) →
+    metadata_came (world_of s b) h m None ≡ judged (world_of s b) h m v
+judged_so s b booked h m v few short known is =
+    let W = world_of s b in
+    let left : spare b.quota ≡ worlds.spare W = omega (arith, booked.budget.not_granted) in
+    let entries : length (table_of s.filestore b.table) ≡ length b.table = length_in s.filestore b.table in
+    let not_full : nat_le 64 (length (table_of s.filestore b.table)) ≡ false = lt-leb 64 (length (table_of s.filestore b.table)) (omega (arith, few, entries)) in
+    let not_many : nat_lt 64 (length m.requests) ≡ false = le-ltb 64 (length m.requests) short in
+    let told : v ≡ verdict W.config.prefixes W.filestore (leases_of W.table) (worlds.spare W) (proposal_of W.config m) =
+    is ∙ ap (λ (ls : Grants). verdict b.config.prefixes s.filestore ls (spare b.quota) (proposal_of b.config m)) booked.leases
+    ∙ ap (λ n. verdict b.config.prefixes s.filestore (leases_of W.table) n (proposal_of b.config m)) left in
+    pass_three _ _ _ _ _ _ _ not_full not_many known ∙ ap (judged W h m) (sym told)
+
+pub granted_so : (W V : World) (h : Header) (m : MetadataFields) (items : List Item) (blocks steps : ℕ) → AddsGranted W V h m items blocks steps →
+    judged W h m (Grant items blocks steps) ≡ (V, Reply.Admitted blocks steps)
+granted_so W V h m items blocks steps added =
+    let slot : new_entry h m Receiving (free_slot W.table) items blocks steps ≡ new_entry h m Receiving added.slot items blocks steps = ap (λ n. new_entry h m Receiving n items blocks steps) (sym added.is_free) in
+    ap (λ (U : World). (U, Reply.Admitted blocks steps)) (ap (with_new W) slot ∙ sym added.adds)
+
+pub refused_so : (W V : World) (h : Header) (m : MetadataFields) (r : Refusal) → V ≡ with_new W (refused_entry h m Refused) → judged W h m (Refuse r) ≡ (V, Reply.Refused r)
+refused_so W V h m r added = ap (λ (U : World). (U, Reply.Refused r)) (sym added)
+
+-- no file, or a checksum that is known
+pub file_known : (file known : Bool) → known ≡ true → IsFalse (file && not known)
+file_known true known e = rw e refl
+file_known false known e = refl

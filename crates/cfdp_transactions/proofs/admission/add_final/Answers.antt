@@ -1,0 +1,9 @@
+use Rattle.std.proofs.Common.{◌≡◌, [], ◌∷◌, ◌++◌, refl, ap, ◌∙◌}
+use Rattle.cfdp_transactions.specs.Rows.{fresh_row}
+use Rattle.cfdp_transactions.proofs.RowAdded.{final_booked}
+use Rattle.cfdp_transactions.proofs.admission.add_final.Goals as goal
+
+pub returns-clause-booked : goal.returns-clause-booked
+returns-clause-booked g c =
+    let row : c.new-entry.result ≡ fresh_row c.args.header.now c.args.metadata.now c.args.phase 0 [] 0 0 = rw (c.new-entry.ensures, c.in_ok-copy.ensures, c.new.ensures.items) refl in
+    rw (c.in_ok-push.ensures.ok, row) (final_booked (g.S.Filestore.state c.args.store.now) c.args.books.now c.requires.booked c.args.header.now c.args.metadata.now c.args.phase c.requires.over)

@@ -1,0 +1,231 @@
+//! The admission of a transaction by its Metadata PDU (CCSDS 727.0-B-5 §4.6.1.1 and §5.2.5).
+
+ghost use Rattle.std.specs.Prelude.{◌≡◌, ◌<◌, ◌≤◌, ℕ, None, IsFalse, IfOk, OnOk, OnErr, length};
+ghost use Rattle.cfdp_leases.specs.Footprint.{footprint_of};
+ghost use Rattle.cfdp_leases.specs.Leases.{first_conflict};
+ghost use Rattle.cfdp_quota.specs.Budget.{IsOpen, spare};
+ghost use Rattle.cfdp_transactions.specs.Entry.{id_of, has_file, is_live};
+ghost use Rattle.cfdp_transactions.specs.World.{bound};
+ghost use Rattle.cfdp_transactions.specs.Sound.{Sound};
+ghost use Rattle.cfdp_transactions.specs.Adding.{AddsEntry, AddsGranted, Admits};
+ghost use Rattle.cfdp_transactions.specs.Admission.{is_known_checksum, proposal_of, refused_entry};
+ghost use Rattle.cfdp_verifier.specs.Answers.{answered, granted_items, HasFootprint};
+ghost use Rattle.cfdp_verifier.specs.Verdict.{verdict};
+ghost use Rattle.cfdp_transactions.specs.Books.{IsBooked, world_of};
+ghost use Rattle.cfdp_transactions.specs.Rows.{row_place};
+
+use crate::books::Books;
+use crate::copying::copy_metadata;
+use crate::entry::Entry;
+use crate::{Config, Phase, Reply};
+use cfdp_actions::Filestore;
+use cfdp_paths::Memory;
+use cfdp_pdus::{Header, Metadata};
+use cfdp_quota::{Quota, SLOTS};
+use cfdp_verifier::{Grant, MOST_REQUESTS, Proposal, Refusal, Verdict, verify};
+use std::alloc::Global;
+
+/// How many transactions are known at most, ended ones whose outcome was not taken included.
+pub(crate) const MOST_TRANSACTIONS: usize = 64;
+
+/// Condition code 11: the checksum type is not supported (CCSDS 727.0-B-5 §5.2.2).
+const UNSUPPORTED_CHECKSUM_TYPE: u8 = 11;
+
+/// The modular checksum (§4.2.2).
+const MODULAR_CHECKSUM: u8 = 0;
+
+/// The null checksum, which is not looked at (§4.2.2).
+pub(crate) const NULL_CHECKSUM: u8 = 15;
+
+/// The Metadata of a transaction that is not in the table. Where memory is refused nothing has changed. Cost: that of
+/// `verify`, one copy of the Metadata, and a pass over the slots.
+pub(crate) fn admit<S: Filestore>(
+    alloc: Global,
+    store: &S,
+    books: &mut Books,
+    header: &Header,
+    metadata: &Metadata,
+) -> Reply
+    requires sound { Sound (world_of (S.state store.now) books.old) }
+    requires booked { IsBooked (S.state store.now) books.old }
+    requires absent { row_place (id_of header.now) books.old.table ≡ length books.old.table }
+    ensures answer { Admits (world_of (S.state store.now) books.old) (world_of (S.state store.now) books.new) header.now metadata.now result }
+    ensures booked { IsBooked (S.state store.now) books.new }
+{
+    if books.table.len() >= MOST_TRANSACTIONS {
+        return Reply::TableFull;
+    }
+    if metadata.requests.len() > MOST_REQUESTS {
+        return Reply::Refused(Refusal::TooManyRequests);
+    }
+    if names_file(metadata) && !is_known_checksum(metadata.checksum_type) {
+        let phase = Phase::Ended(UNSUPPORTED_CHECKSUM_TYPE);
+        return match add_final(alloc, store, books, header, metadata, phase) {
+            Ok(()) => Reply::Faulted(UNSUPPORTED_CHECKSUM_TYPE),
+            Err(_) => Reply::Memory,
+        };
+    }
+    match judge(alloc, store, books, metadata) {
+        Err(_) => Reply::Memory,
+        Ok(Verdict::Refuse(refusal)) => {
+            match add_final(alloc, store, books, header, metadata, Phase::Refused) {
+                Ok(()) => Reply::Refused(refusal),
+                Err(_) => Reply::Memory,
+            }
+        }
+        Ok(Verdict::Grant(grant)) => {
+            let (blocks, steps) = (grant.blocks, grant.steps);
+            match add_granted(alloc, store, books, header, metadata, grant) {
+                Ok(()) => Reply::Admitted(blocks, steps),
+                Err(_) => Reply::Memory,
+            }
+        }
+    }
+}
+
+/// Whether the transaction has a file: its destination file name is not empty.
+pub(crate) fn names_file(metadata: &Metadata) -> bool
+    ensures { result ≡ has_file metadata.now }
+{
+    !metadata.destination_name.is_empty()
+}
+
+/// Whether this engine computes the checksum, or need not.
+fn is_known_checksum(checksum_type: u8) -> bool
+    ensures { result ≡ is_known_checksum checksum_type }
+{
+    checksum_type == MODULAR_CHECKSUM || checksum_type == NULL_CHECKSUM
+}
+
+/// How many octets the transaction's file may have: none without a file, the declared size, or the cap where that is 0,
+/// which says that the size is unbounded.
+pub(crate) fn bound_of(config: &Config, metadata: &Metadata) -> u64
+    ensures { result ≡ bound config.now metadata.now }
+{
+    if !names_file(metadata) {
+        0
+    } else if metadata.size == 0 {
+        config.cap()
+    } else {
+        metadata.size
+    }
+}
+
+/// The verdict on the list of requests and its file.
+fn judge<S: Filestore>(
+    alloc: Global,
+    store: &S,
+    books: &Books,
+    metadata: &Metadata,
+) -> Result<Verdict, Memory>
+    ensures verdict { IfOk result (λ answer. answered answer ≡ verdict books.now.config.prefixes (S.state store.now).filestore
+        books.now.leases (spare books.now.quota) (proposal_of books.now.config metadata.now)) }
+    ensures footprint { IfOk result HasFootprint }
+{
+    let destination = if names_file(metadata) {
+        Some(metadata.destination_name.as_slice())
+    } else {
+        None
+    };
+    let proposal = Proposal {
+        destination,
+        bound: bound_of(&books.config, metadata),
+        requests: &metadata.requests,
+    };
+    verify(
+        alloc,
+        store,
+        &books.leases,
+        &books.quota,
+        books.config.protected(),
+        &proposal,
+    )
+}
+
+/// Adds a transaction that never was live.
+fn add_final<S: Filestore>(
+    alloc: Global,
+    store: &S,
+    books: &mut Books,
+    header: &Header,
+    metadata: &Metadata,
+    phase: Phase,
+) -> Result<(), Memory>
+    requires booked { IsBooked (S.state store.now) books.old }
+    requires absent { row_place (id_of header.now) books.old.table ≡ length books.old.table }
+    requires over { IsFalse (is_live phase) }
+    ensures adds { OnOk result (AddsEntry (world_of (S.state store.now) books.old) (world_of (S.state store.now) books.new)
+        (refused_entry header.now metadata.now phase)) }
+    ensures err { OnErr result (world_of (S.state store.now) books.new ≡ world_of (S.state store.now) books.old) }
+    ensures booked { IsBooked (S.state store.now) books.new }
+{
+    let copy = copy_metadata(alloc, metadata)?;
+    let entry = Entry::new(*header, copy, phase, 0, None, Vec::new(alloc), 0, 0);
+    books.table.push(entry)?;
+    Ok(())
+}
+
+/// Adds a transaction that is granted its list.
+fn add_granted<S: Filestore>(
+    alloc: Global,
+    store: &S,
+    books: &mut Books,
+    header: &Header,
+    metadata: &Metadata,
+    grant: Grant,
+) -> Result<(), Memory>
+    requires sound { Sound (world_of (S.state store.now) books.old) }
+    requires booked { IsBooked (S.state store.now) books.old }
+    requires absent { row_place (id_of header.now) books.old.table ≡ length books.old.table }
+    requires few { length books.old.table < 64 }
+    requires footprint { grant.footprint ≡ footprint_of (granted_items grant) }
+    requires apart { first_conflict books.old.leases grant.footprint ≡ None }
+    requires room { grant.blocks ≤ spare books.old.quota }
+    ensures adds { OnOk result (AddsGranted (world_of (S.state store.now) books.old) (world_of (S.state store.now) books.new)
+        header.now metadata.now (granted_items grant) grant.blocks grant.steps) }
+    ensures err { OnErr result (world_of (S.state store.now) books.new ≡ world_of (S.state store.now) books.old) }
+    ensures booked { IsBooked (S.state store.now) books.new }
+{
+    let Grant {
+        footprint,
+        requests,
+        destination,
+        blocks,
+        steps,
+    } = grant;
+    let slot = first_closed(&books.quota);
+    let copy = copy_metadata(alloc, metadata)?;
+    let entry = Entry::new(
+        *header,
+        copy,
+        Phase::Receiving,
+        slot,
+        destination,
+        requests,
+        blocks,
+        steps,
+    );
+    let transaction = entry.name();
+    let place = books.table.len();
+    books.table.push(entry)?;
+    if let Err(refusal) = books.leases.grant(transaction, footprint) {
+        books.table.forget(place);
+        return Err(refusal);
+    }
+    books.quota.reserve(slot, blocks);
+    Ok(())
+}
+
+/// The first slot that is closed: how many there are where none is.
+fn first_closed(quota: &Quota) -> u8
+    ensures closed { result < 64 → ¬ IsOpen quota.now result }
+    ensures before { (slot : ℕ) → slot < result → IsOpen quota.now slot }
+    ensures within { result ≤ 64 }
+{
+    for slot in 0..SLOTS as u8 {
+        if !quota.is_open(slot) {
+            return slot;
+        }
+    }
+    SLOTS as u8
+}
