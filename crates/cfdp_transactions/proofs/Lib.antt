@@ -44,3 +44,5 @@ pub mod RowChange
 pub mod Closed
 pub mod Turned
 pub mod Answering
+pub mod RangeSteps
+pub mod Acting

@@ -21,3 +21,4 @@ pub mod Needs
 pub mod Rows
 pub mod RowChanges
 pub mod Books
+pub mod Items

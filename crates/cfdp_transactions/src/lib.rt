@@ -11,11 +11,13 @@ mod closing;
 mod config;
 mod entry;
 mod event;
+mod item;
 pub mod laws;
 mod outcome;
 mod phase;
 mod ranges;
 mod reply;
+mod step;
 mod table;
 
 pub use config::{Config, ConfigFault};

@@ -1,0 +1,9 @@
+use Rattle.std.proofs.Common.{◌≡◌, ◌≤◌, length}
+use Rattle.cfdp_transactions.specs.ReceivedLaws.{AreRuns}
+use Rattle.cfdp_transactions.proofs.Writing.{range_is_added}
+use Rattle.cfdp_transactions.proofs.ranges.Ranges.insert.Goals as goal
+
+pub invariant_of-self : goal.invariant_of-self
+invariant_of-self c =
+    let runs = rw c.self.view_is at c.self.invariant.0 in
+    rw c.joined-self-inside.ensures ((range_is_added c.args.start c.args.end c.args.self.now c.requires.some runs).0, c.requires.room)
