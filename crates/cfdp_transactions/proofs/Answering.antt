@@ -9,7 +9,9 @@ use Rattle.cfdp_transactions.specs.World.{World}
 use Rattle.cfdp_transactions.specs.Ending.{ends, cancelled}
 use Rattle.cfdp_transactions.specs.Delivery.{checked, turns}
 use Rattle.cfdp_transactions.specs.Rows.{Row, entry_in}
-use Rattle.cfdp_transactions.specs.Books.{EndsAt, TurnsAt, IsLiveAt, AnswersAt, world_of}
+use Rattle.cfdp_transactions.specs.Books.{EndsAt, TurnsAt, IsLiveAt, AnswersAt, Carries, IsAnswered, world_of}
+use Rattle.cfdp_actions.specs.Actions.{Answer}
+use Rattle.cfdp_transactions.specs.Execution.{replied}
 use Rattle.cfdp_transactions.specs.declared.books.Books.{Books}
 use Rattle.cfdp_transactions.proofs.Places.{get_same}
 use Rattle.cfdp_transactions.proofs.RowWorld.{row_at}
@@ -43,3 +45,12 @@ pub check_wait : (W V : World) (k : ℕ) (e : Entry) (checks : ℕ) → slice_ge
 check_wait W V k e checks at phase few turned =
     let more : nat_le W.config.checks (checks + 1) ≡ false = grind (arith, nat_tests) in
     rw (phase, more, turned e at) refl
+
+pub carry : (W V : World) (a : World × Reply) (reply : Reply) → IsAnswered reply → a ≡ (V, reply) → Carries W V a reply
+carry W V a Reply.Memory h is = elim h [ ]
+carry W V a reply h is = is
+
+pub answered_reply : (answer : Answer) → IsAnswered (replied answer)
+answered_reply (Answer.Performed status) = tt
+answered_reply Answer.Installed = tt
+answered_reply Answer.NotInstalled = tt

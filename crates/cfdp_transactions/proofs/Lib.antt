@@ -46,3 +46,4 @@ pub mod Turned
 pub mod Answering
 pub mod RangeSteps
 pub mod Acting
+pub mod StepDone

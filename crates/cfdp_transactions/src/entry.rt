@@ -1,6 +1,6 @@
 //! A transaction of the table.
 
-ghost use Rattle.std.specs.Prelude.{◌≡◌, suc, if◌then◌else◌, ◌+◌, ◌≤◌, ◌<◌, pos, negsuc, ◌≤ℤ◌, Some, length, map, option_map, slice_get, vec_len};
+ghost use Rattle.std.specs.Prelude.{◌≡◌, false, suc, if◌then◌else◌, ◌+◌, ◌≤◌, ◌<◌, pos, negsuc, ◌≤ℤ◌, Some, length, map, option_map, slice_get, vec_len};
 ghost use Rattle.cfdp_actions.specs.Actions.{Perform};
 ghost use Rattle.cfdp_transactions.specs.Items.{item_of};
 ghost use Rattle.cfdp_leases.specs.Items.{items_of};
@@ -182,7 +182,7 @@ impl Entry {
         ticks: u32,
     )
         requires next { next < 255 }
-        requires performed { self.old.performed < 255 }
+        requires performed { install ≡ false → self.old.performed < 255 }
         requires steps { self.old.steps_spent + (1 + ticks) ≤ self.old.steps_granted }
         requires least { negsuc 65535 ≤ℤ self.old.blocks_spent }
         requires most { self.old.blocks_spent ≤ℤ pos 65536 }
@@ -230,7 +230,7 @@ fn phase_behind(next: u8, last: bool) -> Phase
 
 /// How many requests were performed, once an item was: the install is none.
 fn performed_with(performed: u8, install: bool) -> u8
-    requires { performed < 255 }
+    requires { install ≡ false → performed < 255 }
     ensures { result ≡ (if install then performed else suc performed) }
 {
     if install { performed } else { performed + 1 }

@@ -1,7 +1,7 @@
 //! Steps: the items of a transaction are performed one at a time.
 
-ghost use Rattle.std.specs.Prelude.{◌≡◌, ◌+◌, ◌≤◌, ◌<◌, ℕ, ◌≢◌, Some, IsTrue, length};
-ghost use Rattle.cfdp_quota.specs.Budget.{entry_at, reserve_at, spare, used, IsOpen};
+ghost use Rattle.std.specs.Prelude.{◌≡◌, ◌+◌, ◌≤◌, ◌<◌, Some, IsTrue, length};
+ghost use Rattle.cfdp_quota.specs.Budget.{entry_at, reserve_at, used};
 ghost use Rattle.cfdp_transactions.specs.Sound.{Sound};
 ghost use Rattle.cfdp_transactions.specs.LowerLaws.{LowerLaws};
 ghost use Rattle.cfdp_transactions.specs.Execution.{stepped};
@@ -16,7 +16,8 @@ use cfdp_quota::Quota;
 /// The transaction in the slot took or gave back blocks: so many were free before, and so many are free now.
 pub(crate) fn settle(quota: &mut Quota, slot: u8, before: u32, after: u32)
     requires slot { slot < 64 }
-    requires opened { IsOpen quota.old slot }
+    requires opened { entry_at quota.old slot ≡ Some (reserve_at quota.old slot) }
+    requires unused { before ≡ quota.old.free }
     requires taken { before ≤ after + reserve_at quota.old slot }
     requires given { after ≤ before + used quota.old }
     ensures { Settles quota.old quota.new slot before after }

@@ -101,7 +101,7 @@ impl Table {
     )
         requires within { place < length self.old }
         requires next { next < 255 }
-        requires fits { IfSome (slice_get self.old place) (λ r. CanAdvance r ticks) }
+        requires fits { IfSome (slice_get self.old place) (λ r. CanAdvance r install ticks) }
         ensures { Becomes self.old self.new place (λ r. row_stepped r next last install before after ticks) }
     {
         self.entries
