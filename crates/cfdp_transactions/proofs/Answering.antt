@@ -9,7 +9,9 @@ use Rattle.cfdp_transactions.specs.World.{World}
 use Rattle.cfdp_transactions.specs.Ending.{ends, cancelled}
 use Rattle.cfdp_transactions.specs.Delivery.{checked, turns}
 use Rattle.cfdp_transactions.specs.Rows.{Row, entry_in}
-use Rattle.cfdp_transactions.specs.Books.{EndsAt, TurnsAt, IsLiveAt, AnswersAt, world_of}
+use Rattle.cfdp_transactions.specs.Books.{EndsAt, TurnsAt, IsLiveAt, AnswersAt, Carries, IsAnswered, world_of}
+use Rattle.cfdp_actions.specs.Actions.{Answer}
+use Rattle.cfdp_transactions.specs.Execution.{replied}
 use Rattle.cfdp_transactions.specs.declared.books.Books.{Books}
 use Rattle.cfdp_transactions.proofs.Places.{get_same}
 use Rattle.cfdp_transactions.proofs.RowWorld.{row_at}
@@ -30,16 +32,25 @@ or_false false = refl
 pub plain_end : (W V : World) (k condition : ℕ) → EndsAt W V k false condition → (e : Entry) → slice_get W.table k ≡ Some e → V ≡ ends W k e condition
 plain_end W V k condition ended e at = rw (or_false e.ended_by_eof) at (ended e at)
 
-pub cancel_answer : (W V : World) (k : ℕ) (e : Entry) → slice_get W.table k ≡ Some e → IsTrue (is_live e.phase) → EndsAt W V k false 15 → (V, Reply.Cancelled) ≡ cancelled W k (Some e)
+pub cancel_answer : (W V : World) (k : ℕ) (e : Entry) → slice_get W.table k ≡ Some e → IsTrue (is_live e.phase) → EndsAt W V k false 15 → cancelled W k (Some e) ≡ (V, Reply.Cancelled)
 cancel_answer W V k e at live ended = rw (live, plain_end W V k 15 ended e at) refl
 
-pub check_fault : (W V : World) (k : ℕ) (e : Entry) (checks : ℕ) → slice_get W.table k ≡ Some e → e.phase ≡ Awaiting checks → W.config.checks - 1 ≤ checks → EndsAt W V k false 10 → (V, Reply.Faulted 10) ≡ checked W k (Some e)
+pub check_fault : (W V : World) (k : ℕ) (e : Entry) (checks : ℕ) → slice_get W.table k ≡ Some e → e.phase ≡ Awaiting checks → W.config.checks - 1 ≤ checks → EndsAt W V k false 10 → checked W k (Some e) ≡ (V, Reply.Faulted 10)
 check_fault W V k e checks at phase enough ended =
     let reached : nat_le W.config.checks (checks + 1) ≡ true = grind (arith, nat_tests) in
     rw (phase, reached, plain_end W V k 10 ended e at) refl
 
 pub check_wait : (W V : World) (k : ℕ) (e : Entry) (checks : ℕ) → slice_get W.table k ≡ Some e → e.phase ≡ Awaiting checks → checks < W.config.checks - 1 → TurnsAt W V k (Awaiting (checks + 1)) e.eof e.complete →
-    (V, Reply.Waiting) ≡ checked W k (Some e)
+    checked W k (Some e) ≡ (V, Reply.Waiting)
 check_wait W V k e checks at phase few turned =
     let more : nat_le W.config.checks (checks + 1) ≡ false = grind (arith, nat_tests) in
     rw (phase, more, turned e at) refl
+
+pub carry : (W V : World) (a : World × Reply) (reply : Reply) → IsAnswered reply → a ≡ (V, reply) → Carries W V a reply
+carry W V a Reply.Memory h is = elim h [ ]
+carry W V a reply h is = is
+
+pub answered_reply : (answer : Answer) → IsAnswered (replied answer)
+answered_reply (Answer.Performed status) = tt
+answered_reply Answer.Installed = tt
+answered_reply Answer.NotInstalled = tt

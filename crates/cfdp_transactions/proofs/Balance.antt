@@ -34,3 +34,7 @@ spend-grown s taken given before now h = omega (arith, ints)
 
 pub spend-then : (s t u : ℤ) (a b c : ℕ) → t ≡ spend s b a → u ≡ spend t c b → u ≡ spend s c a
 spend-then s t u a b c first second = omega (arith, ints)
+
+-- the free blocks shrank by what was taken and not given back
+pub spend-free : (s : ℤ) (before later taken given : ℕ) → before + given ≡ later + taken → spend s before later ≡ spend s taken given
+spend-free s before later taken given h = omega (arith, ints)

@@ -50,3 +50,6 @@ pub mod Answering
 pub mod RowAdded
 pub mod RowGranted
 pub mod FirstClosed
+pub mod RangeSteps
+pub mod Acting
+pub mod StepDone

@@ -34,12 +34,12 @@ drop_next (suc n) (z ∷ xs) ys x h = drop_next n xs ys x h
 
 -- statuses ------------------------------------------------------------------------
 
-noted_none : (ss : List Status) (answer : Answer) → HasNone answer → noted ss answer ≡ ss
+pub noted_none : (ss : List Status) (answer : Answer) → HasNone answer → noted ss answer ≡ ss
 noted_none ss (Answer.Performed status) h = elim h [ ]
 noted_none ss Answer.Installed h = refl
 noted_none ss Answer.NotInstalled h = refl
 
-noted_one : (ss : List Status) (answer : Answer) → HasStatus answer → length (noted ss answer) ≡ length ss + 1
+pub noted_one : (ss : List Status) (answer : Answer) → HasStatus answer → length (noted ss answer) ≡ length ss + 1
 noted_one ss (Answer.Performed status) h = length-append ss (status ∷ [])
 noted_one ss Answer.Installed h = elim h [ ]
 noted_one ss Answer.NotInstalled h = elim h [ ]
@@ -118,7 +118,7 @@ module _ (laws : LowerLaws) (W : World) (s : Sound W) (k : ℕ) (e : Entry) (n :
   kept : IsKept c F e
   kept = s.live k e at live
 
-  rest_is : rest e ≡ item ∷ items
+  pub rest_is : rest e ≡ item ∷ items
   rest_is = rw executing left
 
   longest_is : longest c e ≡ staged_of e.received
@@ -153,7 +153,7 @@ module _ (laws : LowerLaws) (W : World) (s : Sound W) (k : ℕ) (e : Entry) (n :
   pub steps_within : e.steps_spent + (1 + ticks o) ≤ e.steps_granted
   steps_within = omega (arith, own.1, own.2, steps_left)
 
-  gone : IsGone G e.slot new.received
+  pub gone : IsGone G e.slot new.received
   gone = staged_after c.prefixes F e.slot e.received item items kept.slot kept.staged succeeded_now
       (λ h. omega (arith, kept.fits, kept.nothing (rw rest_is h)))
 
@@ -185,7 +185,7 @@ module _ (laws : LowerLaws) (W : World) (s : Sound W) (k : ℕ) (e : Entry) (n :
         };
       }
 
-  honest_now : IsHonest c new
+  pub honest_now : IsHonest c new
   honest_now =
       let honest = s.honest k e at in
       let in_order : new.statuses ++ successes items ≡ all_successful e.metadata.requests =

@@ -6,12 +6,15 @@
 --     IsBooked s b              leases, quota and pieces say what the world says
 --     IsLiveAt W k              the entry at k is live
 --     EndsAt, TurnsAt           the entry at k ends;  comes to another phase;  and nothing else changes
+--     Carries W V answer reply  a call answered so, or memory was refused
 --     AnswersAt W V k f reply   to an event of the entry at k the reply and the next world are what f says
-use Rattle.std.specs.Prelude.{◌≡◌, ◌≢◌, ℕ, ◌+◌, ◌≤◌, Bool, ◌||◌, IsTrue, length, Option, Some, None, slice_get}
+--     IsAnswered reply          memory was not refused
+--     IsSteady                  of the store before and after: its capacity stays, and whether it takes memory
+use Rattle.std.specs.Prelude.{◌≡◌, ◌≢◌, ⊤, ℕ, ◌+◌, ◌-◌, ◌≤◌, Bool, ◌||◌, IsTrue, length, Option, Some, None, slice_get}
 use Rattle.cfdp_pdus.specs.declared.eof.Eof.{Eof}
 use Rattle.cfdp_actions.specs.Filestore.{Filestore, staged_in}
 use Rattle.cfdp_actions.specs.Store.{Store}
-use Rattle.cfdp_quota.specs.Budget.{Budget, entry_at, spare}
+use Rattle.cfdp_quota.specs.Budget.{Budget, entry_at, reserve_at, spare}
 use Rattle.cfdp_transactions.specs.Entry.{Phase, is_live, Entry, reserve}
 use Rattle.cfdp_transactions.specs.World.{World, free, reserves, leases_of}
 use Rattle.cfdp_transactions.specs.PieceLaws.{ArePieces}
@@ -52,6 +55,27 @@ EndsAt W V k by_eof condition =
 abbrev pub TurnsAt : World → World → ℕ → Phase → Option Eof → Bool → Type 0
 TurnsAt W V k phase eof complete = (e : Entry) → slice_get W.table k ≡ Some e → V ≡ turns W k e phase eof complete
 
--- of the entry at k: the reply, and the world after
+-- memory was refused and nothing changed, or the world after and the reply are the answer
+abbrev pub Carries : World → World → World × Reply → Reply → Type 0
+Carries W V answer Reply.Memory = V ≡ W
+Carries W V answer reply = answer ≡ (V, reply)
+
+-- of the entry at k
 abbrev pub AnswersAt : World → World → ℕ → (Option Entry → World × Reply) → Reply → Type 0
-AnswersAt W V k answer reply = (e : Entry) → slice_get W.table k ≡ Some e → (V, reply) ≡ answer (Some e)
+AnswersAt W V k answer reply = (e : Entry) → slice_get W.table k ≡ Some e → Carries W V (answer (Some e)) reply
+
+abbrev pub IsAnswered : Reply → Type 0
+IsAnswered Reply.Memory = ⊥
+IsAnswered reply = ⊤
+
+-- the store's kind stays
+abbrev pub IsSteady : Store → Store → Type 0
+IsSteady old new = (new.takes_no_memory ≡ old.takes_no_memory) × (new.capacity ≡ old.capacity)
+
+-- of the budget q and the later one p: so many blocks were free before, and so many are after
+pub record Settles (q p : Budget) (slot before after : ℕ) : Type 0 where
+  pub all : p.capacity ≡ q.capacity
+  pub unused : p.free + before ≡ q.free + after
+  pub apart : spare p ≡ spare q
+  pub here : entry_at p slot ≡ Some ((reserve_at q slot + after) - before)
+  pub elsewhere : (other : ℕ) → other ≢ slot → entry_at p other ≡ entry_at q other

@@ -23,3 +23,5 @@ pub mod Rows
 pub mod RowChanges
 pub mod Books
 pub mod Adding
+pub mod Items
+pub mod Taking

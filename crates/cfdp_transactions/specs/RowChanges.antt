@@ -1,7 +1,8 @@
 -- How the program's table changes.
 --     AreNamed entries          each is kept under its own name
 --     Becomes old new k f       the row at k is what f makes of it, and nothing else changes
-use Rattle.std.specs.Prelude.{◌≡◌, ℕ, List, Some, slice_get, slice_set}
+--     CanAdvance r install ticks      the row has a next item that may take so many ticks
+use Rattle.std.specs.Prelude.{◌≡◌, ℕ, ◌+◌, ◌≤◌, ◌<◌, pos, negsuc, ◌≤ℤ◌, Bool, false, List, Some, slice_get, slice_set}
 use Rattle.std.specs.List.{AllByRecursion}
 use Rattle.cfdp_status.specs.declared.transaction.TransactionId.{TransactionId}
 use Rattle.cfdp_transactions.specs.Rows.{Row, row_name}
@@ -11,3 +12,10 @@ AreNamed = AllByRecursion (λ e. e.0 ≡ row_name e.1)
 
 abbrev pub Becomes : List Row → List Row → ℕ → (Row → Row) → Type 0
 Becomes old new k f = (r : Row) → slice_get old k ≡ Some r → new ≡ slice_set old k (f r)
+
+-- so many ticks may be counted, and its counters are within their ranges
+pub record CanAdvance (r : Row) (install : Bool) (ticks : ℕ) : Type 0 where
+  pub performed : install ≡ false → r.performed < 255
+  pub steps : r.steps_spent + (1 + ticks) ≤ r.steps_granted
+  pub least : negsuc 65535 ≤ℤ r.blocks_spent
+  pub most : r.blocks_spent ≤ℤ pos 65536

@@ -6,7 +6,8 @@
 --     row_name, row_place       its name;  where a transaction is in the table: the length where it is not there
 --     fresh_row                 a row with nothing received and nothing spent
 --     row_ended, row_turned     a row that ends, as `ended` says;  that comes to another phase
-use Rattle.std.specs.Prelude.{ℕ, zero, suc, ℤ, pos, Bool, true, false, ◌||◌, if◌then◌else◌, List, [], ◌∷◌, map, take, Option, None}
+--     row_stepped               a row whose next item went well
+use Rattle.std.specs.Prelude.{ℕ, zero, suc, ◌+◌, ℤ, pos, Bool, true, false, ◌||◌, if◌then◌else◌, List, [], ◌∷◌, map, take, Option, None}
 use Rattle.cfdp_status.specs.declared.transaction.TransactionId.{TransactionId}
 use Rattle.cfdp_pdus.specs.Values.{MetadataFields}
 use Rattle.cfdp_pdus.specs.declared.header.Header.{Header}
@@ -16,7 +17,7 @@ use Rattle.cfdp_actions.specs.Filestore.{Filestore, staged_in}
 use Rattle.cfdp_leases.specs.Leases.{is_same}
 use Rattle.cfdp_transactions.specs.Received.{Received}
 use Rattle.cfdp_transactions.specs.Pieces.{Ranges, received_in}
-use Rattle.cfdp_transactions.specs.Entry.{Phase, Ended, is_live, id_of, Entry, spend}
+use Rattle.cfdp_transactions.specs.Entry.{Phase, Executing, Done, Ended, is_live, id_of, Entry, spend}
 use Rattle.cfdp_transactions.specs.Sound.{all_successful}
 
 pub record Row : Type 0 where
@@ -99,3 +100,14 @@ row_ended r condition by_eof given = record r {
 
 abbrev pub row_turned : Row → Phase → Option Eof → Bool → Row
 row_turned r phase eof complete = record r { phase = phase; eof = eof; complete = complete }
+
+-- its item `next` went well: it was the install, or a request; the free blocks were so many before and after
+abbrev pub row_stepped : Row → (next : ℕ) (last install : Bool) (before after ticks : ℕ) → Row
+row_stepped r next last install before after ticks = record r {
+  phase = if last then Done else Executing (suc next);
+  installed = r.installed || install;
+  ranges = [];
+  performed = if install then r.performed else suc r.performed;
+  blocks_spent = spend r.blocks_spent before after;
+  steps_spent = r.steps_spent + (1 + ticks);
+}

@@ -5,7 +5,7 @@ ghost use Rattle.cfdp_transactions.specs.Entry.{is_live};
 ghost use Rattle.cfdp_transactions.specs.Sound.{Sound};
 ghost use Rattle.cfdp_transactions.specs.Ending.{cancelled};
 ghost use Rattle.cfdp_transactions.specs.Delivery.{checked};
-ghost use Rattle.cfdp_transactions.specs.Books.{AnswersAt, EndsAt, IsBooked, IsLiveAt, TurnsAt, world_of};
+ghost use Rattle.cfdp_transactions.specs.Books.{AnswersAt, EndsAt, IsAnswered, IsBooked, IsLiveAt, IsSteady, TurnsAt, world_of};
 
 use crate::books::Books;
 use crate::{Phase, Reply};
@@ -32,6 +32,7 @@ pub(crate) fn end<S: Filestore>(
     requires live { IsLiveAt (world_of (S.state store.old) books.old) place }
     ensures ends { EndsAt (world_of (S.state store.old) books.old) (world_of (S.state store.new) books.new) place by_eof condition }
     ensures booked { IsBooked (S.state store.new) books.new }
+    ensures steady { IsSteady (S.state store.old) (S.state store.new) }
 {
     let entry = books.table.at(place);
     let slot = entry.slot();
@@ -70,7 +71,9 @@ pub(crate) fn cancel<S: Filestore>(store: &mut S, books: &mut Books, place: usiz
     requires within { place < length books.old.table }
     ensures answer { let W = world_of (S.state store.old) books.old in
         AnswersAt W (world_of (S.state store.new) books.new) place (cancelled W place) result }
+    ensures answered { IsAnswered result }
     ensures booked { IsBooked (S.state store.new) books.new }
+    ensures steady { IsSteady (S.state store.old) (S.state store.new) }
 {
     if !books.table.at(place).phase().is_live() {
         return Reply::Idle;
@@ -86,7 +89,9 @@ pub(crate) fn check<S: Filestore>(store: &mut S, books: &mut Books, place: usize
     requires within { place < length books.old.table }
     ensures answer { let W = world_of (S.state store.old) books.old in
         AnswersAt W (world_of (S.state store.new) books.new) place (checked W place) result }
+    ensures answered { IsAnswered result }
     ensures booked { IsBooked (S.state store.new) books.new }
+    ensures steady { IsSteady (S.state store.old) (S.state store.new) }
 {
     let entry = books.table.at(place);
     let Phase::Awaiting(checks) = entry.phase() else {

@@ -1,11 +1,14 @@
 //! A transaction of the table.
 
-ghost use Rattle.std.specs.Prelude.{◌≡◌, ◌≤◌, ◌<◌, pos, negsuc, ◌≤ℤ◌, Some, length, vec_len};
+ghost use Rattle.std.specs.Prelude.{◌≡◌, false, suc, if◌then◌else◌, ◌+◌, ◌≤◌, ◌<◌, pos, negsuc, ◌≤ℤ◌, Some, length, map, option_map, slice_get, vec_len};
+ghost use Rattle.cfdp_actions.specs.Actions.{Perform};
+ghost use Rattle.cfdp_transactions.specs.Items.{item_of};
 ghost use Rattle.cfdp_leases.specs.Items.{items_of};
-ghost use Rattle.cfdp_transactions.specs.Entry.{is_live, id_of};
-ghost use Rattle.cfdp_transactions.specs.Rows.{fresh_row, row_ended, row_name, row_turned};
+ghost use Rattle.cfdp_transactions.specs.Entry.{Done, Executing};
+ghost use Rattle.cfdp_transactions.specs.Rows.{fresh_row, row_ended, row_name, row_stepped, row_turned};
 
 use crate::Phase;
+use crate::item::Item;
 use crate::ranges::Ranges;
 use cfdp_actions::Request;
 use cfdp_paths::Path;
@@ -143,6 +146,56 @@ impl Entry {
         self.blocks_spent -= i64::from(given);
     }
 
+    /// Its item of this number: the install comes first where there is a file, and then the requests.
+    pub(crate) fn item(&self, number: u8) -> Option<Item<'_>>
+        ensures { option_map item_of result ≡ slice_get self.now.items number }
+    {
+        let number = usize::from(number);
+        match &self.destination {
+            None => request_at(&self.requests, number),
+            Some(path) => match number.checked_sub(1) {
+                None => Some(Item::Install(path)),
+                Some(number) => request_at(&self.requests, number),
+            },
+        }
+    }
+
+    /// How many items it has.
+    pub(crate) fn item_count(&self) -> usize
+        requires { length self.now.items < 256 }
+        ensures { result ≡ length self.now.items }
+    {
+        match &self.destination {
+            None => self.requests.len(),
+            Some(_) => self.requests.len() + 1,
+        }
+    }
+
+    /// Its item `next` went well, and took so many ticks: the free blocks were `before` and are `after`.
+    pub(crate) fn advance(
+        &mut self,
+        next: u8,
+        last: bool,
+        install: bool,
+        before: u32,
+        after: u32,
+        ticks: u32,
+    )
+        requires next { next < 255 }
+        requires performed { install ≡ false → self.old.performed < 255 }
+        requires steps { self.old.steps_spent + (1 + ticks) ≤ self.old.steps_granted }
+        requires least { negsuc 65535 ≤ℤ self.old.blocks_spent }
+        requires most { self.old.blocks_spent ≤ℤ pos 65536 }
+        ensures { self.new ≡ row_stepped self.old next last install before after ticks }
+    {
+        self.phase = phase_behind(next, last);
+        self.installed |= install;
+        self.ranges = Ranges::new();
+        self.performed = performed_with(self.performed, install);
+        self.blocks_spent = self.blocks_spent + i64::from(before) - i64::from(after);
+        self.steps.spend(ticks + 1);
+    }
+
     /// It comes to another phase.
     pub(crate) fn turn(&mut self, phase: Phase, eof: Option<Eof>, complete: bool)
         ensures { self.new ≡ row_turned self.old phase eof complete }
@@ -151,4 +204,34 @@ impl Entry {
         self.eof = eof;
         self.complete = complete;
     }
+}
+
+/// The request at a place, as an item.
+fn request_at(requests: &[Request], place: usize) -> Option<Item<'_>>
+    ensures { option_map item_of result ≡ slice_get (map Perform requests.now) place }
+{
+    match requests.get(place) {
+        None => None,
+        Some(request) => Some(Item::Perform(request)),
+    }
+}
+
+/// The phase behind an item.
+fn phase_behind(next: u8, last: bool) -> Phase
+    requires { next < 255 }
+    ensures { result ≡ (if last then Done else Executing (suc next)) }
+{
+    if last {
+        Phase::Done
+    } else {
+        Phase::Executing(next + 1)
+    }
+}
+
+/// How many requests were performed, once an item was: the install is none.
+fn performed_with(performed: u8, install: bool) -> u8
+    requires { install ≡ false → performed < 255 }
+    ensures { result ≡ (if install then performed else suc performed) }
+{
+    if install { performed } else { performed + 1 }
 }

@@ -14,12 +14,15 @@ mod copying;
 mod entry;
 mod event;
 mod keeping;
+mod item;
 pub mod laws;
 mod outcome;
 mod phase;
 mod ranges;
 mod reply;
+mod step;
 mod table;
+mod taking;
 
 pub use config::{Config, ConfigFault};
 pub use event::{Event, NotOurs, event_of};

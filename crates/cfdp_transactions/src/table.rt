@@ -1,8 +1,8 @@
 //! The table of transactions.
 
 ghost use Rattle.std.specs.Prelude.{◌≡◌, ◌≤◌, ◌<◌, pos, negsuc, ◌≤ℤ◌, Some, None, [], IfSome, IfNone, IfOk, OnOk, OnErr, ◌∷◌, ◌++◌, length, slice_get, remove};
-ghost use Rattle.cfdp_transactions.specs.Rows.{row_name, row_place, row_ended, row_turned};
-ghost use Rattle.cfdp_transactions.specs.RowChanges.{Becomes};
+ghost use Rattle.cfdp_transactions.specs.Rows.{row_name, row_place, row_ended, row_stepped, row_turned};
+ghost use Rattle.cfdp_transactions.specs.RowChanges.{Becomes, CanAdvance};
 
 use crate::Phase;
 use crate::entry::Entry;
@@ -101,6 +101,28 @@ impl Table {
     {
         self.entries.insert(entry.name(), entry)?;
         Ok(())
+    }
+
+    /// The next item of the transaction at a place went well, as [`Entry::advance`] says.
+    pub(crate) fn advance(
+        &mut self,
+        place: usize,
+        next: u8,
+        last: bool,
+        install: bool,
+        before: u32,
+        after: u32,
+        ticks: u32,
+    )
+        requires within { place < length self.old }
+        requires next { next < 255 }
+        requires fits { IfSome (slice_get self.old place) (λ r. CanAdvance r install ticks) }
+        ensures { Becomes self.old self.new place (λ r. row_stepped r next last install before after ticks) }
+    {
+        self.entries
+            .get_index_mut(place)
+            .unwrap()
+            .advance(next, last, install, before, after, ticks);
     }
 
     /// The transaction at a place is forgotten. Costs a move of each one behind it.
