@@ -53,3 +53,4 @@ pub mod FirstClosed
 pub mod RangeSteps
 pub mod Acting
 pub mod StepDone
+pub mod TakenOut

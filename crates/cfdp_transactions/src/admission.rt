@@ -7,11 +7,11 @@ ghost use Rattle.cfdp_quota.specs.Budget.{IsOpen, spare};
 ghost use Rattle.cfdp_transactions.specs.Entry.{id_of, has_file, is_live};
 ghost use Rattle.cfdp_transactions.specs.World.{bound};
 ghost use Rattle.cfdp_transactions.specs.Sound.{Sound};
-ghost use Rattle.cfdp_transactions.specs.Adding.{AddsEntry, AddsGranted, Admits};
-ghost use Rattle.cfdp_transactions.specs.Admission.{is_known_checksum, proposal_of, refused_entry};
+ghost use Rattle.cfdp_transactions.specs.Adding.{AddsEntry, AddsGranted};
+ghost use Rattle.cfdp_transactions.specs.Admission.{is_known_checksum, metadata_came, proposal_of, refused_entry};
 ghost use Rattle.cfdp_verifier.specs.Answers.{answered, granted_items, HasFootprint};
 ghost use Rattle.cfdp_verifier.specs.Verdict.{verdict};
-ghost use Rattle.cfdp_transactions.specs.Books.{IsBooked, world_of};
+ghost use Rattle.cfdp_transactions.specs.Books.{Carries, IsBooked, world_of};
 ghost use Rattle.cfdp_transactions.specs.Rows.{row_place};
 
 use crate::books::Books;
@@ -49,7 +49,8 @@ pub(crate) fn admit<S: Filestore>(
     requires sound { Sound (world_of (S.state store.now) books.old) }
     requires booked { IsBooked (S.state store.now) books.old }
     requires absent { row_place (id_of header.now) books.old.table ≡ length books.old.table }
-    ensures answer { Admits (world_of (S.state store.now) books.old) (world_of (S.state store.now) books.new) header.now metadata.now result }
+    ensures answer { let W = world_of (S.state store.now) books.old in
+        Carries W (world_of (S.state store.now) books.new) (metadata_came W header.now metadata.now None) result }
     ensures booked { IsBooked (S.state store.now) books.new }
 {
     if books.table.len() >= MOST_TRANSACTIONS {

@@ -127,6 +127,41 @@ impl Entry {
         self.complete
     }
 
+    /// The header of its Metadata PDU.
+    pub(crate) fn header(&self) -> &Header
+        ensures { result.now ≡ self.now.header }
+    {
+        &self.header
+    }
+
+    /// Its Metadata PDU.
+    pub(crate) fn metadata(&self) -> &Metadata
+        ensures { result.now ≡ self.now.metadata }
+    {
+        &self.metadata
+    }
+
+    /// Whether its file was installed.
+    pub(crate) fn is_installed(&self) -> bool
+        ensures { result ≡ self.now.installed }
+    {
+        self.installed
+    }
+
+    /// Whether it was ended by an EOF PDU's condition.
+    pub(crate) fn is_ended_by_eof(&self) -> bool
+        ensures { result ≡ self.now.ended_by_eof }
+    {
+        self.ended_by_eof
+    }
+
+    /// How many of its requests were performed: each of them was successful.
+    pub(crate) fn performed(&self) -> u8
+        ensures { result ≡ self.now.performed }
+    {
+        self.performed
+    }
+
     /// Where its octets are staged.
     pub(crate) fn slot(&self) -> u8
         ensures { result ≡ self.now.slot }

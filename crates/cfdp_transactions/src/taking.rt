@@ -34,18 +34,16 @@ const UNSUPPORTED_CHECKSUM_TYPE: u8 = 11;
 
 /// What became of the file (§5.2.3): it was discarded, rejected by the filestore, retained, or there was none.
 const DISCARDED: u8 = 0;
+
 const REJECTED: u8 = 1;
+
 const RETAINED: u8 = 2;
+
 const UNREPORTED: u8 = 3;
 
 /// The transaction at a place is forgotten, and its outcome handed out. Where memory is refused nothing has changed.
 /// Cost: a copy of its requests' names.
-pub(crate) fn take<S: Filestore>(
-    alloc: Global,
-    store: &S,
-    books: &mut Books,
-    place: usize,
-) -> Reply
+pub(crate) fn take<S: Filestore>(alloc: Global, store: &S, books: &mut Books, place: usize) -> Reply
     requires booked { IsBooked (S.state store.now) books.old }
     requires within { place < length books.old.table }
     ensures answer { let W = world_of (S.state store.now) books.old in
