@@ -47,3 +47,7 @@ pub mod Answering
 pub mod RangeSteps
 pub mod Acting
 pub mod StepDone
+pub mod Overwriting
+pub mod KeepingSteps
+pub mod StartWhole
+pub mod Following

@@ -204,7 +204,7 @@ module _ (laws : LowerLaws) (s : Store) (b : Books) (sound : Sound (world_of s b
         let all : IsTrue last → length items ≡ 0 = λ h. let q : (suc n == length r.items) ≡ true = sym is_last ∙ h in grind (arith, nat_tests, behind) in
         let some : IsFalse last → length items ≢ 0 = λ h z. let q : (suc n == length r.items) ≡ false = sym is_last ∙ h in grind (arith, nat_tests, behind, number_below) in
         let statuses = sym (statuses_after b.config.prefixes F r.slot item r.performed (all_successful r.metadata.requests) (honest_now laws W sound k e n item items at_k executing left).in_order
-            (λ h. omega (arith, requests_left h, length-map r.metadata.requests (λ (q : RequestFields). Successful q.action)))) in
+        (λ h. omega (arith, requests_left h, length-map r.metadata.requests (λ (q : RequestFields). Successful q.action)))) in
         let noted_same : take (if install then r.performed else suc r.performed) (all_successful r.metadata.requests) ≡ noted e.statuses o.answer = rw is_i statuses in
         built_same now.phase (phase_before (suc n) items) now.installed (e.installed || is_install item) (received_by G now) (if is_install item then [] else e.received)
         (take now.performed (all_successful r.metadata.requests)) (noted e.statuses o.answer) now.blocks_spent (spend r.blocks_spent o.taken o.given) now.steps_spent (e.steps_spent + (1 + ticks o))

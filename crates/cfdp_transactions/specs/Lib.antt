@@ -22,3 +22,5 @@ pub mod Rows
 pub mod RowChanges
 pub mod Books
 pub mod Items
+pub mod Keeping
+pub mod Engine
