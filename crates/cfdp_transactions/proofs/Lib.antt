@@ -54,3 +54,7 @@ pub mod RangeSteps
 pub mod Acting
 pub mod StepDone
 pub mod TakenOut
+pub mod Overwriting
+pub mod KeepingSteps
+pub mod StartWhole
+pub mod Following

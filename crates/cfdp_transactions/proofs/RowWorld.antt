@@ -1,12 +1,16 @@
 -- The program's rows, and the world that they and the store are.
-use Rattle.std.proofs.Common.{◌≡◌, ◌≢◌, ℕ, zero, suc, List, [], ◌∷◌, ◌++◌, length, refl, ap, arith}
-use Rattle.std.specs.Prelude.{Bool, true, false, Some, slice_get, slice_set, remove, option_map, IsTrue}
+use Rattle.std.proofs.Common.{◌≡◌, ◌≢◌, ℕ, zero, suc, ◌+◌, ◌≤◌, List, [], ◌∷◌, ◌++◌, length, map, drop, refl, ap, sym, ◌∙◌, arith}
+use Rattle.std.specs.Prelude.{Bool, true, false, Option, Some, None, slice_get, slice_set, remove, option_map, IsTrue, IsFalse, if◌then◌else◌}
+use Rattle.std.proofs.lemmas.Bool.{cases_Bool}
+use mathlib.Core.Logic.{inl, inr}
 use Rattle.cfdp_status.specs.declared.transaction.TransactionId.{TransactionId}
 use Rattle.cfdp_actions.specs.Filestore.{Filestore, staged_in}
+use Rattle.cfdp_leases.specs.Leases.{is_same}
 use Rattle.cfdp_transactions.specs.Received.{Received}
-use Rattle.cfdp_transactions.specs.Entry.{is_live, Entry}
-use Rattle.cfdp_transactions.specs.World.{place_of}
-use Rattle.cfdp_transactions.specs.Rows.{Row, received_by, entry_in, table_of, row_place}
+use Rattle.cfdp_transactions.specs.Pieces.{received_in}
+use Rattle.cfdp_transactions.specs.Entry.{Phase, Receiving, Awaiting, Executing, Refused, Done, Ended, is_live, Entry}
+use Rattle.cfdp_transactions.specs.World.{place_of, next_runnable}
+use Rattle.cfdp_transactions.specs.Rows.{Row, received_by, entry_in, table_of, row_name, row_place, first_executing}
 
 pub place_in : (F : Filestore) (id : TransactionId) (rows : List Row) → place_of id (table_of F rows) ≡ row_place id rows
 place_in F id [] = refl
@@ -54,3 +58,43 @@ remove_in F [] zero = refl
 remove_in F [] (suc k) = refl
 remove_in F (r ∷ rows) zero = refl
 remove_in F (r ∷ rows) (suc k) = ap (λ (t : List Entry). entry_in F r ∷ t) (remove_in F rows k)
+
+-- the first one in Executing -----------------------------------------------------------
+
+pub executing_here : (rows : List Row) (k : ℕ) (r : Row) (n : ℕ) → slice_get rows k ≡ Some r → r.phase ≡ Executing n → first_executing (drop k rows) ≡ Some (row_name r)
+executing_here [] k r n at phase = absurd cc
+executing_here (q ∷ rows) zero r n at phase = let same : q ≡ r = cc in rw (same, phase) refl
+executing_here (q ∷ rows) (suc k) r n at phase = executing_here rows k r n at phase
+
+passed : (r : Row) (rows : List Row) (phase : Phase) → r.phase ≡ phase → ((n : ℕ) → phase ≡ Executing n → ⊥) → first_executing (r ∷ rows) ≡ first_executing rows
+passed r rows Receiving is not = rw is refl
+passed r rows (Awaiting checks) is not = rw is refl
+passed r rows (Executing n) is not = absurd (not n refl)
+passed r rows Refused is not = rw is refl
+passed r rows Done is not = rw is refl
+passed r rows (Ended condition) is not = rw is refl
+
+pub executing_later : (rows : List Row) (k : ℕ) (r : Row) → slice_get rows k ≡ Some r → ((n : ℕ) → r.phase ≡ Executing n → ⊥) → first_executing (drop k rows) ≡ first_executing (drop (suc k) rows)
+executing_later [] k r at not = absurd cc
+executing_later (q ∷ rows) zero r at not = let same : q ≡ r = cc in rw same (passed r rows r.phase refl not)
+executing_later (q ∷ rows) (suc k) r at not = executing_later rows k r at not
+
+pub executing_none : (rows : List Row) (k : ℕ) → length rows ≤ k → first_executing (drop k rows) ≡ None
+executing_none [] zero h = refl
+executing_none [] (suc k) h = refl
+executing_none (r ∷ rows) zero h = absurd (omega arith)
+executing_none (r ∷ rows) (suc k) h = executing_none rows k (omega arith)
+
+-- what is read by name -----------------------------------------------------------------
+
+twice : {X : Type 0} (f : Entry → X) (F : Filestore) (o : Option Row) → option_map f (option_map (entry_in F) o) ≡ option_map (λ r. f (entry_in F r)) o
+twice f F None = refl
+twice f F (Some r) = refl
+
+pub runnable_in : (F : Filestore) (rows : List Row) → next_runnable (table_of F rows) ≡ first_executing rows
+runnable_in F [] = refl
+runnable_in F (r ∷ rows) = rw (runnable_in F rows) refl
+
+pub read_in : {X : Type 0} (f : Entry → X) (F : Filestore) (id : TransactionId) (rows : List Row) →
+    option_map f (slice_get (table_of F rows) (place_of id (table_of F rows))) ≡ option_map (λ r. f (entry_in F r)) (slice_get rows (row_place id rows))
+read_in f F id rows = rw (place_in F id rows, get_in F rows (row_place id rows)) (twice f F (slice_get rows (row_place id rows)))

@@ -25,3 +25,5 @@ pub mod Books
 pub mod Adding
 pub mod Items
 pub mod Taking
+pub mod Keeping
+pub mod Engine

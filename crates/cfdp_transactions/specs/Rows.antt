@@ -4,10 +4,11 @@
 --     received_by F r           what was received, by its ranges and what is staged in its slot
 --     entry_in F r, table_of    the entry that it is, over a filestore;  all of them
 --     row_name, row_place       its name;  where a transaction is in the table: the length where it is not there
+--     first_executing           the first one in Executing
 --     fresh_row                 a row with nothing received and nothing spent
 --     row_ended, row_turned     a row that ends, as `ended` says;  that comes to another phase
 --     row_stepped               a row whose next item went well
-use Rattle.std.specs.Prelude.{ℕ, suc, ◌+◌, ℤ, pos, Bool, false, ◌||◌, if◌then◌else◌, List, [], ◌∷◌, map, take, Option, None}
+use Rattle.std.specs.Prelude.{ℕ, zero, suc, ◌+◌, ℤ, pos, Bool, true, false, ◌||◌, if◌then◌else◌, List, [], ◌∷◌, map, take, Option, Some, None}
 use Rattle.cfdp_status.specs.declared.transaction.TransactionId.{TransactionId}
 use Rattle.cfdp_pdus.specs.Values.{MetadataFields}
 use Rattle.cfdp_pdus.specs.declared.header.Header.{Header}
@@ -17,7 +18,7 @@ use Rattle.cfdp_actions.specs.Filestore.{Filestore, staged_in}
 use Rattle.cfdp_leases.specs.Leases.{is_same}
 use Rattle.cfdp_transactions.specs.Received.{Received}
 use Rattle.cfdp_transactions.specs.Pieces.{Ranges, received_in}
-use Rattle.cfdp_transactions.specs.Entry.{Phase, Executing, Done, Ended, is_live, id_of, Entry, spend}
+use Rattle.cfdp_transactions.specs.Entry.{Phase, Executing, Done, Ended, is_live, is_executing, id_of, Entry, spend}
 use Rattle.cfdp_transactions.specs.Sound.{all_successful}
 
 pub record Row : Type 0 where
@@ -69,6 +70,10 @@ row_name r = id_of r.header
 abbrev pub row_place : TransactionId → List Row → ℕ
 row_place id [] = 0
 row_place id (r ∷ rs) = if is_same (row_name r) id then 0 else suc (row_place id rs)
+
+abbrev pub first_executing : List Row → Option TransactionId
+first_executing [] = None
+first_executing (r ∷ rs) = if is_executing r.phase then Some (row_name r) else first_executing rs
 
 abbrev pub fresh_row : Header → MetadataFields → Phase → ℕ → List Item → ℕ → ℕ → Row
 fresh_row h m phase slot items blocks steps = record {

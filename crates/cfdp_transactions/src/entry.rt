@@ -39,6 +39,7 @@ pub(crate) struct Entry {
 }
 
 impl Model for Entry {
+    ghost use Rattle.std.specs.Prelude.{◌<◌, ◌^◌};
     ghost use Rattle.cfdp_leases.specs.Items.{items_of};
     ghost use Rattle.cfdp_transactions.specs.Rows as words;
 
@@ -61,6 +62,8 @@ impl Model for Entry {
       blocks_spent = e.blocks_spent;
       steps_spent = e.steps.spent;
     } };
+
+    ghost invariant = { λ e. e.steps.granted < 2 ^ 32 };
 }
 
 impl Entry {
@@ -111,6 +114,27 @@ impl Entry {
         ensures { result ≡ self.now.phase }
     {
         self.phase
+    }
+
+    /// The blocks and the steps that were granted to it.
+    pub(crate) fn grant(&self) -> (u32, u32)
+        ensures { result ≡ (self.now.blocks_granted, self.now.steps_granted) }
+    {
+        (self.blocks_granted, self.steps.left() + self.steps.spent())
+    }
+
+    /// The blocks that it took less those that it gave back.
+    pub(crate) fn blocks_spent(&self) -> i64
+        ensures { result ≡ self.now.blocks_spent }
+    {
+        self.blocks_spent
+    }
+
+    /// The steps that it spent.
+    pub(crate) fn steps_spent(&self) -> u32
+        ensures { result ≡ self.now.steps_spent }
+    {
+        self.steps.spent()
     }
 
     /// The EOF PDU that made it wait, if one did.

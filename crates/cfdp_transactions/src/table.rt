@@ -1,7 +1,8 @@
 //! The table of transactions.
 
 ghost use Rattle.std.specs.Prelude.{◌≡◌, ◌≤◌, ◌<◌, pos, negsuc, ◌≤ℤ◌, Some, None, [], IfSome, IfNone, IfOk, OnOk, OnErr, ◌∷◌, ◌++◌, length, slice_get, remove};
-ghost use Rattle.cfdp_transactions.specs.Rows.{row_name, row_place, row_ended, row_stepped, row_turned};
+ghost use Rattle.std.specs.Option.{option_copied};
+ghost use Rattle.cfdp_transactions.specs.Rows.{first_executing, row_name, row_place, row_ended, row_stepped, row_turned};
 ghost use Rattle.cfdp_transactions.specs.RowChanges.{Becomes, CanAdvance};
 
 use crate::Phase;
@@ -12,6 +13,9 @@ use cfdp_status::TransactionId;
 use indexmap::IndexMap;
 use std::alloc::Global;
 use std::marker::Model;
+
+/// How many transactions the table holds at most.
+pub(crate) const MOST_TRANSACTIONS: usize = 64;
 
 /// The transactions in order of admission, which are found by name. Contracts see them as a list of rows.
 #[derive(Drop)]
@@ -32,13 +36,36 @@ impl Model for Table {
 }
 
 impl Table {
-    /// No transactions.
-    pub(crate) fn new(alloc: Global) -> Table
-        ensures { result ≡ [] }
+    /// No transactions, and room for 64.
+    pub(crate) fn new(alloc: Global) -> Result<Table, Memory>
+        ensures { IfOk result (λ table. table ≡ []) }
     {
-        Table {
-            entries: IndexMap::new(alloc),
+        Ok(Table {
+            entries: IndexMap::with_capacity(alloc, MOST_TRANSACTIONS)?,
+        })
+    }
+
+    /// A transaction, where it is there. Costs the same however many there are.
+    pub(crate) fn get(&self, id: TransactionId) -> Option<&Entry>
+        ensures { option_copied result ≡ slice_get self.now (row_place id self.now) }
+    {
+        match self.find(id) {
+            None => None,
+            Some(place) => Some(self.at(place)),
         }
+    }
+
+    /// The first transaction in Executing. Goes through them.
+    pub(crate) fn next_runnable(&self) -> Option<TransactionId>
+        ensures { result ≡ first_executing self.now }
+    {
+        for place in 0..self.len() {
+            let entry = self.at(place);
+            if let Phase::Executing(_) = entry.phase() {
+                return Some(entry.name());
+            }
+        }
+        None
     }
 
     /// How many there are.

@@ -1,0 +1,49 @@
+-- From an event of the entry at a place to the next world.
+use Rattle.std.proofs.Common.{◌≡◌, ℕ, zero, suc, ◌<◌, List, [], ◌∷◌, length, refl, ap, sym, ◌∙◌, arith, subst}
+use Rattle.std.specs.Prelude.{Option, Some, None, slice_get}
+use Rattle.cfdp_status.specs.declared.transaction.TransactionId.{TransactionId}
+use Rattle.cfdp_actions.specs.Store.{Store}
+use Rattle.cfdp_transactions.specs.Entry.{Entry}
+use Rattle.cfdp_transactions.specs.Events.{Event, Reply}
+use Rattle.cfdp_transactions.specs.World.{World, index_of, entry_of, place_of}
+use Rattle.cfdp_transactions.specs.Next.{next}
+use Rattle.cfdp_transactions.specs.Needs.{Follows, FollowsIsSound}
+use Rattle.cfdp_transactions.specs.Rows.{Row, entry_in, table_of, row_place}
+use Rattle.cfdp_transactions.specs.Books.{AnswersAt, Carries, IsBooked, world_of}
+use Rattle.cfdp_transactions.specs.Engine.{IsWhole}
+use Rattle.cfdp_transactions.specs.declared.books.Books.{Books}
+use Rattle.cfdp_transactions.proofs.RowWorld.{place_in, get_in, row_at}
+
+pub carries_follows : (W V : World) (event : Event) (reply : Reply) → Carries W V (next W event) reply → Follows W event reply V
+carries_follows W V event Reply.Memory h = h
+carries_follows W V event reply h = h
+
+get_at : {X : Type 0} (xs : List X) (k : ℕ) → k < length xs → (x : X) × (slice_get xs k ≡ Some x)
+get_at [] k h = absurd (omega arith)
+get_at (x ∷ xs) zero h = (x, refl)
+get_at (x ∷ xs) (suc k) h = get_at xs k (omega arith)
+
+get_past : {X : Type 0} (xs : List X) → slice_get xs (length xs) ≡ None
+get_past [] = refl
+get_past (x ∷ xs) = get_past xs
+
+module _ (s : Store) (b : Books) (id : TransactionId) where
+  abbrev W : World
+  W = world_of s b
+
+  index_is : index_of W id ≡ row_place id b.table
+  index_is = place_in s.filestore id b.table
+
+  pub found_carries : (f : ℕ → Option Entry → World × Reply) (V : World) (reply : Reply) (place : ℕ) → place ≡ row_place id b.table → place < length b.table →
+      AnswersAt W V place (f place) reply → Carries W V (f (index_of W id) (entry_of W id)) reply
+  found_carries f V reply place is within answers =
+      let here = get_at b.table place within in
+      let at = row_at s.filestore b.table place here.0 here.1 in
+      let index : index_of W id ≡ place = index_is ∙ sym is in
+      rw (index, at) (answers (entry_in s.filestore here.0) at)
+
+  pub absent_entry : row_place id b.table ≡ length b.table → entry_of W id ≡ None
+  absent_entry gone = rw (index_is, gone, get_in s.filestore b.table (length b.table), get_past b.table) refl
+
+pub still_whole : FollowsIsSound → (s t : Store) (b d : Books) (event : Event) (reply : Reply) → IsWhole s b → Follows (world_of s b) event reply (world_of t d) → IsBooked t d → IsWhole t d
+still_whole law s t b d event reply whole follows booked = record { sound = law (world_of s b) event reply (world_of t d) whole.sound follows; booked = booked }

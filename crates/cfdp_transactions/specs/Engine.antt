@@ -1,0 +1,36 @@
+-- The core as its callers see it.
+--     nodes_code                how the nodes of a filestore are told apart
+--     Engine                    the world, and whether its store takes no memory
+--     IsWhole s b               a sound world, and books that say what it says: what is true of the core at all times
+--     read_of f W id            what is read of an entry, where the transaction is there
+use Rattle.std.specs.Prelude.{Bool, Option}
+use Rattle.std.specs.Coded.{Coded, coded_list, coded_ℕ}
+use Rattle.std.specs.FinMap as finite
+use Rattle.cfdp_paths.specs.Paths.{path_cmp}
+use Rattle.cfdp_actions.specs.Filestore.{Node}
+use Rattle.cfdp_actions.specs.Codes.{node_code}
+use Rattle.std.specs.Option.{option_map}
+use Rattle.cfdp_status.specs.declared.transaction.TransactionId.{TransactionId}
+use Rattle.cfdp_actions.specs.Store.{Store}
+use Rattle.cfdp_transactions.specs.Entry.{Entry}
+use Rattle.cfdp_transactions.specs.World.{World, entry_of}
+use Rattle.cfdp_transactions.specs.Sound.{Sound}
+use Rattle.cfdp_transactions.specs.Books.{IsBooked, world_of}
+use Rattle.cfdp_transactions.specs.declared.books.Books.{Books}
+
+abbrev pub nodes_code : Coded (finite.FinMap path_cmp Node)
+nodes_code = finite.code (coded_list (coded_list coded_ℕ)) node_code
+
+pub record Engine : Type 0 where
+  pub world : World
+  pub takes_no_memory : Bool
+
+abbrev pub engine_of : Store → Books → Engine
+engine_of s b = record { world = world_of s b; takes_no_memory = s.takes_no_memory }
+
+pub record IsWhole (s : Store) (b : Books) : Type 0 where
+  pub sound : Sound (world_of s b)
+  pub booked : IsBooked s b
+
+abbrev pub read_of : {X : Type 0} → (Entry → X) → World → TransactionId → Option X
+read_of f W id = option_map f (entry_of W id)
