@@ -36,3 +36,4 @@ pub mod StepExamples
 pub mod PieceRanges
 pub mod Writing
 pub mod Needs
+pub mod RangeSteps
