@@ -7,3 +7,4 @@ pub mod Listed
 pub mod Codes
 pub mod Ranks
 pub mod Relocating
+pub mod Sources

@@ -7,11 +7,11 @@
 --     is_file_kind              of the two kinds
 --     extended octets size      zeros at the end, up to the size
 --     overwritten octets at piece    the piece in place of what stood at that place
---     checksum_of octets        the modular checksum of a file (CCSDS 727.0-B-5 §4.2.2), as a sum
 --     entry_of, listing_of      a line of a listing, and all of them in path order
 --     standing_of, standings_of the same without checksums, for a path and what stands below it
-use Rattle.std.specs.Prelude.{ℕ, suc, ◌+◌, ◌-◌, ◌*◌, ◌%◌, ◌^◌, Bool, true, false, List, [], ◌∷◌, ◌++◌, Option, Some, None, length, map, take, drop, replicate}
+use Rattle.std.specs.Prelude.{ℕ, ◌+◌, ◌-◌, Bool, true, false, List, ◌++◌, Option, Some, None, length, map, take, drop, replicate}
 use Rattle.std.specs.FinMap as finite
+use Rattle.cfdp_checksum.specs.Checksum.{checksum}
 use Rattle.cfdp_paths.specs.Paths.{Path}
 use Rattle.cfdp_actions.specs.Filestore.{Node, Directory, File, Filestore, node_at, empty_filestore, blocks, Change, after, octets_in, tree_at}
 use Rattle.cfdp_actions.specs.declared.kind.Kind.{Kind}
@@ -57,17 +57,9 @@ extended octets size = octets ++ replicate (size - length octets) 0
 abbrev pub overwritten : List ℕ → ℕ → List ℕ → List ℕ
 overwritten octets at piece = take at octets ++ piece ++ drop (at + length piece) octets
 
--- each octet by its place in its word of four octets, the first of them the most significant
-abbrev pub checksum_from : ℕ → List ℕ → ℕ
-checksum_from place [] = 0
-checksum_from place (octet ∷ octets) = octet * 256 ^ (3 - place % 4) + checksum_from (suc place) octets
-
-abbrev pub checksum_of : List ℕ → ℕ
-checksum_of octets = checksum_from 0 octets % 2 ^ 32
-
 -- a directory's size and checksum are 0
 abbrev pub entry_of : Path × Node → Entry
-entry_of e = record { path = e.0; kind = kind_of e.1; size = length (octets_in (Some e.1)); checksum = checksum_of (octets_in (Some e.1)) }
+entry_of e = record { path = e.0; kind = kind_of e.1; size = length (octets_in (Some e.1)); checksum = checksum (octets_in (Some e.1)) }
 
 abbrev pub listing_of : Filestore → List Entry
 listing_of F = map entry_of (finite.entries F.nodes)

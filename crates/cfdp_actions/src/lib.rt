@@ -20,7 +20,7 @@ mod staging;
 mod survey;
 
 pub use blocks::BLOCK_OCTETS;
-pub use checksum::entry_checksum;
+pub use checksum::{entry_checksum, staged_checksum};
 pub use filestore::Filestore;
 pub use kind::{Entry, Kind, Standing};
 pub use list_store::ListStore;

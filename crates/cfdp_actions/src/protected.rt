@@ -1,9 +1,13 @@
 //! Prefixes that no request may change.
 
-ghost use Rattle.std.specs.Prelude.{◌≡◌, ◌↔◌, ◌≤◌, List, [], ◌∷◌, ◌++◌, length, OnOk, OnErr, IfErr, IsErr};
+ghost use Rattle.std.specs.Prelude.{◌≡◌, ◌↔◌, ◌≤◌, List, [], ◌∷◌, ◌++◌, length, slice_get, OnOk, OnErr, IfErr, IsErr};
+ghost use Rattle.std.proofs.Common.{rules};
+ghost use Rattle.std.specs.Cmp.Rules.{comparing};
 ghost use Rattle.std.specs.List.{list_any};
+ghost use Rattle.std.specs.Option.{option_copied};
 ghost use Rattle.cfdp_paths.specs.Paths.{is_at_or_below};
 ghost use Rattle.cfdp_actions.specs.Actions.{is_protected, bars};
+ghost use Rattle.cfdp_actions.specs.Prefixes.{same_paths};
 
 use crate::Request;
 use arrayvec::ArrayVec;
@@ -19,7 +23,7 @@ pub const PREFIXES: usize = 8;
 ///
 /// Contracts see it as the list of its paths. It takes no memory, and a question compares its path at most twice with
 /// each prefix, of which there are eight at most.
-#[derive(Drop)]
+#[derive(Debug, Drop)]
 pub struct Protected {
     prefixes: ArrayVec<Option<Path>, PREFIXES>,
 }
@@ -58,6 +62,20 @@ impl Protected {
         }
         self.prefixes.push(Some(path));
         Ok(())
+    }
+
+    /// How many paths are protected: at most eight.
+    pub fn len(&self) -> usize
+        ensures { result ≡ length self.now }
+    {
+        self.prefixes.len()
+    }
+
+    /// The protected path of this place, counted from 0 in the order in which they were added.
+    pub fn get(&self, place: usize) -> Option<&Path>
+        ensures { option_copied result ≡ slice_get self.now place }
+    {
+        self.prefixes.as_slice().get(place)?.as_ref()
     }
 
     /// Whether the path is at or below a prefix.
@@ -105,4 +123,19 @@ impl Protected {
             | Action::DenyDirectory => self.covers(first),
         }
     }
+}
+
+/// Two are equal where they have the same paths in the same order. A comparison takes no memory.
+impl PartialEq for Protected {
+    ghost eq = { same_paths };
+
+    ghost laws = { Prim.search (comparing, rules) };
+
+    fn eq(&self, other: &Protected) -> bool {
+        self.prefixes.as_slice() == other.prefixes.as_slice()
+    }
+}
+
+impl Eq for Protected {
+    ghost laws = { Prim.search (comparing, rules) };
 }

@@ -9,9 +9,9 @@ ghost use Rattle.cfdp_actions.specs.Store.{entry_of, standing_of};
 ghost use Rattle.cfdp_actions.specs.Listed.{shown, found, node_of, used};
 
 use crate::blocks::blocks_of;
-use crate::checksum::add_octets;
 use crate::listed::{Content, Listed};
 use crate::{Entry, Standing};
+use cfdp_checksum::modular_checksum;
 use cfdp_paths::{Memory, Path};
 use std::alloc::Global;
 
@@ -96,7 +96,7 @@ pub fn listing(entries: &[Listed], alloc: Global) -> Result<Vec<Entry>, Memory>
             path: entry.path.copy(alloc)?,
             kind: entry.content.kind(),
             size: octets.len() as u64,
-            checksum: add_octets(0, 0, octets),
+            checksum: modular_checksum(octets),
         })?;
     }
     Ok(all)

@@ -5,9 +5,8 @@ ghost use Rattle.cfdp_arena.specs.Blocks.{blank_block, copied};
 ghost use Rattle.cfdp_arena.specs.Arena.{octets_at, IsLive, octets_of, free_count, all_free, with_block, without_block};
 
 use crate::block_id::BlockId;
-use crate::links;
-use crate::memory::Memory;
 use crate::region::Region;
+use crate::{Block, Memory, links};
 use std::alloc::Global;
 use std::marker::Model;
 
@@ -94,7 +93,7 @@ impl Arena {
     }
 
     /// Shows the octets of a live block: 8 for its owner's links, and the payload after them. In constant time.
-    pub fn bytes(&self, block: BlockId) -> &[u8; 128]
+    pub fn bytes(&self, block: BlockId) -> &Block
         requires live { IsLive self.now block }
         ensures octets { octets_at self.now block ≡ Some result.now }
         ensures whole { length result.now ≡ 128 }
@@ -103,7 +102,7 @@ impl Arena {
     }
 
     /// Lends the octets of a live block. A write to them changes no other block. In constant time.
-    pub fn bytes_mut(&mut self, block: BlockId) -> &mut [u8; 128]
+    pub fn bytes_mut(&mut self, block: BlockId) -> &mut Block
         requires live { IsLive self.old block }
         ensures* writes_back { sem 𝓛 (LendsOctets self.entry block result) }
         ensures octets { octets_at self.old block ≡ Some result.now }

@@ -9,15 +9,19 @@
 mod arena;
 mod block_id;
 mod links;
-mod memory;
 mod region;
 
 pub use arena::Arena;
 pub use block_id::BlockId;
-pub use memory::Memory;
 // A crate can name an arena in a contract only if the types of its fields are exported.
 #[doc(hidden)]
 pub use region::Region;
+
+/// Want of memory: the one refusal of `Arena::new`.
+pub type Memory = std::alloc::AllocError;
+
+/// The octets of a block: 8 for its owner's links, and a payload of 120.
+pub type Block = [u8; 128];
 
 #[cfg(test)]
 mod tests;

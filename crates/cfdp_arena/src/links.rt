@@ -3,8 +3,10 @@ ghost use Rattle.std.specs.Prelude.{◌≡◌, ◌<◌, length};
 ghost use Rattle.cfdp_arena.specs.FreeList.{link};
 ghost use Rattle.cfdp_arena.specs.Blocks.{blank_block};
 
+use crate::Block;
+
 /// Returns the number of the free block after this one.
-pub(crate) fn next_free(block: &[u8; 128]) -> u32
+pub(crate) fn next_free(block: &Block) -> u32
     ensures value { result ≡ link block.now }
     ensures small { result < 65536 }
 {
@@ -12,7 +14,7 @@ pub(crate) fn next_free(block: &[u8; 128]) -> u32
 }
 
 /// Links a free block to the free block `next`.
-pub(crate) fn link_to(block: &mut [u8; 128], next: u32)
+pub(crate) fn link_to(block: &mut Block, next: u32)
     requires small { next < 65536 }
     ensures linked { link block.new ≡ next }
 {
@@ -21,7 +23,7 @@ pub(crate) fn link_to(block: &mut [u8; 128], next: u32)
 }
 
 /// Sets every octet of a block to 0.
-pub(crate) fn blank(block: &mut [u8; 128])
+pub(crate) fn blank(block: &mut Block)
     ensures zeros { block.new ≡ blank_block }
 {
     *block = [0; 128];

@@ -5,6 +5,7 @@ ghost use Rattle.std.specs.Borrow.{sem};
 ghost use Rattle.cfdp_arena.specs.Blocks.{blank_block};
 ghost use Rattle.cfdp_arena.specs.Ownership.{region_owns, region_lends};
 
+use crate::Block;
 use std::alloc::{AllocError, Allocator, Global};
 use std::marker::{Model, Send};
 
@@ -14,7 +15,7 @@ const BLOCK_OCTETS: usize = 128;
 /// A row of blocks in memory that it owns, with room for more until each place has its block. It has no `Drop`, so
 /// that a region which is not given to `release` is refused.
 pub struct Region {
-    base: *mut [u8; 128],
+    base: *mut Block,
     room: usize,
     ghost blocks: { List (List ℕ) },
 }
@@ -50,7 +51,7 @@ impl Region {
     {
         match alloc.allocate(room * BLOCK_OCTETS, 1) {
             Ok(block) => Ok(Region {
-                base: block as *mut [u8; 128],
+                base: block as *mut Block,
                 room,
             }),
             Err(refused) => Err(refused),
@@ -74,7 +75,7 @@ impl Region {
     }
 
     /// Shows the block of this number, counted from 0.
-    pub(crate) fn block(&self, number: usize) -> &[u8; 128]
+    pub(crate) fn block(&self, number: usize) -> &Block
         requires within { number < length self.now.blocks }
         ensures value { result.now ≡ slice_index_or self.now.blocks number [] }
         ensures whole { length result.now ≡ 128 }
@@ -83,7 +84,7 @@ impl Region {
     }
 
     /// Lends the block of this number, and changes no other.
-    pub(crate) fn block_mut(&mut self, number: usize) -> &mut [u8; 128]
+    pub(crate) fn block_mut(&mut self, number: usize) -> &mut Block
         requires within { number < length self.old.blocks }
         ensures* writes_back { sem 𝓛 (LendsBlock self.entry number result) }
         ensures value { result.now ≡ slice_index_or self.old.blocks number [] }

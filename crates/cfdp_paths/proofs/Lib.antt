@@ -4,3 +4,5 @@ pub mod Spelling
 pub mod Faulty
 pub mod Scanning
 pub mod Vectors
+pub mod InOrder
+pub mod Pieces

@@ -2,3 +2,4 @@ pub mod Paths
 pub mod Faults
 pub mod Laws
 pub mod Words
+pub mod PathMaps

@@ -8,11 +8,13 @@ mod copying;
 mod fault;
 pub mod laws;
 mod parsing;
+mod path_map;
 mod paths;
 #[cfg(test)]
 mod tests;
 
 pub use fault::PathFault;
+pub use path_map::PathMap;
 pub use paths::Path;
 
 /// Want of memory: the one refusal of a call that only allocates.

@@ -1,0 +1,46 @@
+-- Paths that stand in all of the places of a row.
+--     present_at       what stands in a place is the path of that number
+--     present_after    behind the last place there is none
+--     same_present     two rows have the same in all places exactly where they have the same paths
+use Rattle.std.proofs.Common.{◌≡◌, ℕ, zero, suc, ◌≤◌, ◌<◌, Bool, ◌&&◌, List, [], ◌∷◌, length, Option, Some, None, refl, arith, slice_index_or}
+use Rattle.std.specs.Cmp.Lexicographic.{pointwise, slice_cmp}
+use Rattle.std.specs.declared.cmp.Ordering.{Ordering}
+use Rattle.std.specs.declared.cmp.Ordering.TheVariants.{Less, Equal, Greater}
+use Rattle.std.specs.List.{slice_get}
+use Rattle.std.specs.Option.{option_eq}
+use Rattle.std.specs.Ordering.{is_eq, ordering_then}
+use Rattle.cfdp_paths.specs.Paths.{Path, path_cmp, same_path}
+use Rattle.cfdp_actions.specs.Prefixes.{present, same_paths}
+
+few_present : (places : List (Option Path)) → length (present places) ≤ length places
+few_present [] = omega arith
+few_present (None ∷ places) = let rest = few_present places in omega (arith, rest)
+few_present (Some path ∷ places) = let rest = few_present places in omega (arith, rest)
+
+pub present_at : (places : List (Option Path)) (k : ℕ) (d : Option Path) → length (present places) ≡ length places → k < length places
+    → slice_index_or places k d ≡ slice_get (present places) k
+present_at [] k d e h = absurd (omega arith)
+present_at (None ∷ places) k d e h = absurd (omega (arith, few_present places, e))
+present_at (Some path ∷ places) zero d e h = refl
+present_at (Some path ∷ places) (suc k) d e h = present_at places k d (omega (arith, e)) (omega (arith, h))
+
+pub present_after : (paths : List Path) (k : ℕ) → length paths ≤ k → None ≡ slice_get paths k
+present_after [] k h = refl
+present_after (path ∷ paths) zero h = absurd (omega arith)
+present_after (path ∷ paths) (suc k) h = present_after paths k (omega (arith, h))
+
+then_eq : (o rest : Ordering) (b : Bool) → b ≡ is_eq rest → (is_eq o && b) ≡ is_eq (ordering_then o rest)
+then_eq Less rest b e = refl
+then_eq Equal rest b e = e
+then_eq Greater rest b e = refl
+
+pub same_present : (xs ys : List (Option Path)) → length (present xs) ≡ length xs → length (present ys) ≡ length ys
+    → pointwise (option_eq same_path) xs ys ≡ same_paths (present xs) (present ys)
+same_present [] [] d e = refl
+same_present (None ∷ xs) ys d e = absurd (omega (arith, few_present xs, d))
+same_present [] (None ∷ ys) d e = absurd (omega (arith, few_present ys, e))
+same_present (Some p ∷ xs) (None ∷ ys) d e = absurd (omega (arith, few_present ys, e))
+same_present [] (Some q ∷ ys) d e = refl
+same_present (Some p ∷ xs) [] d e = refl
+same_present (Some p ∷ xs) (Some q ∷ ys) d e =
+    then_eq (path_cmp p q) (slice_cmp path_cmp (present xs) (present ys)) (pointwise (option_eq same_path) xs ys) (same_present xs ys (omega (arith, d)) (omega (arith, e)))

@@ -1,0 +1,16 @@
+-- The modular checksum (CCSDS 727.0-B-5 §4.2.2): the octets, each at its place in a word of four, the
+-- first of them the highest, added up modulo 2^32.
+--   weight i             what an octet at offset i counts
+--   weighed_from i octets    the sum of the octets from offset i, each times its weight
+--   checksum octets      the sum of all of them modulo 2^32
+use Rattle.std.specs.Prelude.{ℕ, ◌+◌, ◌-◌, ◌*◌, ◌%◌, ◌^◌, List, [], ◌∷◌}
+
+abbrev pub weight : ℕ → ℕ
+weight i = 256 ^ (3 - i % 4)
+
+unfoldable pub weighed_from : ℕ → List ℕ → ℕ
+weighed_from i [] = 0
+weighed_from i (octet ∷ octets) = octet * weight i + weighed_from (i + 1) octets
+
+abbrev pub checksum : List ℕ → ℕ
+checksum octets = weighed_from 0 octets % 2 ^ 32

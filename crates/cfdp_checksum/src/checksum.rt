@@ -1,0 +1,34 @@
+//! The sum, word by word.
+
+ghost use Rattle.std.specs.Prelude.{◌≡◌, ◌<◌, length};
+ghost use Rattle.cfdp_checksum.specs.Checksum.{checksum, weighed_from};
+
+use byteorder::{BigEndian, ByteOrder};
+
+/// The modular checksum of a file (CCSDS 727.0-B-5 §4.2.2): the sum modulo 2^32 of its octets as words
+/// of four from offset 0, the last word filled with zeros. It takes no memory, and goes over the octets once.
+pub fn modular_checksum(octets: &[u8]) -> u32
+    ensures { result ≡ checksum octets.now }
+{
+    let mut sum = 0u32;
+    let mut rest = octets;
+    'words: while rest.len() >= 4 {
+        sum = sum.wrapping_add(BigEndian::read_u32(rest));
+        rest = rest.split_at(4).1;
+    }
+    sum.wrapping_add(last_word(rest))
+}
+
+/// Fewer octets than a word, filled with zeros behind.
+#[tactic(auto, unfolding(crate::specs::Checksum::weighed_from))]
+fn last_word(octets: &[u8]) -> u32
+    requires { length octets.now < 4 }
+    ensures { result ≡ weighed_from 0 octets.now }
+{
+    match octets {
+        [] => 0,
+        [a] => BigEndian::read_u32(&[*a, 0, 0, 0]),
+        [a, b] => BigEndian::read_u32(&[*a, *b, 0, 0]),
+        [a, b, c, ..] => BigEndian::read_u32(&[*a, *b, *c, 0]),
+    }
+}

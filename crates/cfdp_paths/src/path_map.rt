@@ -1,0 +1,170 @@
+//! Maps by path.
+
+ghost use Rattle.std.specs.Prelude.{◌≡◌, ◌+◌, ◌<◌, ◌≤◌, vec_len, vec_capacity, IsSome, IfSome, IfNone, None, IsOk, IfOk, OnOk, OnErr, not, false, List, [], length, take, drop, map, option_copied};
+ghost use Rattle.std.specs.FinMap.{find, put};
+ghost use Rattle.std.specs.List.{list_any};
+ghost use Rattle.cfdp_paths.specs.Paths.{path_cmp, same_path, is_at_or_below};
+ghost use Rattle.cfdp_paths.specs.PathMaps.{IsOrdered, IsPlaceOf, IsPieceOf, rank, without, tree_in, rest_in, any_below, puts, moved_to, is_too_deep};
+
+use crate::{Memory, Path};
+use std::alloc::Global;
+use std::marker::Model;
+
+/// A map from paths to values, in path order: what stands at and below a path is one piece of it.
+///
+/// It is one vector. A look-up compares as many paths as the logarithm of the number of entries, and makes none. A
+/// change also shifts the entries behind its place.
+#[derive(Debug, Drop)]
+pub struct PathMap<T> {
+    entries: Vec<(Path, T)>,
+}
+
+impl<T> Model for PathMap<T> {
+    ghost use Rattle.std.specs.Prelude.{ℕ, List};
+    ghost use Rattle.cfdp_paths.specs.PathMaps.{IsOrdered};
+
+    ghost Value = { List (List (List ℕ) × T) };
+
+    ghost view = { λ m. m.entries.items };
+
+    ghost invariant = { λ m. IsOrdered m.entries.items };
+}
+
+impl<T: Drop> PathMap<T> {
+    /// Puts another value at a path that has one. Takes no memory. Cost: one search.
+    pub fn set(&mut self, path: &Path, value: T)
+        requires { IsSome (find path_cmp path.now self.old) }
+        ensures { self.new ≡ put path_cmp path.now value self.old }
+    {
+        let place = find_place(&self.entries, path, path.depth()).unwrap();
+        self.entries[place].1 = value;
+    }
+
+    /// Puts the value at the path, in the place of what stood there.
+    ///
+    /// # Errors
+    ///
+    /// Want of memory; the map is then as before. Where the path has a value already none is taken. Cost: one search; the
+    /// entries behind are shifted.
+    pub fn insert(&mut self, path: Path, value: T) -> Result<(), Memory>
+        ensures ok { OnOk result (self.new ≡ put path_cmp path value self.old) }
+        ensures err { OnErr result (self.new ≡ self.old) }
+        ensures present { IsSome (find path_cmp path self.old) → IsOk result }
+    {
+        if let Some(place) = find_place(&self.entries, &path, path.depth()) {
+            self.entries[place].1 = value;
+            return Ok(());
+        }
+        let place = place(&self.entries, &path, path.depth());
+        self.entries.insert(place, (path, value))?;
+        Ok(())
+    }
+}
+
+impl<T> PathMap<T> {
+    /// A map with no entry. Takes no memory.
+    pub fn new(alloc: Global) -> PathMap<T>
+        ensures { result ≡ [] }
+    {
+        PathMap {
+            entries: Vec::new(alloc),
+        }
+    }
+
+    /// The entries in path order, each path once.
+    pub fn entries(&self) -> &[(Path, T)]
+        ensures entries { result.now ≡ self.now }
+        ensures ordered { IsOrdered self.now }
+    {
+        &self.entries
+    }
+
+    /// The value at the path, if there is one. Takes no memory. Cost: one search.
+    pub fn get(&self, path: &Path) -> Option<&T>
+        ensures { option_copied result ≡ find path_cmp path.now self.now }
+    {
+        self.get_beginning(path, path.depth())
+    }
+
+    /// The value at the path of the first `depth` names of `path`, if there is one. Takes no memory, and makes no path.
+    /// Cost: one search.
+    pub fn get_beginning(&self, path: &Path, depth: usize) -> Option<&T>
+        requires { depth ≤ length path.now }
+        ensures { option_copied result ≡ find path_cmp (take depth path.now) self.now }
+    {
+        let place = find_place(&self.entries, path, depth)?;
+        Some(&self.entries[place].1)
+    }
+
+    /// What stands at and below the path, in path order: one piece of the map. Takes no memory. Cost: two searches.
+    pub fn tree(&self, path: &Path) -> &[(Path, T)]
+        ensures { result.now ≡ tree_in path.now self.now }
+    {
+        let (start, end) = piece(&self.entries, path);
+        &self.entries[start..end]
+    }
+
+    /// Whether anything stands strictly below the path. Takes no memory. Cost: two searches.
+    pub fn has_below(&self, path: &Path) -> bool
+        ensures { result ≡ any_below path.now self.now }
+    {
+        has_other(self.tree(path), path)
+    }
+
+    /// Takes the entry of the path out, and answers its value, if there is one. Takes no memory. Cost: one search; the
+    /// entries behind are shifted.
+    pub fn remove(&mut self, path: &Path) -> Option<T>
+        ensures value { result ≡ find path_cmp path.now self.old }
+        ensures removed { self.new ≡ without path.now self.old }
+    {
+        let place = find_place(&self.entries, path, path.depth())?;
+        let (_, value) = self.entries.remove(place);
+        Some(value)
+    }
+}
+
+/// How many entries stand before the path of the first `depth` names of `path`.
+fn place<T>(entries: &[(Path, T)], path: &Path, depth: usize) -> usize
+    requires ordered { IsOrdered entries.now }
+    requires names { depth ≤ length path.now }
+    ensures value { result ≡ rank (take depth path.now) entries.now }
+    ensures within { result ≤ length entries.now }
+{
+    entries.partition_point(
+        |entry: &(Path, T)| -> bool
+            requires { depth ≤ length path.now }
+        { entry.0.cmp_beginning(path, depth).is_lt() },
+    )
+}
+
+/// The place of the entry at the path of the first `depth` names of `path`, if there is one.
+fn find_place<T>(entries: &[(Path, T)], path: &Path, depth: usize) -> Option<usize>
+    requires ordered { IsOrdered entries.now }
+    requires names { depth ≤ length path.now }
+    ensures found { IfSome result (λ place. IsPlaceOf (take depth path.now) entries.now place) }
+    ensures none { IfNone result (find path_cmp (take depth path.now) entries.now ≡ None) }
+{
+    let place = place(entries, path, depth);
+    if place < entries.len() && entries[place].0.cmp_beginning(path, depth).is_eq() {
+        return Some(place);
+    }
+    None
+}
+
+/// Whether an entry is that of another path.
+fn has_other<T>(entries: &[(Path, T)], path: &Path) -> bool
+    ensures { result ≡ list_any (λ e. not (same_path e.0 path.now)) entries.now }
+{
+    entries.iter().any(|entry| entry.0 != *path)
+}
+
+/// Where what stands at and below the path begins and ends.
+fn piece<T>(entries: &[(Path, T)], path: &Path) -> (usize, usize)
+    requires { IsOrdered entries.now }
+    ensures { IsPieceOf path.now entries.now result.0 result.1 }
+{
+    let start = place(entries, path, path.depth());
+    let behind = &entries[start..];
+    let count = behind.partition_point(|entry| entry.0.is_at_or_below(path));
+    (start, start + count)
+}
