@@ -2,7 +2,7 @@ use Rattle.std.proofs.Common.{◌≡◌, ◌+◌, ◌≤◌, length}
 use Rattle.cfdp_pdus.specs.Counting.{outcome_count}
 use Rattle.cfdp_pdus.specs.First.{fields_at, outcome_of}
 use Rattle.cfdp_pdus.proofs.OutcomeLoop.{counted_outcome}
-use Rattle.cfdp_pdus.proofs.field.check_outcome.Given as goal
+use Rattle.cfdp_pdus.proofs.field.count_responses.Given as goal
 
 abbrev pub invariant-fields : goal.invariant-fields
 invariant-fields l = record {

@@ -2,7 +2,7 @@ use Rattle.std.proofs.Common.{◌≡◌, ◌+◌, ◌≤◌, length}
 use Rattle.cfdp_pdus.specs.Counting.{count_of}
 use Rattle.cfdp_pdus.specs.First.{fields_at, requests_of}
 use Rattle.cfdp_pdus.proofs.CountSteps.{counted}
-use Rattle.cfdp_pdus.proofs.field.check_requests.Given as goal
+use Rattle.cfdp_pdus.proofs.field.count_requests.Given as goal
 
 abbrev pub invariant-fields : goal.invariant-fields
 invariant-fields l = record {
