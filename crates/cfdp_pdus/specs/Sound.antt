@@ -1,11 +1,14 @@
 -- What holds of each PDU that was read, beside what its octets spell.
 --   IsSound pdu    the header's lengths are 1 to 8 and its numbers fit them; each number of the data
 --                  field fits its field; a response can repeat each filestore request
-use Rattle.std.specs.Prelude.{◌<◌}
+--   IsLean pdu     it hands out no octets: an EOF PDU, and one that is not ours
+--   GivesLean read     reading gives such a PDU
+use Rattle.std.specs.Prelude.{◌<◌, Result, Ok, Err}
 use Rattle.std.specs.List.{AllByRecursion}
 use Rattle.cfdp_pdus.specs.declared.header.Header.{Header}
 use Rattle.cfdp_pdus.specs.declared.pdu.Pdu.{Pdu}
 use Rattle.cfdp_pdus.specs.declared.pdu.Pdu.TheVariants as pdus
+use Rattle.cfdp_pdus.specs.declared.fault.PduFault.{PduFault}
 use Rattle.cfdp_pdus.specs.Values.{MetadataFields, FinishedFields}
 use Rattle.cfdp_pdus.specs.Canonical.{IsHeader, IsSizedMetadata, IsSizedFileData, IsSizedEof, IsAnswerable}
 
@@ -26,3 +29,14 @@ IsSound (pdus.FileData header file_data) = IsHeader header × IsSizedFileData he
 IsSound (pdus.Eof header eof) = IsHeader header × IsSizedEof header.large eof
 IsSound (pdus.Finished header finished) = IsSoundFinished header finished
 IsSound (pdus.NotOurs header code) = IsHeader header
+
+abbrev pub IsLean : Pdu → Type 0
+IsLean (pdus.Metadata header metadata) = ⊥
+IsLean (pdus.FileData header file_data) = ⊥
+IsLean (pdus.Eof header eof) = Unit {0}
+IsLean (pdus.Finished header finished) = ⊥
+IsLean (pdus.NotOurs header code) = Unit {0}
+
+abbrev pub GivesLean : Result Pdu PduFault → Type 0
+GivesLean (Ok pdu) = IsLean pdu
+GivesLean (Err fault) = ⊥

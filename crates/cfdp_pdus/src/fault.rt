@@ -2,7 +2,7 @@
 
 ghost use Rattle.std.specs.Prelude.{◌≡◌};
 
-use std::alloc::{AllocError, AllocFailed};
+use std::alloc::AllocError;
 use std::error::Error;
 use std::fmt;
 
@@ -55,16 +55,6 @@ impl From<AllocError> for PduFault {
     ghost from_gives = { λ _ e. e ≡ Memory };
 
     fn from(_e: AllocError) -> PduFault {
-        PduFault::Memory
-    }
-}
-
-impl<T: Drop> From<AllocFailed<T>> for PduFault {
-    ghost use Rattle.cfdp_pdus.specs.declared.fault.PduFault.TheVariants.{Memory};
-
-    ghost from_gives = { λ _ e. e ≡ Memory };
-
-    fn from(_e: AllocFailed<T>) -> PduFault {
         PduFault::Memory
     }
 }

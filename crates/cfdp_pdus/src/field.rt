@@ -9,13 +9,16 @@ ghost use Rattle.cfdp_pdus.specs.declared.fault.PduFault.TheVariants.{Memory};
 use crate::PduFault;
 use byteorder::{BigEndian, ByteOrder};
 use cfdp_tlv::{
-    FILESTORE_REQUEST, FILESTORE_RESPONSE, FilestoreRequest, FilestoreResponse, RequestParts,
-    ResponseParts, read_lv, read_tlv, request_parts, response_parts,
+    FILESTORE_REQUEST, FILESTORE_RESPONSE, FilestoreRequest, FilestoreResponse, MAX_ANSWERABLE_LEN,
+    RequestParts, ResponseParts, read_lv, read_tlv, request_parts, response_parts,
 };
 use std::alloc::{AllocError, Global};
 
 /// The type of an entity ID TLV.
 pub const ENTITY_ID: u8 = 6;
+
+/// The longest entity ID, in octets.
+const MAX_ID_LEN: usize = 8;
 
 /// The LV field at the front, and what stands after it.
 pub fn read_name(octets: &[u8]) -> Result<(&[u8], &[u8]), PduFault>
@@ -26,13 +29,13 @@ pub fn read_name(octets: &[u8]) -> Result<(&[u8], &[u8]), PduFault>
 
 /// A filestore request that a response can answer: its value has at most 254 octets.
 #[tactic(auto, unfolding(crate::specs::First::asked_at))]
-fn read_asked(value: &[u8]) -> Result<RequestParts<'_>, PduFault>
+fn read_request_parts(value: &[u8]) -> Result<RequestParts<'_>, PduFault>
     ensures { result ≡ asked_at value.now }
 {
     let Ok(parts) = request_parts(value) else {
         return Err(PduFault::BadTlv);
     };
-    if value.len() >= 255 {
+    if value.len() > MAX_ANSWERABLE_LEN {
         return Err(PduFault::RequestTooLong);
     }
     Ok(parts)
@@ -40,7 +43,7 @@ fn read_asked(value: &[u8]) -> Result<RequestParts<'_>, PduFault>
 
 /// How many filestore requests there are among TLV fields, each of which is looked at. It takes no
 /// memory.
-fn check_requests(octets: &[u8]) -> Result<usize, PduFault>
+fn count_requests(octets: &[u8]) -> Result<usize, PduFault>
     ensures { result ≡ count_of (requests_of (fields_at octets.now)) }
 {
     let mut count = 0usize;
@@ -50,7 +53,7 @@ fn check_requests(octets: &[u8]) -> Result<usize, PduFault>
             return Err(PduFault::BadTlv);
         };
         if field.kind == FILESTORE_REQUEST {
-            read_asked(field.value)?;
+            read_request_parts(field.value)?;
             count += 1;
         }
         rest = field.rest;
@@ -72,7 +75,7 @@ fn copy_requests(
     'fields: while !rest.is_empty() {
         let field = read_tlv(rest).unwrap();
         if field.kind == FILESTORE_REQUEST {
-            let request = read_asked(field.value).unwrap();
+            let request = read_request_parts(field.value).unwrap();
             requests.push_reserved(request.copy(alloc)?);
         }
         rest = field.rest;
@@ -84,7 +87,7 @@ fn copy_requests(
 pub fn read_requests(alloc: Global, octets: &[u8]) -> Result<Vec<FilestoreRequest>, PduFault>
     ensures { Gives Memory (λ requests. requests.items) result (requests_of (fields_at octets.now)) }
 {
-    let count = check_requests(octets)?;
+    let count = count_requests(octets)?;
     Ok(copy_requests(alloc, octets, count)?)
 }
 
@@ -93,14 +96,14 @@ pub fn read_requests(alloc: Global, octets: &[u8]) -> Result<Vec<FilestoreReques
 fn read_entity(value: &[u8]) -> Result<u64, PduFault>
     ensures { Answers (λ entity. entity) result (entity_at value.now) }
 {
-    if value.is_empty() || value.len() > 8 {
+    if value.is_empty() || value.len() > MAX_ID_LEN {
         return Err(PduFault::BadTlv);
     }
     Ok(BigEndian::read_uint(value, value.len()))
 }
 
 /// A filestore response.
-fn read_told(value: &[u8]) -> Result<ResponseParts<'_>, PduFault>
+fn read_response_parts(value: &[u8]) -> Result<ResponseParts<'_>, PduFault>
     ensures { result ≡ told_at value.now }
 {
     response_parts(value).map_err(|_| PduFault::BadTlv)
@@ -108,7 +111,7 @@ fn read_told(value: &[u8]) -> Result<ResponseParts<'_>, PduFault>
 
 /// How many filestore responses there are among TLV fields, and the last entity ID. Each field is
 /// looked at. It takes no memory.
-fn check_outcome(octets: &[u8]) -> Result<(usize, Option<u64>), PduFault>
+fn count_responses(octets: &[u8]) -> Result<(usize, Option<u64>), PduFault>
     ensures { result ≡ outcome_count (fields_at octets.now) }
 {
     let mut count = 0usize;
@@ -119,7 +122,7 @@ fn check_outcome(octets: &[u8]) -> Result<(usize, Option<u64>), PduFault>
             return Err(PduFault::BadTlv);
         };
         if field.kind == FILESTORE_RESPONSE {
-            read_told(field.value)?;
+            read_response_parts(field.value)?;
             count += 1;
         } else if field.kind == ENTITY_ID {
             let entity = read_entity(field.value)?;
@@ -144,7 +147,7 @@ fn copy_responses(
     'fields: while !rest.is_empty() {
         let field = read_tlv(rest).unwrap();
         if field.kind == FILESTORE_RESPONSE {
-            let response = read_told(field.value).unwrap();
+            let response = read_response_parts(field.value).unwrap();
             responses.push_reserved(response.copy(alloc)?);
         }
         rest = field.rest;
@@ -160,7 +163,7 @@ pub fn read_outcome(
 ) -> Result<(Vec<FilestoreResponse>, Option<u64>), PduFault>
     ensures { Gives Memory (λ x. (x.0.items, x.1)) result (outcome_of (fields_at octets.now)) }
 {
-    let (count, fault) = check_outcome(octets)?;
+    let (count, fault) = count_responses(octets)?;
     Ok((copy_responses(alloc, octets, count)?, fault))
 }
 

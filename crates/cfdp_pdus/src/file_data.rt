@@ -1,6 +1,7 @@
 //! The File Data PDU, which brings a piece of the file.
 
-ghost use Rattle.std.specs.Prelude.{◌≡◌, ◌≤◌, ◌<◌, ◌+◌, ◌⊎◌, ◌↔◌, ◌++◌, length, vec_len, min, Bool, true, false, nat_le, IfErr, OnOk, OnErr, IsErrOf};
+ghost use Rattle.std.specs.Prelude.{◌≡◌, ◌≤◌, ◌<◌, ◌+◌, ◌⊎◌, ◌↔◌, ◌++◌, length, vec_len, min, Bool, true, false, nat_le, IfErr, OnOk, OnErr, IsErrOf, IsOk};
+ghost use Rattle.std.specs.Vec.{vec_capacity};
 ghost use Rattle.cfdp_tlv.specs.Reading.{Answers, Gives};
 ghost use Rattle.cfdp_pdus.specs.First.{behind_segment, file_data_at};
 ghost use Rattle.cfdp_pdus.specs.Canonical.{IsHeader, IsSizedFileData, pdu_octets, file_data_field, file_data_fits};
@@ -8,7 +9,7 @@ ghost use Rattle.cfdp_pdus.specs.declared.fault.PduFault.TheVariants.{Memory as 
 ghost use Rattle.cfdp_pdus.specs.declared.fault.WriteFault.TheVariants.{TooLong, Memory};
 
 use crate::number::{read_number, size_len};
-use crate::put::{header_len, push_header, push_number};
+use crate::put::{MAX_FIELD_LEN, header_len, push_header, push_number};
 use crate::{Header, PduFault, WriteFault};
 use std::alloc::Global;
 use std::marker::Model;
@@ -100,10 +101,13 @@ pub fn write_file_data(
     ensures too_long { IsErrOf result TooLong ↔ (file_data_fits header.now.large file_data.now ≡ false) }
     ensures faults { IfErr result (λ fault. (fault ≡ TooLong) ⊎ (fault ≡ Memory)) }
     ensures err { OnErr result (out.new.items ≡ out.old.items) }
+    // Where there is room for it, memory isn't asked for.
+    ensures room { file_data_fits header.now.large file_data.now ≡ true → vec_len out.old + length (pdu_octets true header.now (file_data_field header.now.large file_data.now)) ≤ vec_capacity out.old → IsOk result }
+    ensures capacity { vec_capacity out.old ≤ vec_capacity out.new }
 {
     let size_len = size_len(header.large);
     let len = file_data.octets.len().saturating_add(size_len);
-    if len > 65535 {
+    if len > MAX_FIELD_LEN {
         return Err(WriteFault::TooLong);
     }
     out.reserve(header_len(header) + len)?;

@@ -1,6 +1,6 @@
 //! The Finished PDU, which tells the sender how a transaction went.
 
-ghost use Rattle.std.specs.Prelude.{◌≡◌, ◌≤◌, ◌<◌, ◌+◌, ◌^◌, ◌⊎◌, ◌↔◌, ◌++◌, length, vec_len, min, Bool, true, false, nat_le, IfErr, OnOk, OnErr, IsErrOf};
+ghost use Rattle.std.specs.Prelude.{◌≡◌, ◌≤◌, ◌<◌, ◌+◌, ◌^◌, ◌⊎◌, ◌↔◌, ◌++◌, length, vec_len, min, Bool, true, false, nat_le, IfErr, OnOk, OnErr, IsErrOf, IsOk};
 ghost use Rattle.std.specs.List.{flat_map, list_all};
 ghost use Rattle.std.specs.Option.{ForSome};
 ghost use Rattle.std.specs.Vec.{vec_capacity};
@@ -11,11 +11,12 @@ ghost use Rattle.cfdp_pdus.specs.Canonical.{IsHeader, IsSizedFinished, pdu_octet
 ghost use Rattle.cfdp_pdus.specs.declared.fault.PduFault.TheVariants.{Memory as OutOfMemory};
 ghost use Rattle.cfdp_pdus.specs.declared.fault.WriteFault.TheVariants.{TooLong, Memory};
 
+use crate::directive::FINISHED;
 use crate::field::read_outcome;
 use crate::number::bit;
-use crate::put::{header_len, push_header, push_location};
+use crate::put::{MAX_FIELD_LEN, fault_len, header_len, push_fault, push_header};
 use crate::{Header, PduFault, WriteFault};
-use cfdp_tlv::{FilestoreResponse, write_response};
+use cfdp_tlv::{FilestoreResponse, MAX_VALUE_LEN, write_response};
 use std::alloc::Global;
 use std::marker::Model;
 
@@ -92,7 +93,9 @@ pub fn read_finished(alloc: Global, octets: &[u8]) -> Result<Finished, PduFault>
 fn are_short(responses: &[FilestoreResponse]) -> bool
     ensures { result ≡ list_all is_short_response responses.now }
 {
-    responses.iter().all(|response| response.value_len() <= 255)
+    responses
+        .iter()
+        .all(|response| response.value_len() <= MAX_VALUE_LEN)
 }
 
 /// How many octets the responses take as TLV fields, or `usize::MAX` where that is too little.
@@ -119,29 +122,6 @@ fn push_fields(out: &mut Vec<u8>, responses: &[FilestoreResponse])
     }
 }
 
-/// How many octets the fault location takes.
-fn fault_len(fault: Option<u64>, id_len: u8) -> usize
-    ensures { result ≡ length (fault_location id_len fault) }
-{
-    match fault {
-        None => 0,
-        Some(_) => usize::from(id_len) + 2,
-    }
-}
-
-/// Appends the fault location, where there is one.
-fn push_fault(out: &mut Vec<u8>, fault: Option<u64>, id_len: u8)
-    requires low { 1 ≤ id_len }
-    requires high { id_len ≤ 8 }
-    requires sized { ForSome fault (λ entity. entity < 256 ^ id_len) }
-    requires room { vec_len out.old + length (fault_location id_len fault) ≤ vec_capacity out.old }
-    ensures items { out.new.items ≡ out.old.items ++ fault_location id_len fault }
-{
-    if let Some(entity) = fault {
-        push_location(out, entity, id_len);
-    }
-}
-
 /// How many octets the data field has, or `usize::MAX` where that is too little.
 #[tactic(auto, unfolding(crate::specs::Canonical::finished_field))]
 fn field_len(header: &Header, finished: &Finished) -> usize
@@ -159,7 +139,7 @@ fn fits(header: &Header, finished: &Finished) -> bool
     requires { IsHeader header.now }
     ensures { result ≡ finished_fits header.now finished.now }
 {
-    are_short(&finished.responses) && field_len(header, finished) <= 65535
+    are_short(&finished.responses) && field_len(header, finished) <= MAX_FIELD_LEN
 }
 
 /// Appends the data field. It cannot fail, since there is room for it.
@@ -169,10 +149,11 @@ fn push_field(out: &mut Vec<u8>, header: &Header, finished: &Finished)
     requires sized { IsSizedFinished header.now finished.now }
     requires short { list_all is_short_response finished.now.responses ≡ true }
     requires room { vec_len out.old + length (finished_field header.now finished.now) ≤ vec_capacity out.old }
-    ensures { out.new.items ≡ out.old.items ++ finished_field header.now finished.now }
+    ensures items { out.new.items ≡ out.old.items ++ finished_field header.now finished.now }
+    ensures capacity { vec_capacity out.old ≤ vec_capacity out.new }
 {
     let delivery = 4 * u8::from(finished.incomplete);
-    out.push_reserved(5);
+    out.push_reserved(FINISHED);
     out.push_reserved(16 * finished.condition + delivery + finished.file_status);
     push_fields(out, &finished.responses);
     push_fault(out, finished.fault, header.id_len);
@@ -196,6 +177,9 @@ pub fn write_finished(
     ensures too_long { IsErrOf result TooLong ↔ (finished_fits header.now finished.now ≡ false) }
     ensures faults { IfErr result (λ fault. (fault ≡ TooLong) ⊎ (fault ≡ Memory)) }
     ensures err { OnErr result (out.new.items ≡ out.old.items) }
+    // Where there is room for it, memory isn't asked for.
+    ensures room { finished_fits header.now finished.now ≡ true → vec_len out.old + length (pdu_octets false header.now (finished_field header.now finished.now)) ≤ vec_capacity out.old → IsOk result }
+    ensures capacity { vec_capacity out.old ≤ vec_capacity out.new }
 {
     if !fits(header, finished) {
         return Err(WriteFault::TooLong);

@@ -2,13 +2,13 @@
 //! modular checksum.
 //!
 //! [`read_pdu`] answers the PDU exactly where the octets spell one, and otherwise the first fault;
-//! `specs/Grammar.antt` says what spells what. It judges the whole PDU before it asks for memory, and
-//! allocates only what it hands out. A writer appends the one canonical spelling of
+//! `specs/Grammar.antt` says what spells what. It judges the whole PDU before it asks for memory. A writer appends the one canonical spelling of
 //! `specs/Canonical.antt`, or answers [`WriteFault::TooLong`] exactly where a length does not fit. It
 //! asks for room once, for the whole PDU, before it writes.
 #![tactic(auto)]
 
 mod checksum;
+mod directive;
 mod eof;
 mod fault;
 mod field;

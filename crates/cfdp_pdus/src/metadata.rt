@@ -1,6 +1,6 @@
 //! The Metadata PDU, which begins a transaction.
 
-ghost use Rattle.std.specs.Prelude.{◌≡◌, ◌≤◌, ◌<◌, ◌+◌, ◌⊎◌, ◌↔◌, ◌++◌, length, vec_len, min, Bool, true, false, nat_le, IfErr, OnOk, OnErr, IsErrOf};
+ghost use Rattle.std.specs.Prelude.{◌≡◌, ◌≤◌, ◌<◌, ◌+◌, ◌⊎◌, ◌↔◌, ◌++◌, length, vec_len, min, Bool, true, false, nat_le, IfErr, OnOk, OnErr, IsErrOf, IsOk};
 ghost use Rattle.std.specs.List.{flat_map, list_all};
 ghost use Rattle.std.specs.Vec.{vec_capacity};
 ghost use Rattle.cfdp_pdus.specs.Equality.{same_options, same_names};
@@ -10,11 +10,12 @@ ghost use Rattle.cfdp_pdus.specs.Canonical.{IsHeader, IsSizedMetadata, pdu_octet
 ghost use Rattle.cfdp_pdus.specs.declared.fault.PduFault.TheVariants.{Memory as OutOfMemory};
 ghost use Rattle.cfdp_pdus.specs.declared.fault.WriteFault.TheVariants.{TooLong, Memory};
 
+use crate::directive::METADATA;
 use crate::field::{read_name, read_requests};
 use crate::number::{bit, read_number, size_len};
-use crate::put::{header_len, push_header, push_name, push_number};
+use crate::put::{MAX_FIELD_LEN, header_len, push_header, push_number};
 use crate::{Header, PduFault, WriteFault};
-use cfdp_tlv::{FilestoreRequest, write_request};
+use cfdp_tlv::{FilestoreRequest, MAX_VALUE_LEN, push_lv, write_request};
 use std::alloc::Global;
 use std::marker::Model;
 
@@ -105,7 +106,9 @@ pub fn read_metadata(alloc: Global, large: bool, octets: &[u8]) -> Result<Metada
 fn are_short(requests: &[FilestoreRequest]) -> bool
     ensures { result ≡ list_all is_short_request requests.now }
 {
-    requests.iter().all(|request| request.value_len() <= 255)
+    requests
+        .iter()
+        .all(|request| request.value_len() <= MAX_VALUE_LEN)
 }
 
 /// How many octets the requests take as TLV fields, or `usize::MAX` where that is too little.
@@ -150,10 +153,10 @@ fn field_len(large: bool, metadata: &Metadata) -> usize
 fn fits(large: bool, metadata: &Metadata) -> bool
     ensures { result ≡ metadata_fits large metadata.now }
 {
-    metadata.source_name.len() <= 255
-        && metadata.destination_name.len() <= 255
+    metadata.source_name.len() <= MAX_VALUE_LEN
+        && metadata.destination_name.len() <= MAX_VALUE_LEN
         && are_short(&metadata.requests)
-        && field_len(large, metadata) <= 65535
+        && field_len(large, metadata) <= MAX_FIELD_LEN
 }
 
 /// Appends the data field. It cannot fail, since there is room for it.
@@ -164,13 +167,14 @@ fn push_field(out: &mut Vec<u8>, large: bool, metadata: &Metadata)
     requires destination { length metadata.now.destination_name ≤ 255 }
     requires short { list_all is_short_request metadata.now.requests ≡ true }
     requires room { vec_len out.old + length (metadata_field large metadata.now) ≤ vec_capacity out.old }
-    ensures { out.new.items ≡ out.old.items ++ metadata_field large metadata.now }
+    ensures items { out.new.items ≡ out.old.items ++ metadata_field large metadata.now }
+    ensures capacity { vec_capacity out.old ≤ vec_capacity out.new }
 {
-    out.push_reserved(7);
+    out.push_reserved(METADATA);
     out.push_reserved(64 * u8::from(metadata.closure) + metadata.checksum_type);
     push_number(out, metadata.size, size_len(large));
-    push_name(out, &metadata.source_name);
-    push_name(out, &metadata.destination_name);
+    push_lv(out, &metadata.source_name);
+    push_lv(out, &metadata.destination_name);
     push_fields(out, &metadata.requests);
 }
 
@@ -191,6 +195,9 @@ pub fn write_metadata(
     ensures too_long { IsErrOf result TooLong ↔ (metadata_fits header.now.large metadata.now ≡ false) }
     ensures faults { IfErr result (λ fault. (fault ≡ TooLong) ⊎ (fault ≡ Memory)) }
     ensures err { OnErr result (out.new.items ≡ out.old.items) }
+    // Where there is room for it, memory isn't asked for.
+    ensures room { metadata_fits header.now.large metadata.now ≡ true → vec_len out.old + length (pdu_octets false header.now (metadata_field header.now.large metadata.now)) ≤ vec_capacity out.old → IsOk result }
+    ensures capacity { vec_capacity out.old ≤ vec_capacity out.new }
 {
     if !fits(header.large, metadata) {
         return Err(WriteFault::TooLong);

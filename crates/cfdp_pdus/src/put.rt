@@ -3,12 +3,15 @@
 ghost use Rattle.std.specs.Prelude.{◌≡◌, ◌≤◌, ◌<◌, ◌+◌, ◌*◌, ◌^◌, ◌++◌, ◌∷◌, length, vec_len};
 ghost use Rattle.std.specs.Vec.{vec_capacity};
 ghost use Rattle.byteorder.specs.Endian.{big_bytes};
-ghost use Rattle.cfdp_tlv.specs.Field.{lv};
-ghost use Rattle.cfdp_pdus.specs.Canonical.{IsHeader, header_octets, location};
+ghost use Rattle.cfdp_pdus.specs.Canonical.{IsHeader, header_octets, location, fault_location};
+ghost use Rattle.std.specs.Option.{ForSome};
 
 use crate::Header;
 use crate::field::ENTITY_ID;
 use byteorder::{BigEndian, ByteOrder};
+
+/// The longest data field, in octets: its length is two octets.
+pub const MAX_FIELD_LEN: usize = 65_535;
 
 /// Appends a number of `len` octets.
 pub fn push_number(out: &mut Vec<u8>, number: u64, len: usize)
@@ -25,20 +28,8 @@ pub fn push_number(out: &mut Vec<u8>, number: u64, len: usize)
     out.extend_from_slice(&octets[..len]).unwrap();
 }
 
-/// Appends an LV field.
-pub fn push_name(out: &mut Vec<u8>, name: &[u8])
-    requires short { length name.now ≤ 255 }
-    requires room { vec_len out.old + (length name.now + 1) ≤ vec_capacity out.old }
-    ensures items { out.new.items ≡ out.old.items ++ lv name.now }
-    ensures len { vec_len out.new ≡ vec_len out.old + (length name.now + 1) }
-    ensures capacity { vec_capacity out.old ≤ vec_capacity out.new }
-{
-    out.push_reserved(name.len() as u8);
-    out.extend_from_slice(name).unwrap();
-}
-
 /// Appends an entity ID as a fault location.
-pub fn push_location(out: &mut Vec<u8>, entity: u64, id_len: u8)
+fn push_location(out: &mut Vec<u8>, entity: u64, id_len: u8)
     requires low { 1 ≤ id_len }
     requires high { id_len ≤ 8 }
     requires fits { entity < 256 ^ id_len }
@@ -50,6 +41,31 @@ pub fn push_location(out: &mut Vec<u8>, entity: u64, id_len: u8)
     out.push_reserved(ENTITY_ID);
     out.push_reserved(id_len);
     push_number(out, entity, usize::from(id_len));
+}
+
+/// How many octets a fault location takes, where there is one.
+pub fn fault_len(fault: Option<u64>, id_len: u8) -> usize
+    ensures value { result ≡ length (fault_location id_len fault) }
+    ensures bound { result ≤ id_len + 2 }
+{
+    match fault {
+        None => 0,
+        Some(_) => usize::from(id_len) + 2,
+    }
+}
+
+/// Appends a fault location, where there is one.
+pub fn push_fault(out: &mut Vec<u8>, fault: Option<u64>, id_len: u8)
+    requires low { 1 ≤ id_len }
+    requires high { id_len ≤ 8 }
+    requires sized { ForSome fault (λ entity. entity < 256 ^ id_len) }
+    requires room { vec_len out.old + length (fault_location id_len fault) ≤ vec_capacity out.old }
+    ensures items { out.new.items ≡ out.old.items ++ fault_location id_len fault }
+    ensures capacity { vec_capacity out.old ≤ vec_capacity out.new }
+{
+    if let Some(entity) = fault {
+        push_location(out, entity, id_len);
+    }
 }
 
 /// How many octets a header has.

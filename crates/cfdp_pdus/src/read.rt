@@ -4,10 +4,11 @@ ghost use Rattle.std.specs.Prelude.{◌≡◌, ◌⊎◌, IfOk, Ok, Err};
 ghost use Rattle.cfdp_tlv.specs.Reading.{Gives};
 ghost use Rattle.cfdp_pdus.specs.First.{directive_at, field_at, pdu_at};
 ghost use Rattle.cfdp_pdus.specs.Grammar.{SpellsPdu};
-ghost use Rattle.cfdp_pdus.specs.Sound.{IsSound};
+ghost use Rattle.cfdp_pdus.specs.Sound.{IsSound, IsLean, GivesLean};
 ghost use Rattle.cfdp_pdus.specs.declared.pdu.Pdu.{Pdu as PduValue};
 ghost use Rattle.cfdp_pdus.specs.declared.fault.PduFault.TheVariants.{Memory};
 
+use crate::directive::{ACK, EOF, FINISHED, KEEP_ALIVE, METADATA, NAK, PROMPT};
 use crate::eof::read_eof;
 use crate::file_data::read_file_data;
 use crate::finished::read_finished;
@@ -19,19 +20,17 @@ use std::alloc::Global;
 /// A directive's data field.
 #[tactic(auto, unfolding(crate::specs::First::directive_at))]
 fn read_directive(alloc: Global, header: Header, field: &[u8]) -> Result<Pdu, PduFault>
-    ensures { Gives Memory (λ pdu. pdu) result (directive_at header field.now) }
+    ensures exact { Gives Memory (λ pdu. pdu) result (directive_at header field.now) }
+    ensures lean { GivesLean (directive_at header field.now) → result ≡ directive_at header field.now }
 {
     let [code, rest @ ..] = field else {
         return Err(PduFault::LengthMismatch);
     };
     match *code {
-        7 => Ok(Pdu::Metadata(header, read_metadata(alloc, header.large, rest)?)),
-        4 => Ok(Pdu::Eof(header, read_eof(header.large, rest)?)),
-        5 => Ok(Pdu::Finished(header, read_finished(alloc, rest)?)),
-        6 => Ok(Pdu::NotOurs(header, 6)),
-        8 => Ok(Pdu::NotOurs(header, 8)),
-        9 => Ok(Pdu::NotOurs(header, 9)),
-        12 => Ok(Pdu::NotOurs(header, 12)),
+        METADATA => Ok(Pdu::Metadata(header, read_metadata(alloc, header.large, rest)?)),
+        EOF => Ok(Pdu::Eof(header, read_eof(header.large, rest)?)),
+        FINISHED => Ok(Pdu::Finished(header, read_finished(alloc, rest)?)),
+        ACK | NAK | PROMPT | KEEP_ALIVE => Ok(Pdu::NotOurs(header, *code)),
         _ => Err(PduFault::BadDirective),
     }
 }
@@ -39,7 +38,8 @@ fn read_directive(alloc: Global, header: Header, field: &[u8]) -> Result<Pdu, Pd
 /// The data field of a PDU.
 #[tactic(auto, unfolding(crate::specs::First::field_at))]
 fn read_field(alloc: Global, start: &Start<'_>) -> Result<Pdu, PduFault>
-    ensures { Gives Memory (λ pdu. pdu) result (field_at start.now) }
+    ensures exact { Gives Memory (λ pdu. pdu) result (field_at start.now) }
+    ensures lean { GivesLean (field_at start.now) → result ≡ field_at start.now }
 {
     let header = start.header;
     if start.file_data {
@@ -52,7 +52,8 @@ fn read_field(alloc: Global, start: &Start<'_>) -> Result<Pdu, PduFault>
 
 /// What [`read_pdu`] answers.
 fn read_whole(alloc: Global, octets: &[u8]) -> Result<Pdu, PduFault>
-    ensures { Gives Memory (λ pdu. pdu) result (pdu_at octets.now) }
+    ensures exact { Gives Memory (λ pdu. pdu) result (pdu_at octets.now) }
+    ensures lean { GivesLean (pdu_at octets.now) → result ≡ pdu_at octets.now }
 {
     let start = read_start(octets)?;
     read_field(alloc, &start)
@@ -67,10 +68,10 @@ fn read_whole(alloc: Global, octets: &[u8]) -> Result<Pdu, PduFault>
 /// segment metadata or names past its end (`LengthMismatch`). Then the TLV fields from the left: one
 /// that is cut, a filestore request or response that is none, an entity ID of another length than 1
 /// to 8 (`BadTlv`), a request value of 255 octets (`RequestTooLong`). All of this is found before
-/// memory is asked for, so `Memory` stands only in place of a PDU.
+/// memory is asked for, so `Memory` stands only in place of a PDU, and of none of EOF or not ours.
 ///
 /// It goes over the octets twice at most: once without memory, and, where they spell a PDU, once to
-/// copy what is handed out, each vector being allocated at its length, and nothing else.
+/// copy what is handed out.
 pub fn read_pdu(alloc: Global, octets: &[u8]) -> Result<Pdu, PduFault>
     // What is read is spelled so.
     ensures found { IfOk result (SpellsPdu octets.now) }
@@ -78,6 +79,8 @@ pub fn read_pdu(alloc: Global, octets: &[u8]) -> Result<Pdu, PduFault>
     ensures only { (pdu : PduValue) → SpellsPdu octets.now pdu → (result ≡ Ok pdu) ⊎ (result ≡ Err Memory) }
     // Which fault it is: `Memory` stands only in place of a PDU.
     ensures exact { Gives Memory (λ pdu. pdu) result (pdu_at octets.now) }
+    // An EOF PDU, and one that is not ours, are read without memory.
+    ensures lean { (pdu : PduValue) → SpellsPdu octets.now pdu → IsLean pdu → result ≡ Ok pdu }
     // What is read can be written, and answered.
     ensures sound { IfOk result IsSound }
 {

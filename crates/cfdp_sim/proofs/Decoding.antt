@@ -1,12 +1,12 @@
 -- A loop over the words of a line of hexadecimal: which are still to come.
 use Rattle.std.proofs.Common.{◌≡◌, refl, sym, ◌∙◌, ap, ℕ, List, [], ◌∷◌, ◌++◌, Option, Some, None, Result, Ok, Err, Bor, append_assoc}
-use Rattle.std.specs.Prelude.{IsErr}
+use Rattle.std.specs.Prelude.{IsOk, IsErr}
 use Rattle.std.proofs.lemmas.Bool.{false≢true}
 use Rattle.std.proofs.lemmas.Iterator.{YieldsList}
 use Rattle.std.proofs.lemmas.List.{append-nil}
 use Rattle.hex.specs.Hex.{decode_of}
 use Rattle.hex.specs.declared.error.FromHexError.{FromHexError}
-use Rattle.cfdp_sim.specs.Hexadecimal.{octets_before, octets_of_words, hex_octets}
+use Rattle.cfdp_sim.specs.Hexadecimal.{octets_before, octets_of_words, octets_in, hex_octets}
 use Rattle.std.specs.List.{slice_split}
 use Rattle.cfdp_sim.specs.Hexadecimal.{is_space}
 
@@ -25,6 +25,10 @@ octets_before-before a b (Some more) = ap Some (sym (append_assoc a b more))
 octets_before-nothing : (more : Option (List ℕ)) → octets_before (Ok []) more ≡ more
 octets_before-nothing None = refl
 octets_before-nothing (Some more) = refl
+
+pub ok_octets : (r : Result (List ℕ) FromHexError) → IsOk r → r ≡ Ok (octets_in r)
+ok_octets (Ok octets) e = refl
+ok_octets (Err fault) e = absurd (false≢true e)
 
 octets_before-bad : (r : Result (List ℕ) FromHexError) (more : Option (List ℕ)) → IsErr r → octets_before r more ≡ None
 octets_before-bad (Ok octets) more e = absurd (false≢true e)

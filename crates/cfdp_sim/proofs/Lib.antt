@@ -1,4 +1,5 @@
 pub mod Decoding
+pub mod Feeding
 pub mod LineLemmas
 pub mod Moving
 pub mod Running

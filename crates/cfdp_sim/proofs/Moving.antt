@@ -1,12 +1,12 @@
 -- How a run moves on, stops and breaks off.
 use Rattle.std.proofs.Common.{◌≡◌, ℕ, suc, ◌+◌, ◌<◌, Bool, true, false, List, [], ◌∷◌, ◌++◌, Option, Some, None, length, refl, sym, ap, ◌∙◌, append_assoc, arith, length-append, rules, take, drop, get_or}
 use Rattle.std.proofs.lemmas.List.{append-nil, take_more, take-append-drop}
-use Rattle.std.proofs.lemmas.List.Elements.{All-push}
+use Rattle.std.proofs.lemmas.List.Elements.{All-append}
 use Rattle.cfdp_sim.specs.Lines.{is_newline, is_overlong, line_limit, lines_of, IsOneLine}
 use Rattle.cfdp_sim.specs.Report.{Report, report, and_then, wrote, stopped_at, finished, line_answer}
 use Rattle.cfdp_sim.specs.Session.{Place, place, lines_by, report_at, Moves, StopsBad, Breaks, Runs, RunsBad, RunsPart, RunsLost, Finishes, FinishesBad, FinishesLost}
 use Rattle.std.specs.Io.KnownBytes.{Appends, Keeps}
-use Rattle.cfdp_sim.specs.Streams.{Begins, AppendsOrLost}
+use Rattle.cfdp_sim.specs.Streams.{Begins, LostWithin}
 use Rattle.cfdp_sim.proofs.Streaming.{Appends-none, Appends-kept, Appends-more, Appends-more_or_lost}
 use Rattle.cfdp_sim.proofs.LineLemmas.{lines_by-newline, lines_of-last, lines_by-begun}
 
@@ -74,15 +74,21 @@ module _ (State : Type 0) (answer : State → List ℕ → Option (State × List
         );
   }
 
+  -- a run may have written less
+  pub Breaks-shorter : (p : Place State) (a v w : List ℕ) → Breaks answer p a (v ++ w) → Breaks answer p a v
+  Breaks-shorter p a v w f = record {
+    begins = λ rest. let later = f.begins rest in (w ++ later.0, later.1 ∙ append_assoc v w later.0);
+  }
+
   -- a run that wrote nothing more may break off anywhere
   pub Breaks-none : (p : Place State) (a : List ℕ) → Breaks answer p a []
   Breaks-none p a = record { begins = λ rest. ((report_at answer true p (a ++ rest)).text, refl) }
 
-  -- an octet of the line
-  pub Moves-gather : (n : ℕ) (state : State) (line : List ℕ) (octet : ℕ)
-      → Moves answer (place n state line) (place n state (line ++ octet ∷ [])) (octet ∷ []) []
-  Moves-gather n state line octet = record {
-    goes_on = λ ends rest. ap (λ (octets : List ℕ). report answer n state (lines_by ends octets)) (sym (append_assoc line (octet ∷ []) rest));
+  -- octets of the line
+  pub Moves-gather : (n : ℕ) (state : State) (line octets : List ℕ)
+      → Moves answer (place n state line) (place n state (line ++ octets)) octets []
+  Moves-gather n state line octets = record {
+    goes_on = λ ends rest. ap (λ (s : List ℕ). report answer n state (lines_by ends s)) (sym (append_assoc line octets rest));
   }
 
   -- the end of a line
@@ -108,30 +114,18 @@ module _ (State : Type 0) (answer : State → List ℕ → Option (State × List
         ∙ ap (λ (o : Option (State × List ℕ)). and_then n o (λ later. report answer (n + 1) later (lines_by ends rest))) a;
   }
 
-  pub Breaks-newline : (n : ℕ) (state after : State) (line text written : List ℕ) (octet : ℕ) → IsOneLine line
-      → is_newline octet ≡ true → line_answer answer state line ≡ Some (after, text) → Begins text written
-      → Breaks answer (place n state line) (octet ∷ []) written
-  Breaks-newline n state after line text written octet h e a b = record {
-    begins = λ rest.
-        let whole = (Moves-newline n state after line text octet h e a).goes_on true rest in
-        let later = (report answer (n + 1) after (lines_of rest)).text in (
-          b.0 ++ later,
-          ap (λ (r : Report). r.text) whole ∙ ap (λ (t : List ℕ). t ++ later) b.1 ∙ append_assoc written b.0 later,
-        );
-  }
-
-  -- one octet too many
-  pub StopsBad-overlong : (n : ℕ) (state : State) (line : List ℕ) (octet : ℕ) → IsOneLine line → is_newline octet ≡ false
-      → length line ≡ line_limit → StopsBad answer (place n state line) (octet ∷ []) [] n
-  StopsBad-overlong n state line octet h e full =
-      let longer = line ++ octet ∷ [] in
-      let one_line : IsOneLine longer = All-push (λ (x : ℕ). is_newline x ≡ false) line octet h e in
-      let long : length longer ≡ suc line_limit = omega (arith, length-append line (octet ∷ [])) in
+  -- too many octets
+  pub StopsBad-overlong : (n : ℕ) (state : State) (line octets : List ℕ) → IsOneLine line → IsOneLine octets
+      → line_limit < length line + length octets → StopsBad answer (place n state line) octets [] n
+  StopsBad-overlong n state line octets h e full =
+      let longer = line ++ octets in
+      let one_line : IsOneLine longer = All-append (λ (x : ℕ). is_newline x ≡ false) line octets h e in
+      let long : line_limit < length longer = omega (arith, length-append line octets) in
       record {
         stops = λ ends rest.
-            let begun = lines_by-begun ends longer rest one_line (omega arith) in
+            let begun = lines_by-begun ends longer rest one_line long in
             let over : line_limit < length (longer ++ begun.more) = omega (arith, length-append longer begun.more) in
-            ap (λ (octets : List ℕ). report answer n state (lines_by ends octets)) (sym (append_assoc line (octet ∷ []) rest))
+            ap (λ (s : List ℕ). report answer n state (lines_by ends s)) (sym (append_assoc line octets rest))
             ∙ report-overlong answer n state (longer ++ begun.more) begun.others (lines_by ends (longer ++ rest)) begun.are over;
       }
 
@@ -140,51 +134,6 @@ module _ (State : Type 0) (answer : State → List ℕ → Option (State × List
   report_at-last n state line h few =
       ap (λ (octets : List ℕ). report answer n state (lines_of octets)) (append-nil line)
       ∙ ap (report answer n state) (lines_of-last line h few)
-
-  -- the same with what the writer tells
-
-  pub RunsBad-newline : (n : ℕ) (state : State) (line : List ℕ) (octet : ℕ) (old new : Option (List ℕ)) → IsOneLine line
-      → is_newline octet ≡ true → line_answer answer state line ≡ None → Keeps old new
-      → RunsBad answer (place n state line) (octet ∷ []) n old new
-  RunsBad-newline n state line octet old new h e a k = record {
-    written = [];
-    stops = StopsBad-newline n state line octet h e a;
-    appended = Appends-kept old new k;
-  }
-
-  pub RunsBad-overlong : (n : ℕ) (state : State) (line : List ℕ) (octet : ℕ) (old : Option (List ℕ)) → IsOneLine line
-      → is_newline octet ≡ false → length line ≡ line_limit → RunsBad answer (place n state line) (octet ∷ []) n old old
-  RunsBad-overlong n state line octet old h e full = record {
-    written = [];
-    stops = StopsBad-overlong n state line octet h e full;
-    appended = Appends-none old;
-  }
-
-  pub RunsLost-newline : (n : ℕ) (state after : State) (line text written : List ℕ) (octet : ℕ) (old new : Option (List ℕ))
-      → IsOneLine line → is_newline octet ≡ true → line_answer answer state line ≡ Some (after, text) → AppendsOrLost old new written
-      → Begins text written → RunsLost answer (place n state line) (octet ∷ []) old new
-  RunsLost-newline n state after line text written octet old new h e a p b = record {
-    written = written;
-    breaks = Breaks-newline n state after line text written octet h e a b;
-    appended = p;
-  }
-
-  pub Runs-newline : (n : ℕ) (state after : State) (line text : List ℕ) (octet : ℕ) (old new : Option (List ℕ)) → IsOneLine line
-      → is_newline octet ≡ true → line_answer answer state line ≡ Some (after, text) → Appends old new text
-      → Runs answer (place n state line) (place (n + 1) after []) (octet ∷ []) old new
-  Runs-newline n state after line text octet old new h e a p = record {
-    written = text;
-    moves = Moves-newline n state after line text octet h e a;
-    appended = p;
-  }
-
-  pub Runs-gather : (n : ℕ) (state : State) (line : List ℕ) (octet : ℕ) (old : Option (List ℕ))
-      → Runs answer (place n state line) (place n state (line ++ octet ∷ [])) (octet ∷ []) old old
-  Runs-gather n state line octet old = record {
-    written = [];
-    moves = Moves-gather n state line octet;
-    appended = Appends-none old;
-  }
 
   -- some octets, others, and those behind which make no difference
 
@@ -207,50 +156,6 @@ module _ (State : Type 0) (answer : State → List ℕ → Option (State × List
     appended = Appends-more x y z f.written g.written f.appended g.appended;
   }
 
-  pub Runs-then_part : (p q : Place State) (a b c : List ℕ) (x y z : Option (List ℕ)) → Runs answer p q a x y
-      → RunsPart answer q b y z → RunsPart answer p (a ++ b ++ c) x z
-  Runs-then_part p q a b c x y z f g = record {
-    written = f.written ++ g.written;
-    breaks = Breaks-before p (a ++ b) c (f.written ++ g.written) (Moves-then_breaks p q a b f.written g.written f.moves g.breaks);
-    appended = Appends-more x y z f.written g.written f.appended g.appended;
-  }
-
-  pub Runs-then_lost : (p q : Place State) (a b c : List ℕ) (x y z : Option (List ℕ)) → Runs answer p q a x y
-      → RunsLost answer q b y z → RunsLost answer p (a ++ b ++ c) x z
-  Runs-then_lost p q a b c x y z f g = record {
-    written = f.written ++ g.written;
-    breaks = Breaks-before p (a ++ b) c (f.written ++ g.written) (Moves-then_breaks p q a b f.written g.written f.moves g.breaks);
-    appended = Appends-more_or_lost x y z f.written g.written f.appended g.appended;
-  }
-
-  -- a loop over octets: the octet at a place, after those before it
-
-  pub Runs-more : (p q r : Place State) (octets : List ℕ) (at : ℕ) (x y z : Option (List ℕ)) → at < length octets
-      → Runs answer p q (take at octets) x y → Runs answer q r (get_or octets at 0 ∷ []) y z
-      → Runs answer p r (take (at + 1) octets) x z
-  Runs-more p q r octets at x y z lt f g = rw (take_more octets at 0 lt) (Runs-then p q r (take at octets) (get_or octets at 0 ∷ []) x y z f g)
-
-  pub Runs-bad_at : (p q : Place State) (octets : List ℕ) (at n : ℕ) (x y z : Option (List ℕ)) → at < length octets
-      → Runs answer p q (take at octets) x y → RunsBad answer q (get_or octets at 0 ∷ []) n y z
-      → RunsBad answer p octets n x z
-  Runs-bad_at p q octets at n x y z lt f g =
-      let cut : take at octets ++ get_or octets at 0 ∷ [] ++ drop (at + 1) octets ≡ octets = rw (← take_more octets at 0 lt) (take-append-drop (at + 1) octets) in
-      rw cut at (Runs-then_bad p q (take at octets) (get_or octets at 0 ∷ []) (drop (at + 1) octets) n x y z f g)
-
-  pub Runs-part_at : (p q : Place State) (octets : List ℕ) (at : ℕ) (x y z : Option (List ℕ)) → at < length octets
-      → Runs answer p q (take at octets) x y → RunsPart answer q (get_or octets at 0 ∷ []) y z
-      → RunsPart answer p octets x z
-  Runs-part_at p q octets at x y z lt f g =
-      let cut : take at octets ++ get_or octets at 0 ∷ [] ++ drop (at + 1) octets ≡ octets = rw (← take_more octets at 0 lt) (take-append-drop (at + 1) octets) in
-      rw cut at (Runs-then_part p q (take at octets) (get_or octets at 0 ∷ []) (drop (at + 1) octets) x y z f g)
-
-  pub Runs-lost_at : (p q : Place State) (octets : List ℕ) (at : ℕ) (x y z : Option (List ℕ)) → at < length octets
-      → Runs answer p q (take at octets) x y → RunsLost answer q (get_or octets at 0 ∷ []) y z
-      → RunsLost answer p octets x z
-  Runs-lost_at p q octets at x y z lt f g =
-      let cut : take at octets ++ get_or octets at 0 ∷ [] ++ drop (at + 1) octets ≡ octets = rw (← take_more octets at 0 lt) (take-append-drop (at + 1) octets) in
-      rw cut at (Runs-then_lost p q (take at octets) (get_or octets at 0 ∷ []) (drop (at + 1) octets) x y z f g)
-
   -- the end of the script, with what the writer tells
 
   pub Finishes-last : (n : ℕ) (state after : State) (line text : List ℕ) (old new : Option (List ℕ)) → IsOneLine line
@@ -269,14 +174,14 @@ module _ (State : Type 0) (answer : State → List ℕ → Option (State × List
     kept = k;
   }
 
-  pub FinishesLost-last : (n : ℕ) (state after : State) (line text written : List ℕ) (old new : Option (List ℕ)) → IsOneLine line
-      → 0 < length line → line_answer answer state line ≡ Some (after, text) → AppendsOrLost old new written → Begins text written
+  pub FinishesLost-last : (n : ℕ) (state after : State) (line text : List ℕ) (old new : Option (List ℕ)) → IsOneLine line
+      → 0 < length line → line_answer answer state line ≡ Some (after, text) → LostWithin text old new
       → FinishesLost answer (place n state line) old new
-  FinishesLost-last n state after line text written old new h few a p b =
+  FinishesLost-last n state after line text old new h few a lost =
       let whole : report_at answer true (place n state line) [] ≡ wrote text finished =
       report_at-last n state line h few ∙ ap (λ (o : Option (State × List ℕ)). and_then n o (λ later. finished)) a in
       record {
-        written = written;
-        begins = (b.0, ap (λ (r : Report). r.text) whole ∙ append-nil text ∙ b.1);
-        appended = p;
+        written = lost.written;
+        begins = (lost.begins.0, ap (λ (r : Report). r.text) whole ∙ append-nil text ∙ lost.begins.1);
+        appended = lost.appended;
       }

@@ -8,4 +8,5 @@ pub mod Plain
 pub mod Report
 pub mod RequestLines
 pub mod Session
+pub mod Answers
 pub mod Streams

@@ -1,37 +1,57 @@
-//! Hexadecimal in a line of a script.
-ghost use Rattle.std.specs.Prelude.{◌≡◌, Some, None, Ok, IfOk, Err, IsErr};
-ghost use Rattle.hex.specs.Hex.{decode_of};
-ghost use Rattle.cfdp_sim.specs.Hexadecimal.{hex_octets};
+//! Hexadecimal in a line of a script, read and written.
+ghost use Rattle.std.specs.Prelude.{◌≡◌, ◌/◌, ◌++◌, ◌↔◌, length, Some, None, Err, IsOk, IsErr, OnOk, OnErr};
+ghost use Rattle.hex.specs.Hex.{decode_of, encode_lower};
+ghost use Rattle.cfdp_sim.specs.Hexadecimal.{hex_octets, octets_in};
 ghost use Rattle.cfdp_sim.specs.declared.script.LineFault.TheVariants.{Bad};
 
 use crate::script::LineFault;
-use hex::FromHexError;
-use std::alloc::Global;
+use std::alloc::AllocError;
 
-/// The octets of a word: pairs of digits in either case.
-fn decode_word(alloc: Global, word: &[u8]) -> Result<Vec<u8>, LineFault>
-    ensures octets { IfOk result (λ octets. decode_of word.now ≡ Ok octets.items) }
-    ensures bad { result ≡ Err Bad → IsErr (decode_of word.now) }
+/// Decodes a word into room for as many octets as it has pairs of digits.
+fn decode_into(word: &[u8], room: &mut [u8]) -> Result<(), LineFault>
+    requires { length room.old ≡ length word.now / 2 }
+    ensures octets { OnOk result (room.new ≡ octets_in (decode_of word.now)) }
+    ensures good { IsOk result ↔ IsOk (decode_of word.now) }
 {
-    match hex::decode(alloc, word) {
-        Ok(octets) => Ok(octets),
-        Err(FromHexError::OutOfMemory) => Err(LineFault::Memory),
-        Err(_) => Err(LineFault::Bad),
-    }
+    hex::decode_to_slice(word, room).map_err(|_| LineFault::Bad)
 }
 
-/// The octets that a line of hexadecimal spells: pairs of digits in either case, with spaces between pairs, before
-/// and behind.
-pub(crate) fn decode_line(alloc: Global, line: &[u8]) -> Result<Vec<u8>, LineFault>
-    ensures octets { IfOk result (λ octets. hex_octets line.now ≡ Some octets.items) }
+/// Appends the octets of a word: pairs of digits in either case.
+fn decode_word(word: &[u8], octets: &mut Vec<u8>) -> Result<(), LineFault>
+    ensures octets { OnOk result (octets.new.items ≡ octets.old.items ++ octets_in (decode_of word.now)) }
+    ensures good { OnOk result (IsOk (decode_of word.now)) }
+    ensures bad { result ≡ Err Bad → IsErr (decode_of word.now) }
+{
+    let start = octets.len();
+    let len = start.checked_add(word.len() / 2).ok_or(LineFault::Memory)?;
+    octets.resize(len, 0)?;
+    let room = &mut octets.as_mut_slice()[start..];
+    decode_into(word, room)
+}
+
+/// Puts the octets that a line of hexadecimal spells in the place of `octets`: pairs of digits in either case, with
+/// spaces between pairs, before and behind.
+pub(crate) fn decode_line(line: &[u8], octets: &mut Vec<u8>) -> Result<(), LineFault>
+    ensures octets { OnOk result (hex_octets line.now ≡ Some octets.new.items) }
     ensures bad { result ≡ Err Bad → hex_octets line.now ≡ None }
 {
-    let mut octets = Vec::new(alloc);
+    octets.clear();
     for word in line.split(|octet| *octet == b' ') {
-        let decoded = decode_word(alloc, word)?;
-        octets
-            .extend_from_slice(&decoded)
-            .map_err(|_| LineFault::Memory)?;
+        decode_word(word, octets)?;
     }
-    Ok(octets)
+    Ok(())
+}
+
+/// Appends octets in lower-case hexadecimal.
+pub(crate) fn encode(octets: &[u8], out: &mut Vec<u8>) -> Result<(), AllocError>
+    ensures ok { OnOk result (out.new.items ≡ out.old.items ++ encode_lower octets.now) }
+    ensures kept { OnErr result (out.new.items ≡ out.old.items) }
+{
+    let start = out.len();
+    let digits = octets.len().checked_mul(2).ok_or(AllocError)?;
+    let len = start.checked_add(digits).ok_or(AllocError)?;
+    out.resize(len, 0)?;
+    let room = &mut out.as_mut_slice()[start..];
+    hex::encode_to_slice(octets, room).unwrap();
+    Ok(())
 }

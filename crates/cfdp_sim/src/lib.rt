@@ -1,8 +1,8 @@
 //! The simulator's scripts: what `cfdpsim` reads, does and writes, without its command line.
 //!
-//! A script is a stream of octets in lines. Each line is answered by itself, in order, and its answer is
-//! written whole before the next line is run; octets are read some thousand at a time. `plain` is the one kind
-//! of script there is so far: filestore requests as hexadecimal TLVs (CCSDS 727.0-B-5 §5.4), performed on one
+//! A script is a stream of octets in lines, and each line is answered by itself, in order. Octets are read some ten
+//! thousand at a time. Answers are held back: they are written when 64 KiB of them are full, before each read of input,
+//! and at the end. `plain` is the one kind of script there is so far: filestore requests as hexadecimal TLVs (CCSDS 727.0-B-5 §5.4), performed on one
 //! filestore (§4.9).
 //! Input and output go through two small traits, so that a theorem can name their octets.
 #![tactic(auto)]

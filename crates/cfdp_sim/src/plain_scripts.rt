@@ -71,7 +71,7 @@ pub fn plain<R: ScriptIn, W: ScriptOut>(
     let Ok(store) = ListStore::new(alloc, BLOCKS) else {
         return Err(RunFault::Memory);
     };
-    run(alloc, Requests::new(store), reader, writer)
+    run(alloc, Requests::new(alloc, store), reader, writer)
 }
 
 /// What [`plain`] writes for a script in memory.

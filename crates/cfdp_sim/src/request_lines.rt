@@ -1,21 +1,20 @@
 //! The filestore request that a line of `plain` brings, and the line that answers it (CCSDS 727.0-B-5 §5.4).
-ghost use Rattle.std.specs.Prelude.{◌≡◌, ℕ, ◌+◌, ◌≤◌, length, Ok, Err, IfOk, Some};
+ghost use Rattle.std.specs.Prelude.{◌≡◌, ℕ, ◌+◌, ◌≤◌, ◌++◌, length, Ok, Err, IfOk, OnOk, OnErr, Some};
 ghost use Rattle.cfdp_status.specs.Codes.{action_of};
-ghost use Rattle.cfdp_tlv.specs.Grammar.{names_of, request_at};
-ghost use Rattle.cfdp_sim.specs.RequestLines.{answerable, request_on, response_line};
+ghost use Rattle.cfdp_tlv.specs.Field.{tlv};
+ghost use Rattle.cfdp_tlv.specs.Grammar.{names_of, request_at, response_octets};
+ghost use Rattle.cfdp_sim.specs.RequestLines.{answerable, request_on, response_line, response_to};
 ghost use Rattle.cfdp_sim.specs.declared.dropped.Dropped.{Dropped};
 ghost use Rattle.cfdp_sim.specs.declared.request_lines.NoRequest.TheVariants as no;
 
 use crate::dropped::Dropped;
+use crate::hexadecimal::encode;
 use cfdp_status::Status;
 use cfdp_tlv::{
-    FILESTORE_REQUEST, FilestoreRequest, FilestoreResponse, TlvFault, read_tlv, request_parts,
+    FILESTORE_REQUEST, FilestoreRequest, MAX_ANSWERABLE_LEN, TlvFault, read_tlv, request_parts,
     write_response,
 };
 use std::alloc::{AllocError, Global};
-
-/// The longest value of a request that can be answered, in octets: its response has one octet more.
-const LONGEST_VALUE: usize = 254;
 
 /// Why a line brings no request.
 #[derive(Clone, Copy, Debug, PartialEq, Eq)]
@@ -38,7 +37,7 @@ fn read_answerable(alloc: Global, value: &[u8]) -> Result<FilestoreRequest, NoRe
         Ok(parts) => parts,
         Err(fault) => return Err(NoRequest::Dropped(Dropped::of_fault(fault))),
     };
-    if value.len() > LONGEST_VALUE {
+    if value.len() > MAX_ANSWERABLE_LEN {
         return Err(NoRequest::Dropped(Dropped::RequestTooLong));
     }
     match parts.copy(alloc) {
@@ -65,30 +64,42 @@ pub(crate) fn read_line(alloc: Global, octets: &[u8]) -> Result<FilestoreRequest
     read_answerable(alloc, field.value)
 }
 
-/// The line that answers a request: its response TLV in lower-case hexadecimal.
+/// Appends the line that answers a request: its response TLV in lower-case hexadecimal.
 pub(crate) fn write_answer(
+    alloc: Global,
+    request: FilestoreRequest,
+    status: Status,
+    out: &mut Vec<u8>,
+) -> Result<(), AllocError>
+    requires action { action_of status ≡ request.action }
+    requires short { length (names_of request.first request.second) ≤ 253 }
+    ensures ok { OnOk result (out.new.items ≡ out.old.items ++ response_line request status) }
+    ensures kept { OnErr result (out.new.items ≡ out.old.items) }
+{
+    let octets = response_tlv(alloc, request, status)?;
+    let before = out.len();
+    encode(&octets, out)?;
+    if let Err(refused) = out.push(b'\n') {
+        out.truncate(before);
+        return Err(refused.into());
+    }
+    Ok(())
+}
+
+/// The response TLV to a request.
+fn response_tlv(
     alloc: Global,
     request: FilestoreRequest,
     status: Status,
 ) -> Result<Vec<u8>, AllocError>
     requires action { action_of status ≡ request.action }
     requires short { length (names_of request.first request.second) ≤ 253 }
-    ensures { IfOk result (λ line. line.items ≡ response_line request status) }
+    ensures { IfOk result (λ octets. octets.items ≡ tlv 1 (response_octets (response_to request status))) }
 {
-    let FilestoreRequest { first, second, .. } = request;
-    let response = FilestoreResponse {
-        status,
-        first,
-        second,
-        message: Vec::new(alloc),
-    };
     let mut octets = Vec::new(alloc);
-    match write_response(&response, &mut octets) {
-        Ok(()) => {}
-        Err(TlvFault::Memory) => return Err(AllocError),
+    match write_response(&request.into_response(status), &mut octets) {
+        Ok(()) => Ok(octets),
+        Err(TlvFault::Memory) => Err(AllocError),
         Err(_) => unreachable!(),
     }
-    let mut line = hex::encode(alloc, &octets)?.into_bytes();
-    line.push(b'\n')?;
-    Ok(line)
 }

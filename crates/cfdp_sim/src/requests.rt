@@ -1,5 +1,5 @@
 //! Filestore requests in lists, performed on one filestore (CCSDS 727.0-B-5 §4.9).
-ghost use Rattle.std.specs.Prelude.{◌≡◌, ◌≤◌, false, length, Some, Ok, IfOk, Err};
+ghost use Rattle.std.specs.Prelude.{◌≡◌, ◌≤◌, ◌++◌, ℕ, List, false, length, Some, Ok, IfOk, OnOk, OnErr, Err};
 ghost use Rattle.cfdp_paths.specs.Paths.{path_of};
 ghost use Rattle.cfdp_sim.specs.Plain.{plain_blocks, request_by, performed_on, plain_answer};
 ghost use Rattle.cfdp_sim.specs.declared.script.LineFault.TheVariants.{Bad};
@@ -12,6 +12,7 @@ use cfdp_paths::{Path, PathFault};
 use cfdp_status::Status;
 use cfdp_tlv::FilestoreRequest;
 use std::alloc::{AllocError, Global};
+use std::mem;
 
 /// The path that a name spells, if it spells one.
 fn parse_name(alloc: Global, name: &[u8]) -> Result<Option<Path>, AllocError>
@@ -47,16 +48,18 @@ pub(crate) struct Requests<S: Filestore> {
     store: S,
     /// Whether a request of this list was not successful.
     stopped: bool,
+    /// What the last line spelled: a buffer that is used again for the next one.
+    octets: Vec<u8>,
     ghost capacity: { (S.state store).capacity ≡ plain_blocks },
 }
 
 impl<S: Filestore> Requests<S> {
     ghost use Rattle.cfdp_actions.specs.Store.{empty_store};
     ghost use Rattle.cfdp_tlv.specs.Grammar.{names_of};
-    ghost use Rattle.cfdp_sim.specs.Plain.{plain_state, answer_to};
+    ghost use Rattle.cfdp_sim.specs.Plain.{plain_state, answer_to, octets_answer};
 
     /// No list has begun.
-    pub(crate) fn new(store: S) -> Self
+    pub(crate) fn new(alloc: Global, store: S) -> Self
         requires { (S.state store).capacity ≡ plain_blocks }
         ensures store { result.store ≡ store }
         ensures first { result.stopped ≡ false }
@@ -64,6 +67,7 @@ impl<S: Filestore> Requests<S> {
         Requests {
             store,
             stopped: false,
+            octets: Vec::new(alloc),
         }
     }
 
@@ -83,14 +87,43 @@ impl<S: Filestore> Requests<S> {
         Ok(status)
     }
 
-    /// The line that answers a request, which is performed unless an earlier one of this list was not successful.
-    fn answer(&mut self, alloc: Global, request: FilestoreRequest) -> Result<Vec<u8>, AllocError>
+    /// Appends the line that answers a request, which is performed unless an earlier one of this list was not
+    /// successful.
+    fn answer(
+        &mut self,
+        alloc: Global,
+        request: FilestoreRequest,
+        out: &mut Vec<u8>,
+    ) -> Result<(), AllocError>
         requires { length (names_of request.first request.second) ≤ 253 }
-        ensures { IfOk result (λ line. answer_to (plain_state (S.state self.old.store) self.old.stopped) (Ok request)
-            ≡ (plain_state (S.state self.new.store) self.new.stopped, line.items)) }
+        ensures ok { OnOk result ((line : List ℕ) × (answer_to (plain_state (S.state self.old.store) self.old.stopped) (Ok request)
+            ≡ (plain_state (S.state self.new.store) self.new.stopped, line)) × (out.new.items ≡ out.old.items ++ line)) }
+        ensures kept { OnErr result (out.new.items ≡ out.old.items) }
     {
         let status = self.perform(alloc, &request)?;
-        write_answer(alloc, request, status)
+        write_answer(alloc, request, status, out)
+    }
+
+    /// Appends the line that answers the octets of a line, where there are any; none begin a new list.
+    fn answer_octets(
+        &mut self,
+        alloc: Global,
+        octets: &[u8],
+        out: &mut Vec<u8>,
+    ) -> Result<(), AllocError>
+        ensures ok { OnOk result ((line : List ℕ) × (octets_answer (plain_state (S.state self.old.store) self.old.stopped) octets.now
+            ≡ (plain_state (S.state self.new.store) self.new.stopped, line)) × (out.new.items ≡ out.old.items ++ line)) }
+        ensures kept { OnErr result (out.new.items ≡ out.old.items) }
+    {
+        if octets.is_empty() {
+            self.stopped = false;
+            return Ok(());
+        }
+        match read_line(alloc, octets) {
+            Ok(request) => self.answer(alloc, request, out),
+            Err(NoRequest::Dropped(dropped)) => out.extend_from_slice(dropped.text()),
+            Err(NoRequest::Memory) => Err(AllocError),
+        }
     }
 }
 
@@ -103,19 +136,11 @@ impl<S: Filestore> Script for Requests<S> {
 
     ghost answer = { plain_answer };
 
-    fn line(&mut self, alloc: Global, line: &[u8]) -> Result<Vec<u8>, LineFault> {
-        let octets = decode_line(alloc, line)?;
-        if octets.is_empty() {
-            self.stopped = false;
-            return Ok(octets);
-        }
-        let request = match read_line(alloc, &octets) {
-            Ok(request) => request,
-            Err(NoRequest::Dropped(dropped)) => {
-                return Vec::from_slice(alloc, dropped.text()).map_err(|_| LineFault::Memory);
-            }
-            Err(NoRequest::Memory) => return Err(LineFault::Memory),
-        };
-        self.answer(alloc, request).map_err(|_| LineFault::Memory)
+    fn line(&mut self, alloc: Global, line: &[u8], out: &mut Vec<u8>) -> Result<(), LineFault> {
+        let mut octets = mem::replace(&mut self.octets, Vec::new(alloc));
+        decode_line(line, &mut octets)?;
+        self.answer_octets(alloc, &octets, out)?;
+        self.octets = octets;
+        Ok(())
     }
 }

@@ -16,7 +16,7 @@ use std::alloc::Global;
 pub(crate) const INPUT_LIMIT: usize = 268_435_456;
 
 /// How much is read at once, in octets.
-const PIECE: usize = 4096;
+const PIECE: usize = 65_536;
 
 /// How much to read where so many octets may still come: never nothing, since one octet more than there may
 /// be has to be seen.

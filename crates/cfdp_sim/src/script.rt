@@ -1,8 +1,9 @@
 //! What a kind of script is: how one line of it is answered.
-ghost use Rattle.std.specs.Prelude.{◌≡◌, ℕ, List, Option, Some, None, IfOk};
+ghost use Rattle.std.specs.Prelude.{◌≡◌, ℕ, List, Option, None, OnOk, OnErr, Err};
+ghost use Rattle.cfdp_sim.specs.Answers.{Answers};
 ghost use Rattle.cfdp_sim.specs.declared.script.LineFault.TheVariants.{Bad};
 
-use std::alloc::Global;
+use std::alloc::{AllocError, Global};
 
 /// Why a line has no answer.
 #[derive(Clone, Copy, Debug, PartialEq, Eq)]
@@ -11,6 +12,17 @@ pub(crate) enum LineFault {
     Bad,
     /// Memory was refused.
     Memory,
+}
+
+impl From<AllocError> for LineFault {
+    ghost use Rattle.std.specs.Prelude.{◌≡◌};
+    ghost use Rattle.cfdp_sim.specs.declared.script.LineFault.TheVariants.{Memory};
+
+    ghost from_gives = { λ _ e. e ≡ Memory };
+
+    fn from(_e: AllocError) -> LineFault {
+        LineFault::Memory
+    }
 }
 
 /// A kind of script: a state, and an answer to each line.
@@ -24,8 +36,9 @@ pub(crate) trait Script {
     // where it is bad.
     ghost answer: { State → List ℕ → Option (State × List ℕ) };
 
-    /// Answers a line. Its text has a newline behind each line that it writes.
-    fn line(&mut self, alloc: Global, line: &[u8]) -> Result<Vec<u8>, LineFault>
-        ensures ok { IfOk result (λ text. answer (state self.old) line.now ≡ Some (state self.new, text.items)) }
-        ensures bad { result ≡ Err Bad → answer (state self.old) line.now ≡ None };
+    /// Answers a line, and appends its text to `out`: each line of it with a newline behind.
+    fn line(&mut self, alloc: Global, line: &[u8], out: &mut Vec<u8>) -> Result<(), LineFault>
+        ensures ok { OnOk result (Answers answer (state self.old) (state self.new) line.now out.old.items out.new.items) }
+        ensures bad { result ≡ Err Bad → answer (state self.old) line.now ≡ None }
+        ensures kept { OnErr result (out.new.items ≡ out.old.items) };
 }

@@ -99,12 +99,8 @@ fn modes_and_types(rt: HostRuntime) -> Result<(), Fail> {
 #[test]
 fn the_last_entity_counts(rt: HostRuntime) -> Result<(), Fail> {
     let alloc = rt.alloc();
-    let made = FilestoreResponse {
-        status: Status::Successful(Action::CreateFile),
-        first: Vec::from_slice(alloc, b"a")?,
-        second: None,
-        message: Vec::new(alloc),
-    };
+    let status = Status::Successful(Action::CreateFile);
+    let made = FilestoreResponse::new(alloc, status, b"a", None, &[])?;
     let finished = Finished {
         condition: 0,
         incomplete: false,
@@ -121,11 +117,7 @@ fn the_last_entity_counts(rt: HostRuntime) -> Result<(), Fail> {
 #[test]
 fn a_file_with_a_request(rt: HostRuntime) -> Result<(), Fail> {
     let alloc = rt.alloc();
-    let append = FilestoreRequest {
-        action: Action::AppendFile,
-        first: Vec::from_slice(alloc, b"a")?,
-        second: Some(Vec::from_slice(alloc, b"a")?),
-    };
+    let append = FilestoreRequest::new(alloc, Action::AppendFile, b"a", Some(b"a"))?;
     let mut delivered = metadata(alloc, 120, b"a")?;
     delivered.requests.push(append)?;
     let want = Pdu::Metadata(header(6), delivered);

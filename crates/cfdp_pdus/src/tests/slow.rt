@@ -33,9 +33,13 @@ fn counted(
     let end = start.wrapping_add(usize::from(octet(octets, at, fault)?));
     let mut value = Vec::new(alloc);
     for place in start..end {
-        value.push(octet(octets, place, fault)?)?;
+        push(&mut value, octet(octets, place, fault)?)?;
     }
     Ok((value, end))
+}
+
+fn push<T: Drop>(items: &mut Vec<T>, item: T) -> Result<(), PduFault> {
+    items.push(item).map_err(|_| PduFault::Memory)
 }
 
 fn request(alloc: Global, value: &[u8]) -> Result<FilestoreRequest, PduFault> {
@@ -45,25 +49,10 @@ fn request(alloc: Global, value: &[u8]) -> Result<FilestoreRequest, PduFault> {
     let (first, at) = counted(alloc, value, 1, fault)?;
     let (request, end) = if action.has_second() {
         let (second, end) = counted(alloc, value, at, fault)?;
-        let second = Some(second);
-        (
-            FilestoreRequest {
-                action,
-                first,
-                second,
-            },
-            end,
-        )
+        let request = FilestoreRequest::new(alloc, action, &first, Some(&second))?;
+        (request, end)
     } else {
-        let second = None;
-        (
-            FilestoreRequest {
-                action,
-                first,
-                second,
-            },
-            at,
-        )
+        (FilestoreRequest::new(alloc, action, &first, None)?, at)
     };
     if end != value.len() {
         return Err(fault);
@@ -84,25 +73,14 @@ fn response(alloc: Global, value: &[u8]) -> Result<FilestoreResponse, PduFault> 
         if end != value.len() {
             return Err(fault);
         }
-        let second = Some(second);
-        return Ok(FilestoreResponse {
-            status,
-            first,
-            second,
-            message,
-        });
+        let second = Some(second.as_slice());
+        return Ok(FilestoreResponse::new(alloc, status, &first, second, &message)?);
     }
     let (message, end) = counted(alloc, value, at, fault)?;
     if end != value.len() {
         return Err(fault);
     }
-    let second = None;
-    Ok(FilestoreResponse {
-        status,
-        first,
-        second,
-        message,
-    })
+    Ok(FilestoreResponse::new(alloc, status, &first, None, &message)?)
 }
 
 // What the TLV fields from a place on say.
@@ -127,10 +105,10 @@ fn options(alloc: Global, field: &[u8], start: usize, directive: u8) -> Result<P
         let kind = octet(field, at, PduFault::BadTlv)?;
         let (value, next) = counted(alloc, field, at.wrapping_add(1), PduFault::BadTlv)?;
         if directive == 7 && kind == 0 {
-            parts.requests.push(request(alloc, &value)?)?;
+            push(&mut parts.requests, request(alloc, &value)?)?;
         }
         if directive == 5 && kind == 1 {
-            parts.responses.push(response(alloc, &value)?)?;
+            push(&mut parts.responses, response(alloc, &value)?)?;
         }
         if directive == 5 && kind == 6 {
             if value.is_empty() || value.len() > 8 {
@@ -238,7 +216,7 @@ fn file_data(
     let offset = number(field, at, size_len, fault)?;
     let mut octets = Vec::new(alloc);
     for place in at.wrapping_add(size_len)..field.len() {
-        octets.push(octet(field, place, fault)?)?;
+        push(&mut octets, octet(field, place, fault)?)?;
     }
     Ok(Pdu::FileData(header, FileData { offset, octets }))
 }
@@ -285,7 +263,7 @@ pub fn read(alloc: Global, octets: &[u8]) -> Result<Pdu, PduFault> {
     }
     let mut field = Vec::new(alloc);
     for place in field_at..end {
-        field.push(octet(octets, place, cut)?)?;
+        push(&mut field, octet(octets, place, cut)?)?;
     }
     if first & 0x10 != 0 {
         return file_data(alloc, header, fourth & 0x08 != 0, &field);

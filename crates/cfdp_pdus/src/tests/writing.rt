@@ -1,6 +1,6 @@
 //! What is written, beside the worked examples.
 
-ghost use Rattle.std.specs.Prelude.{◌≡◌, ◌<◌, ◌^◌, IfSome};
+ghost use Rattle.std.specs.Prelude.{◌≡◌, ◌<◌, ◌^◌, IfSome, true};
 ghost use Rattle.cfdp_pdus.specs.Canonical.{IsHeader};
 
 use super::octets;
@@ -29,48 +29,25 @@ fn header(number: u8, toward_sender: bool) -> Header
 }
 
 fn create(alloc: Global, first: &[u8]) -> Result<FilestoreRequest, AllocError> {
-    Ok(FilestoreRequest {
-        action: Action::CreateFile,
-        first: Vec::from_slice(alloc, first)?,
-        second: None,
-    })
+    FilestoreRequest::new(alloc, Action::CreateFile, first, None)
 }
 
 fn delete(alloc: Global, first: &[u8]) -> Result<FilestoreRequest, AllocError> {
-    Ok(FilestoreRequest {
-        action: Action::DeleteFile,
-        first: Vec::from_slice(alloc, first)?,
-        second: None,
-    })
+    FilestoreRequest::new(alloc, Action::DeleteFile, first, None)
 }
 
-fn rename(alloc: Global, first: Vec<u8>, second: Vec<u8>) -> FilestoreRequest {
-    let _alloc = alloc;
-    FilestoreRequest {
-        action: Action::RenameFile,
-        first,
-        second: Some(second),
-    }
+fn rename(alloc: Global, first: &[u8], second: &[u8]) -> Result<FilestoreRequest, AllocError> {
+    FilestoreRequest::new(alloc, Action::RenameFile, first, Some(second))
 }
 
 // A response about a file that is made, or is to be.
 fn created(alloc: Global, done: bool, first: &[u8]) -> Result<FilestoreResponse, AllocError> {
-    let first = Vec::from_slice(alloc, first)?;
-    let message = Vec::new(alloc);
-    if done {
-        return Ok(FilestoreResponse {
-            status: Status::Successful(Action::CreateFile),
-            first,
-            second: None,
-            message,
-        });
-    }
-    Ok(FilestoreResponse {
-        status: Status::NotPerformed(Action::CreateFile),
-        first,
-        second: None,
-        message,
-    })
+    let request = create(alloc, first)?;
+    Ok(request.into_response(if done {
+        Status::Successful(Action::CreateFile)
+    } else {
+        Status::NotPerformed(Action::CreateFile)
+    }))
 }
 
 // The destination, where there is a fault.
@@ -126,18 +103,10 @@ fn finished_of_one(rt: HostRuntime) -> Result<(), Fail> {
 #[test]
 fn finished_of_a_refusal(rt: HostRuntime) -> Result<(), Fail> {
     let alloc = rt.alloc();
-    let renamed = FilestoreResponse {
-        status: Status::NotPerformed(Action::RenameFile),
-        first: Vec::from_slice(alloc, b"a")?,
-        second: Some(Vec::from_slice(alloc, b"b")?),
-        message: Vec::new(alloc),
-    };
-    let deleted = FilestoreResponse {
-        status: Status::NotPerformed(Action::DeleteFile),
-        first: Vec::from_slice(alloc, b"a")?,
-        second: None,
-        message: Vec::new(alloc),
-    };
+    let not_renamed = Status::NotPerformed(Action::RenameFile);
+    let renamed = rename(alloc, b"a", b"b")?.into_response(not_renamed);
+    let not_deleted = Status::NotPerformed(Action::DeleteFile);
+    let deleted = delete(alloc, b"a")?.into_response(not_deleted);
     let responses = Vec::from_array(alloc, [created(alloc, false, b"a")?, renamed, deleted])?;
     let want = "2c0019000107020547 01040f016100 01062f0161016200 01041f016100 060102";
     tells(&rt, alloc, 7, 4, responses, want)
@@ -244,8 +213,7 @@ fn ends(
 
 // A list that makes, renames and deletes.
 fn asks_for_three(rt: &impl Abort, alloc: Global) -> Result<(), Fail> {
-    let first = Vec::from_slice(alloc, b"a")?;
-    let second = rename(alloc, first, Vec::from_slice(alloc, b"b")?);
+    let second = rename(alloc, b"a", b"b")?;
     let requests = Vec::from_array(alloc, [create(alloc, b"a")?, second, delete(alloc, b"a")?])?;
     let want = "24001900010702 0740 00000000 0000 0003000161 00052001610162 0003100161";
     asks(rt, alloc, 7, requests, want)
@@ -344,7 +312,7 @@ fn longest_request(rt: HostRuntime) -> Result<(), Fail> {
     for len in [126usize, 127] {
         let first = vec![in alloc; b'p'; 125]?;
         let second = vec![in alloc; b'r'; len]?;
-        let requests = Vec::from_array(alloc, [rename(alloc, first, second)])?;
+        let requests = Vec::from_array(alloc, [rename(alloc, &first, &second)?])?;
         let metadata = Metadata {
             closure: true,
             checksum_type: 0,
@@ -362,5 +330,90 @@ fn longest_request(rt: HostRuntime) -> Result<(), Fail> {
             assert!(rt; read == Ok(Pdu::Metadata(header(5, false), metadata)));
         }
     }
+    Ok(())
+}
+
+// The same header with the large file flag.
+fn large_header() -> Header
+    ensures valid { IsHeader result }
+    ensures one_octet { result.id_len ≡ 1 }
+    ensures large { result.large ≡ true }
+{
+    Header {
+        large: true,
+        ..header(5, false)
+    }
+}
+
+// 64 requests behind names of 255 octets.
+#[test]
+fn many_requests(rt: HostRuntime) -> Result<(), Fail> {
+    let alloc = rt.alloc();
+    let name = vec![in alloc; b'p'; 255usize]?;
+    let mut requests = Vec::new(alloc);
+    for _ in 0..64 {
+        requests.push(rename(alloc, &name[..125], &name[..126])?)?;
+    }
+    let metadata = Metadata {
+        closure: true,
+        checksum_type: 15,
+        size: u64::MAX,
+        source_name: Vec::from_slice(alloc, &name)?,
+        destination_name: Vec::from_slice(alloc, &name)?,
+        requests,
+    };
+    let mut out = Vec::new(alloc);
+    write_metadata(&large_header(), &metadata, &mut out)?;
+    assert_eq!(rt; out.len(), 16_913);
+    assert!(rt; read_pdu(alloc, &out)? == Pdu::Metadata(large_header(), metadata));
+    Ok(())
+}
+
+// 64 responses, each with a message of 200 octets.
+#[test]
+fn many_responses(rt: HostRuntime) -> Result<(), Fail> {
+    let alloc = rt.alloc();
+    let message = vec![in alloc; b'm'; 200usize]?;
+    let status = Status::NotPerformed(Action::RenameFile);
+    let mut responses = Vec::new(alloc);
+    for _ in 0..64 {
+        let response = FilestoreResponse::new(alloc, status, b"a", Some(b"b"), &message)?;
+        responses.push(response)?;
+    }
+    let finished = Finished {
+        condition: 15,
+        incomplete: true,
+        file_status: 3,
+        responses,
+        fault: Some(2),
+    };
+    let mut out = Vec::new(alloc);
+    write_finished(&large_header(), &finished, &mut out)?;
+    assert_eq!(rt; out.len(), 13_324);
+    assert!(rt; read_pdu(alloc, &out)? == Pdu::Finished(large_header(), finished));
+    Ok(())
+}
+
+// A data field of 65,535 octets, and an EOF PDU of the greatest size.
+#[test]
+fn longest_file_data(rt: HostRuntime) -> Result<(), Fail> {
+    let alloc = rt.alloc();
+    let file_data = FileData {
+        offset: u64::MAX,
+        octets: vec![in alloc; b'o'; 65_527usize]?,
+    };
+    let mut out = Vec::new(alloc);
+    write_file_data(&large_header(), &file_data, &mut out)?;
+    assert_eq!(rt; out.len(), 65_542);
+    assert!(rt; read_pdu(alloc, &out)? == Pdu::FileData(large_header(), file_data));
+    let eof = Eof {
+        condition: 15,
+        checksum: u32::MAX,
+        size: u64::MAX,
+    };
+    let mut out = Vec::new(alloc);
+    write_eof(&large_header(), &eof, &mut out)?;
+    assert_eq!(rt; out.len(), 24);
+    assert!(rt; read_pdu(alloc, &out)? == Pdu::Eof(large_header(), eof));
     Ok(())
 }

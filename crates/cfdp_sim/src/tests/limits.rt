@@ -39,7 +39,10 @@ impl ScriptIn for Endless {
     ghost failed = { λ s. false };
 
     fn read(&mut self, buffer: &mut [u8]) -> Result<usize, Failed> {
-        buffer.fill(b'#');
+        // What an earlier call left there serves again.
+        if buffer.first() != Some(&b'\n') {
+            buffer.fill(b'#');
+        }
         if let Some(first) = buffer.first_mut() {
             *first = b'\n';
         }

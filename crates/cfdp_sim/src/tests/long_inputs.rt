@@ -1,12 +1,14 @@
 //! Inputs as long as the input limit and longer, with a bad line within the limit or behind it.
 use super::fakes::Writer;
 use crate::{Failed, RunFault, ScriptIn, plain};
+use std::alloc::Global;
+use std::process::Abort;
 
 /// The input limit, in octets.
 const LIMIT: usize = 268_435_456;
 
 /// The most octets of a comment line, its newline among them.
-const COMMENT: usize = 4096;
+const COMMENT: usize = 65_536;
 
 /// Comment lines of so many octets in all, then a bad line, and behind it comment lines of so many octets.
 #[derive(Drop)]
@@ -35,7 +37,10 @@ impl<'a> ScriptIn for Comments<'a> {
         let left = if is_behind { self.behind } else { self.before };
         let count = buffer.len().min(COMMENT).min(left);
         let line = &mut buffer[..count];
-        line.fill(b'#');
+        // What an earlier call left there serves again.
+        if line.first() != Some(&b'#') || line.last() != Some(&b'\n') {
+            line.fill(b'#');
+        }
         if let Some(last) = line.last_mut() {
             *last = b'\n';
         }
@@ -52,40 +57,59 @@ impl<'a> ScriptIn for Comments<'a> {
     }
 }
 
-/// Of an input longer than the limit, a bad line is told that ends within the limit, and no other.
-#[test]
-fn bad_lines(rt: HostRuntime) {
-    let cases = [
-        (0, RunFault::BadLine(1)),
-        (LIMIT - 2, RunFault::BadLine(65_537)),
-        (LIMIT - 1, RunFault::Read),
-        (LIMIT, RunFault::Read),
-    ];
-    for (before, fault) in cases {
-        let mut reader = Comments {
-            before,
-            bad: b"0\n",
-            behind: LIMIT,
-        };
-        let mut writer = Writer::new(rt.alloc(), 1, None);
-        let end = plain(rt.alloc(), &mut reader, &mut writer);
-        assert_eq!(rt; end, Err(fault), "a bad line after {before} octets");
-        assert!(rt; writer.text.is_empty());
-    }
+/// A bad line after comment lines of so many octets, with as many behind as the limit, ends so; nothing is written.
+fn bad_line(rt: &impl Abort, alloc: Global, before: usize, fault: RunFault) {
+    let mut reader = Comments {
+        before,
+        bad: b"0\n",
+        behind: LIMIT,
+    };
+    let mut writer = Writer::new(alloc, 1, None);
+    let end = plain(alloc, &mut reader, &mut writer);
+    assert_eq!(rt; end, Err(fault), "a bad line after {before} octets");
+    assert!(rt; writer.text.is_empty());
 }
 
-/// An input of as many octets as the limit is taken, and none of one octet more.
+/// Of an input longer than the limit, a bad line is told that ends within the limit ..
 #[test]
-fn ends(rt: HostRuntime) {
-    for (octets, end) in [(LIMIT, Ok(())), (LIMIT + 1, Err(RunFault::Read))] {
-        let mut reader = Comments {
-            before: 0,
-            bad: b"",
-            behind: octets,
-        };
-        let mut writer = Writer::new(rt.alloc(), 1, None);
-        let found = plain(rt.alloc(), &mut reader, &mut writer);
-        assert_eq!(rt; found, end, "{octets} octets");
-        assert!(rt; writer.text.is_empty());
-    }
+fn bad_lines_within(rt: HostRuntime) {
+    bad_line(&rt, rt.alloc(), 0, RunFault::BadLine(1));
+    bad_line(&rt, rt.alloc(), LIMIT - 2, RunFault::BadLine(4097));
+}
+
+/// .. and none that ends behind it ..
+#[test]
+fn bad_line_across(rt: HostRuntime) {
+    bad_line(&rt, rt.alloc(), LIMIT - 1, RunFault::Read);
+}
+
+/// .. or begins there.
+#[test]
+fn bad_line_behind(rt: HostRuntime) {
+    bad_line(&rt, rt.alloc(), LIMIT, RunFault::Read);
+}
+
+/// An input of so many octets in comment lines ends so; nothing is written.
+fn ends(rt: &impl Abort, alloc: Global, octets: usize, end: Result<(), RunFault>) {
+    let mut reader = Comments {
+        before: 0,
+        bad: b"",
+        behind: octets,
+    };
+    let mut writer = Writer::new(alloc, 1, None);
+    let found = plain(alloc, &mut reader, &mut writer);
+    assert_eq!(rt; found, end, "{octets} octets");
+    assert!(rt; writer.text.is_empty());
+}
+
+/// An input of as many octets as the limit is taken ..
+#[test]
+fn ends_at_the_limit(rt: HostRuntime) {
+    ends(&rt, rt.alloc(), LIMIT, Ok(()));
+}
+
+/// .. and none of one octet more.
+#[test]
+fn ends_behind_the_limit(rt: HostRuntime) {
+    ends(&rt, rt.alloc(), LIMIT + 1, Err(RunFault::Read));
 }

@@ -19,7 +19,7 @@ unwrap-request-requires c =
     let good = rest_is_ok c.args.count c.fields.requests.items (requests_of (fields_at c.fields.rest.now)) (requests_of (fields_at c.args.octets.now)) c.fields.invariant.copied c.requires in
     let field = c.unwrap-field.result in
     let read = rw c.unwrap-field.ensures at c.read_tlv.ensures.exact in
-    rw c.read_asked.ensures (next_request c.fields.rest.now field.kind field.value.now field.rest.now read c.if-field-eq-FILESTORE_REQUEST.true good)
+    rw c.read_request_parts.ensures (next_request c.fields.rest.now field.kind field.value.now field.rest.now read c.if-field-eq-FILESTORE_REQUEST.true good)
 
 pub push_reserved-requires : goal.push_reserved-requires
 push_reserved-requires c =
@@ -28,7 +28,7 @@ push_reserved-requires c =
     let read = rw c.unwrap-field.ensures at c.read_tlv.ensures.exact in
     let front = c.fields.requests.items in
     let request = c.unwrap-request.result in
-    let here = asks rest field.kind field.value.now field.rest.now request read c.if-field-eq-FILESTORE_REQUEST.true (sym c.read_asked.ensures ∙ c.unwrap-request.ensures) in
+    let here = asks rest field.kind field.value.now field.rest.now request read c.if-field-eq-FILESTORE_REQUEST.true (sym c.read_request_parts.ensures ∙ c.unwrap-request.ensures) in
     let so_far = join_next front request (requests_of (fields_at rest)) (requests_of (fields_at field.rest.now)) (requests_of (fields_at c.args.octets.now)) here c.fields.invariant.copied in
     omega (arith, c.fields.invariant.len, c.fields.invariant.room, has_room c.args.count front request (requests_of (fields_at field.rest.now)) (requests_of (fields_at c.args.octets.now)) so_far c.requires)
 
@@ -42,7 +42,7 @@ fields-preserved c =
     elim c.if-field-eq-FILESTORE_REQUEST.branch [
       | then-field-eq-FILESTORE_REQUEST+in_ok-copy w ↦
           let request = w.unwrap-request.result in
-          let here = asks rest field.kind field.value.now field.rest.now request read w.if-field-eq-FILESTORE_REQUEST.true (sym w.read_asked.ensures ∙ w.unwrap-request.ensures) in
+          let here = asks rest field.kind field.value.now field.rest.now request read w.if-field-eq-FILESTORE_REQUEST.true (sym w.read_request_parts.ensures ∙ w.unwrap-request.ensures) in
           let so_far = join_next front request (requests_of (fields_at rest)) (requests_of (fields_at field.rest.now)) (requests_of (fields_at c.args.octets.now)) here c.fields.invariant.copied in
           let now = c.if-field-eq-FILESTORE_REQUEST.requests in
           let pushed : now.items ≡ front ++ request ∷ [] = rw w.requests-is (w.push_reserved.ensures.items ∙ ap (λ x. front ++ x ∷ []) w.in_ok-copy.ensures) in

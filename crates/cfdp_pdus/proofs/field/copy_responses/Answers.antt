@@ -21,7 +21,7 @@ unwrap-response-requires c =
     let good = first_is_ok (outcome_of (fields_at c.fields.rest.now)) (λ others. Ok others.0) (rest_is_ok c.args.count c.fields.responses.items (responses_of (fields_at c.fields.rest.now)) (responses_of (fields_at c.args.octets.now)) c.fields.invariant.copied c.requires) in
     let field = c.unwrap-field.result in
     let read = rw c.unwrap-field.ensures at c.read_tlv.ensures.exact in
-    rw c.read_told.ensures (next_response c.fields.rest.now field.kind field.value.now field.rest.now read c.if-field-eq-FILESTORE_RESPONSE.true good)
+    rw c.read_response_parts.ensures (next_response c.fields.rest.now field.kind field.value.now field.rest.now read c.if-field-eq-FILESTORE_RESPONSE.true good)
 
 pub push_reserved-requires : goal.push_reserved-requires
 push_reserved-requires c =
@@ -30,7 +30,7 @@ push_reserved-requires c =
     let read = rw c.unwrap-field.ensures at c.read_tlv.ensures.exact in
     let front = c.fields.responses.items in
     let response = c.unwrap-response.result in
-    let here = copies rest field.kind field.value.now field.rest.now response read c.if-field-eq-FILESTORE_RESPONSE.true (sym c.read_told.ensures ∙ c.unwrap-response.ensures) in
+    let here = copies rest field.kind field.value.now field.rest.now response read c.if-field-eq-FILESTORE_RESPONSE.true (sym c.read_response_parts.ensures ∙ c.unwrap-response.ensures) in
     let so_far = join_next front response (responses_of (fields_at rest)) (responses_of (fields_at field.rest.now)) (responses_of (fields_at c.args.octets.now)) here c.fields.invariant.copied in
     omega (arith, c.fields.invariant.len, c.fields.invariant.room, has_room c.args.count front response (responses_of (fields_at field.rest.now)) (responses_of (fields_at c.args.octets.now)) so_far c.requires)
 
@@ -44,7 +44,7 @@ fields-preserved c =
     elim c.if-field-eq-FILESTORE_RESPONSE.branch [
       | then-field-eq-FILESTORE_RESPONSE+in_ok-copy w ↦
           let response = w.unwrap-response.result in
-          let here = copies rest field.kind field.value.now field.rest.now response read w.if-field-eq-FILESTORE_RESPONSE.true (sym w.read_told.ensures ∙ w.unwrap-response.ensures) in
+          let here = copies rest field.kind field.value.now field.rest.now response read w.if-field-eq-FILESTORE_RESPONSE.true (sym w.read_response_parts.ensures ∙ w.unwrap-response.ensures) in
           let so_far = join_next front response (responses_of (fields_at rest)) (responses_of (fields_at field.rest.now)) (responses_of (fields_at c.args.octets.now)) here c.fields.invariant.copied in
           let now = c.if-field-eq-FILESTORE_RESPONSE.responses in
           let pushed : now.items ≡ front ++ response ∷ [] = rw w.responses-is (w.push_reserved.ensures.items ∙ ap (λ x. front ++ x ∷ []) w.in_ok-copy.ensures) in

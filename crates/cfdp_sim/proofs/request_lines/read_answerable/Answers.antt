@@ -15,4 +15,4 @@ returns-in-Ok-copy-clause-names c =
     (names-length c.args.value.now c.in-Ok.parts (request_takes c.args.value.now c.in-Ok.parts (sym c.request_parts.ensures.exact ∙ c.in-Ok.is)))
 
 pub returns-in-Ok-copy-clause-short : goal.returns-in-Ok-copy-clause-short
-returns-in-Ok-copy-clause-short c = let e = returns-in-Ok-copy-clause-names c in omega (arith, e, c.if-value-gt-LONGEST_VALUE.false)
+returns-in-Ok-copy-clause-short c = let e = returns-in-Ok-copy-clause-names c in omega (arith, e, c.if-value-gt-MAX_ANSWERABLE_LEN.false)

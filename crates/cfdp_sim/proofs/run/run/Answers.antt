@@ -75,4 +75,11 @@ pieces-preserved g c = (
   omega (arith, c.in-Ok.ensures.count, c.in_ok-feed.ensures.number),
   search rules,
   search rules,
+  c.in_ok-feed.ensures.empty,
 )
+
+pub finish-requires : goal.finish-requires
+finish-requires g c = c.pieces.invariant.4
+
+pub feed-requires-clause-empty : goal.feed-requires-clause-empty
+feed-requires-clause-empty g c = c.pieces.invariant.4

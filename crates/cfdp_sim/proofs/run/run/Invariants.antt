@@ -1,4 +1,4 @@
-use Rattle.std.proofs.Common.{◌≡◌, ◌≤◌, ◌+◌}
+use Rattle.std.proofs.Common.{◌≡◌, ◌≤◌, ◌+◌, []}
 use Rattle.cfdp_sim.specs.Session.{place}
 use Rattle.cfdp_sim.specs.Lines.{input_limit}
 use Rattle.cfdp_sim.proofs.Running.{Running}
@@ -16,6 +16,7 @@ invariant-pieces g l =
     × (l.session.number + l.left ≤ input_limit + 1)
     × (g.R.ScriptIn.failed l.reader ≡ g.R.ScriptIn.failed l.initial.reader)
     × (g.W.ScriptOut.failed l.writer ≡ g.W.ScriptOut.failed l.initial.writer)
+    × (l.session.text.items ≡ [])
 
 abbrev pub decreases-pieces : goal.decreases-pieces
 decreases-pieces g l = l.left

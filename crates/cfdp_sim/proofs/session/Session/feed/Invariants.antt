@@ -1,14 +1,18 @@
-use Rattle.std.proofs.Common.{◌≡◌, ◌≤◌, ◌+◌, take}
-use Rattle.cfdp_sim.specs.Session.{place, Runs}
+use Rattle.std.proofs.Common.{◌≡◌, ◌≤◌, ◌+◌, length}
+use Rattle.cfdp_sim.specs.Places.{place_of}
+use Rattle.cfdp_sim.proofs.Feeding.{Fed}
 use Rattle.cfdp_sim.proofs.session.Session.feed.Given as goal
 
-abbrev pub invariant-octets : goal.invariant-octets
-invariant-octets g l =
-    Runs g.S.Script.answer
-    (place l.initial.self.number (g.S.Script.state l.initial.self.script) l.initial.self.line.items)
-    (place l.self.number (g.S.Script.state l.self.script) l.self.line.items)
-    (take l.octet-index l.octets)
+abbrev pub invariant-lines : goal.invariant-lines
+invariant-lines g l =
+    Fed g.S.Script.State g.S.Script.answer
+    (place_of g.S.Script.state l.initial.self)
+    (place_of g.S.Script.state l.self)
+    l.octets l.rest l.self.text.items
     (g.W.ScriptOut.contents l.initial.writer)
     (g.W.ScriptOut.contents l.writer)
-    × (l.self.number ≤ l.initial.self.number + l.octet-index)
+    × (l.self.number + length l.rest ≤ l.initial.self.number + length l.octets)
     × (g.W.ScriptOut.failed l.writer ≡ g.W.ScriptOut.failed l.initial.writer)
+
+abbrev pub decreases-lines : goal.decreases-lines
+decreases-lines g l = length l.rest
