@@ -4,7 +4,7 @@ ghost use Rattle.std.proofs.Common.{rules};
 ghost use Rattle.std.specs.Cmp.Rules.{comparing};
 ghost use Rattle.std.specs.Cmp.{partial_order_from_own_ties};
 ghost use Rattle.std.specs.Ordering.{as_partial_cmp};
-ghost use Rattle.std.specs.Prelude.{◌≡◌, ◌≢◌, ◌+◌, ◌≤◌, ◌↔◌, ◌⊎◌, List, [], length, IsTrue, IsOk, IfOk, IfErr, MatchResult};
+ghost use Rattle.std.specs.Prelude.{◌≡◌, ◌≢◌, ◌+◌, ◌≤◌, ◌↔◌, ◌⊎◌, List, [], length, take, IsTrue, IsOk, IfOk, IfErr, MatchResult};
 ghost use Rattle.cfdp_paths.specs.Faults.{fault_of};
 ghost use Rattle.cfdp_paths.specs.Paths.{Name, IsPath, Spells, ancestors, is_at_or_below, is_below, joined, names_of, parent, path_cmp, path_of, rebased, same_path, unless_root};
 
@@ -113,6 +113,28 @@ impl Path {
         ensures { IsTrue result ↔ (parent self.now ≡ []) }
     {
         self.depth() == 1
+    }
+
+    /// How this path stands to the path of the first `depth` names of `other`. Takes no memory.
+    pub fn cmp_beginning(&self, other: &Path, depth: usize) -> Ordering
+        requires { depth ≤ length other.now }
+        ensures { result ≡ path_cmp self.now (take depth other.now) }
+    {
+        self.names.as_slice().cmp(&&other.names[..depth])
+    }
+
+    /// The path of this path's first `depth` names.
+    ///
+    /// # Errors
+    ///
+    /// [`Memory`] where there was none for the copy: an allocation for each of its names, and one more.
+    pub fn beginning(&self, alloc: Global, depth: usize) -> Result<Path, Memory>
+        requires some { 1 ≤ depth }
+        requires within { depth ≤ length self.now }
+        ensures { IfOk result (λ path. path ≡ take depth self.now) }
+    {
+        let names = copy_names(alloc, &self.names[..depth])?;
+        Ok(Path { names })
     }
 
     /// This path without its last name, or `None` where that is the root, which takes no memory.

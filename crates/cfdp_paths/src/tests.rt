@@ -5,6 +5,7 @@ mod refused;
 use crate::parsing::split_names;
 use crate::{LONGEST_NAME, Memory, Path, PathFault};
 use std::alloc::Global;
+use std::cmp::Ordering;
 use std::collections::BTreeMap;
 use std::test::Fail;
 
@@ -194,6 +195,22 @@ fn one_path_beside_another(rt: HostRuntime) -> Result<(), Fail> {
     assert!(rt; !d.is_at_or_below(&x) && !other.is_at_or_below(&d) && !y.is_below(&y));
     assert!(rt; x.is_child_of(&d) && y.is_child_of(&x) && !y.is_child_of(&d) && !x.is_child_of(&x));
     assert!(rt; d.has_root_parent() && other.has_root_parent() && !x.has_root_parent());
+    Ok(())
+}
+
+#[test]
+fn beginnings(rt: HostRuntime) -> Result<(), Fail> {
+    let alloc = rt.alloc();
+    let path = Path::parse(alloc, b"d/x/y")?;
+    let d = Path::parse(alloc, b"d")?;
+    let e = Path::parse(alloc, b"e")?;
+    assert_eq!(rt; path.depth(), 3);
+    assert_eq!(rt; path.beginning(alloc, 1)?, d);
+    assert_eq!(rt; path.beginning(alloc, 3)?, path);
+    assert_eq!(rt; d.cmp_beginning(&path, 0), Ordering::Greater);
+    assert_eq!(rt; d.cmp_beginning(&path, 1), Ordering::Equal);
+    assert_eq!(rt; d.cmp_beginning(&path, 2), Ordering::Less);
+    assert_eq!(rt; e.cmp_beginning(&path, 3), Ordering::Greater);
     Ok(())
 }
 

@@ -90,6 +90,16 @@ fn copy(rt: HostRuntime) -> Result<(), Fail> {
 }
 
 #[test]
+fn beginning(rt: HostRuntime) -> Result<(), Fail> {
+    let path = parsed(&rt, rt.alloc(), b"d/x/y/z")?;
+    assert_eq!(rt; path.depth(), 4);
+    let answer = answered(&rt, "beginning", || path.beginning(rt.alloc(), 2))?;
+    assert!(rt; has_names(&answer, b"d/x"), "{answer:?}");
+    assert!(rt; has_names(&path, b"d/x/y/z"), "{path:?}");
+    Ok(())
+}
+
+#[test]
 fn text(rt: HostRuntime) -> Result<(), Fail> {
     for octets in PATHS {
         let path = parsed(&rt, rt.alloc(), octets)?;
