@@ -3,4 +3,4 @@ pub mod Below
 pub mod Spelling
 pub mod Faulty
 pub mod Scanning
-pub mod Vectors
+pub mod Separators
