@@ -1,13 +1,11 @@
 -- Comparisons of paths.
 --     same_name-Decides, same_path-Decides      the tests tell whether two names, or two paths, are equal
-use Rattle.std.proofs.Common.{◌≡◌, refl, sym, ◌∙◌, ap, ℕ, Bool, ◌&&◌, nat_eq, List, [], ◌∷◌, map, Vec, subst}
-use Rattle.std.specs.declared.alloc.Global.{Global}
+use Rattle.std.proofs.Common.{◌≡◌, ◌∙◌, ap, Bool, nat_eq, subst}
 use Rattle.std.specs.Bool.{Decides}
 use Rattle.std.specs.Cmp.{IsTotalOrder}
 use Rattle.std.specs.Cmp.Lexicographic.{slice_cmp, pointwise, lists_ties, pointwise_decides, bytes_decides, texts_ties, lists_total, nat_list_cmp_total}
-use Rattle.std.specs.Ordering.{ordering_then, on, nat_cmp}
-use Rattle.std.specs.declared.cmp.Ordering.{Ordering}
-use Rattle.cfdp_paths.specs.Paths.{Name, Path, names_of, path_cmp, same_name, same_path}
+use Rattle.std.specs.Ordering.{nat_cmp}
+use Rattle.cfdp_paths.specs.Paths.{Name, Path, path_cmp, same_name, same_path}
 
 pub paths_ties : (p q : Path) → pointwise (pointwise nat_eq) p q ≡ same_path p q
 paths_ties = lists_ties (slice_cmp nat_cmp) texts_ties

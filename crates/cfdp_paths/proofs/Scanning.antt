@@ -1,13 +1,11 @@
 -- A loop over the names between the `/`: which are still to come.
-use Rattle.std.proofs.Common.{◌≡◌, ◌≢◌, refl, sym, ◌∙◌, ap, ℕ, zero, suc, ◌-◌, ◌==◌, List, [], ◌∷◌, ◌++◌, length, Option, Some, None, Bor, Vec, arith}
-use Rattle.std.specs.declared.alloc.Global.{Global}
+use Rattle.std.proofs.Common.{◌≡◌, ◌≢◌, refl, sym, ◌∙◌, ap, ℕ, zero, suc, ◌-◌, ◌==◌, List, [], ◌∷◌, length, Option, Some, None, Bor, arith}
 use Rattle.std.proofs.lemmas.Bool.{cond-false, ne_eqb}
 use Rattle.std.proofs.lemmas.Iterator.{YieldsList}
-use Rattle.std.proofs.lemmas.List.{append_assoc, append-nil, map-append}
 use Rattle.cfdp_paths.specs.declared.fault.PathFault.{PathFault}
 use Rattle.cfdp_paths.specs.declared.fault.PathFault.TheVariants.{Empty, TooDeep}
 use Rattle.cfdp_paths.specs.Faults.{fault_of_name, or_else, first_fault, fault_of}
-use Rattle.cfdp_paths.specs.Paths.{Name, Path, names_of, without_slash, names_in}
+use Rattle.cfdp_paths.specs.Paths.{Name, without_slash, names_in}
 
 -- the names still to come have the first fault of the octets
 pub record ToScan {S : Type 0} (steps : S → Option (Bor Name) → S → Type 0) (s : S) (octets : List ℕ) (room : ℕ) : Type 0 where

@@ -1,4 +1,4 @@
-use Rattle.std.proofs.Common.{◌≡◌, ◌==◌, sym, ◌∙◌, ap, cond, get_or, set}
+use Rattle.std.proofs.Common.{◌==◌, sym, cond, get_or}
 use Rattle.std.proofs.lemmas.Bool.{cond-true, cond-false, eq-eqb, ne_eqb}
 use Rattle.cfdp_paths.proofs.Separators.{replace_more}
 use Rattle.cfdp_paths.proofs.buffers.replace.Goals as goal

@@ -1,4 +1,4 @@
-use Rattle.std.proofs.Common.{◌≡◌, List, ◌∷◌, [], ◌++◌, take, length, sym, ◌∙◌, ap, arith}
+use Rattle.std.proofs.Common.{List, ◌∷◌, [], ◌++◌, take, sym, ◌∙◌, ap, arith}
 use Rattle.cfdp_paths.specs.Paths.{Path, ancestors}
 use Rattle.cfdp_paths.proofs.Below.{ancestors-take}
 use Rattle.cfdp_paths.proofs.paths.Path.ancestors.Goals as goal

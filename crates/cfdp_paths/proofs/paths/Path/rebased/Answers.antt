@@ -1,4 +1,4 @@
-use Rattle.std.proofs.Common.{◌≡◌, true, length, sym, ◌∙◌, ap, subst, ◌++◌, drop, arith, length-append}
+use Rattle.std.proofs.Common.{◌≡◌, true, length, ◌∙◌, ap, subst, ◌++◌, drop, arith, length-append}
 use Rattle.cfdp_paths.specs.Paths.{names_of, IsPath, is_at_or_below, rebased}
 use Rattle.cfdp_paths.proofs.Below.{IsPath-rebased, length-at_or_below}
 use Rattle.cfdp_paths.proofs.Separators.{behind, rebased-names_of}

@@ -1,4 +1,4 @@
-use Rattle.std.proofs.Common.{sym, ◌∙◌, ap, cond, ◌==◌, map}
+use Rattle.std.proofs.Common.{◌∙◌, ap, cond, ◌==◌, map}
 use Rattle.cfdp_paths.specs.Paths.{joined, slash}
 use Rattle.cfdp_paths.proofs.Separators.{text-names_of}
 use Rattle.cfdp_paths.proofs.paths.Path.text.Goals as goal
