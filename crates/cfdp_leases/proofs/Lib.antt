@@ -5,3 +5,4 @@ pub mod ChangeFrame
 pub mod Rooted
 pub mod Views
 pub mod Apart
+pub mod Ordered

@@ -2,7 +2,8 @@
 -- when a filestore is kept at one. CCSDS 727.0-B-5 §4.9 lets filestore requests of several transactions meet on one
 -- filestore; leasing their paths beforehand is this project's own.
 --     exclusive_in, read_in, shared_in   of one item: the names that it changes;  that it only reads;  these with all proper ancestors
---     PathSet, any_in                    a finite set of paths;  whether one of them passes a test
+--     PathSet, SameSet, any_in           a finite set of paths;  two lists have the same;  whether one of them passes a test
+--     IsInOrder exclusive shared         both lists are in path order, each path once
 --     Footprint, footprint_of            the exclusive and the shared paths;  of a list of items
 --     leased                             both kinds together
 --     is_exclusive, is_shared, is_covered, covers      how a footprint holds a path: at or below an exclusive one, else as a shared one
@@ -11,6 +12,7 @@
 --     Keeps F G fp                       the filestores agree at each covered path
 use Rattle.std.specs.Prelude.{◌≡◌, Bool, if◌then◌else◌, ◌||◌, IsTrue, List, [], ◌∷◌, ◌++◌, Option, Some, None, flat_map, refl}
 use Rattle.std.specs.List.{list_any, AllByRecursion}
+use Rattle.std.specs.List.Sorted.{IsStrictlySortedBy}
 use Rattle.std.specs.Coded.{Coded, code_by, coded×, coded_list, coded_ℕ}
 use Rattle.std.specs.FinSet as set
 use Rattle.cfdp_paths.specs.Paths.{Path, path_cmp, is_at_or_below, ancestors}
@@ -46,12 +48,21 @@ shared_in item = read_in item ++ flat_map ancestors (exclusive_in item ++ read_i
 abbrev pub PathSet : Type 0
 PathSet = set.FinSet path_cmp
 
+-- two lists of the same paths, in whatever order and however often they come
+abbrev pub SameSet : List Path → List Path → Type 0
+SameSet paths others = set.from_list {R = path_cmp} paths ≡ set.from_list others
+
 abbrev pub any_in : PathSet → (Path → Bool) → Bool
 any_in paths test = list_any test (set.items paths)
 
 pub record Footprint : Type 0 where
   pub exclusive : PathSet
   pub shared : PathSet
+
+-- both lists are in path order, each path once
+pub record IsInOrder (exclusive shared : List Path) : Type 0 where
+  pub of_exclusive : IsStrictlySortedBy path_cmp exclusive
+  pub of_shared : IsStrictlySortedBy path_cmp shared
 
 abbrev pub paths_code : Coded PathSet
 paths_code = set.code (coded_list (coded_list coded_ℕ))

@@ -3,8 +3,9 @@
 ghost use Rattle.std.specs.Prelude.{◌≡◌};
 ghost use Rattle.std.specs.List.{list_any};
 ghost use Rattle.std.specs.FinSet as set;
+ghost use Rattle.std.specs.List.Sorted.{IsStrictlySortedBy};
 ghost use Rattle.cfdp_leases.specs.Footprint.{any_in, covers, is_conflict, leased, reaches};
-ghost use Rattle.cfdp_paths.specs.Paths.{is_at_or_below};
+ghost use Rattle.cfdp_paths.specs.Paths.{is_at_or_below, path_cmp};
 
 use crate::lease::Lease;
 use cfdp_paths::Path;
@@ -12,7 +13,7 @@ use std::marker::Model;
 
 /// The paths that a list of filestore requests may change, and those that it relies on.
 ///
-/// Contracts see it as two finite sets of paths: which paths stand in it, and not in what order or how often.
+/// Each stands in it once for each kind. Contracts see it as two finite sets of paths.
 #[derive(Debug, Drop)]
 pub struct Footprint {
     pub(crate) exclusive: Vec<Path>,
@@ -28,22 +29,25 @@ impl Model for Footprint {
     ghost coded = { words.footprint_code };
 
     ghost view = { λ f. record { exclusive = set.from_list f.exclusive.items; shared = set.from_list f.shared.items } };
+
+    ghost invariant = { λ f. words.IsInOrder f.exclusive.items f.shared.items };
 }
 
 impl Footprint {
-    /// The paths that are leased exclusively: those that the requests and the install may change. In no order that is
-    /// promised, and some may come several times. Takes no memory.
+    /// The paths that are leased exclusively, in path order, each once: those that the requests and the install may change.
+    /// Takes no memory.
     pub fn exclusive(&self) -> &[Path]
-        ensures { set.from_list result.now ≡ self.now.exclusive }
+        ensures paths { set.from_list result.now ≡ self.now.exclusive }
+        ensures ordered { IsStrictlySortedBy path_cmp result.now }
     {
         &self.exclusive
     }
 
-    /// The paths that are leased as shared: those that the requests only read, and the proper ancestors of all named
-    /// paths. In no order that is promised, and some may come several times, or be at or below an exclusive path. Takes no
-    /// memory.
+    /// The paths that are leased as shared, in path order, each once: those that the requests only read, and the proper
+    /// ancestors of all named paths. Some may be at or below an exclusive path. Takes no memory.
     pub fn shared(&self) -> &[Path]
-        ensures { set.from_list result.now ≡ self.now.shared }
+        ensures paths { set.from_list result.now ≡ self.now.shared }
+        ensures ordered { IsStrictlySortedBy path_cmp result.now }
     {
         &self.shared
     }

@@ -1,11 +1,14 @@
 //! How the footprint of a list is gathered.
 
-ghost use Rattle.std.specs.Prelude.{◌≡◌, ◌++◌, ◌∷◌, [], OnOk, IfOk, flat_map};
+ghost use Rattle.std.specs.Prelude.{◌≡◌, ◌≤◌, ◌++◌, ◌∷◌, [], IsTrue, OnOk, IfOk, IfErr, flat_map, insert, length, take};
+ghost use Rattle.std.specs.FinSet as set;
+ghost use Rattle.std.specs.List.{list_any};
+ghost use Rattle.std.specs.List.Sorted.{IsStrictlySortedBy};
 ghost use Rattle.std.specs.Option.{option_copied};
-ghost use Rattle.cfdp_paths.specs.Paths.{ancestors};
+ghost use Rattle.cfdp_paths.specs.Paths.{ancestors, path_cmp, same_path};
 ghost use Rattle.cfdp_actions.specs.Actions.{Perform};
-ghost use Rattle.cfdp_leases.specs.Footprint.{exclusive_in, footprint_of, shared_in};
-ghost use Rattle.cfdp_leases.specs.Items.{items_of};
+ghost use Rattle.cfdp_leases.specs.Footprint.{SameSet, exclusive_in, footprint_of, read_in, shared_in};
+ghost use Rattle.cfdp_leases.specs.Items.{install_of, items_of};
 
 use crate::footprints::Footprint;
 use cfdp_actions::Request;
@@ -17,7 +20,8 @@ use std::alloc::Global;
 ///
 /// # Errors
 ///
-/// Want of memory. Cost: a copy of each named path and of each of its proper ancestors.
+/// Want of memory. Cost: for each named path and each of its proper ancestors a binary search among those gathered so
+/// far; each path is copied once, however often it comes.
 pub fn footprint(
     alloc: Global,
     requests: &[Request],
@@ -27,46 +31,127 @@ pub fn footprint(
 {
     let mut exclusive = Vec::new(alloc);
     let mut shared = Vec::new(alloc);
-    if let Some(path) = destination {
-        exclusive.push(path.copy(alloc)?)?;
-        add_ancestors(alloc, &mut shared, path)?;
-    }
+    add_install(alloc, &mut exclusive, &mut shared, destination)?;
     for request in requests {
-        add_request(alloc, &mut exclusive, &mut shared, request)?;
+        add_changed(alloc, &mut exclusive, request)?;
+        add_read(alloc, &mut shared, request)?;
+        add_above(alloc, &mut shared, request)?;
     }
     Ok(Footprint { exclusive, shared })
 }
 
-/// Adds the paths of one request.
-fn add_request(
+/// Adds the paths of the install, where there is one.
+fn add_install(
     alloc: Global,
     exclusive: &mut Vec<Path>,
     shared: &mut Vec<Path>,
-    request: &Request,
+    destination: Option<&Path>,
 ) -> Result<(), Memory>
-    ensures exclusive { OnOk result (exclusive.new.items ≡ exclusive.old.items ++ exclusive_in (Perform request.now)) }
-    ensures shared { OnOk result (shared.new.items ≡ shared.old.items ++ shared_in (Perform request.now)) }
+    requires exclusive_ordered { IsStrictlySortedBy path_cmp exclusive.old.items }
+    requires shared_ordered { IsStrictlySortedBy path_cmp shared.old.items }
+    ensures exclusive_ordered { OnOk result (IsStrictlySortedBy path_cmp exclusive.new.items) }
+    ensures shared_ordered { OnOk result (IsStrictlySortedBy path_cmp shared.new.items) }
+    ensures exclusive { OnOk result (SameSet exclusive.new.items (exclusive.old.items ++ flat_map exclusive_in (install_of (option_copied destination.entry)))) }
+    ensures shared { OnOk result (SameSet shared.new.items (shared.old.items ++ flat_map shared_in (install_of (option_copied destination.entry)))) }
 {
-    let first = request.first();
-    exclusive.push(first.copy(alloc)?)?;
-    match request.second() {
-        None => add_ancestors(alloc, shared, first),
-        Some(second) => {
-            if request.action() == Action::RenameFile {
-                exclusive.push(second.copy(alloc)?)?;
-            } else {
-                shared.push(second.copy(alloc)?)?;
-            }
-            add_ancestors(alloc, shared, first)?;
-            add_ancestors(alloc, shared, second)
+    match destination {
+        None => Ok(()),
+        Some(path) => {
+            add(alloc, exclusive, path)?;
+            add_ancestors(alloc, shared, path)
         }
     }
 }
 
-/// Adds the proper ancestors of a path.
-fn add_ancestors(alloc: Global, shared: &mut Vec<Path>, path: &Path) -> Result<(), Memory>
-    ensures { OnOk result (shared.new.items ≡ shared.old.items ++ ancestors path.now) }
+/// Adds the paths that a request changes.
+fn add_changed(alloc: Global, paths: &mut Vec<Path>, request: &Request) -> Result<(), Memory>
+    requires { IsStrictlySortedBy path_cmp paths.old.items }
+    ensures ordered { OnOk result (IsStrictlySortedBy path_cmp paths.new.items) }
+    ensures added { OnOk result (SameSet paths.new.items (paths.old.items ++ exclusive_in (Perform request.now))) }
 {
-    let mut above = path.ancestors(alloc)?;
-    shared.append(&mut above)
+    add(alloc, paths, request.first())?;
+    match request.second() {
+        Some(second) if request.action() == Action::RenameFile => add(alloc, paths, second),
+        _ => Ok(()),
+    }
+}
+
+/// Adds the path that a request only reads, if any.
+fn add_read(alloc: Global, paths: &mut Vec<Path>, request: &Request) -> Result<(), Memory>
+    requires { IsStrictlySortedBy path_cmp paths.old.items }
+    ensures ordered { OnOk result (IsStrictlySortedBy path_cmp paths.new.items) }
+    ensures added { OnOk result (SameSet paths.new.items (paths.old.items ++ read_in (Perform request.now))) }
+{
+    match request.second() {
+        Some(second) if request.action() != Action::RenameFile => add(alloc, paths, second),
+        _ => Ok(()),
+    }
+}
+
+/// Adds the proper ancestors of the paths that a request names.
+fn add_above(alloc: Global, paths: &mut Vec<Path>, request: &Request) -> Result<(), Memory>
+    requires { IsStrictlySortedBy path_cmp paths.old.items }
+    ensures ordered { OnOk result (IsStrictlySortedBy path_cmp paths.new.items) }
+    ensures added { OnOk result (SameSet paths.new.items (paths.old.items ++ flat_map ancestors (exclusive_in (Perform request.now) ++ read_in (Perform request.now)))) }
+{
+    add_ancestors(alloc, paths, request.first())?;
+    match request.second() {
+        Some(second) => add_ancestors(alloc, paths, second),
+        None => Ok(()),
+    }
+}
+
+/// Adds the proper ancestors of a path.
+fn add_ancestors(alloc: Global, paths: &mut Vec<Path>, path: &Path) -> Result<(), Memory>
+    requires { IsStrictlySortedBy path_cmp paths.old.items }
+    ensures ordered { OnOk result (IsStrictlySortedBy path_cmp paths.new.items) }
+    ensures added { OnOk result (SameSet paths.new.items (paths.old.items ++ ancestors path.now)) }
+{
+    for depth in 1..path.depth() {
+        add_beginning(alloc, paths, path, depth)?;
+    }
+    Ok(())
+}
+
+/// Adds a path.
+fn add(alloc: Global, paths: &mut Vec<Path>, path: &Path) -> Result<(), Memory>
+    requires { IsStrictlySortedBy path_cmp paths.old.items }
+    ensures ordered { OnOk result (IsStrictlySortedBy path_cmp paths.new.items) }
+    ensures added { OnOk result (SameSet paths.new.items (paths.old.items ++ path.now ∷ [])) }
+{
+    add_beginning(alloc, paths, path, path.depth())
+}
+
+/// Adds the path of the first `depth` names of a path; no path is made where it is there.
+fn add_beginning(
+    alloc: Global,
+    paths: &mut Vec<Path>,
+    path: &Path,
+    depth: usize,
+) -> Result<(), Memory>
+    requires ordered { IsStrictlySortedBy path_cmp paths.old.items }
+    requires some { 1 ≤ depth }
+    requires within { depth ≤ length path.now }
+    ensures ordered { OnOk result (IsStrictlySortedBy path_cmp paths.new.items) }
+    ensures added { OnOk result (SameSet paths.new.items (paths.old.items ++ take depth path.now ∷ [])) }
+{
+    match find_beginning(paths, path, depth) {
+        Ok(_) => Ok(()),
+        Err(place) => {
+            let beginning = path.beginning(alloc, depth)?;
+            paths.insert(place, beginning)?;
+            Ok(())
+        }
+    }
+}
+
+/// Where the path of the first `depth` names of a path stands, or else the place where it keeps the order.
+fn find_beginning(paths: &[Path], path: &Path, depth: usize) -> Result<usize, usize>
+    requires ordered { IsStrictlySortedBy path_cmp paths.now }
+    requires within { depth ≤ length path.now }
+    ensures found { IfOk result (λ _. IsTrue (list_any (same_path (take depth path.now)) paths.now)) }
+    ensures place { IfErr result (λ place. place ≤ length paths.now) }
+    ensures gap { IfErr result (λ place. IsStrictlySortedBy path_cmp (insert paths.now place (take depth path.now))) }
+{
+    paths.binary_search_by(|held| held.cmp_beginning(path, depth))
 }

@@ -238,3 +238,58 @@ fn a_refused_grant_changes_nothing(rt: HostRuntime) -> Result<(), Memory> {
         Err(_) => grant_five(&rt, rt.alloc()),
     }
 }
+
+/// A create of a file below seven directories, the same for each number.
+fn deep_create(rt: &impl Abort, alloc: Global, number: u8) -> Result<Request, Memory> {
+    let name = format!(in alloc; "1/2/3/4/5/6/7/{number}")?;
+    let path = path_of(rt, alloc, name.as_bytes())?;
+    Request::new(Action::CreateFile, path, None).ok_or(AllocError)
+}
+
+/// Whether each path stands before the next one.
+fn in_order(paths: &[Path]) -> bool {
+    paths
+        .iter()
+        .zip(paths.iter().skip(1))
+        .all(|(path, next)| path < next)
+}
+
+#[test]
+fn each_path_stands_once(rt: HostRuntime) -> Result<(), Memory> {
+    let alloc = rt.alloc();
+    let mut requests = Vec::with_capacity(alloc, 64)?;
+    for number in 0..64 {
+        requests.push(deep_create(&rt, alloc, number)?)?;
+    }
+    let destination = path_of(&rt, alloc, b"1/2/3/4/5/6/7/8")?;
+    let footprint = footprint(alloc, &requests, Some(&destination))?;
+    assert_eq!(rt; footprint.exclusive().len(), 64);
+    assert_eq!(rt; footprint.shared().len(), 7);
+    assert!(rt; in_order(footprint.exclusive()) && in_order(footprint.shared()));
+    Ok(())
+}
+
+#[test]
+fn sixty_four_grants(rt: HostRuntime) -> Result<(), Memory> {
+    let alloc = rt.alloc();
+    let mut leases = Leases::new(alloc);
+    for number in 0..64u8 {
+        let requests = [deep_create(&rt, alloc, number)?];
+        admit(
+            &rt,
+            &mut leases,
+            u64::from(number),
+            footprint(alloc, &requests, None)?,
+        )?;
+    }
+    let last = [deep_create(&rt, alloc, 63)?];
+    assert_eq!(rt;
+        leases.conflict(&footprint(alloc, &last, None)?),
+        Some(id(63))
+    );
+    let above = footprint_of(&rt, alloc, (Action::RemoveDirectory, b"1/2", b""))?;
+    assert_eq!(rt; leases.conflict(&above), Some(id(0)));
+    leases.release(id(0));
+    assert_eq!(rt; leases.conflict(&above), Some(id(1)));
+    Ok(())
+}

@@ -3,6 +3,6 @@ pub mod Below
 pub mod Spelling
 pub mod Faulty
 pub mod Scanning
-pub mod Vectors
 pub mod InOrder
 pub mod Pieces
+pub mod Separators

@@ -1,25 +1,17 @@
 -- A loop over the names between the `/`: which are still to come.
-use Rattle.std.proofs.Common.{◌≡◌, ◌≢◌, refl, sym, ◌∙◌, ap, ℕ, zero, suc, ◌-◌, ◌==◌, List, [], ◌∷◌, ◌++◌, length, Option, Some, None, Bor, Vec, arith}
-use Rattle.std.specs.declared.alloc.Global.{Global}
+use Rattle.std.proofs.Common.{◌≡◌, ◌≢◌, refl, sym, ◌∙◌, ap, ℕ, zero, suc, ◌-◌, ◌==◌, List, [], ◌∷◌, length, Option, Some, None, Bor, arith}
 use Rattle.std.proofs.lemmas.Bool.{cond-false, ne_eqb}
 use Rattle.std.proofs.lemmas.Iterator.{YieldsList}
-use Rattle.std.proofs.lemmas.List.{append_assoc, append-nil, map-append}
 use Rattle.cfdp_paths.specs.declared.fault.PathFault.{PathFault}
 use Rattle.cfdp_paths.specs.declared.fault.PathFault.TheVariants.{Empty, TooDeep}
 use Rattle.cfdp_paths.specs.Faults.{fault_of_name, or_else, first_fault, fault_of}
-use Rattle.cfdp_paths.specs.Paths.{Name, Path, names_of, without_slash, names_in}
+use Rattle.cfdp_paths.specs.Paths.{Name, without_slash, names_in}
 
 -- the names still to come have the first fault of the octets
 pub record ToScan {S : Type 0} (steps : S → Option (Bor Name) → S → Type 0) (s : S) (octets : List ℕ) (room : ℕ) : Type 0 where
   pub names : List Name
   pub left : YieldsList steps (λ y. y.now) s names
   pub same : first_fault room names ≡ fault_of octets
-
--- the names that were copied, and those still to come, are the names of the octets
-pub record ToCopy {S : Type 0} (steps : S → Option (Bor Name) → S → Type 0) (s : S) (octets : List ℕ) (copied : Path) : Type 0 where
-  pub names : List Name
-  pub left : YieldsList steps (λ y. y.now) s names
-  pub same : copied ++ names ≡ names_in octets
 
 module _ {S : Type 0} {steps : S → Option (Bor Name) → S → Type 0} where
   -- one more name came
@@ -71,24 +63,3 @@ module _ {S : Type 0} {steps : S → Option (Bor Name) → S → Type 0} where
 
   pub scan_end : (s t : S) (octets : List ℕ) (room : ℕ) → ToScan steps s octets room → steps s None t → None ≡ fault_of octets
   scan_end s t octets room h step = sym (ap (first_fault room) (yields_end s t h.names h.left step)) ∙ h.same
-
-  pub copy_start : (s : S) (octets : List ℕ) → YieldsList steps (λ y. y.now) s (names_in octets) → ToCopy steps s octets []
-  copy_start s octets h = record { names = names_in octets; left = h; same = refl }
-
-  pub copy_on : (s t : S) (x : Bor Name) (octets : List ℕ) (copied : Path) → ToCopy steps s octets copied → steps s (Some x) t → ToCopy steps t octets (copied ++ x.now ∷ [])
-  copy_on s t x octets copied h step =
-      let next = yields_next s t x h.names h.left step in
-      record {
-        names = next.0;
-        left = next.2;
-        same = append_assoc copied (x.now ∷ []) next.0 ∙ sym (ap (λ names. copied ++ names) next.1) ∙ h.same;
-      }
-
-  pub copy_end : (s t : S) (octets : List ℕ) (copied : Path) → ToCopy steps s octets copied → steps s None t → copied ≡ names_in octets
-  copy_end s t octets copied h step =
-      sym (append-nil copied) ∙ sym (ap (λ names. copied ++ names) (yields_end s t h.names h.left step)) ∙ h.same
-
--- one more vector, which holds the name
-pub names_of-pushed : (vectors more : List (Vec ℕ Global)) (v : Vec ℕ Global) (name : Name) → more ≡ vectors ++ v ∷ [] → v.items ≡ name → names_of more ≡ names_of vectors ++ name ∷ []
-names_of-pushed vectors more v name e h =
-    ap names_of e ∙ map-append (λ (x : Vec ℕ Global). x.items) vectors (v ∷ []) ∙ ap (λ n. names_of vectors ++ n ∷ []) h

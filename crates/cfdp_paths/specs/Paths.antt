@@ -1,7 +1,7 @@
 -- Paths of the filestore, as lists of names, and what it is to spell one. The standard carries file names as octets
 -- (CCSDS 727.0-B-5 §4.9 and §5.4) and leaves their form to the filestore: this is the form here.
 --     Name, Path                          a list of octets, a list of names
---     names_of vectors                    the names that vectors of octets hold
+--     names_of octets                     the names that a buffer holds, with the octet 0 between them
 --     IsName, IsPath, is_name, is_path    within the limits, as a fact and as a test
 --     path_cmp, same_name, same_path      the order by names, names by octets;  whether two names, or two paths, are one
 --     is_at_or_below p q, is_below p q    q is a prefix of p;  and is not p
@@ -10,8 +10,7 @@
 --     joined p, Spells octets p           the names with `/` between them;  with or without one more before them
 --     names_in octets, path_of octets     the names between the `/`, one at the start apart;  the path that octets spell, if any
 --     rebased p q x                       what q/r is, where x is p/r
-use Rattle.std.specs.Prelude.{◌≡◌, ◌≢◌, ℕ, ◌≤◌, nat_le, ◌==◌, Bool, true, false, ◌&&◌, not, if◌then◌else◌, List, [], ◌∷◌, ◌++◌, ◌⊎◌, map, length, drop, All, Option, Some, None, Vec}
-use Rattle.std.specs.declared.alloc.Global.{Global}
+use Rattle.std.specs.Prelude.{◌≡◌, ◌≢◌, ℕ, ◌≤◌, nat_le, ◌==◌, Bool, true, false, ◌&&◌, not, if◌then◌else◌, List, [], ◌∷◌, ◌++◌, ◌⊎◌, map, length, drop, All, Option, Some, None}
 use Rattle.std.specs.List.{list_all, slice_split, join_with_byte}
 use Rattle.std.specs.Cmp.Lexicographic.{slice_cmp}
 use Rattle.std.specs.Ordering.{eq_by_cmp, nat_cmp}
@@ -23,9 +22,13 @@ Name = List ℕ
 abbrev pub Path : Type 0
 Path = List Name
 
--- the names that vectors of octets hold
-abbrev pub names_of : List (Vec ℕ Global) → Path
-names_of vectors = map (λ vector. vector.items) vectors
+-- no name holds the octet 0: in a buffer it stands between the names
+abbrev pub is_separator : ℕ → Bool
+is_separator octet = octet == 0
+
+-- the names that a buffer holds
+abbrev pub names_of : List ℕ → Path
+names_of octets = slice_split is_separator octets
 
 -- the octets `/` and `.`
 abbrev pub slash : ℕ

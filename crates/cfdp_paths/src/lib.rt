@@ -4,7 +4,7 @@
 //! (CCSDS 727.0-B-5 §4.9 and §5.4).
 #![tactic(auto)]
 
-mod copying;
+mod buffers;
 mod fault;
 pub mod laws;
 mod parsing;

@@ -1,12 +1,11 @@
-//! The names that octets spell, and the leftmost fault among them.
+//! The leftmost fault among the names between the `/`.
 
-ghost use Rattle.std.specs.Prelude.{◌≡◌, ◌||◌, [], ◌∷◌, IfOk};
+ghost use Rattle.std.specs.Prelude.{◌≡◌, ◌||◌, [], ◌∷◌};
 ghost use Rattle.cfdp_paths.specs.Faults.{fault_of, fault_of_name};
-ghost use Rattle.cfdp_paths.specs.Paths.{dot, is_slash, names_in, names_of, same_name, without_slash};
+ghost use Rattle.cfdp_paths.specs.Paths.{dot, is_slash, same_name, without_slash};
 
 use crate::fault::PathFault;
 use crate::{LONGEST_NAME, MOST_NAMES};
-use std::alloc::{AllocError, Global};
 
 /// The fault of the octets, if they spell no path. Takes no memory.
 pub(crate) fn find_fault(octets: &[u8]) -> Option<PathFault>
@@ -52,22 +51,11 @@ fn is_dots(name: &[u8]) -> bool
 }
 
 /// The octets without one `/` at the start.
-fn strip_slash(octets: &[u8]) -> &[u8]
+pub(crate) fn strip_slash(octets: &[u8]) -> &[u8]
     ensures { result.now ≡ without_slash octets.now }
 {
     match octets {
         [b'/', rest @ ..] => rest,
         _ => octets,
     }
-}
-
-/// The names between the `/`, one at the start apart, each in a vector of its own.
-pub(crate) fn split_names(alloc: Global, octets: &[u8]) -> Result<Vec<Vec<u8>>, AllocError>
-    ensures { IfOk result (λ names. names_of names.items ≡ names_in octets.now) }
-{
-    let mut names = Vec::new(alloc);
-    for name in strip_slash(octets).split(|octet| *octet == b'/') {
-        names.push(Vec::from_slice(alloc, name)?)?;
-    }
-    Ok(names)
 }

@@ -9,11 +9,12 @@ ghost use Rattle.cfdp_paths.specs.Faults.{fault_of};
 ghost use Rattle.cfdp_paths.specs.Paths.{Name, IsPath, Spells, ancestors, is_at_or_below, is_below, joined, names_of, parent, path_cmp, path_of, rebased, same_path, unless_root};
 
 use crate::Memory;
-use crate::copying::{append_names, copy_names, join_names};
+use crate::buffers::{SEPARATOR, count_separators, first_names, replaced};
 use crate::fault::PathFault;
-use crate::parsing::{find_fault, split_names};
+use crate::parsing::{find_fault, strip_slash};
 use std::alloc::Global;
 use std::cmp::Ordering;
+use std::fmt;
 use std::marker::Model;
 
 /// A path of the filestore: 1 to 8 names of 1 to 96 octets, none of which holds `/` or the octet 0, or is `.` or `..`.
@@ -21,9 +22,11 @@ use std::marker::Model;
 /// Filestore requests (CCSDS 727.0-B-5 §5.4) and Metadata PDUs carry the octets that spell one. Contracts see a
 /// path as the list of its names. Paths are ordered by their names, and names by their octets, so that a path stands
 /// before all that is below it.
-#[derive(Debug, Drop)]
+#[derive(Drop)]
 pub struct Path {
-    names: Vec<Vec<u8>>,
+    /// The names in order, with [`SEPARATOR`] between them: so the order of paths is the order of their octets, what is
+    /// below a path begins with its octets, and a copy is one allocation.
+    octets: Vec<u8>,
 }
 
 impl Model for Path {
@@ -32,9 +35,9 @@ impl Model for Path {
 
     ghost Value = { List (List ℕ) };
 
-    ghost view = { λ path. names_of path.names.items };
+    ghost view = { λ path. names_of path.octets.items };
 
-    ghost invariant = { λ path. IsPath (names_of path.names.items) };
+    ghost invariant = { λ path. IsPath (names_of path.octets.items) };
 }
 
 impl Path {
@@ -45,7 +48,7 @@ impl Path {
     /// The leftmost faulty name decides; within a name [`PathFault::EmptyName`], [`PathFault::BadName`] and
     /// [`PathFault::NameTooLong`] come in this order. A ninth name is [`PathFault::TooDeep`] before it is looked at. Octets
     /// that spell no path are told so whether or not there is memory; [`PathFault::Memory`] comes only where a path is
-    /// spelled. Cost: one pass over the octets, and, where they spell a path, one copy of them.
+    /// spelled. Cost: a few passes over the octets, and, where they spell a path, one allocation of their length.
     pub fn parse(alloc: Global, octets: &[u8]) -> Result<Path, PathFault>
         ensures path { IfOk result (λ path. Spells octets.now path) }
         ensures only { (path : List Name) → Spells octets.now path → (result ≡ Ok path) ⊎ (result ≡ Err PathFault.Memory) }
@@ -58,43 +61,32 @@ impl Path {
         if let Some(fault) = find_fault(octets) {
             return Err(fault);
         }
-        let names = split_names(alloc, octets)?;
-        Ok(Path { names })
+        let octets = replaced(alloc, strip_slash(octets), b'/', SEPARATOR)?;
+        Ok(Path { octets })
     }
 
-    /// The path of these names. Takes no memory.
-    pub fn from_names(names: Vec<Vec<u8>>) -> Path
-        requires { IsPath (names_of names.items) }
-        ensures { result ≡ names_of names.items }
-    {
-        Path { names }
-    }
-
-    /// The names in order, each within the limits.
-    pub fn names(&self) -> &[Vec<u8>]
-        ensures names { names_of result.now ≡ self.now }
-        ensures within { IsPath self.now }
-    {
-        &self.names
-    }
-
-    /// How many names the path has.
+    /// How many names the path has. Takes no memory. Cost: one pass over its octets.
     pub fn depth(&self) -> usize
         ensures depth { result ≡ length self.now }
         ensures within { IsPath self.now }
     {
-        self.names.len()
+        count_separators(&self.octets) + 1
     }
 
-    /// Whether `other` is a prefix of this path, or this path itself. Takes no memory. Cost: a comparison for each name of
-    /// `other`, at most 8.
+    /// Whether `other` is a prefix of this path, or this path itself. Takes no memory. Cost: one comparison of
+    /// the octets of `other`.
     pub fn is_at_or_below(&self, other: &Path) -> bool
         ensures { result ≡ is_at_or_below self.now other.now }
     {
-        self.names.starts_with(&other.names)
+        match self.octets.strip_prefix(&other.octets) {
+            Some([]) => true,
+            Some([octet, ..]) => *octet == SEPARATOR,
+            None => false,
+        }
     }
 
-    /// Whether `other` is a prefix of this path, and not this path itself. Takes no memory.
+    /// Whether `other` is a prefix of this path, and not this path itself. Takes no memory. Cost: two comparisons of their
+    /// octets at most.
     pub fn is_below(&self, other: &Path) -> bool
         ensures { result ≡ is_below self.now other.now }
     {
@@ -105,39 +97,51 @@ impl Path {
     pub fn is_child_of(&self, other: &Path) -> bool
         ensures { IsTrue result ↔ (parent self.now ≡ other.now) }
     {
-        self.depth() == other.depth() + 1 && self.is_at_or_below(other)
+        self.is_at_or_below(other) && self.depth() == other.depth() + 1
     }
 
-    /// Whether the parent of this path is the root, that is, whether it has one name. Takes no memory.
-    pub fn has_root_parent(&self) -> bool
-        ensures { IsTrue result ↔ (parent self.now ≡ []) }
-    {
-        self.depth() == 1
-    }
-
-    /// How this path compares with the path of the first `depth` names of `other`. Takes no memory, and makes no path.
+    /// How this path stands to the path of the first `depth` names of `other`. Takes no memory. Cost: one pass over those
+    /// names, and one comparison.
     pub fn cmp_beginning(&self, other: &Path, depth: usize) -> Ordering
         requires { depth ≤ length other.now }
         ensures { result ≡ path_cmp self.now (take depth other.now) }
     {
-        self.names.as_slice().cmp(&other.names[..depth])
+        let octets = self.octets.as_slice();
+        if depth == 0 {
+            return Ordering::Greater;
+        }
+        octets.cmp(&first_names(&other.octets, depth))
+    }
+
+    /// The path of this path's first `depth` names.
+    ///
+    /// # Errors
+    ///
+    /// [`Memory`] where there was none for the copy: one allocation of its length. Cost: two passes over those names.
+    pub fn beginning(&self, alloc: Global, depth: usize) -> Result<Path, Memory>
+        requires some { 1 ≤ depth }
+        requires within { depth ≤ length self.now }
+        ensures { IfOk result (λ path. path ≡ take depth self.now) }
+    {
+        let octets = Vec::from_slice(alloc, first_names(&self.octets, depth))?;
+        Ok(Path { octets })
     }
 
     /// This path without its last name, or `None` where that is the root, which takes no memory.
     ///
     /// # Errors
     ///
-    /// [`Memory`] where there was none for the copy: an allocation for each of its names, and one more.
+    /// [`Memory`] where there was none for the copy: one allocation of its length.
     pub fn parent(&self, alloc: Global) -> Result<Option<Path>, Memory>
         ensures parent { IfOk result (λ answer. answer ≡ unless_root (parent self.now)) }
         ensures root { parent self.now ≡ [] → IsOk result }
     {
-        let depth = self.names.len();
+        let depth = self.depth();
         if depth == 1 {
             return Ok(None);
         }
-        let names = copy_names(alloc, &self.names[..depth - 1])?;
-        Ok(Some(Path { names }))
+        let above = self.beginning(alloc, depth - 1)?;
+        Ok(Some(above))
     }
 
     /// The proper ancestors of this path, the root apart, shortest first: at most 7. Where there are none it takes no
@@ -145,17 +149,16 @@ impl Path {
     ///
     /// # Errors
     ///
-    /// [`Memory`] where there was none for a copy of one of them, or for the list. Cost: a copy of each, at most 28 names
-    /// in all.
+    /// [`Memory`] where there was none for a copy of one of them, or for the list: one allocation for each, and one for the
+    /// list.
     pub fn ancestors(&self, alloc: Global) -> Result<Vec<Path>, Memory>
         ensures ancestors { IfOk result (λ paths. paths.items ≡ ancestors self.now) }
         ensures none { ancestors self.now ≡ [] → IsOk result }
     {
-        let depth = self.names.len();
+        let depth = self.depth();
         let mut paths = Vec::with_capacity(alloc, depth - 1)?;
         for count in 1..depth {
-            let names = copy_names(alloc, &self.names[..count])?;
-            paths.push(Path { names })?;
+            paths.push(self.beginning(alloc, count)?)?;
         }
         Ok(paths)
     }
@@ -164,23 +167,24 @@ impl Path {
     ///
     /// # Errors
     ///
-    /// [`Memory`] where there was none for the copy: an allocation for each of its names, and one more.
+    /// [`Memory`] where there was none for the copy: one allocation of its length.
     pub fn copy(&self, alloc: Global) -> Result<Path, Memory>
         ensures { IfOk result (λ path. path ≡ self.now) }
     {
-        let names = copy_names(alloc, &self.names)?;
-        Ok(Path { names })
+        let octets = Vec::from_slice(alloc, &self.octets)?;
+        Ok(Path { octets })
     }
 
     /// The octets that spell this path, with no `/` at the start: at most 775.
     ///
     /// # Errors
     ///
-    /// [`Memory`] where there was none for the octets. Cost: one pass over the names.
+    /// [`Memory`] where there was none for the octets: one allocation of their length.
     pub fn text(&self, alloc: Global) -> Result<Vec<u8>, Memory>
         ensures { IfOk result (λ octets. octets.items ≡ joined self.now) }
     {
-        join_names(alloc, &self.names)
+        let octets = replaced(alloc, &self.octets, SEPARATOR, b'/')?;
+        Ok(octets)
     }
 
     /// The path `to/r`, where this path is `from/r`: where what is at or below a directory stands once it is renamed
@@ -188,17 +192,38 @@ impl Path {
     ///
     /// # Errors
     ///
-    /// [`Memory`] where there was none for the path: an allocation for each of its names, and a few more. Cost: one
-    /// copy of its names.
+    /// [`Memory`] where there was none for the path: one allocation of its length. Cost: one copy of its octets.
     pub fn rebased(&self, alloc: Global, from: &Path, to: &Path) -> Result<Path, Memory>
         requires below { IsTrue (is_at_or_below self.now from.now) }
         requires room { length self.now + length to.now ≤ 8 + length from.now }
         ensures { IfOk result (λ path. path ≡ rebased from.now to.now self.now) }
     {
-        let mut names = copy_names(alloc, &to.names)?;
-        let (_, rest) = self.names.split_at(from.depth());
-        append_names(alloc, &mut names, rest)?;
-        Ok(Path { names })
+        let (_, rest) = self.octets.split_at(from.octets.len());
+        let mut octets = Vec::with_capacity(alloc, to.octets.len() + rest.len())?;
+        octets.extend_from_slice(&to.octets)?;
+        octets.extend_from_slice(rest)?;
+        Ok(Path { octets })
+    }
+}
+
+#[cfg(test)]
+impl Path {
+    /// The names with [`SEPARATOR`] between them.
+    pub(crate) fn octets(&self) -> &[u8] {
+        &self.octets
+    }
+}
+
+/// The octets that spell the path, each one that is no printed ASCII as an escape.
+impl fmt::Debug for Path {
+    fn fmt<W: fmt::Write>(&self, f: &mut fmt::Formatter<W>) -> fmt::Result {
+        for (place, name) in self.octets.split(|octet| *octet == SEPARATOR).enumerate() {
+            if place > 0 {
+                f.write_str("/")?;
+            }
+            write!(f, "{}", name.escape_ascii())?;
+        }
+        Ok(())
     }
 }
 
@@ -208,7 +233,7 @@ impl PartialEq for Path {
     ghost laws = { Prim.search (comparing, rules) };
 
     fn eq(&self, other: &Path) -> bool {
-        self.names == other.names
+        self.octets == other.octets
     }
 }
 
@@ -236,6 +261,6 @@ impl Ord for Path {
     ghost matches_eq = { Prim.search (comparing, rules) };
 
     fn cmp(&self, other: &Path) -> Ordering {
-        self.names.cmp(&other.names)
+        self.octets.cmp(&other.octets)
     }
 }

@@ -2,9 +2,9 @@
 
 mod refused;
 
-use crate::parsing::split_names;
 use crate::{LONGEST_NAME, Memory, Path, PathFault};
 use std::alloc::Global;
+use std::cmp::Ordering;
 use std::collections::BTreeMap;
 use std::test::Fail;
 
@@ -163,27 +163,6 @@ fn seven_ancestors(rt: HostRuntime) -> Result<(), Fail> {
 }
 
 #[test]
-fn names_are_read_and_put_back(rt: HostRuntime) -> Result<(), Fail> {
-    let alloc = rt.alloc();
-    let mut names = Vec::new(alloc);
-    names.push(Vec::from_slice(alloc, b"d")?)?;
-    names.push(Vec::from_slice(alloc, b"x")?)?;
-    let path = Path::parse(alloc, b"/d/x")?;
-    assert_eq!(rt; path.names(), names.as_slice());
-    assert_eq!(rt; path.depth(), 2);
-    Ok(())
-}
-
-#[test]
-fn made_of_its_names(rt: HostRuntime) -> Result<(), Fail> {
-    let alloc = rt.alloc();
-    let names = split_names(alloc, b"/d/x".as_slice())?;
-    let path = Path::from_names(names);
-    assert_eq!(rt; path, Path::parse(alloc, b"d/x")?);
-    Ok(())
-}
-
-#[test]
 fn one_path_beside_another(rt: HostRuntime) -> Result<(), Fail> {
     let alloc = rt.alloc();
     let d = Path::parse(alloc, b"d")?;
@@ -193,7 +172,71 @@ fn one_path_beside_another(rt: HostRuntime) -> Result<(), Fail> {
     assert!(rt; y.is_at_or_below(&d) && y.is_at_or_below(&y) && y.is_below(&x));
     assert!(rt; !d.is_at_or_below(&x) && !other.is_at_or_below(&d) && !y.is_below(&y));
     assert!(rt; x.is_child_of(&d) && y.is_child_of(&x) && !y.is_child_of(&d) && !x.is_child_of(&x));
-    assert!(rt; d.has_root_parent() && other.has_root_parent() && !x.has_root_parent());
+    Ok(())
+}
+
+#[test]
+fn beginnings(rt: HostRuntime) -> Result<(), Fail> {
+    let alloc = rt.alloc();
+    let path = Path::parse(alloc, b"d/x/y")?;
+    let d = Path::parse(alloc, b"d")?;
+    let e = Path::parse(alloc, b"e")?;
+    assert_eq!(rt; path.depth(), 3);
+    assert_eq!(rt; path.beginning(alloc, 1)?, d);
+    assert_eq!(rt; path.beginning(alloc, 3)?, path);
+    assert_eq!(rt; d.cmp_beginning(&path, 0), Ordering::Greater);
+    assert_eq!(rt; d.cmp_beginning(&path, 1), Ordering::Equal);
+    assert_eq!(rt; d.cmp_beginning(&path, 2), Ordering::Less);
+    assert_eq!(rt; e.cmp_beginning(&path, 3), Ordering::Greater);
+    Ok(())
+}
+
+/// The longest path there is: 8 names of 96 octets, 775 octets in all.
+fn longest(alloc: Global) -> Result<Vec<u8>, Memory> {
+    let mut octets = vec![in alloc; b'x'; LONGEST_NAME]?;
+    for name in b'1'..b'8' {
+        octets.push(b'/')?;
+        octets.push(name)?;
+        octets.extend_from_slice(&vec![in alloc; name; LONGEST_NAME - 1]?)?;
+    }
+    Ok(octets)
+}
+
+#[test]
+fn the_longest_path(rt: HostRuntime) -> Result<(), Fail> {
+    let alloc = rt.alloc();
+    let octets = longest(alloc)?;
+    assert_eq!(rt; octets.len(), 775);
+    let path = Path::parse(alloc, &octets)?;
+    assert_eq!(rt; path.depth(), 8);
+    assert_eq!(rt; path.copy(alloc)?, path);
+    assert_eq!(rt; path.text(alloc)?, octets);
+    assert_eq!(rt;
+        format!(in alloc; "{path:?}")?.as_bytes(),
+        octets.as_slice()
+    );
+    let ancestors = path.ancestors(alloc)?;
+    assert_eq!(rt; ancestors.len(), 7);
+    let above = path.parent(alloc)?.ok_or("no parent")?;
+    assert_eq!(rt; ancestors.last(), Some(&above));
+    assert_eq!(rt; path.beginning(alloc, 7)?, above);
+    let first = Path::parse(alloc, b"a")?;
+    let other = Path::parse(alloc, b"b")?;
+    assert!(rt; path.is_at_or_below(&ancestors[0]));
+    assert!(rt; path.depth() + first.depth() <= 8 + ancestors[0].depth());
+    let moved = path.rebased(alloc, &ancestors[0], &first)?;
+    assert_eq!(rt; moved.text(alloc)?.len(), 775 - 95);
+    assert!(rt; moved.is_below(&first) && !moved.is_below(&other));
+    Ok(())
+}
+
+#[test]
+fn printed(rt: HostRuntime) -> Result<(), Fail> {
+    let path = Path::parse(rt.alloc(), b"/d/a \xff\n/x")?;
+    assert_eq!(rt;
+        format!(in rt.alloc(); "{path:?}")?.as_str(),
+        "d/a \\xff\\n/x"
+    );
     Ok(())
 }
 

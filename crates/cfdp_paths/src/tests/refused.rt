@@ -2,6 +2,7 @@
 //! a call whose own allocation it is answers `Memory` and leaves the path as before, and made once more it succeeds. With
 //! every allocation granted each call succeeds at once.
 
+use crate::buffers::SEPARATOR;
 use crate::{Memory, Path, PathFault};
 use std::alloc::{AllocError, Global};
 use std::process::Abort;
@@ -46,14 +47,8 @@ fn parsed<R: Abort + Print>(rt: &R, alloc: Global, octets: &[u8]) -> Result<Path
 /// Whether the path's names are those between the `/` of the octets, one at the start apart. Takes no memory.
 fn has_names(path: &Path, octets: &[u8]) -> bool {
     let octets = octets.strip_prefix(b"/").unwrap_or(octets);
-    let mut names = path.names();
-    for name in octets.split(|octet| *octet == b'/') {
-        match names {
-            [first, rest @ ..] if first.as_slice() == name => names = rest,
-            _ => return false,
-        }
-    }
-    names.is_empty()
+    let held = path.octets().split(|octet| *octet == SEPARATOR);
+    held.eq(octets.split(|octet| *octet == b'/'))
 }
 
 #[test]
@@ -86,6 +81,16 @@ fn copy(rt: HostRuntime) -> Result<(), Fail> {
         assert!(rt; has_names(&copy, octets), "{copy:?}");
         assert!(rt; has_names(&path, octets), "{path:?}");
     }
+    Ok(())
+}
+
+#[test]
+fn beginning(rt: HostRuntime) -> Result<(), Fail> {
+    let path = parsed(&rt, rt.alloc(), b"d/x/y/z")?;
+    assert_eq!(rt; path.depth(), 4);
+    let answer = answered(&rt, "beginning", || path.beginning(rt.alloc(), 2))?;
+    assert!(rt; has_names(&answer, b"d/x"), "{answer:?}");
+    assert!(rt; has_names(&path, b"d/x/y/z"), "{path:?}");
     Ok(())
 }
 

@@ -1,6 +1,6 @@
 use Rattle.std.proofs.Common.{◌≡◌, take}
-use Rattle.cfdp_paths.specs.Paths.{ancestors, names_of}
+use Rattle.cfdp_paths.specs.Paths.{ancestors}
 use Rattle.cfdp_paths.proofs.paths.Path.ancestors.Given as goal
 
 abbrev pub invariant-loop-count : goal.invariant-loop-count
-invariant-loop-count l = l.paths.items ≡ ancestors (take l.count (names_of l.self-inside.names.items))
+invariant-loop-count l = l.paths.items ≡ ancestors (take l.count l.self)

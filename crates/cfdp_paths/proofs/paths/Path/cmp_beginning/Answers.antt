@@ -1,12 +1,12 @@
-use Rattle.std.proofs.Common.{take, ap, ◌∙◌}
-use Rattle.cfdp_paths.specs.Paths.{names_of, path_cmp}
-use Rattle.cfdp_paths.proofs.Comparing.{path_cmp-names_of}
-use Rattle.cfdp_paths.proofs.Vectors.{names_of-take}
+use Rattle.std.proofs.Common.{sym, ◌∙◌, ap, take}
+use Rattle.cfdp_paths.specs.Paths.{path_cmp, names_of}
+use Rattle.cfdp_paths.proofs.Separators.{path_cmp-names_of}
 use Rattle.cfdp_paths.proofs.paths.Path.cmp_beginning.Goals as goal
 
 pub returns : goal.returns
 returns c =
-    let named = path_cmp-names_of c.as_slice.result.now (take c.args.depth c.deref.result.now) in
-    c.cmp.ensures ∙ named
-    ∙ ap (λ p. path_cmp p (names_of (take c.args.depth c.deref.result.now))) (ap names_of c.as_slice.ensures.value ∙ c.self.view_is)
-    ∙ ap (path_cmp c.args.self.now) (names_of-take c.args.depth c.deref.result.now ∙ ap (take c.args.depth) (ap names_of c.deref.ensures.value ∙ c.other.view_is))
+    c.cmp.ensures
+    ∙ sym (path_cmp-names_of c.as_slice-octets.result.now c.first_names.result.now)
+    ∙ ap (λ octets. path_cmp (names_of octets) (names_of c.first_names.result.now)) c.as_slice-octets.ensures.value
+    ∙ ap (λ p. path_cmp p (names_of c.first_names.result.now)) c.self.view_is
+    ∙ ap (path_cmp c.args.self.now) (c.first_names.ensures ∙ ap (λ octets. take c.args.depth (names_of octets)) c.deref.ensures.value ∙ ap (take c.args.depth) c.other.view_is)

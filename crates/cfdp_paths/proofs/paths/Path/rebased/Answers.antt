@@ -1,22 +1,26 @@
-use Rattle.std.proofs.Common.{◌≡◌, length, sym, ◌∙◌, ap, subst, arith}
-use Rattle.cfdp_paths.specs.Paths.{names_of, IsPath, rebased}
+use Rattle.std.proofs.Common.{◌≡◌, true, length, ◌∙◌, ap, subst, ◌++◌, drop, arith, length-append}
+use Rattle.cfdp_paths.specs.Paths.{names_of, IsPath, is_at_or_below, rebased}
 use Rattle.cfdp_paths.proofs.Below.{IsPath-rebased, length-at_or_below}
-use Rattle.cfdp_paths.proofs.Vectors.{copied_rebased, length-names_of}
+use Rattle.cfdp_paths.proofs.Separators.{behind, rebased-names_of}
 use Rattle.cfdp_paths.proofs.paths.Path.rebased.Goals as goal
 
 pub split_at-requires : goal.split_at-requires
 split_at-requires c =
-    let short = length-at_or_below c.args.self.now c.args.from.now c.requires.below in
-    let long : length c.deref-2.result.now ≡ length c.args.self.now =
-    ap length c.deref-2.ensures.value ∙ sym (length-names_of c.self.inside.names.items) ∙ ap length c.self.view_is in
-    omega (arith, short, long, c.depth.ensures.depth)
+    let below : is_at_or_below (names_of c.self.inside.octets.items) (names_of c.from.inside.octets.items) ≡ true = rw (c.self.view_is, c.from.view_is) c.requires.below in
+    let long = ap length (behind c.self.inside.octets.items c.from.inside.octets.items below).0 in
+    let same = ap length c.deref.ensures.value in
+    let h = c.len.ensures in
+    omega (arith, length-append c.from.inside.octets.items (drop (length c.from.inside.octets.items) c.self.inside.octets.items))
 
-made : (c : goal.In_ok-append_names) → names_of c.append_names.new.copies.items ≡ rebased c.args.from.now c.args.to.now c.args.self.now
+made : (c : goal.In_ok-extend_from_slice-2) → names_of c.extend_from_slice-2.new.self.items ≡ rebased c.args.from.now c.args.to.now c.args.self.now
 made c =
-    copied_rebased c.in_ok-names.names.items c.append_names.new.copies.items c.self.inside.names.items c.deref-2.result.now c.split_at.result.1.now c.depth.result c.args.from.now c.args.to.now c.args.self.now
-    (c.in_ok-names.ensures ∙ ap names_of c.deref.ensures.value ∙ c.to.view_is)
-    c.in_ok-append_names.ensures c.split_at.ensures.back c.deref-2.ensures.value c.self.view_is
-    c.depth.ensures.depth
+    let below : is_at_or_below (names_of c.self.inside.octets.items) (names_of c.from.inside.octets.items) ≡ true = rw (c.self.view_is, c.from.view_is) c.requires.below in
+    let long : c.len.result ≡ length c.from.inside.octets.items = let h = c.len.ensures in omega arith in
+    let octets : c.extend_from_slice-2.new.self.items ≡ c.to.inside.octets.items ++ drop (length c.from.inside.octets.items) c.self.inside.octets.items =
+    c.in_ok-extend_from_slice-2.ensures.items
+    ∙ ap (λ o. o ++ c.split_at.result.1.now) (c.in_ok-extend_from_slice.ensures.items ∙ ap (λ o. o ++ c.deref-2.result.now) c.in_ok-octets.ensures.items ∙ c.deref-2.ensures.value)
+    ∙ ap (λ o. c.to.inside.octets.items ++ o) (c.split_at.ensures.back ∙ ap (drop c.len.result) c.deref.ensures.value ∙ ap (λ n. drop n c.self.inside.octets.items) long) in
+    rw (← c.self.view_is, ← c.from.view_is, ← c.to.view_is) (ap names_of octets ∙ rebased-names_of c.self.inside.octets.items c.from.inside.octets.items c.to.inside.octets.items below)
 
 pub invariant_of-result : goal.invariant_of-result
 invariant_of-result c =

@@ -1,0 +1,59 @@
+//! The names of a path in one buffer.
+
+ghost use Rattle.std.specs.Prelude.{◌≡◌, ◌≤◌, ◌==◌, if◌then◌else◌, IfOk, count_by, map, take};
+ghost use Rattle.cfdp_paths.specs.Paths.{is_separator, names_of};
+
+use std::alloc::{AllocError, Global};
+
+/// What stands between the names: no name holds it, and it comes before all that a name may hold.
+pub(crate) const SEPARATOR: u8 = 0;
+
+/// A copy of the octets, with `new` in place of each `old`. Cost: one allocation, and two passes over the octets.
+pub(crate) fn replaced(
+    alloc: Global,
+    octets: &[u8],
+    old: u8,
+    new: u8,
+) -> Result<Vec<u8>, AllocError>
+    ensures { IfOk result (λ copy. copy.items ≡ map (λ octet. if octet == old then new else octet) octets.now) }
+{
+    let mut copy = Vec::from_slice(alloc, octets)?;
+    replace(&mut copy, old, new);
+    Ok(copy)
+}
+
+/// Puts `new` in place of each `old`.
+fn replace(octets: &mut [u8], old: u8, new: u8)
+    ensures { octets.new ≡ map (λ octet. if octet == old then new else octet) octets.old }
+{
+    for octet in octets.iter_mut() {
+        if *octet == old {
+            *octet = new;
+        }
+    }
+}
+
+/// How many separators the octets have: one less than they hold names.
+pub(crate) fn count_separators(octets: &[u8]) -> usize
+    ensures { result ≡ count_by is_separator octets.now }
+{
+    octets.iter().filter(|octet| **octet == SEPARATOR).count()
+}
+
+/// The octets of the first `count` names, or all octets where there are no more names. Takes no memory. Cost: one pass
+/// over those octets.
+pub(crate) fn first_names(octets: &[u8], count: usize) -> &[u8]
+    requires { 1 ≤ count }
+    ensures { names_of result.now ≡ take count (names_of octets.now) }
+{
+    let mut left = count;
+    for (place, octet) in octets.iter().enumerate() {
+        if *octet == SEPARATOR {
+            left -= 1;
+            if left == 0 {
+                return &octets[..place];
+            }
+        }
+    }
+    octets
+}
