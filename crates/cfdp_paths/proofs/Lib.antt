@@ -6,3 +6,4 @@ pub mod Scanning
 pub mod InOrder
 pub mod Pieces
 pub mod Separators
+pub mod Moving

@@ -10,6 +10,7 @@ pub mod laws;
 mod parsing;
 mod path_map;
 mod paths;
+mod relocating;
 #[cfg(test)]
 mod tests;
 

@@ -6,6 +6,7 @@ ghost use Rattle.std.specs.List.{list_any};
 ghost use Rattle.cfdp_paths.specs.Paths.{path_cmp, same_path, is_at_or_below};
 ghost use Rattle.cfdp_paths.specs.PathMaps.{IsOrdered, IsPlaceOf, IsPieceOf, rank, without, tree_in, rest_in, any_below, puts, moved_to, is_too_deep};
 
+use crate::relocating::relocate;
 use crate::{Memory, Path};
 use std::alloc::Global;
 use std::marker::Model;
@@ -58,6 +59,22 @@ impl<T: Drop> PathMap<T> {
         let place = place(&self.entries, &path, path.depth());
         self.entries.insert(place, (path, value))?;
         Ok(())
+    }
+
+    /// Moves what stands at a path and below it: each path p/r becomes q/r. What stood there before is gone.
+    ///
+    /// # Errors
+    ///
+    /// Want of memory; the map is then as before. Cost: a few searches, a path for each entry that moves, and one shift of
+    /// the entries behind. Only where something stands at or below the second path is each entry that moves searched for
+    /// its place by itself.
+    pub fn relocate(&mut self, from: &Path, to: &Path) -> Result<(), Memory>
+        requires { is_too_deep from.now to.now (tree_in from.now self.old) ≡ false }
+        ensures ok { OnOk result (self.new
+            ≡ puts (rest_in from.now self.old) (moved_to from.now to.now (tree_in from.now self.old))) }
+        ensures err { OnErr result (self.new ≡ self.old) }
+    {
+        relocate(&mut self.entries, from, to)
     }
 }
 
@@ -159,7 +176,7 @@ fn has_other<T>(entries: &[(Path, T)], path: &Path) -> bool
 }
 
 /// Where what stands at and below the path begins and ends.
-fn piece<T>(entries: &[(Path, T)], path: &Path) -> (usize, usize)
+pub(crate) fn piece<T>(entries: &[(Path, T)], path: &Path) -> (usize, usize)
     requires { IsOrdered entries.now }
     ensures { IsPieceOf path.now entries.now result.0 result.1 }
 {
@@ -167,4 +184,20 @@ fn piece<T>(entries: &[(Path, T)], path: &Path) -> (usize, usize)
     let behind = &entries[start..];
     let count = behind.partition_point(|entry| entry.0.is_at_or_below(path));
     (start, start + count)
+}
+
+/// Puts the value at the path, in the place of what stood there. There is room for one more entry.
+pub(crate) fn put_reserved<T: Drop>(entries: &mut Vec<(Path, T)>, path: Path, value: T)
+    requires ordered { IsOrdered entries.old.items }
+    requires room { vec_len entries.old < vec_capacity entries.old }
+    ensures put { entries.new.items ≡ put path_cmp path value entries.old.items }
+    ensures capacity { vec_capacity entries.new ≡ vec_capacity entries.old }
+    ensures longer { vec_len entries.new ≤ vec_len entries.old + 1 }
+{
+    if let Some(place) = find_place(entries, &path, path.depth()) {
+        entries[place].1 = value;
+        return;
+    }
+    let place = place(entries, &path, path.depth());
+    entries.insert(place, (path, value)).unwrap();
 }

@@ -1,5 +1,6 @@
 //! Worked paths and faults, the order, and each call once with ample memory.
 
+mod maps;
 mod refused;
 
 use crate::{LONGEST_NAME, Memory, Path, PathFault};

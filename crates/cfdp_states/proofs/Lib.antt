@@ -23,3 +23,4 @@ pub mod Surveys
 pub mod Surveyed
 pub mod Leased
 pub mod Appending
+pub mod Rehomed

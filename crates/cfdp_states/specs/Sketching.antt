@@ -7,6 +7,7 @@
 --     with_outline                               the list after a change of one path
 --     any_too_deep p q os                        whether a path would have more than 8 names after a move from p to q
 --     movers, stayers, rehomed                   what a move takes along;  what it leaves;  the list after it
+--     with_paths paths os                        outlines at other paths
 --     content_in, weight_in, bound_on            blocks of what stands at a path, or of its octets alone;  how many ticks an item may take
 --     is_folder, good_among, good_parent         whether the root or a directory stands at a path, or at its parent
 --     AreDistinct, IsOutline os F                one outline a path;  the list outlines what stands in F
@@ -79,6 +80,12 @@ any_too_deep p q os = list_any (λ outline. is_at_or_below outline.path p && nat
 abbrev pub movers : Path → Path → List Outline → List Outline
 movers p q [] = []
 movers p q (o ∷ os) = if is_at_or_below o.path p then record { path = rebased p q o.path; extent = o.extent } ∷ movers p q os else movers p q os
+
+-- outlines at other paths
+abbrev pub with_paths : List Path → List Outline → List Outline
+with_paths [] os = []
+with_paths (p ∷ paths) [] = []
+with_paths (p ∷ paths) (o ∷ os) = record { path = p; extent = o.extent } ∷ with_paths paths os
 
 -- the others, but for those whose place is taken
 abbrev pub stayers : Path → List Outline → List Outline → List Outline

@@ -12,6 +12,8 @@ mod performing;
 mod rehoming;
 mod surveying;
 mod table;
+#[cfg(test)]
+mod tests;
 mod view;
 
 pub use view::View;

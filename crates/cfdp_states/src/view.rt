@@ -89,8 +89,8 @@ impl<'a> View<'a> {
     ///
     /// # Errors
     ///
-    /// Want of memory; the view is then as before. Cost: a few passes over what the view has; a rename copies it, and
-    /// compares each thing that stays with each that moves.
+    /// Want of memory; the view is then as before. Cost: a few passes over what the view has, and, of a rename, a path for
+    /// each thing that moves.
     pub fn apply(&mut self, request: &Request) -> Result<Status, Memory>
         ensures told { IfOk result (λ status. Tells self.old self.new (Perform request.now) (Performed status)) }
         ensures prefixes { OnOk result (self.new.prefixes ≡ self.old.prefixes) }

@@ -1,0 +1,119 @@
+//! Moves of what stands at and below a path, in entries in path order.
+
+ghost use Rattle.std.specs.Prelude.{◌≡◌, ◌+◌, ◌≤◌, false, true, IsTrue, IfOk, OnOk, OnErr, [], ◌++◌, length, take, drop, map, vec_len, vec_capacity};
+ghost use Rattle.std.specs.List.{list_all, between};
+ghost use Rattle.std.specs.FinMap.{put};
+ghost use Rattle.std.specs.VecDeque.{deque_len};
+ghost use Rattle.cfdp_paths.specs.Paths.{path_cmp, is_at_or_below, rebased};
+ghost use Rattle.cfdp_paths.specs.PathMaps.{IsOrdered, tree_in, rest_in, puts, moved_to, with_paths, is_too_deep};
+
+use crate::path_map::{piece, put_reserved};
+use crate::{Memory, Path};
+use std::alloc::Global;
+use std::collections::VecDeque;
+
+/// Moves what stands at a path and below it: each path p/r becomes q/r.
+pub(crate) fn relocate<T: Drop>(
+    entries: &mut Vec<(Path, T)>,
+    from: &Path,
+    to: &Path,
+) -> Result<(), Memory>
+    requires ordered { IsOrdered entries.old.items }
+    requires depth { is_too_deep from.now to.now (tree_in from.now entries.old.items) ≡ false }
+    ensures ok { OnOk result (entries.new.items
+        ≡ puts (rest_in from.now entries.old.items) (moved_to from.now to.now (tree_in from.now entries.old.items))) }
+    ensures err { OnErr result (entries.new.items ≡ entries.old.items) }
+{
+    let alloc = *entries.allocator();
+    let (start, end) = piece(entries, from);
+    let paths = new_paths(alloc, &entries[start..end], from, to)?;
+    let moved = Vec::with_capacity(alloc, paths.len())?;
+    let taken = detach(entries, start, end)?;
+    settle(entries, to, renamed(taken, paths, moved));
+    Ok(())
+}
+
+/// The new paths of what stands at and below the first path, in order.
+fn new_paths<T>(
+    alloc: Global,
+    tree: &[(Path, T)],
+    from: &Path,
+    to: &Path,
+) -> Result<VecDeque<Path>, Memory>
+    requires tree { IsTrue (list_all (λ e. is_at_or_below e.0 from.now) tree.now) }
+    requires depth { is_too_deep from.now to.now tree.now ≡ false }
+    ensures { IfOk result (λ paths. paths.items ≡ map (λ e. rebased from.now to.now e.0) tree.now) }
+{
+    let mut paths = VecDeque::with_capacity(alloc, tree.len())?;
+    for entry in tree {
+        paths.push_back(entry.0.rebased(alloc, from, to)?)?;
+    }
+    Ok(paths)
+}
+
+/// Takes the entries from one place up to another out. What stays has room for them.
+fn detach<T>(
+    entries: &mut Vec<(Path, T)>,
+    start: usize,
+    end: usize,
+) -> Result<Vec<(Path, T)>, Memory>
+    requires order { start ≤ end }
+    requires within { end ≤ vec_len entries.old }
+    ensures taken { IfOk result (λ taken. taken.items ≡ between start end entries.old.items) }
+    ensures left { OnOk result (entries.new.items ≡ take start entries.old.items ++ drop end entries.old.items) }
+    ensures room { vec_capacity entries.new ≡ vec_capacity entries.old }
+    ensures err { OnErr result (entries.new.items ≡ entries.old.items) }
+{
+    entries.rotate_left(end);
+    let kept = entries.len() - (end - start);
+    match entries.split_off(kept) {
+        Ok(taken) => {
+            entries.rotate_right(start);
+            Ok(taken)
+        }
+        Err(want) => {
+            entries.rotate_right(end);
+            Err(want)
+        }
+    }
+}
+
+/// Puts the entries into a list that is empty and has room for them, at these paths.
+fn renamed<T: Drop>(
+    entries: Vec<(Path, T)>,
+    mut paths: VecDeque<Path>,
+    mut moved: Vec<(Path, T)>,
+) -> Vec<(Path, T)>
+    requires empty { moved.items ≡ [] }
+    requires room { vec_len entries ≤ vec_capacity moved }
+    requires paths { length paths.items ≡ length entries.items }
+    ensures { result.items ≡ with_paths paths.items entries.items }
+{
+    for (_, value) in entries {
+        let path = paths.pop_front().unwrap();
+        moved.push_reserved((path, value));
+    }
+    moved
+}
+
+/// Puts entries at and below a path, which are in path order, each into its place. There is room for them.
+fn settle<T: Drop>(entries: &mut Vec<(Path, T)>, to: &Path, mut moved: Vec<(Path, T)>)
+    requires ordered { IsOrdered entries.old.items }
+    requires in_order { IsOrdered moved.items }
+    requires below { IsTrue (list_all (λ e. is_at_or_below e.0 to.now) moved.items) }
+    requires room { vec_len entries.old + vec_len moved ≤ vec_capacity entries.old }
+    ensures { entries.new.items ≡ puts entries.old.items moved.items }
+{
+    let (start, end) = piece(entries, to);
+    if start == end {
+        // Nothing stands there: they go in as one piece.
+        let behind = entries.len() - start;
+        entries.rotate_left(start);
+        entries.append(&mut moved).unwrap();
+        entries.rotate_left(behind);
+        return;
+    }
+    for (path, value) in moved {
+        put_reserved(entries, path, value);
+    }
+}
