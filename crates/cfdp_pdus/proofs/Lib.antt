@@ -12,6 +12,5 @@ pub mod OutcomeSteps
 pub mod DataSteps
 pub mod PduSteps
 pub mod WriteSteps
-pub mod ChecksumSteps
 pub mod CanonicalSteps
 pub mod SoundSteps

@@ -5,7 +5,6 @@ pub mod Grammar
 pub mod First
 pub mod Counting
 pub mod Canonical
-pub mod Checksum
 pub mod Equality
 pub mod Texts
 pub mod Sound

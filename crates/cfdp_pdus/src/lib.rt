@@ -7,7 +7,6 @@
 //! asks for room once, for the whole PDU, before it writes.
 #![tactic(auto)]
 
-mod checksum;
 mod directive;
 mod eof;
 mod fault;
@@ -22,7 +21,7 @@ mod pdu;
 mod put;
 mod read;
 
-pub use checksum::modular_checksum;
+pub use cfdp_checksum::modular_checksum;
 pub use eof::{Eof, write_eof};
 pub use fault::{PduFault, WriteFault};
 pub use file_data::{FileData, write_file_data};

@@ -273,13 +273,3 @@ fn longest_rename(rt: HostRuntime) -> Result<(), Fail> {
     assert!(rt; read_pdu(alloc, &pdu) == Err(PduFault::RequestTooLong));
     Ok(())
 }
-
-#[test]
-fn checksums(rt: HostRuntime) {
-    let counting = [0u8, 1, 2, 3, 4, 5, 6, 7, 8, 9, 10, 11, 12, 13, 14];
-    assert_eq!(rt; modular_checksum(&counting), 0x181c2015);
-    assert_eq!(rt; modular_checksum(&[]), 0);
-    assert_eq!(rt; modular_checksum(&[1; 120]), 0x1e1e1e1e);
-    assert_eq!(rt; modular_checksum(&[1; 119]), 0x1e1e1e1d);
-    assert_eq!(rt; modular_checksum(&[255; 8]), 0xfffffffe);
-}

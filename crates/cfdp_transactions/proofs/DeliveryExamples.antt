@@ -6,7 +6,7 @@ use Rattle.cfdp_status.specs.declared.action.Action.TheVariants as action
 use Rattle.cfdp_status.specs.declared.status.Status.TheVariants.{Successful, NotPerformed}
 use Rattle.cfdp_actions.specs.Filestore.{empty_filestore, blocks_of}
 use Rattle.cfdp_actions.specs.Actions.{Item, Install, Perform, CreateFile}
-use Rattle.cfdp_pdus.specs.Checksum.{weighed_from}
+use Rattle.cfdp_checksum.specs.Checksum.{weighed_from}
 use Rattle.cfdp_pdus.specs.Values.{MetadataFields, FinishedFields}
 use Rattle.cfdp_transactions.specs.Entry.{Executing, Refused, Done, Entry, gaps}
 use Rattle.cfdp_transactions.specs.Events.{Event, DataCame, EofCame, Step, Cancel, Check, Take, Reply}

@@ -11,7 +11,7 @@
 use Rattle.std.specs.Prelude.{ℕ, ◌+◌, ◌-◌, min, Bool, true, not, ◌||◌, ◌==◌, if◌then◌else◌, nat_lt, nat_le, [], ◌∷◌, length, Option, Some, None}
 use Rattle.cfdp_actions.specs.Filestore.{Filestore, staged_in, blocks_of, Stages}
 use Rattle.cfdp_transactions.specs.Config.{Config}
-use Rattle.cfdp_pdus.specs.Checksum.{checksum}
+use Rattle.cfdp_checksum.specs.Checksum.{checksum}
 use Rattle.cfdp_pdus.specs.Values.{FileDataFields}
 use Rattle.cfdp_pdus.specs.declared.eof.Eof.{Eof}
 use Rattle.cfdp_transactions.specs.Received.{Received, kept_with, staged_of, pieces, is_whole}

@@ -1,9 +1,6 @@
 //! What is true of the definitions of the core, whatever the code does. Each function does nothing:
 //! its contract is the law.
 
-ghost use Rattle.std.specs.Prelude.{◌≡◌, ℕ, List};
-ghost use Rattle.cfdp_actions.specs.Store.{checksum_of};
-ghost use Rattle.cfdp_pdus.specs.Checksum.{checksum};
 ghost use Rattle.cfdp_transactions.specs.LowerLaws.{LowerLaws};
 ghost use Rattle.cfdp_transactions.specs.Headline.{StartIsSound, NextIsSound, NextIsPromised, Headline};
 ghost use Rattle.cfdp_transactions.specs.Needs.{StepNeeds, DataNeeds, TakeNeeds, FollowsIsSound};
@@ -73,11 +70,6 @@ pub fn outcomes_fit()
 /// The event of each PDU that was read is one of these.
 pub fn what_was_read_is_readable()
     ensures { ReadIsReadable }
-{}
-
-/// The checksum by which an EOF is judged is the one that a listing tells of the file.
-pub fn one_checksum()
-    ensures { (octets : List ℕ) → checksum octets ≡ checksum_of octets }
 {}
 
 /// A call that does what the table says, or nothing where memory was refused, keeps an entity sound.
