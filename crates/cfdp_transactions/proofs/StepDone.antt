@@ -214,7 +214,7 @@ module _ (laws : LowerLaws) (s : Store) (b : Books) (sound : Sound (world_of s b
     stepped_world = rw (table_now s b sound booked k r at live o.changes (row_in_slot b.config.prefixes F r.slot item) now, entry_now) refl
 
     pieces_now : ArePiecesIn G now
-    pieces_now alive = record { runs = tt; within = tt }
+    pieces_now alive = rw none_staged (record { pieces = record { runs = tt; within = tt }; to_end = refl })
 
     left_now : left_of r.blocks_granted now.blocks_spent + before ≡ reserve e + later
     left_now =
