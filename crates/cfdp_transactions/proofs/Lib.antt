@@ -51,3 +51,4 @@ pub mod Overwriting
 pub mod KeepingSteps
 pub mod StartWhole
 pub mod Following
+pub mod Finished

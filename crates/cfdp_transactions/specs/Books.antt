@@ -7,16 +7,17 @@
 --     IsBooked s b              leases, quota and pieces say what the world says
 --     IsLiveAt W k              the entry at k is live
 --     EndsAt, TurnsAt           the entry at k ends;  comes to another phase;  and nothing else changes
+--     IsDoneAt, IsBareAt        the entry at k is done;  it has no items
 --     Carries W V answer reply  a call answered so, or memory was refused
 --     AnswersAt W V k f reply   to an event of the entry at k the reply and the next world are what f says
 --     IsAnswered reply          memory was not refused
 --     IsSteady                  of the store before and after: its capacity stays, and whether it takes memory
-use Rattle.std.specs.Prelude.{◌≡◌, ◌≢◌, ⊤, ℕ, ◌+◌, ◌-◌, ◌≤◌, Bool, ◌||◌, IsTrue, List, length, Option, Some, None, slice_get}
+use Rattle.std.specs.Prelude.{◌≡◌, ◌≢◌, ⊤, ℕ, ◌+◌, ◌-◌, ◌≤◌, Bool, true, ◌||◌, IsTrue, List, [], length, Option, Some, None, slice_get}
 use Rattle.cfdp_pdus.specs.declared.eof.Eof.{Eof}
 use Rattle.cfdp_actions.specs.Filestore.{Filestore, staged_in}
 use Rattle.cfdp_actions.specs.Store.{Store}
 use Rattle.cfdp_quota.specs.Budget.{Budget, entry_at, reserve_at, spare}
-use Rattle.cfdp_transactions.specs.Entry.{Phase, is_live, Entry, reserve}
+use Rattle.cfdp_transactions.specs.Entry.{Phase, Done, is_live, Entry, reserve}
 use Rattle.cfdp_transactions.specs.World.{World, free, reserves, leases_of}
 use Rattle.cfdp_transactions.specs.Pieces.{Ranges, end_of}
 use Rattle.cfdp_transactions.specs.PieceLaws.{ArePieces}
@@ -60,6 +61,14 @@ EndsAt W V k by_eof condition =
 
 abbrev pub TurnsAt : World → World → ℕ → Phase → Option Eof → Bool → Type 0
 TurnsAt W V k phase eof complete = (e : Entry) → slice_get W.table k ≡ Some e → V ≡ turns W k e phase eof complete
+
+-- the entry at k is done
+abbrev pub IsDoneAt : World → World → ℕ → Type 0
+IsDoneAt W V k = (e : Entry) → slice_get W.table k ≡ Some e → V ≡ turns W k e Done e.eof true
+
+-- it has no items
+abbrev pub IsBareAt : World → ℕ → Type 0
+IsBareAt W k = (e : Entry) → slice_get W.table k ≡ Some e → e.items ≡ []
 
 -- memory was refused and nothing changed, or the world after and the reply are the answer
 abbrev pub Carries : World → World → World × Reply → Reply → Type 0
