@@ -9,6 +9,7 @@
 mod books;
 mod closing;
 mod config;
+mod delivery;
 mod entry;
 mod event;
 mod item;
