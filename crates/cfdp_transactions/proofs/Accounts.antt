@@ -1,21 +1,20 @@
 -- What the leases and the budget of blocks say, after one live entry changed or ended, one was added, or a final one was
 -- taken out.
-use Rattle.std.proofs.Common.{◌≡◌, ◌≢◌, ℕ, zero, suc, ◌+◌, ◌≤◌, List, [], ◌∷◌, ◌++◌, length, refl, ap, sym, ◌∙◌, arith}
-use Rattle.std.specs.Prelude.{Bool, true, false, not, Option, Some, None, slice_get, slice_set, remove, IsTrue, IsFalse, if◌then◌else◌}
-use Rattle.std.proofs.lemmas.Bool.{cases_Bool, cases_eq, both_ways}
+use Rattle.std.proofs.Common.{◌≡◌, ◌≢◌, ℕ, zero, suc, ◌+◌, List, [], ◌∷◌, ◌++◌, refl, ap, sym, ◌∙◌, arith}
+use Rattle.std.specs.Prelude.{Bool, true, false, Some, None, slice_get, slice_set, remove, IsTrue, IsFalse, if◌then◌else◌}
+use Rattle.std.proofs.lemmas.Bool.{cases_Bool, cases_eq}
 use mathlib.Core.Logic.{inl, inr}
 use Rattle.cfdp_status.specs.declared.transaction.TransactionId.{TransactionId}
-use Rattle.cfdp_actions.specs.Filestore.{Filestore, Change, after}
+use Rattle.cfdp_actions.specs.Filestore.{Change}
 use Rattle.cfdp_quota.specs.Budget.{Budget, entry_at, spare}
-use Rattle.cfdp_leases.specs.Footprint.{Footprint}
-use Rattle.cfdp_leases.specs.Leases.{Grants, is_same, without}
+use Rattle.cfdp_leases.specs.Leases.{Grants, without}
 use Rattle.cfdp_transactions.specs.Entry.{is_live, Entry, name_of, footprint, reserve}
-use Rattle.cfdp_transactions.specs.World.{World, free, reserves, leases_of, change_at}
+use Rattle.cfdp_transactions.specs.World.{World, free, leases_of, change_at}
 use Rattle.cfdp_transactions.specs.Sound.{Each, EachTwo, IsVacant, Sound}
 use Rattle.cfdp_transactions.specs.Books.{FitsBudget}
 use Rattle.cfdp_transactions.proofs.Places.{set_each, get_set_other, get_set_same, get_same}
 use Rattle.cfdp_transactions.proofs.Change.{reserves-set}
-use Rattle.cfdp_transactions.proofs.Finding.{is_same-true, is_same-same}
+use Rattle.cfdp_transactions.proofs.Finding.{is_same-same}
 use Rattle.cfdp_transactions.proofs.Lookups.{differs}
 
 -- leases -----------------------------------------------------------------------------

@@ -1,15 +1,15 @@
 -- The replies to events of a transaction that is there, by what the program did.
-use Rattle.std.proofs.Common.{◌≡◌, ℕ, ◌+◌, ◌-◌, ◌≤◌, ◌<◌, refl, ap, arith}
-use Rattle.std.specs.Prelude.{Bool, true, false, ◌||◌, nat_le, Option, Some, None, slice_get, IsTrue, IsFalse}
+use Rattle.std.proofs.Common.{◌≡◌, ℕ, ◌+◌, ◌-◌, ◌≤◌, ◌<◌, refl, arith}
+use Rattle.std.specs.Prelude.{Bool, true, false, ◌||◌, nat_le, Some, slice_get, IsTrue}
 use Rattle.std.proofs.lemmas.Bool.Decides.{nat_tests}
 use Rattle.cfdp_actions.specs.Store.{Store}
 use Rattle.cfdp_transactions.specs.Entry.{Phase, Awaiting, Executing, is_live, Entry}
 use Rattle.cfdp_transactions.specs.Events.{Reply}
 use Rattle.cfdp_transactions.specs.World.{World}
 use Rattle.cfdp_transactions.specs.Ending.{ends, cancelled}
-use Rattle.cfdp_transactions.specs.Delivery.{is_right_checksum, whole, checked, turns}
+use Rattle.cfdp_transactions.specs.Delivery.{is_right_checksum, whole, checked}
 use Rattle.cfdp_transactions.specs.Rows.{Row, entry_in}
-use Rattle.cfdp_transactions.specs.Books.{EndsAt, TurnsAt, IsLiveAt, AnswersAt, Carries, IsAnswered, world_of}
+use Rattle.cfdp_transactions.specs.Books.{EndsAt, TurnsAt, IsLiveAt, Carries, IsAnswered, world_of}
 use Rattle.cfdp_actions.specs.Actions.{Answer}
 use Rattle.cfdp_transactions.specs.Execution.{replied}
 use Rattle.cfdp_transactions.specs.declared.books.Books.{Books}

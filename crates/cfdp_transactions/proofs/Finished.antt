@@ -1,14 +1,12 @@
 -- The program's table, leases and quota after a live transaction without items was done.
-use Rattle.std.proofs.Common.{◌≡◌, ◌≢◌, ℕ, zero, suc, ◌+◌, drop, List, [], ◌∷◌, length, refl, ap, sym, ◌∙◌, arith}
-use Rattle.std.specs.Prelude.{Bool, true, false, Option, Some, None, slice_get, slice_set, IsTrue, IsFalse, if◌then◌else◌}
-use Rattle.cfdp_pdus.specs.declared.eof.Eof.{Eof}
+use Rattle.std.proofs.Common.{◌≡◌, ℕ, zero, suc, ◌+◌, drop, List, [], refl, arith}
+use Rattle.std.specs.Prelude.{true, Some, slice_get, slice_set, IsTrue, IsFalse}
 use Rattle.cfdp_actions.specs.Actions.{Item}
 use Rattle.cfdp_actions.specs.Store.{Store}
 use Rattle.cfdp_quota.specs.Budget.{Budget, entry_at, reserve_at, spare, closing}
 use Rattle.cfdp_leases.specs.Leases.{without}
-use Rattle.cfdp_transactions.specs.Received.{Received}
 use Rattle.cfdp_transactions.specs.Entry.{Phase, Receiving, Awaiting, Executing, Refused, Done, Ended, is_live, Entry, rest_in, rest, reserve}
-use Rattle.cfdp_transactions.specs.World.{World, change_at}
+use Rattle.cfdp_transactions.specs.World.{change_at}
 use Rattle.cfdp_transactions.specs.Sound.{is_next_install, Sound}
 use Rattle.cfdp_transactions.specs.Rows.{Row, received_by, entry_in, row_name, row_turned}
 use Rattle.cfdp_transactions.specs.Books.{IsBooked, IsDoneAt, IsBareAt, world_of}

@@ -1,4 +1,3 @@
-use Rattle.std.proofs.Common.{◌≡◌}
 use Rattle.cfdp_transactions.proofs.RowChange.{live_row, slot_below}
 use Rattle.cfdp_transactions.proofs.Finished.{finished_world, finished_booked}
 use Rattle.cfdp_transactions.proofs.closing.finish.Goals as goal

@@ -1,5 +1,5 @@
-use Rattle.std.proofs.Common.{◌≡◌, ◌∙◌, sym, refl, false, true}
-use Rattle.cfdp_transactions.proofs.Answering.{entry_is, whole_fault, whole_complete}
+use Rattle.std.proofs.Common.{◌≡◌, ◌∙◌, sym, true}
+use Rattle.cfdp_transactions.proofs.Answering.{entry_is, whole_complete}
 use Rattle.cfdp_transactions.proofs.delivery.judge.Goals as goal
 
 pub returns-clause-answer : goal.returns-clause-answer

@@ -1,4 +1,3 @@
-use Rattle.std.proofs.Common.{◌≡◌, ◌∙◌, refl}
 use Rattle.cfdp_transactions.proofs.RowTable.{remove_named, rows-remove}
 use Rattle.cfdp_transactions.proofs.table.Table.forget.Goals as goal
 
