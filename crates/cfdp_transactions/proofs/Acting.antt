@@ -1,12 +1,10 @@
 -- What an item that succeeds asks of the store.
-use Rattle.std.proofs.Common.{◌≡◌, ℕ, ◌+◌, ◌≤◌, List, [], ◌∷◌, length, refl, ap, sym, ◌∙◌, arith}
-use Rattle.std.specs.Prelude.{Bool, true, false, ◌&&◌, nat_le, is_none, Option, Some, None, IsTrue, if◌then◌else◌}
-use Rattle.std.proofs.lemmas.Bool.{cases_Bool}
+use Rattle.std.proofs.Common.{◌≡◌, ℕ, ◌+◌, ◌≤◌, List, [], ◌∷◌, length, refl, arith}
+use Rattle.std.specs.Prelude.{Bool, true, false, nat_le, is_none, Option, Some, None, IsTrue, if◌then◌else◌}
 use Rattle.std.proofs.lemmas.Bool.Decides.{nat_tests}
-use mathlib.Core.Logic.{inl, inr}
 use Rattle.cfdp_paths.specs.Paths.{Path}
-use Rattle.cfdp_actions.specs.Filestore.{Node, Directory, File, Filestore, node_at, staged_in, blocks_of, Change, Becomes, Stages, is_directory, octets_in, octets_at, parent_is_good}
-use Rattle.cfdp_actions.specs.Actions.{Request, Item, Install, Perform, Answer, succeeded, Outcome, ticks, unchanged, install, row, free_row, is_barred, denied, within, act, act_item}
+use Rattle.cfdp_actions.specs.Filestore.{Node, Directory, File, Filestore, node_at, staged_in, blocks_of, Becomes, Stages, is_directory, octets_in, octets_at, parent_is_good}
+use Rattle.cfdp_actions.specs.Actions.{Request, Install, Perform, Answer, succeeded, Outcome, ticks, install, row, free_row, is_barred, denied, within, act, act_item}
 
 -- a request is done as the store's own table says
 pub same_act : (prefixes : List Path) (F : Filestore) (free slot : ℕ) (request : Request) → act_item prefixes F free slot (Perform request) ≡ act prefixes F free request

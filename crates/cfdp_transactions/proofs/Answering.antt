@@ -3,11 +3,11 @@ use Rattle.std.proofs.Common.{◌≡◌, ℕ, ◌+◌, ◌-◌, ◌≤◌, ◌<�
 use Rattle.std.specs.Prelude.{Bool, true, false, ◌||◌, nat_le, Some, slice_get, IsTrue}
 use Rattle.std.proofs.lemmas.Bool.Decides.{nat_tests}
 use Rattle.cfdp_actions.specs.Store.{Store}
-use Rattle.cfdp_transactions.specs.Entry.{Phase, Awaiting, is_live, Entry}
+use Rattle.cfdp_transactions.specs.Entry.{Phase, Awaiting, Executing, is_live, Entry}
 use Rattle.cfdp_transactions.specs.Events.{Reply}
 use Rattle.cfdp_transactions.specs.World.{World}
 use Rattle.cfdp_transactions.specs.Ending.{ends, cancelled}
-use Rattle.cfdp_transactions.specs.Delivery.{checked}
+use Rattle.cfdp_transactions.specs.Delivery.{is_right_checksum, whole, checked}
 use Rattle.cfdp_transactions.specs.Rows.{Row, entry_in}
 use Rattle.cfdp_transactions.specs.Books.{EndsAt, TurnsAt, IsLiveAt, Carries, IsAnswered, world_of}
 use Rattle.cfdp_actions.specs.Actions.{Answer}
@@ -54,3 +54,9 @@ pub answered_reply : (answer : Answer) → IsAnswered (replied answer)
 answered_reply (Answer.Performed status) = tt
 answered_reply Answer.Installed = tt
 answered_reply Answer.NotInstalled = tt
+
+pub whole_fault : (W V : World) (k : ℕ) (e : Entry) (sum : ℕ) → slice_get W.table k ≡ Some e → is_right_checksum e sum ≡ false → EndsAt W V k false 5 → whole W k e sum ≡ (V, Reply.Faulted 5)
+whole_fault W V k e sum at wrong ended = rw (wrong, plain_end W V k 5 ended e at) refl
+
+pub whole_complete : (W V : World) (k : ℕ) (e : Entry) (sum : ℕ) → slice_get W.table k ≡ Some e → is_right_checksum e sum ≡ true → TurnsAt W V k (Executing 0) e.eof true → whole W k e sum ≡ (V, Reply.Complete)
+whole_complete W V k e sum at right turned = rw (right, turned e at) refl

@@ -1,7 +1,7 @@
 -- The entries of a budget after blocks were taken and given back, and after a slot was closed.
-use Rattle.std.proofs.Common.{◌≡◌, ◌≢◌, ℕ, zero, suc, ◌+◌, ◌-◌, ◌≤◌, ◌<◌, List, [], ◌∷◌, length, refl, ap, sym, ◌∙◌, arith, get_or, get_or-set_same, get_or-set_other, length-set}
+use Rattle.std.proofs.Common.{◌≡◌, ◌≢◌, ℕ, zero, suc, ◌+◌, ◌-◌, ◌≤◌, ◌<◌, List, [], ◌∷◌, length, refl, ap, ◌∙◌, arith, get_or-set_same, get_or-set_other}
 use Rattle.std.specs.Prelude.{Option, Some, None, slice_set, slice_index_or}
-use Rattle.cfdp_quota.specs.Budget.{Budget, entry_at, reserve_at, reserve_of, spare, giving, taking, closing, reserving}
+use Rattle.cfdp_quota.specs.Budget.{Budget, entry_at, reserve_at, spare, giving, taking, closing, reserving}
 use Rattle.cfdp_transactions.specs.Books.{Settles}
 
 inside : (xs : List (Option ℕ)) (i m : ℕ) → slice_index_or xs i None ≡ Some m → i < length xs

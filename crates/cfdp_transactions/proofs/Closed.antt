@@ -1,12 +1,12 @@
 -- The program's table, leases and quota after a live transaction ended.
-use Rattle.std.proofs.Common.{◌≡◌, ◌≢◌, ℕ, ◌+◌, ◌-◌, ◌≤◌, ◌<◌, List, [], ◌∷◌, length, refl, ap, sym, ◌∙◌, arith}
-use Rattle.std.specs.Prelude.{Bool, Some, None, slice_get, slice_set, IsTrue}
-use Rattle.cfdp_actions.specs.Filestore.{Filestore, staged_in, blocks_of, blocks, Stages, after}
+use Rattle.std.proofs.Common.{◌≡◌, ℕ, ◌+◌, [], ◌∷◌, length, refl, ◌∙◌, arith}
+use Rattle.std.specs.Prelude.{Bool, Some, slice_get, slice_set, IsTrue}
+use Rattle.cfdp_actions.specs.Filestore.{Filestore, staged_in, blocks_of, Stages, after}
 use Rattle.cfdp_actions.specs.Store.{Store, with_changes}
 use Rattle.cfdp_quota.specs.Budget.{Budget, entry_at, reserve_at, spare, giving, closing}
 use Rattle.cfdp_leases.specs.Leases.{without}
-use Rattle.cfdp_transactions.specs.Entry.{is_live, Entry, reserve}
-use Rattle.cfdp_transactions.specs.World.{World, free, change_at}
+use Rattle.cfdp_transactions.specs.Entry.{is_live, reserve}
+use Rattle.cfdp_transactions.specs.World.{World, change_at}
 use Rattle.cfdp_transactions.specs.Sound.{Sound}
 use Rattle.cfdp_transactions.specs.Rows.{Row, entry_in, row_name, row_ended}
 use Rattle.cfdp_transactions.specs.Books.{IsBooked, EndsAt, world_of}
@@ -14,7 +14,7 @@ use Rattle.cfdp_transactions.specs.declared.books.Books.{Books}
 use Rattle.cfdp_transactions.proofs.Places.{get_same}
 use Rattle.cfdp_transactions.proofs.Accounts.{Adjusts}
 use Rattle.cfdp_transactions.proofs.Budgets.{given_here, closed_here, given_elsewhere, closed_elsewhere, reserve_is}
-use Rattle.cfdp_transactions.proofs.RowChange.{entry_at_k, kept_row, reserve_open, blocks-unstaged, table_now, booked_now}
+use Rattle.cfdp_transactions.proofs.RowChange.{entry_at_k, reserve_open, blocks-unstaged, table_now, booked_now}
 
 module _ (s : Store) (b : Books) (sound : Sound (world_of s b)) (booked : IsBooked s b) (k : ℕ) (r : Row) (at : slice_get b.table k ≡ Some r) (live : IsTrue (is_live r.phase))
     (condition : ℕ) (by_eof : Bool) (given : ℕ) (unstaged : given ≡ blocks_of (length (staged_in s.filestore r.slot))) where

@@ -1,14 +1,14 @@
 -- From an event of the entry at a place to the next world.
-use Rattle.std.proofs.Common.{◌≡◌, ℕ, zero, suc, ◌<◌, List, [], ◌∷◌, length, refl, ap, sym, ◌∙◌, arith, subst}
+use Rattle.std.proofs.Common.{◌≡◌, ℕ, zero, suc, ◌<◌, List, [], ◌∷◌, length, refl, sym, ◌∙◌, arith}
 use Rattle.std.specs.Prelude.{Option, Some, None, slice_get}
 use Rattle.cfdp_status.specs.declared.transaction.TransactionId.{TransactionId}
 use Rattle.cfdp_actions.specs.Store.{Store}
 use Rattle.cfdp_transactions.specs.Entry.{Entry}
 use Rattle.cfdp_transactions.specs.Events.{Event, Reply}
-use Rattle.cfdp_transactions.specs.World.{World, index_of, entry_of, place_of}
+use Rattle.cfdp_transactions.specs.World.{World, index_of, entry_of}
 use Rattle.cfdp_transactions.specs.Next.{next}
 use Rattle.cfdp_transactions.specs.Needs.{Follows, FollowsIsSound}
-use Rattle.cfdp_transactions.specs.Rows.{Row, entry_in, table_of, row_place}
+use Rattle.cfdp_transactions.specs.Rows.{entry_in, row_place}
 use Rattle.cfdp_transactions.specs.Books.{AnswersAt, Carries, IsBooked, world_of}
 use Rattle.cfdp_transactions.specs.Engine.{IsWhole}
 use Rattle.cfdp_transactions.specs.declared.books.Books.{Books}

@@ -58,3 +58,4 @@ pub mod Overwriting
 pub mod KeepingSteps
 pub mod StartWhole
 pub mod Following
+pub mod Finished

@@ -1,13 +1,13 @@
 -- One range more: of ranges that are joined with another, of a search for what is missing, and of the gaps.
-use Rattle.std.proofs.Common.{◌≡◌, ℕ, zero, suc, ◌+◌, ◌≤◌, ◌<◌, Bool, true, false, List, [], ◌∷◌, ◌++◌, length, drop, add-one, refl, ap, sym, ◌∙◌, arith, length-append}
-use Rattle.std.specs.Prelude.{◌-◌, ◌==◌, slice_index_or, ◌⊎◌, ◌&&◌, ◌||◌, nat_le, nat_lt, min, max, IsTrue, IsFalse, IfSome, if◌then◌else◌, Option, Some, None}
-use Rattle.std.proofs.lemmas.Bool.{cases_Bool, eqb-true, eq-eqb, and_parts, true≢false, cases_lt, le-leb, lt-ltb, le-ltb, lt-leb, and_from, and_left, and_right, or_left, or_right, or_from}
+use Rattle.std.proofs.Common.{◌≡◌, ℕ, zero, suc, ◌+◌, ◌≤◌, ◌<◌, true, false, List, [], ◌∷◌, length, drop, add-one, refl, ap, sym, ◌∙◌, arith}
+use Rattle.std.specs.Prelude.{◌-◌, ◌==◌, slice_index_or, ◌||◌, nat_lt, min, max, IfSome, if◌then◌else◌, Option, Some, None}
+use Rattle.std.proofs.lemmas.Bool.{cases_Bool, eqb-true, eq-eqb, and_parts, true≢false, cases_lt, lt-ltb, le-ltb, and_from, or_left}
 use Rattle.std.proofs.Math.Seq.{drop-cons}
 use mathlib.Core.Logic.{inl, inr}
 use Rattle.cfdp_transactions.specs.Received.{is_whole}
 use Rattle.cfdp_transactions.specs.PieceLaws.{ArePieces}
 use Rattle.cfdp_transactions.specs.ReceivedLaws.{AreRuns}
-use Rattle.cfdp_transactions.specs.Pieces.{Ranges, is_in, is_all, received_in, with_range, rest_of, range, between, end_of, IsNextGap, HasAll}
+use Rattle.cfdp_transactions.specs.Pieces.{Ranges, is_in, is_all, received_in, with_range, between, end_of, IsNextGap, HasAll}
 use Rattle.cfdp_transactions.proofs.Writing.{whole_has_none}
 use Rattle.cfdp_transactions.proofs.PieceRanges.{inside_true, behind_false, not_yet, runs_sooner}
 

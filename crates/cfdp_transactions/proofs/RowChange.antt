@@ -1,17 +1,14 @@
 -- The program's table, leases and quota after one live transaction changed.
-use Rattle.std.proofs.Common.{◌≡◌, ◌≢◌, ℕ, ◌+◌, ◌-◌, ◌≤◌, ◌<◌, List, [], ◌∷◌, length, refl, ap, sym, ◌∙◌, subst, arith}
-use Rattle.std.specs.Prelude.{Bool, true, false, Some, None, slice_get, slice_set, IsTrue, IsFalse, if◌then◌else◌, pos, negsuc, ◌≤ℤ◌}
+use Rattle.std.proofs.Common.{◌≡◌, ◌≢◌, ℕ, ◌+◌, ◌<◌, List, [], ◌∷◌, length, refl, ap, sym, ◌∙◌, subst, arith}
+use Rattle.std.specs.Prelude.{Bool, true, false, Some, slice_get, slice_set, IsTrue, if◌then◌else◌, pos, negsuc, ◌≤ℤ◌}
 use Rattle.std.specs.List.{AllByRecursion}
-use Rattle.std.proofs.lemmas.Bool.{cases_Bool}
 use Rattle.std.proofs.lemmas.Int.{ints}
-use mathlib.Core.Logic.{inl, inr}
 use Rattle.cfdp_actions.specs.Filestore.{Filestore, staged_in, blocks_of, blocks, Change, Stages, after}
 use Rattle.cfdp_actions.specs.Store.{Store, with_changes}
 use Rattle.cfdp_quota.specs.Budget.{Budget, entry_at, used}
 use Rattle.cfdp_leases.specs.Leases.{Grants, without}
-use Rattle.cfdp_transactions.specs.PieceLaws.{ArePieces}
 use Rattle.cfdp_transactions.specs.Entry.{is_live, Entry, reserve}
-use Rattle.cfdp_transactions.specs.World.{World, free, leases_of, change_at}
+use Rattle.cfdp_transactions.specs.World.{World, leases_of, change_at}
 use Rattle.cfdp_transactions.specs.Sound.{IsKept, Sound}
 use Rattle.cfdp_transactions.specs.Rows.{Row, entry_in, row_name, table_of}
 use Rattle.cfdp_transactions.specs.Books.{FitsBudget, IsBooked, ArePiecesIn, IsLiveAt, world_of}

@@ -1,13 +1,9 @@
 -- The program's rows, and the world that they and the store are.
-use Rattle.std.proofs.Common.{◌≡◌, ◌≢◌, ℕ, zero, suc, ◌+◌, ◌≤◌, List, [], ◌∷◌, ◌++◌, length, map, drop, refl, ap, sym, ◌∙◌, arith}
-use Rattle.std.specs.Prelude.{Bool, true, false, Option, Some, None, slice_get, slice_set, remove, option_map, IsTrue, IsFalse, if◌then◌else◌}
-use Rattle.std.proofs.lemmas.Bool.{cases_Bool}
-use mathlib.Core.Logic.{inl, inr}
+use Rattle.std.proofs.Common.{◌≡◌, ◌≢◌, ℕ, zero, suc, ◌≤◌, List, [], ◌∷◌, ◌++◌, length, drop, refl, ap, arith}
+use Rattle.std.specs.Prelude.{Bool, true, false, Option, Some, None, slice_get, slice_set, remove, option_map, IsTrue}
 use Rattle.cfdp_status.specs.declared.transaction.TransactionId.{TransactionId}
 use Rattle.cfdp_actions.specs.Filestore.{Filestore, staged_in}
-use Rattle.cfdp_leases.specs.Leases.{is_same}
 use Rattle.cfdp_transactions.specs.Received.{Received}
-use Rattle.cfdp_transactions.specs.Pieces.{received_in}
 use Rattle.cfdp_transactions.specs.Entry.{Phase, Receiving, Awaiting, Executing, Refused, Done, Ended, is_live, Entry}
 use Rattle.cfdp_transactions.specs.World.{place_of, next_runnable}
 use Rattle.cfdp_transactions.specs.Rows.{Row, received_by, entry_in, table_of, row_name, row_place, first_executing}

@@ -1,15 +1,11 @@
 -- A receiving entity that has just begun: its books say what its world says.
-use Rattle.std.proofs.Common.{◌≡◌, ℕ, zero, suc, ◌+◌, ◌-◌, ◌≤◌, List, [], ◌∷◌, refl, sym, ◌∙◌, arith, subst}
+use Rattle.std.proofs.Common.{◌≡◌, ℕ, zero, suc, ◌≤◌, [], refl, arith}
 use Rattle.std.specs.Prelude.{Bool, true, false, ◌||◌, if◌then◌else◌, nat_lt, Option, Some, None, slice_index_or, replicate}
 use Rattle.std.proofs.lemmas.Bool.Decides.{nat_tests}
 use Rattle.std.proofs.lemmas.List.Folds.{sum_by-replicate}
-use Rattle.cfdp_actions.specs.Filestore.{blocks, empty_filestore}
 use Rattle.cfdp_actions.specs.Store.{Store, empty_store}
 use Rattle.cfdp_quota.specs.Budget.{untouched, reserve_of}
 use Rattle.cfdp_transactions.specs.Config.{Config, ConfigFault, BadBlocks, first_fault}
-use Rattle.cfdp_transactions.specs.World.{start}
-use Rattle.cfdp_transactions.specs.Sound.{Sound}
-use Rattle.cfdp_transactions.specs.Books.{IsBooked, world_of}
 use Rattle.cfdp_transactions.specs.Engine.{IsWhole}
 use Rattle.cfdp_transactions.specs.declared.books.Books.{Books}
 use Rattle.cfdp_transactions.proofs.Starting.{start_sound, blocks-empty}

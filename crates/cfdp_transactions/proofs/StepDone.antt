@@ -1,11 +1,8 @@
 -- The program's table, leases and quota after an item of a live transaction was performed.
-use Rattle.std.proofs.Common.{◌≡◌, ◌≢◌, ℕ, zero, suc, ◌+◌, ◌-◌, ◌≤◌, ◌<◌, List, [], ◌∷◌, ◌++◌, length, drop, take, refl, ap, sym, ◌∙◌, arith}
+use Rattle.std.proofs.Common.{◌≡◌, ◌≢◌, ℕ, zero, suc, ◌+◌, ◌-◌, ◌≤◌, ◌<◌, List, [], ◌∷◌, length, drop, take, refl, ap, sym, ◌∙◌, arith}
 use Rattle.std.proofs.lemmas.List.{length-take, length-map}
-use Rattle.std.specs.Prelude.{Bool, true, false, ◌||◌, ◌==◌, ℤ, min, Some, None, slice_get, slice_set, IsTrue, IsFalse, if◌then◌else◌}
-use Rattle.std.proofs.lemmas.Bool.{cases_Bool}
+use Rattle.std.specs.Prelude.{Bool, true, false, ◌||◌, ◌==◌, ℤ, Some, None, slice_get, slice_set, IsTrue, IsFalse, if◌then◌else◌}
 use Rattle.std.proofs.lemmas.Bool.Decides.{nat_tests}
-use Rattle.std.proofs.lemmas.Int.{ints}
-use mathlib.Core.Logic.{inl, inr}
 use Rattle.cfdp_status.specs.declared.status.Status.{Status}
 use Rattle.cfdp_status.specs.declared.status.Status.TheVariants.{Successful}
 use Rattle.cfdp_paths.specs.Paths.{Path}
@@ -14,11 +11,10 @@ use Rattle.cfdp_actions.specs.Filestore.{Filestore, staged_in, blocks, after}
 use Rattle.cfdp_actions.specs.Actions.{Item, Install, Perform, succeeded, Outcome, ticks, row, act_item}
 use Rattle.cfdp_actions.specs.Store.{Store, free_blocks, with_changes}
 use Rattle.cfdp_quota.specs.Budget.{Budget, entry_at, reserve_at, spare, used, closing}
-use Rattle.cfdp_leases.specs.Leases.{Grants, without}
+use Rattle.cfdp_leases.specs.Leases.{without}
 use Rattle.cfdp_transactions.specs.Received.{Received, staged_of}
 use Rattle.cfdp_transactions.specs.Pieces.{Ranges, received_in}
-use Rattle.cfdp_transactions.specs.PieceLaws.{ArePieces}
-use Rattle.cfdp_transactions.specs.Entry.{Phase, Executing, Done, is_live, Entry, rest, reserve, left_of, spend}
+use Rattle.cfdp_transactions.specs.Entry.{Phase, Executing, Done, is_live, Entry, reserve, left_of, spend}
 use Rattle.cfdp_transactions.specs.Execution.{is_install, noted, phase_before, entry_after, replied, stepped}
 use Rattle.cfdp_transactions.specs.Events.{Reply}
 use Rattle.cfdp_transactions.specs.World.{World, free, change_at}
@@ -34,7 +30,7 @@ use Rattle.cfdp_transactions.proofs.Accounts.{Adjusts}
 use Rattle.cfdp_transactions.proofs.Balance.{left-spend, spend-free}
 use Rattle.cfdp_transactions.proofs.Budgets.{closed_here, closed_elsewhere, reserve_is}
 use Rattle.cfdp_transactions.proofs.RowAnswers.{row_of_request, row_of_install, row_in_slot}
-use Rattle.cfdp_transactions.proofs.RowChange.{entry_at_k, kept_row, slot_below, least_spent, most_spent, reserve_open, in_use, table_now, booked_now}
+use Rattle.cfdp_transactions.proofs.RowChange.{entry_at_k, kept_row, least_spent, most_spent, reserve_open, in_use, table_now, booked_now}
 use Rattle.cfdp_transactions.proofs.Stepping.{noted_none, noted_one, enough, succeeded_now, takes_within, steps_within, gone, honest_now, rest_is}
 use Rattle.cfdp_transactions.proofs.Turning.{live_counted, reserve_live, empty_by_length}
 
@@ -214,7 +210,7 @@ module _ (laws : LowerLaws) (s : Store) (b : Books) (sound : Sound (world_of s b
     stepped_world = rw (table_now s b sound booked k r at live o.changes (row_in_slot b.config.prefixes F r.slot item) now, entry_now) refl
 
     pieces_now : ArePiecesIn G now
-    pieces_now alive = record { runs = tt; within = tt }
+    pieces_now alive = rw none_staged (record { pieces = record { runs = tt; within = tt }; to_end = refl })
 
     left_now : left_of r.blocks_granted now.blocks_spent + before ≡ reserve e + later
     left_now =

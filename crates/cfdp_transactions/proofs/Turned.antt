@@ -1,10 +1,10 @@
 -- The program's table, leases and quota after a live transaction came to another phase.
-use Rattle.std.proofs.Common.{◌≡◌, ℕ, ◌+◌, List, [], ◌∷◌, refl, ap, sym, ◌∙◌, arith}
+use Rattle.std.proofs.Common.{◌≡◌, ℕ, [], refl, ◌∙◌}
 use Rattle.std.specs.Prelude.{Bool, Option, Some, slice_get, slice_set, IsTrue}
 use Rattle.cfdp_pdus.specs.declared.eof.Eof.{Eof}
 use Rattle.cfdp_actions.specs.Store.{Store}
-use Rattle.cfdp_transactions.specs.Entry.{Phase, is_live, Entry}
-use Rattle.cfdp_transactions.specs.World.{World, change_at}
+use Rattle.cfdp_transactions.specs.Entry.{Phase, is_live}
+use Rattle.cfdp_transactions.specs.World.{change_at}
 use Rattle.cfdp_transactions.specs.Sound.{Sound}
 use Rattle.cfdp_transactions.specs.Rows.{Row, entry_in, row_turned}
 use Rattle.cfdp_transactions.specs.Books.{IsBooked, TurnsAt, world_of}

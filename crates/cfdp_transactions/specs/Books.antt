@@ -2,21 +2,24 @@
 -- table, the leases and the budget of blocks.
 --     world_of s b              the world that a store and the books are
 --     FitsBudget q W            the quota has the free blocks, and the reserve of each live transaction in its slot
---     ArePiecesIn F r           a live transaction's ranges lie within what is staged for it
+--     AreAllOf ranges xs        the ranges are pieces of the octets, and the last of them ends where these do
+--     ArePiecesIn F r           a live transaction's ranges are those of what is staged for it
 --     IsBooked s b              leases, quota and pieces say what the world says
 --     IsLiveAt W k              the entry at k is live
 --     EndsAt, TurnsAt           the entry at k ends;  comes to another phase;  and nothing else changes
+--     IsDoneAt, IsBareAt        the entry at k is done;  it has no items
 --     Carries W V answer reply  a call answered so, or memory was refused
 --     AnswersAt W V k f reply   to an event of the entry at k the reply and the next world are what f says
 --     IsAnswered reply          memory was not refused
 --     IsSteady                  of the store before and after: its capacity stays, and whether it takes memory
-use Rattle.std.specs.Prelude.{◌≡◌, ◌≢◌, ⊤, ℕ, ◌+◌, ◌-◌, ◌≤◌, Bool, ◌||◌, IsTrue, Option, Some, None, slice_get}
+use Rattle.std.specs.Prelude.{◌≡◌, ◌≢◌, ⊤, ℕ, ◌+◌, ◌-◌, ◌≤◌, Bool, true, ◌||◌, IsTrue, List, [], length, Option, Some, None, slice_get}
 use Rattle.cfdp_pdus.specs.declared.eof.Eof.{Eof}
 use Rattle.cfdp_actions.specs.Filestore.{Filestore, staged_in}
 use Rattle.cfdp_actions.specs.Store.{Store}
 use Rattle.cfdp_quota.specs.Budget.{Budget, entry_at, reserve_at, spare}
-use Rattle.cfdp_transactions.specs.Entry.{Phase, is_live, Entry, reserve}
+use Rattle.cfdp_transactions.specs.Entry.{Phase, Done, is_live, Entry, reserve}
 use Rattle.cfdp_transactions.specs.World.{World, free, reserves, leases_of}
+use Rattle.cfdp_transactions.specs.Pieces.{Ranges, end_of}
 use Rattle.cfdp_transactions.specs.PieceLaws.{ArePieces}
 use Rattle.cfdp_transactions.specs.Sound.{Each, IsVacant}
 use Rattle.cfdp_transactions.specs.Events.{Reply}
@@ -35,8 +38,12 @@ pub record FitsBudget (q : Budget) (W : World) : Type 0 where
   pub opened : Each (λ e. IsTrue (is_live e.phase) → entry_at q e.slot ≡ Some (reserve e)) W.table
   pub closed : (slot : ℕ) → IsVacant W.table slot → entry_at q slot ≡ None
 
+pub record AreAllOf (ranges : Ranges) (xs : List ℕ) : Type 0 where
+  pub pieces : ArePieces ranges xs
+  pub to_end : end_of ranges ≡ length xs
+
 abbrev pub ArePiecesIn : Filestore → Row → Type 0
-ArePiecesIn F r = IsTrue (is_live r.phase) → ArePieces r.ranges (staged_in F r.slot)
+ArePiecesIn F r = IsTrue (is_live r.phase) → AreAllOf r.ranges (staged_in F r.slot)
 
 pub record IsBooked (s : Store) (b : Books) : Type 0 where
   pub leases : b.leases ≡ leases_of (world_of s b).table
@@ -54,6 +61,14 @@ EndsAt W V k by_eof condition =
 
 abbrev pub TurnsAt : World → World → ℕ → Phase → Option Eof → Bool → Type 0
 TurnsAt W V k phase eof complete = (e : Entry) → slice_get W.table k ≡ Some e → V ≡ turns W k e phase eof complete
+
+-- the entry at k is done
+abbrev pub IsDoneAt : World → World → ℕ → Type 0
+IsDoneAt W V k = (e : Entry) → slice_get W.table k ≡ Some e → V ≡ turns W k e Done e.eof true
+
+-- it has no items
+abbrev pub IsBareAt : World → ℕ → Type 0
+IsBareAt W k = (e : Entry) → slice_get W.table k ≡ Some e → e.items ≡ []
 
 -- memory was refused and nothing changed, or the world after and the reply are the answer
 abbrev pub Carries : World → World → World × Reply → Reply → Type 0

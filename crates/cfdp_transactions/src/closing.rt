@@ -5,7 +5,7 @@ ghost use Rattle.cfdp_transactions.specs.Entry.{is_live};
 ghost use Rattle.cfdp_transactions.specs.Sound.{Sound};
 ghost use Rattle.cfdp_transactions.specs.Ending.{cancelled};
 ghost use Rattle.cfdp_transactions.specs.Delivery.{checked};
-ghost use Rattle.cfdp_transactions.specs.Books.{AnswersAt, EndsAt, IsAnswered, IsBooked, IsLiveAt, IsSteady, TurnsAt, world_of};
+ghost use Rattle.cfdp_transactions.specs.Books.{AnswersAt, EndsAt, IsAnswered, IsBareAt, IsBooked, IsDoneAt, IsLiveAt, IsSteady, TurnsAt, world_of};
 
 use crate::books::Books;
 use crate::{Phase, Reply};
@@ -111,4 +111,20 @@ pub(crate) fn check<S: Filestore>(store: &mut S, books: &mut Books, place: usize
         complete,
     );
     Reply::Waiting
+}
+
+/// The transaction at a place, which has no items, is done: its reserve and its leases go.
+pub(crate) fn finish<S: Filestore>(store: &S, books: &mut Books, place: usize)
+    requires sound { Sound (world_of (S.state store.now) books.old) }
+    requires booked { IsBooked (S.state store.now) books.old }
+    requires live { IsLiveAt (world_of (S.state store.now) books.old) place }
+    requires bare { IsBareAt (world_of (S.state store.now) books.old) place }
+    ensures done { IsDoneAt (world_of (S.state store.now) books.old) (world_of (S.state store.now) books.new) place }
+    ensures booked { IsBooked (S.state store.now) books.new }
+{
+    let entry = books.table.at(place);
+    let (transaction, slot, eof) = (entry.name(), entry.slot(), entry.eof());
+    books.table.turn(place, Phase::Done, eof, true);
+    books.quota.close(slot);
+    books.leases.release(transaction);
 }

@@ -14,7 +14,7 @@ use cfdp_states::laws::{
 };
 
 // What the layers below promise.
-fn lower_laws()
+pub(crate) fn lower_laws()
     ensures { LowerLaws }
 {
     own_footprint();

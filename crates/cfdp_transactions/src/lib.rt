@@ -11,6 +11,7 @@ mod books;
 mod closing;
 mod config;
 mod copying;
+mod delivery;
 mod entry;
 mod event;
 mod item;

@@ -1,17 +1,17 @@
 //! The core of a receiving entity.
 
-ghost use Rattle.std.specs.Prelude.{◌≡◌, ◌∷◌, [], IfOk};
+ghost use Rattle.std.specs.Prelude.{◌≡◌, ◌∷◌, [], IfOk, IsTrue};
 ghost use Rattle.cfdp_actions.specs.Store.{empty_store};
 ghost use Rattle.cfdp_transactions.specs.Sound.{Sound};
 ghost use Rattle.cfdp_transactions.specs.World.{leases_of, next_runnable, spare, start};
-ghost use Rattle.cfdp_transactions.specs.Events.{Cancel};
+ghost use Rattle.cfdp_transactions.specs.Events.{Cancel, Check, Step};
 ghost use Rattle.cfdp_transactions.specs.Needs.{Follows};
 ghost use Rattle.cfdp_transactions.specs.Books.{IsAnswered};
 ghost use Rattle.cfdp_transactions.specs.Engine.{read_of};
 
 use crate::books::Books;
 use crate::table::Table;
-use crate::{Config, Phase, Reply, closing, laws};
+use crate::{Config, Phase, Reply, closing, laws, step};
 use cfdp_actions::Filestore;
 use cfdp_leases::Leases;
 use cfdp_paths::Memory;
@@ -159,5 +159,32 @@ impl<S: Filestore> Core<S> {
             return Reply::Unknown;
         };
         closing::cancel(&mut self.store, &mut self.books, place)
+    }
+
+    /// A check timer of a transaction expired (§4.6.4).
+    pub(crate) fn check(&mut self, id: TransactionId) -> Reply
+        ensures follows { Follows self.old.world (Check id) result self.new.world }
+        ensures answered { IsAnswered result }
+        ensures steady { self.new.takes_no_memory ≡ self.old.takes_no_memory }
+    {
+        laws::follows_is_sound();
+        let Some(place) = self.books.table.find(id) else {
+            return Reply::Unknown;
+        };
+        closing::check(&mut self.store, &mut self.books, place)
+    }
+
+    /// The next item of a transaction is performed (§4.9).
+    pub(crate) fn step(&mut self, id: TransactionId) -> Reply
+        ensures follows { Follows self.old.world (Step id) result self.new.world }
+        ensures answered { IsTrue self.old.takes_no_memory → IsAnswered result }
+        ensures steady { self.new.takes_no_memory ≡ self.old.takes_no_memory }
+    {
+        laws::lower_laws();
+        laws::follows_is_sound();
+        let Some(place) = self.books.table.find(id) else {
+            return Reply::Unknown;
+        };
+        step::step(&mut self.store, &mut self.books, place)
     }
 }

@@ -1,4 +1,3 @@
-use Rattle.std.proofs.Common.{◌≡◌, refl}
 use Rattle.std.specs.Prelude.{IsTrue}
 use Rattle.cfdp_transactions.specs.Entry.{is_live}
 use Rattle.cfdp_transactions.proofs.Answering.{live_at, entry_is, cancel_answer}

@@ -1,6 +1,5 @@
-use Rattle.std.proofs.Common.{◌≡◌, ◌∙◌, sym, refl, arith, ap}
-use Rattle.std.specs.Prelude.{IsTrue}
-use Rattle.cfdp_transactions.specs.Entry.{is_live, Awaiting}
+use Rattle.std.proofs.Common.{◌≡◌, refl, arith}
+use Rattle.cfdp_transactions.specs.Entry.{Awaiting}
 use Rattle.cfdp_transactions.proofs.Answering.{live_at, entry_is, phase_is, check_fault, check_wait}
 use Rattle.cfdp_transactions.proofs.closing.check.Goals as goal
 

@@ -1,4 +1,4 @@
-use Rattle.std.proofs.Common.{◌≡◌, arith}
+use Rattle.std.proofs.Common.{arith}
 use Rattle.cfdp_transactions.proofs.RowChange.{live_row, slot_below, least_spent, most_spent, in_use, blocks-unstaged}
 use Rattle.cfdp_transactions.proofs.Places.{get_inside}
 use Rattle.cfdp_transactions.proofs.Closed.{ended_world, ended_booked}

@@ -1,4 +1,4 @@
-use Rattle.std.proofs.Common.{◌≡◌, ◌∙◌, refl, ap, sym}
+use Rattle.std.proofs.Common.{refl}
 use Rattle.cfdp_actions.specs.Store.{free_blocks}
 use Rattle.cfdp_transactions.proofs.Acting.{same_act, is_installed}
 use Rattle.cfdp_transactions.proofs.item.act.Goals as goal

@@ -1,4 +1,4 @@
-use Rattle.std.proofs.Common.{ℕ, ◌<◌, ◌^◌, arith}
+use Rattle.std.proofs.Common.{◌<◌, ◌^◌, arith}
 use Rattle.cfdp_transactions.proofs.entry.Entry.grant.Goals as goal
 
 pub overflow_add-result : goal.overflow_add-result

@@ -1,4 +1,4 @@
-use Rattle.std.proofs.Common.{◌≡◌, ap, ◌∙◌, arith}
+use Rattle.std.proofs.Common.{ap, ◌∙◌, arith}
 use Rattle.cfdp_transactions.specs.Pieces.{end_of}
 use Rattle.cfdp_transactions.proofs.RangeSteps.{last_end}
 use Rattle.cfdp_transactions.proofs.ranges.Ranges.end.Goals as goal

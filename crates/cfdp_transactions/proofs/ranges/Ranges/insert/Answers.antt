@@ -1,5 +1,3 @@
-use Rattle.std.proofs.Common.{◌≡◌, ◌≤◌, length}
-use Rattle.cfdp_transactions.specs.ReceivedLaws.{AreRuns}
 use Rattle.cfdp_transactions.proofs.Writing.{range_is_added}
 use Rattle.cfdp_transactions.proofs.ranges.Ranges.insert.Goals as goal
 

@@ -1,7 +1,7 @@
 use Rattle.std.proofs.lemmas.Int.{to_z-of_z}
-use Rattle.std.proofs.Common.{◌≡◌, ◌∙◌, ℕ, refl, to_z, of_z, w64, rules}
+use Rattle.std.proofs.Common.{◌≡◌, ◌∙◌, refl, to_z, of_z, w64, rules}
 use Rattle.std.specs.Prelude.{ℤ}
-use Rattle.cfdp_transactions.specs.Entry.{Phase, Entry}
+use Rattle.cfdp_transactions.specs.Entry.{Entry}
 use Rattle.cfdp_transactions.proofs.RowWorld.{read_in}
 use Rattle.cfdp_transactions.proofs.receiver.Core.blocks_spent.Goals as goal
 

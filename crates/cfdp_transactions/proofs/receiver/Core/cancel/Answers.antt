@@ -1,4 +1,4 @@
-use Rattle.std.proofs.Common.{◌≡◌, refl}
+use Rattle.std.proofs.Common.{refl}
 use Rattle.cfdp_transactions.specs.Events.{Cancel}
 use Rattle.cfdp_transactions.specs.Ending.{cancelled}
 use Rattle.cfdp_transactions.specs.Books.{world_of}

@@ -1,4 +1,3 @@
-use Rattle.std.proofs.Common.{◌≡◌, refl}
 use Rattle.cfdp_transactions.proofs.StartWhole.{start_whole}
 use Rattle.cfdp_transactions.proofs.receiver.Core.new.Goals as goal
 

@@ -1,4 +1,4 @@
-use Rattle.std.proofs.Common.{◌≡◌, ◌∙◌, sym, refl}
+use Rattle.std.proofs.Common.{◌∙◌, sym}
 use Rattle.cfdp_transactions.proofs.RowWorld.{runnable_in}
 use Rattle.cfdp_transactions.proofs.receiver.Core.next_runnable.Goals as goal
 

@@ -1,5 +1,4 @@
-use Rattle.std.proofs.Common.{◌≡◌, ℕ, refl}
-use Rattle.std.specs.Prelude.{ℤ}
+use Rattle.std.proofs.Common.{refl}
 use Rattle.cfdp_transactions.specs.Entry.{Phase, Entry}
 use Rattle.cfdp_transactions.proofs.RowWorld.{read_in}
 use Rattle.cfdp_transactions.proofs.receiver.Core.phase.Goals as goal

@@ -1,6 +1,5 @@
-use Rattle.std.proofs.Common.{◌≡◌, ℕ, refl}
-use Rattle.std.specs.Prelude.{ℤ}
-use Rattle.cfdp_transactions.specs.Entry.{Phase, Entry}
+use Rattle.std.proofs.Common.{ℕ, refl}
+use Rattle.cfdp_transactions.specs.Entry.{Entry}
 use Rattle.cfdp_transactions.proofs.RowWorld.{read_in}
 use Rattle.cfdp_transactions.proofs.receiver.Core.steps_spent.Goals as goal
 

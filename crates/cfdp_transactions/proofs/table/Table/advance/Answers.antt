@@ -1,5 +1,4 @@
-use Rattle.std.proofs.Common.{◌≡◌, ◌∙◌, sym, refl}
-use Rattle.cfdp_transactions.specs.Rows.{Row, row_stepped}
+use Rattle.std.proofs.Common.{◌≡◌, ◌∙◌, refl}
 use Rattle.cfdp_transactions.proofs.RowTable.{set_named, rows-set}
 use Rattle.cfdp_transactions.proofs.table.Table.advance.Goals as goal
 

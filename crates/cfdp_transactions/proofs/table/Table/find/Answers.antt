@@ -1,5 +1,3 @@
-use Rattle.std.proofs.Common.{rules, refl}
-use Rattle.cfdp_transactions.specs.Rows.{row_place}
 use Rattle.cfdp_transactions.proofs.RowTable.{found_place, absent_place, same_either_way}
 use Rattle.cfdp_transactions.proofs.table.Table.find.Goals as goal
 
