@@ -1,6 +1,8 @@
 //! What is written, beside the worked examples.
 
-ghost use Rattle.std.specs.Prelude.{◌≡◌, ◌<◌, ◌^◌, IfSome, true};
+ghost use Rattle.std.specs.Prelude.{◌≡◌, ◌<◌, ◌^◌, IfSome, IfOk, true};
+ghost use Rattle.cfdp_status.specs.Codes.{action_of};
+ghost use Rattle.cfdp_status.specs.declared.action.Action.TheVariants.{CreateFile, DeleteFile, RenameFile};
 ghost use Rattle.cfdp_pdus.specs.Canonical.{IsHeader};
 
 use super::octets;
@@ -28,26 +30,38 @@ fn header(number: u8, toward_sender: bool) -> Header
     }
 }
 
-fn create(alloc: Global, first: &[u8]) -> Result<FilestoreRequest, AllocError> {
+fn create(alloc: Global, first: &[u8]) -> Result<FilestoreRequest, AllocError>
+    ensures { IfOk result (λ request. request.action ≡ CreateFile) }
+{
     FilestoreRequest::new(alloc, Action::CreateFile, first, None)
 }
 
-fn delete(alloc: Global, first: &[u8]) -> Result<FilestoreRequest, AllocError> {
+fn delete(alloc: Global, first: &[u8]) -> Result<FilestoreRequest, AllocError>
+    ensures { IfOk result (λ request. request.action ≡ DeleteFile) }
+{
     FilestoreRequest::new(alloc, Action::DeleteFile, first, None)
 }
 
-fn rename(alloc: Global, first: &[u8], second: &[u8]) -> Result<FilestoreRequest, AllocError> {
+fn rename(alloc: Global, first: &[u8], second: &[u8]) -> Result<FilestoreRequest, AllocError>
+    ensures { IfOk result (λ request. request.action ≡ RenameFile) }
+{
     FilestoreRequest::new(alloc, Action::RenameFile, first, Some(second))
+}
+
+// The status of a request to make a file, performed or not.
+fn creation(done: bool) -> Status
+    ensures { action_of result ≡ CreateFile }
+{
+    if done {
+        Status::Successful(Action::CreateFile)
+    } else {
+        Status::NotPerformed(Action::CreateFile)
+    }
 }
 
 // A response about a file that is made, or is to be.
 fn created(alloc: Global, done: bool, first: &[u8]) -> Result<FilestoreResponse, AllocError> {
-    let request = create(alloc, first)?;
-    Ok(request.into_response(if done {
-        Status::Successful(Action::CreateFile)
-    } else {
-        Status::NotPerformed(Action::CreateFile)
-    }))
+    Ok(create(alloc, first)?.into_response(creation(done)))
 }
 
 // The destination, where there is a fault.
