@@ -102,7 +102,7 @@ module _ (s : Store) (b : Books) (sound : Sound (world_of s b)) (booked : IsBook
 
     granted_pieces : (k : ℕ) (r : Row) → slice_get (b.table ++ row ∷ []) k ≡ Some r → ArePiecesIn s.filestore r
     granted_pieces k r at = elim (append_cases b.table row k r at) [
-      | inl last ↦ λ live. rw last.1 (record { runs = tt; within = tt })
+      | inl last ↦ λ live. rw (last.1, sound.vacant slot vacant) (record { pieces = record { runs = tt; within = tt }; to_end = refl })
       | inr before ↦ booked.pieces k r before.1
     ]
 
