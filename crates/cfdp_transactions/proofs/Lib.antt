@@ -56,3 +56,4 @@ pub mod TakenOut
 pub mod StartWhole
 pub mod Following
 pub mod Finished
+pub mod EofAnswers

@@ -1,18 +1,86 @@
-//! The delivery of a transaction's file: what follows once all its octets are there.
+//! The delivery of a transaction's file: its EOF, and what follows once all its octets are there.
 
-ghost use Rattle.std.specs.Prelude.{◌≡◌, ℕ, Some, slice_get};
+ghost use Rattle.std.specs.Prelude.{◌≡◌, ◌<◌, ◌==◌, ◌||◌, ℕ, nat_lt, Some, length, slice_get};
+ghost use Rattle.cfdp_actions.specs.Filestore.{staged_in};
+ghost use Rattle.cfdp_checksum.specs.Checksum.{checksum};
 ghost use Rattle.cfdp_transactions.specs.Entry.{Entry as Transaction};
+ghost use Rattle.cfdp_transactions.specs.World.{bound};
 ghost use Rattle.cfdp_transactions.specs.Sound.{Sound};
-ghost use Rattle.cfdp_transactions.specs.Delivery.{is_right_checksum, whole};
-ghost use Rattle.cfdp_transactions.specs.Books.{IsAnswered, IsBooked, IsLiveAt, IsSteady, world_of};
+ghost use Rattle.cfdp_transactions.specs.Delivery.{eof_came, is_right_checksum, whole};
+ghost use Rattle.cfdp_transactions.specs.Books.{AnswersAt, IsAnswered, IsBooked, IsLiveAt, IsSteady, world_of};
 
+use crate::admission::{NULL_CHECKSUM, bound_of, names_file};
 use crate::books::Books;
-use crate::closing::{end, turn};
-use crate::{Phase, Reply};
-use cfdp_actions::Filestore;
+use crate::closing::{end, finish, turn};
+use crate::entry::Entry;
+use crate::{Config, Phase, Reply};
+use cfdp_actions::{Filestore, staged_checksum};
+use cfdp_pdus::Eof;
 
 /// Condition code 5: file checksum failure (CCSDS 727.0-B-5 §5.2.2).
 const FILE_CHECKSUM_FAILURE: u8 = 5;
+
+/// Condition code 6: file size error (§5.2.2).
+const FILE_SIZE_ERROR: u8 = 6;
+
+/// The EOF of the transaction at a place (§4.6.1). Costs the checksum of what is staged, where all of it is there.
+pub(crate) fn eof<S: Filestore>(store: &mut S, books: &mut Books, place: usize, eof: Eof) -> Reply
+    requires sound { Sound (world_of (S.state store.old) books.old) }
+    requires booked { IsBooked (S.state store.old) books.old }
+    requires within { place < length books.old.table }
+    ensures answer { let W = world_of (S.state store.old) books.old in
+        AnswersAt W (world_of (S.state store.new) books.new) place (eof_came W place eof) result }
+    ensures answered { IsAnswered result }
+    ensures booked { IsBooked (S.state store.new) books.new }
+    ensures steady { IsSteady (S.state store.old) (S.state store.new) }
+{
+    let entry = books.table.at(place);
+    let (phase, kept, complete) = (entry.phase(), entry.eof(), entry.is_complete());
+    if !phase.is_live() {
+        return Reply::Idle;
+    }
+    if eof.condition != 0 {
+        end(store, books, place, true, eof.condition);
+        return Reply::Faulted(eof.condition);
+    }
+    if !phase.is_receiving() {
+        return Reply::Duplicate;
+    }
+    if entry.is_bare() {
+        finish(store, books, place);
+        return Reply::Done;
+    }
+    if !names_file(entry.metadata()) {
+        turn(store, books, place, Phase::Executing(0), kept, true);
+        return Reply::Complete;
+    }
+    if has_wrong_size(store, &books.config, entry, eof.size) {
+        end(store, books, place, false, FILE_SIZE_ERROR);
+        return Reply::Faulted(FILE_SIZE_ERROR);
+    }
+    if !entry.is_whole(eof.size) {
+        turn(store, books, place, Phase::Awaiting(0), Some(eof), complete);
+        return Reply::Waiting;
+    }
+    let is_right = is_right(store, entry, eof.checksum);
+    judge(store, books, place, is_right)
+}
+
+/// Whether a transaction's file cannot have this size: it is above the bound, or octets came past it.
+fn has_wrong_size<S: Filestore>(store: &S, config: &Config, entry: &Entry, size: u64) -> bool
+    requires { entry.now.slot < 64 }
+    ensures { result ≡ (nat_lt (bound config.now entry.now.metadata) size || nat_lt size (length (staged_in (S.state store.now).filestore entry.now.slot))) }
+{
+    size > bound_of(config, entry.metadata()) || size < store.staged_size(entry.slot())
+}
+
+/// Whether what is staged for a transaction has the checksum, or it is not looked at.
+fn is_right<S: Filestore>(store: &S, entry: &Entry, sum: u32) -> bool
+    requires { entry.now.slot < 64 }
+    ensures { result ≡ ((entry.now.metadata.checksum_type == 15) || (checksum (staged_in (S.state store.now).filestore entry.now.slot) == sum)) }
+{
+    entry.metadata().checksum_type == NULL_CHECKSUM || staged_checksum(store, entry.slot()) == sum
+}
 
 /// All octets of the file of the transaction at a place are there (§4.6.1): its items are performed from now on where the
 /// checksum is right, and else it ends.

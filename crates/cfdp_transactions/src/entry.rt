@@ -1,10 +1,11 @@
 //! A transaction of the table.
 
-ghost use Rattle.std.specs.Prelude.{◌≡◌, false, suc, if◌then◌else◌, ◌+◌, ◌≤◌, ◌<◌, pos, negsuc, ◌≤ℤ◌, Some, length, map, option_map, slice_get, vec_len};
+ghost use Rattle.std.specs.Prelude.{◌≡◌, false, suc, if◌then◌else◌, ◌+◌, ◌≤◌, ◌<◌, pos, negsuc, ◌≤ℤ◌, ◌==◌, Some, length, map, option_map, slice_get, vec_len};
 ghost use Rattle.cfdp_actions.specs.Actions.{Perform};
 ghost use Rattle.cfdp_transactions.specs.Items.{item_of};
 ghost use Rattle.cfdp_leases.specs.Items.{items_of};
 ghost use Rattle.cfdp_transactions.specs.Entry.{Done, Executing};
+ghost use Rattle.cfdp_transactions.specs.Pieces.{is_all};
 ghost use Rattle.cfdp_transactions.specs.Rows.{fresh_row, row_ended, row_name, row_stepped, row_turned};
 
 use crate::Phase;
@@ -184,6 +185,20 @@ impl Entry {
         ensures { result ≡ self.now.performed }
     {
         self.performed
+    }
+
+    /// Whether it has nothing to perform: no file, and no requests.
+    pub(crate) fn is_bare(&self) -> bool
+        ensures { result ≡ (length self.now.items == 0) }
+    {
+        self.destination.is_none() && self.requests.is_empty()
+    }
+
+    /// Whether all octets of a file of this size were received, and none past it.
+    pub(crate) fn is_whole(&self, size: u64) -> bool
+        ensures { result ≡ is_all size self.now.ranges }
+    {
+        self.ranges.is_whole(size)
     }
 
     /// Where its octets are staged.

@@ -1,7 +1,7 @@
 //! How far a transaction is.
 
 ghost use Rattle.std.specs.Prelude.{◌≡◌};
-ghost use Rattle.cfdp_transactions.specs.Entry.{is_live};
+ghost use Rattle.cfdp_transactions.specs.Entry.{is_live, is_receiving};
 
 /// How far a transaction is at the receiving entity (CCSDS 727.0-B-5 §4.6).
 #[derive(Clone, Copy, Debug, PartialEq, Eq)]
@@ -29,5 +29,12 @@ impl Phase {
             Phase::Receiving | Phase::Awaiting(_) | Phase::Executing(_) => true,
             Phase::Refused | Phase::Done | Phase::Ended(_) => false,
         }
+    }
+
+    /// Whether file data is taken and no EOF PDU has come.
+    pub(crate) fn is_receiving(self) -> bool
+        ensures { result ≡ is_receiving self }
+    {
+        matches!(self, Phase::Receiving)
     }
 }
