@@ -1,12 +1,13 @@
 -- From an event of the entry at a place to the next world.
 use Rattle.std.proofs.Common.{◌≡◌, ℕ, zero, suc, ◌<◌, List, [], ◌∷◌, length, refl, sym, ◌∙◌, arith}
-use Rattle.std.specs.Prelude.{Option, Some, None, slice_get}
+use Rattle.std.specs.Prelude.{true, ◌==◌, Option, Some, None, slice_get}
 use Rattle.cfdp_status.specs.declared.transaction.TransactionId.{TransactionId}
+use Rattle.cfdp_pdus.specs.declared.header.Header.{Header}
 use Rattle.cfdp_actions.specs.Store.{Store}
 use Rattle.cfdp_transactions.specs.Entry.{Entry}
 use Rattle.cfdp_transactions.specs.Events.{Event, Reply}
 use Rattle.cfdp_transactions.specs.World.{World, index_of, entry_of}
-use Rattle.cfdp_transactions.specs.Next.{next}
+use Rattle.cfdp_transactions.specs.Next.{for_us, next}
 use Rattle.cfdp_transactions.specs.Needs.{Follows, FollowsIsSound}
 use Rattle.cfdp_transactions.specs.Rows.{entry_in, row_place}
 use Rattle.cfdp_transactions.specs.Books.{AnswersAt, Carries, IsBooked, world_of}
@@ -45,5 +46,14 @@ module _ (s : Store) (b : Books) (id : TransactionId) where
   pub absent_entry : row_place id b.table ≡ length b.table → entry_of W id ≡ None
   absent_entry gone = rw (index_is, gone, get_in s.filestore b.table (length b.table), get_past b.table) refl
 
+module _ (s : Store) (b : Books) (id : TransactionId) where
+  pub found_entry : (place : ℕ) → place ≡ row_place id b.table → place < length b.table → (e : Entry) × (entry_of (world_of s b) id ≡ Some e)
+  found_entry place is within =
+      let here = get_at b.table place within in
+      (entry_in s.filestore here.0, rw (index_is s b id ∙ sym is) (row_at s.filestore b.table place here.0 here.1))
+
 pub still_whole : FollowsIsSound → (s t : Store) (b d : Books) (event : Event) (reply : Reply) → IsWhole s b → Follows (world_of s b) event reply (world_of t d) → IsBooked t d → IsWhole t d
 still_whole law s t b d event reply whole follows booked = record { sound = law (world_of s b) event reply (world_of t d) whole.sound follows; booked = booked }
+
+pub ours : (W V : World) (h : Header) (answer : World × Reply) (reply : Reply) → (h.destination == W.config.entity) ≡ true → Carries W V answer reply → Carries W V (for_us W h answer) reply
+ours W V h answer reply mine carried = rw mine carried

@@ -4,7 +4,7 @@ ghost use Rattle.std.specs.Prelude.{◌≡◌, false, suc, if◌then◌else◌, 
 ghost use Rattle.cfdp_actions.specs.Actions.{Perform};
 ghost use Rattle.cfdp_transactions.specs.Items.{item_of};
 ghost use Rattle.cfdp_leases.specs.Items.{items_of};
-ghost use Rattle.cfdp_transactions.specs.Entry.{Done, Executing};
+ghost use Rattle.cfdp_transactions.specs.Entry.{Done, Executing, id_of};
 ghost use Rattle.cfdp_transactions.specs.Pieces.{is_all};
 ghost use Rattle.cfdp_transactions.specs.Rows.{fresh_row, row_ended, row_name, row_stepped, row_turned};
 
@@ -104,10 +104,7 @@ impl Entry {
     pub(crate) fn name(&self) -> TransactionId
         ensures { result ≡ row_name self.now }
     {
-        TransactionId {
-            source: self.header.source,
-            number: self.header.number,
-        }
+        name_of(&self.header)
     }
 
     /// How far it is.
@@ -277,6 +274,16 @@ impl Entry {
         self.phase = phase;
         self.eof = eof;
         self.complete = complete;
+    }
+}
+
+/// The name of the transaction that a PDU belongs to: source entity ID and transaction sequence number.
+pub(crate) fn name_of(header: &Header) -> TransactionId
+    ensures { result ≡ id_of header.now }
+{
+    TransactionId {
+        source: header.source,
+        number: header.number,
     }
 }
 

@@ -4,17 +4,19 @@ ghost use Rattle.std.specs.Prelude.{◌≡◌, ◌∷◌, [], IfOk, IsTrue};
 ghost use Rattle.cfdp_actions.specs.Store.{empty_store};
 ghost use Rattle.cfdp_transactions.specs.Sound.{Sound};
 ghost use Rattle.cfdp_transactions.specs.World.{leases_of, next_runnable, spare, start};
-ghost use Rattle.cfdp_transactions.specs.Events.{Cancel, Check, Step};
+ghost use Rattle.cfdp_transactions.specs.Events.{Cancel, Check, EofCame, MetadataCame, Step, Take};
 ghost use Rattle.cfdp_transactions.specs.Needs.{Follows};
 ghost use Rattle.cfdp_transactions.specs.Books.{IsAnswered};
 ghost use Rattle.cfdp_transactions.specs.Engine.{read_of};
 
 use crate::books::Books;
+use crate::entry::name_of;
 use crate::table::Table;
-use crate::{Config, Phase, Reply, closing, laws, step};
+use crate::{Config, Phase, Reply, admission, closing, delivery, laws, step, taking};
 use cfdp_actions::Filestore;
 use cfdp_leases::Leases;
 use cfdp_paths::Memory;
+use cfdp_pdus::{Eof, Header, Metadata};
 use cfdp_quota::Quota;
 use cfdp_status::TransactionId;
 use std::alloc::Global;
@@ -146,6 +148,49 @@ impl<S: Filestore> Core<S> {
         ensures { result.now ≡ self.now.world.config }
     {
         &self.books.config
+    }
+
+    /// A Metadata PDU came (CCSDS 727.0-B-5 §5.2.5): it is copied where it begins a transaction.
+    pub(crate) fn metadata(&mut self, alloc: Global, header: &Header, metadata: &Metadata) -> Reply
+        ensures follows { Follows self.old.world (MetadataCame header.now metadata.now) result self.new.world }
+        ensures steady { self.new.takes_no_memory ≡ self.old.takes_no_memory }
+    {
+        laws::follows_is_sound();
+        if header.destination != self.books.config.entity() {
+            return Reply::NotForUs;
+        }
+        if let Some(_place) = self.books.table.find(name_of(header)) {
+            return Reply::Duplicate;
+        }
+        admission::admit(alloc, &self.store, &mut self.books, header, metadata)
+    }
+
+    /// An EOF PDU came (§5.2.2 and §4.6.1).
+    pub(crate) fn eof(&mut self, header: &Header, eof: Eof) -> Reply
+        ensures follows { Follows self.old.world (EofCame header.now eof) result self.new.world }
+        ensures answered { IsAnswered result }
+        ensures steady { self.new.takes_no_memory ≡ self.old.takes_no_memory }
+    {
+        laws::follows_is_sound();
+        if header.destination != self.books.config.entity() {
+            return Reply::NotForUs;
+        }
+        let Some(place) = self.books.table.find(name_of(header)) else {
+            return Reply::Unknown;
+        };
+        delivery::eof(&mut self.store, &mut self.books, place, eof)
+    }
+
+    /// The outcome of a transaction is asked for, with which it is forgotten.
+    pub(crate) fn take(&mut self, alloc: Global, id: TransactionId) -> Reply
+        ensures follows { Follows self.old.world (Take id) result self.new.world }
+        ensures steady { self.new.takes_no_memory ≡ self.old.takes_no_memory }
+    {
+        laws::follows_is_sound();
+        let Some(place) = self.books.table.find(id) else {
+            return Reply::Unknown;
+        };
+        taking::take(alloc, &self.store, &mut self.books, place)
     }
 
     /// A request to cancel a transaction (CCSDS 727.0-B-5 §4.11).
