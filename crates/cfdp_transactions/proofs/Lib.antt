@@ -50,11 +50,8 @@ pub mod Answering
 pub mod RowAdded
 pub mod RowGranted
 pub mod FirstClosed
-pub mod RangeSteps
 pub mod Acting
 pub mod StepDone
 pub mod TakenOut
-pub mod Overwriting
-pub mod KeepingSteps
 pub mod StartWhole
 pub mod Following

@@ -25,5 +25,4 @@ pub mod Books
 pub mod Adding
 pub mod Items
 pub mod Taking
-pub mod Keeping
 pub mod Engine
