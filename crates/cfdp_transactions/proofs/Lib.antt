@@ -55,3 +55,4 @@ pub mod StepDone
 pub mod TakenOut
 pub mod StartWhole
 pub mod Following
+pub mod Equality

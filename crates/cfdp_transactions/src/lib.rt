@@ -21,6 +21,7 @@ mod phase;
 mod ranges;
 mod receiver;
 mod reply;
+mod sameness;
 mod step;
 mod table;
 mod taking;
@@ -31,3 +32,6 @@ pub use outcome::{Outcome, SharedOutcome};
 pub use phase::Phase;
 pub use receiver::Core;
 pub use reply::Reply;
+
+#[cfg(test)]
+mod tests;

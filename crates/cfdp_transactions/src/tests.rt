@@ -1,0 +1,3 @@
+//! What no contract shows.
+
+mod sameness;
