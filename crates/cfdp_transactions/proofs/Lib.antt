@@ -57,3 +57,4 @@ pub mod StartWhole
 pub mod Following
 pub mod Finished
 pub mod EofAnswers
+pub mod Equality

@@ -22,6 +22,7 @@ mod phase;
 mod ranges;
 mod receiver;
 mod reply;
+mod sameness;
 mod step;
 mod table;
 mod taking;
