@@ -208,24 +208,31 @@ module _ (laws : LowerLaws) where
         (λ _. moves_then k e new W V (whole V k new eof.checksum).0 first (whole_moves V k new first.goes.sound (get_set_same W.table k new e at) eof.checksum live all more))
         (λ _. (new, first))
 
-    stored_moves : pieces received ≤ 32 → (phase : Phase) → e.phase ≡ phase → IsTrue (takes_data phase) → piece.offset + length piece.octets ≤ limit phase W.config e → Moves false k e W (stored phase (stores W k e received) k new).0
-    stored_moves few Receiving is takes below =
+    pub storing_moves : pieces received ≤ 32 → (phase : Phase) → e.phase ≡ phase → IsTrue (takes_data phase) → piece.offset + length piece.octets ≤ limit phase W.config e → MovesTo false k e new W (stores W k e received)
+    storing_moves few Receiving is takes below =
         let live : IsTrue (is_live e.phase) = rw is refl in
         let kept = s.live k e at live in
         let within : length received ≤ bound W.config e.metadata =
         kept_within e.received piece.offset piece.octets (bound W.config e.metadata) (let f = rw is at kept.fits in omega (arith, length-replicate {A = ℕ} (bound W.config e.metadata) 0)) below in
-        (new, stores_moves laws W s k e received at live (kept_grows e.received piece.offset piece.octets) (rw is (omega (arith, length-replicate {A = ℕ} (bound W.config e.metadata) 0, within))) (rw is refl) few)
-    stored_moves few (Awaiting checks) is takes below =
+        stores_moves laws W s k e received at live (kept_grows e.received piece.offset piece.octets) (rw is (omega (arith, length-replicate {A = ℕ} (bound W.config e.metadata) 0, within))) (rw is refl) few
+    storing_moves few (Awaiting checks) is takes below =
         let live : IsTrue (is_live e.phase) = rw is refl in
         let kept = s.live k e at live in
         let within : length received ≤ awaited e.eof =
         kept_within e.received piece.offset piece.octets (awaited e.eof) (let f = rw is at kept.fits in omega (arith, length-replicate {A = ℕ} (awaited e.eof) 0)) (omega arith) in
-        after_eof_moves e.eof live (rw is refl) (kept.more (rw is refl))
-        (stores_moves laws W s k e received at live (kept_grows e.received piece.offset piece.octets) (rw is (omega (arith, length-replicate {A = ℕ} (awaited e.eof) 0, within))) (rw is refl) few)
-    stored_moves few (Executing next) is takes below = absurd cc
-    stored_moves few Refused is takes below = absurd cc
-    stored_moves few Done is takes below = absurd cc
-    stored_moves few (Ended condition) is takes below = absurd cc
+        stores_moves laws W s k e received at live (kept_grows e.received piece.offset piece.octets) (rw is (omega (arith, length-replicate {A = ℕ} (awaited e.eof) 0, within))) (rw is refl) few
+    storing_moves few (Executing next) is takes below = absurd cc
+    storing_moves few Refused is takes below = absurd cc
+    storing_moves few Done is takes below = absurd cc
+    storing_moves few (Ended condition) is takes below = absurd cc
+
+    stored_moves : (phase : Phase) → e.phase ≡ phase → IsTrue (takes_data phase) → MovesTo false k e new W (stores W k e received) → Moves false k e W (stored phase (stores W k e received) k new).0
+    stored_moves (Awaiting checks) is takes first = let kept = s.live k e at (rw is refl) in after_eof_moves e.eof (rw is refl) (rw is refl) (kept.more (rw is refl)) first
+    stored_moves Receiving is takes first = (new, first)
+    stored_moves (Executing next) is takes first = absurd cc
+    stored_moves Refused is takes first = absurd cc
+    stored_moves Done is takes first = absurd cc
+    stored_moves (Ended condition) is takes first = absurd cc
 
     takes_live : (phase : Phase) → IsTrue (takes_data phase) → IsTrue (is_live phase)
     takes_live Receiving h = refl
@@ -242,5 +249,5 @@ module _ (laws : LowerLaws) where
         (λ _. cond_both (nat_lt (limit e.phase W.config e) (piece.offset + length piece.octets)) _ _ (λ (a : World × Reply). Moves false k e W a.0)
         (λ _. ends_here W k e s at 6 (takes_live e.phase takes))
         (λ below. cond_both (nat_lt 32 (pieces received)) _ _ (λ (a : World × Reply). Moves false k e W a.0) (λ _. still_here W k e s at)
-        (λ few. stored_moves (ltb-false _ _ few) e.phase refl takes (ltb-false _ _ below)))))
+        (λ few. stored_moves e.phase refl takes (storing_moves (ltb-false _ _ few) e.phase refl takes (ltb-false _ _ below))))))
         (λ _. still_here W k e s at)

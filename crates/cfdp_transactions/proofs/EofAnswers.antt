@@ -5,12 +5,12 @@ use Rattle.cfdp_pdus.specs.declared.eof.Eof.{Eof}
 use Rattle.cfdp_actions.specs.Filestore.{staged_in}
 use Rattle.cfdp_actions.specs.Store.{Store}
 use Rattle.cfdp_checksum.specs.Checksum.{checksum}
-use Rattle.cfdp_transactions.specs.Entry.{Phase, Awaiting, Executing, Done, is_live, is_receiving, Entry, has_file}
+use Rattle.cfdp_transactions.specs.Entry.{Awaiting, Executing, Done, is_live, is_receiving, Entry, has_file}
 use Rattle.cfdp_transactions.specs.Events.{Reply}
 use Rattle.cfdp_transactions.specs.World.{World, bound}
 use Rattle.cfdp_transactions.specs.Delivery.{turns, is_right_checksum, whole, eof_at, eof_came}
 use Rattle.cfdp_transactions.specs.Ending.{ends}
-use Rattle.cfdp_transactions.specs.Received.{is_whole, staged_of}
+use Rattle.cfdp_transactions.specs.Received.{is_whole}
 use Rattle.cfdp_transactions.specs.Pieces.{Ranges, is_all, received_in, received_from}
 use Rattle.cfdp_transactions.specs.Sound.{Sound}
 use Rattle.cfdp_transactions.specs.Rows.{Row, entry_in}

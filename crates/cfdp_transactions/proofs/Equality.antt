@@ -1,7 +1,7 @@
 -- The tests of requests, responses and PDUs tell exactly the equal ones.
 --     request-Decides, response-Decides
 --     metadata-Decides, finished-Decides
-use Rattle.std.proofs.Common.{◌≡◌, ◌&&◌, refl, sym, ◌∙◌, ap, subst, ℕ, Bool, true, false, eqb, List, Option, Some, None}
+use Rattle.std.proofs.Common.{◌≡◌, ◌&&◌, refl, sym, ◌∙◌, ap, subst, Bool, true, eqb, Option, Some, None}
 use Rattle.std.specs.Bool.{Decides, beq}
 use Rattle.std.specs.Cmp.{IsEquivalence, first_so, second_so, booleans_Decides}
 use Rattle.std.specs.Cmp.Lexicographic.{pointwise, pointwise_decides, bytes_decides}

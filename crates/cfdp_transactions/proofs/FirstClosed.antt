@@ -1,32 +1,17 @@
 -- The first slot that is closed in the budget is the first that no live entry has.
-use Rattle.std.proofs.Common.{◌≡◌, ◌≢◌, ℕ, zero, suc, ◌+◌, ◌-◌, ◌≤◌, ◌<◌, List, [], ◌∷◌, ◌++◌, length, refl, ap, sym, ◌∙◌, arith, get_or-set_same}
-use Rattle.std.specs.Prelude.{◌⊎◌, ◌||◌, ◌==◌, Bool, true, false, if◌then◌else◌, Some, None, slice_get, remove, IsTrue, IsFalse, IsSome}
-use Rattle.std.proofs.lemmas.Bool.{both_ways, cases_eq, cases_lt, or_cases, and_parts, eqb-true}
-use Rattle.std.proofs.lemmas.List.{append-nil}
+use Rattle.std.proofs.Common.{◌≡◌, ℕ, zero, suc, ◌+◌, ◌≤◌, ◌<◌, List, [], ◌∷◌, length, refl, arith}
+use Rattle.std.specs.Prelude.{◌==◌, Bool, true, false, if◌then◌else◌, Some, None, slice_get, IsTrue, IsSome}
+use Rattle.std.proofs.lemmas.Bool.{cases_eq, cases_lt, or_cases, and_parts, eqb-true}
 use mathlib.Core.Logic.{inl, inr}
-use Rattle.cfdp_pdus.specs.Values.{MetadataFields}
-use Rattle.cfdp_pdus.specs.declared.header.Header.{Header}
-use Rattle.cfdp_actions.specs.Actions.{Item}
-use Rattle.cfdp_actions.specs.Filestore.{Filestore, staged_in}
 use Rattle.cfdp_actions.specs.Store.{Store}
-use Rattle.cfdp_quota.specs.Budget.{Budget, IsOpen, entry_at, reserving, spare}
-use Rattle.cfdp_status.specs.declared.transaction.TransactionId.{TransactionId}
-use Rattle.cfdp_leases.specs.Footprint.{footprint_of}
-use Rattle.cfdp_leases.specs.Leases.{Grants, is_same, holds}
-use Rattle.cfdp_transactions.specs.Entry.{Phase, Receiving, is_live, Entry, id_of, name_of, footprint, reserve}
-use Rattle.cfdp_transactions.specs.World.{World, reserves, leases_of, place_of, has_slot, slot_from, free_slot}
-use Rattle.cfdp_transactions.specs.Admission.{new_entry, refused_entry, with_new}
-use Rattle.cfdp_transactions.specs.Sound.{Each, IsVacant, Sound}
-use Rattle.cfdp_transactions.specs.Adding.{AddsGranted}
-use Rattle.cfdp_transactions.specs.Rows.{Row, entry_in, table_of, row_place, fresh_row}
-use Rattle.cfdp_transactions.specs.Books.{FitsBudget, ArePiecesIn, IsBooked, world_of}
+use Rattle.cfdp_quota.specs.Budget.{IsOpen}
+use Rattle.cfdp_transactions.specs.Entry.{is_live, Entry}
+use Rattle.cfdp_transactions.specs.World.{World, has_slot, slot_from, free_slot}
+use Rattle.cfdp_transactions.specs.Sound.{Sound}
+use Rattle.cfdp_transactions.specs.Books.{IsBooked, world_of}
 use Rattle.cfdp_transactions.specs.declared.books.Books.{Books}
-use Rattle.cfdp_transactions.proofs.Accounts.{leases_added}
-use Rattle.cfdp_transactions.proofs.Budgets.{reserved_elsewhere}
-use Rattle.cfdp_transactions.proofs.Change.{reserves_total}
-use Rattle.cfdp_transactions.proofs.FreeSlots.{IsFree, free_slot_is, free_vacant, taken}
-use Rattle.cfdp_transactions.proofs.Places.{append_cases, append_each, get_append, total-append}
-use Rattle.cfdp_transactions.proofs.RowWorld.{append_in, place_in, length_in}
+use Rattle.cfdp_transactions.proofs.FreeSlots.{free_slot_is, free_vacant, taken}
+use Rattle.cfdp_transactions.proofs.RowWorld.{length_in}
 
 -- slots -------------------------------------------------------------------------------------
 

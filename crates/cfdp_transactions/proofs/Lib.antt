@@ -52,9 +52,14 @@ pub mod RowGranted
 pub mod FirstClosed
 pub mod Acting
 pub mod StepDone
+pub mod RangesAdded
+pub mod DataStored
+pub mod DataAnswers
 pub mod TakenOut
 pub mod StartWhole
 pub mod Following
 pub mod Finished
 pub mod EofAnswers
 pub mod Equality
+pub mod Handing
+pub mod RowGaps

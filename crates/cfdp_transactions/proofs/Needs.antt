@@ -53,7 +53,7 @@ module _ (laws : LowerLaws) where
   follows_sound W event Reply.Memory V s f = rw f s
   follows_sound W event reply V s f = subst Sound (ap (λ (a : World × Reply). a.0) f) (next_sound laws W s event)
 
-data_live : (phase : Phase) → IsTrue (takes_data phase) → IsTrue (is_live phase)
+pub data_live : (phase : Phase) → IsTrue (takes_data phase) → IsTrue (is_live phase)
 data_live Receiving h = refl
 data_live (Awaiting checks) h = refl
 data_live (Executing next) h = absurd cc
@@ -76,7 +76,7 @@ data_needs W k e received s at takes short =
     let kept = s.live k e at live in
     let x = longest W.config e in
     let old : length (staged_in W.filestore e.slot) ≡ length e.received = rw kept.staged (length-staged_of e.received) in
-    let more = blocks_of-le (length received) (length x) (omega (arith, limit_within e.phase W.config e takes)) in
+    let more = blocks_of-le (length received) (length x) (omega (arith, limit_within e.phase W.config e takes, kept.fits)) in
     let begins = peak_from W.config.prefixes (stage W.filestore e.slot x) e.slot (rest e) in
     let staging = blocks-staged W.filestore e.slot x kept.slot in
     record {

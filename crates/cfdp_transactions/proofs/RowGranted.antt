@@ -1,27 +1,26 @@
 -- The program's table, leases and quota after a transaction was admitted, and the table's answers to its Metadata.
-use Rattle.std.proofs.Common.{◌≡◌, ◌≢◌, ℕ, zero, suc, ◌+◌, ◌-◌, ◌≤◌, ◌<◌, List, [], ◌∷◌, ◌++◌, length, refl, ap, sym, subst, ◌∙◌, arith, get_or-set_same}
-use Rattle.std.specs.Prelude.{◌⊎◌, ◌&&◌, ◌||◌, ◌==◌, not, nat_le, nat_lt, Bool, true, false, if◌then◌else◌, Some, None, slice_get, remove, IsTrue, IsFalse, IsSome}
-use Rattle.std.proofs.lemmas.Bool.{both_ways, cases_eq, cases_lt, lt-leb, le-ltb, or_cases, and_parts, eqb-true}
-use Rattle.std.proofs.lemmas.List.{append-nil}
+use Rattle.std.proofs.Common.{◌≡◌, ◌≢◌, ℕ, zero, suc, ◌+◌, ◌≤◌, ◌<◌, List, [], ◌∷◌, ◌++◌, length, refl, ap, sym, subst, ◌∙◌, arith}
+use Rattle.std.specs.Prelude.{◌&&◌, not, nat_le, nat_lt, Bool, true, false, if◌then◌else◌, Some, None, slice_get, remove, IsTrue, IsFalse}
+use Rattle.std.proofs.lemmas.Bool.{lt-leb, le-ltb}
 use mathlib.Core.Logic.{inl, inr}
 use Rattle.cfdp_pdus.specs.Values.{MetadataFields}
 use Rattle.cfdp_pdus.specs.declared.header.Header.{Header}
 use Rattle.cfdp_actions.specs.Actions.{Item}
-use Rattle.cfdp_actions.specs.Filestore.{Filestore, staged_in}
+use Rattle.cfdp_actions.specs.Filestore.{Filestore}
 use Rattle.cfdp_actions.specs.Store.{Store}
 use Rattle.cfdp_paths.specs.Paths.{Path}
 use Rattle.cfdp_verifier.specs.declared.refusal.Refusal.{Refusal}
 use Rattle.cfdp_verifier.specs.Verdict.{Proposal, Verdict, Refuse, Grant, verdict}
 use Rattle.cfdp_transactions.specs.Events.{Reply}
 use Rattle.cfdp_transactions.specs.World as worlds
-use Rattle.cfdp_quota.specs.Budget.{Budget, IsOpen, entry_at, reserving, spare}
+use Rattle.cfdp_quota.specs.Budget.{Budget, entry_at, reserving, spare}
 use Rattle.cfdp_status.specs.declared.transaction.TransactionId.{TransactionId}
 use Rattle.cfdp_leases.specs.Footprint.{footprint_of}
 use Rattle.cfdp_leases.specs.Leases.{Grants, is_same, holds}
-use Rattle.cfdp_transactions.specs.Entry.{Phase, Receiving, Refused, has_file, is_live, Entry, id_of, name_of, footprint, reserve}
+use Rattle.cfdp_transactions.specs.Entry.{Receiving, Refused, has_file, is_live, Entry, id_of, name_of, footprint, reserve}
 use Rattle.cfdp_transactions.specs.World.{World, reserves, leases_of, place_of, has_slot, slot_from, free_slot}
 use Rattle.cfdp_transactions.specs.Admission.{new_entry, refused_entry, with_new, proposal_of, judged, is_known_checksum, metadata_came}
-use Rattle.cfdp_transactions.specs.Sound.{Each, IsVacant, Sound}
+use Rattle.cfdp_transactions.specs.Sound.{IsVacant, Sound}
 use Rattle.cfdp_transactions.specs.Adding.{AddsGranted}
 use Rattle.cfdp_transactions.specs.Rows.{Row, entry_in, table_of, row_place, fresh_row}
 use Rattle.cfdp_transactions.specs.Books.{FitsBudget, ArePiecesIn, IsBooked, world_of}
@@ -30,9 +29,9 @@ use Rattle.cfdp_transactions.proofs.Accounts.{leases_added}
 use Rattle.cfdp_transactions.proofs.Budgets.{reserved_elsewhere}
 use Rattle.cfdp_transactions.proofs.Granted.{IsGranted, IsJust, verdict_just}
 use Rattle.cfdp_transactions.proofs.RowAdded.{reserves_added, world_added}
-use Rattle.cfdp_transactions.proofs.FreeSlots.{IsFree, free_slot_is, free_vacant, taken}
-use Rattle.cfdp_transactions.proofs.Places.{append_cases, append_each, get_append, total-append}
-use Rattle.cfdp_transactions.proofs.RowWorld.{append_in, place_in, length_in}
+use Rattle.cfdp_transactions.proofs.FreeSlots.{free_slot_is, free_vacant}
+use Rattle.cfdp_transactions.proofs.Places.{append_cases, append_each, get_append}
+use Rattle.cfdp_transactions.proofs.RowWorld.{place_in, length_in}
 
 -- one that is granted its items --------------------------------------------------------------
 

@@ -39,7 +39,7 @@ drop_get n [] x h = absurd cc
 drop_get zero (y ∷ xs) x h = let q : y ≡ x = cc in rw q refl
 drop_get (suc n) (y ∷ xs) x h = drop_get n xs x h
 
-get_below : {X : Type 0} (xs : List X) (n : ℕ) (x : X) → slice_get xs n ≡ Some x → n < length xs
+pub get_below : {X : Type 0} (xs : List X) (n : ℕ) (x : X) → slice_get xs n ≡ Some x → n < length xs
 get_below [] n x h = absurd cc
 get_below (y ∷ xs) zero x h = omega arith
 get_below (y ∷ xs) (suc n) x h = omega (arith, get_below xs n x h)

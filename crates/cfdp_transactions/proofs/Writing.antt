@@ -42,7 +42,7 @@ brought_before zero octets i h = absurd (omega arith)
 brought_before (suc at) octets zero h = refl
 brought_before (suc at) octets (suc i) h = brought_before at octets i (omega arith)
 
-get_there : (xs : List ℕ) (j : ℕ) → j < length xs → slice_get xs j ≡ Some (get_or xs j 0)
+pub get_there : (xs : List ℕ) (j : ℕ) → j < length xs → slice_get xs j ≡ Some (get_or xs j 0)
 get_there [] j h = absurd (omega arith)
 get_there (x ∷ xs) zero h = refl
 get_there (x ∷ xs) (suc j) h = get_there xs j (omega arith)
@@ -52,7 +52,7 @@ get_behind [] j h = refl
 get_behind (x ∷ xs) zero h = absurd (omega arith)
 get_behind (x ∷ xs) (suc j) h = get_behind xs j (omega arith)
 
-brought_there : (at : ℕ) (octets : List ℕ) (i : ℕ) → at ≤ i → brought at octets i ≡ slice_get octets (i - at)
+pub brought_there : (at : ℕ) (octets : List ℕ) (i : ℕ) → at ≤ i → brought at octets i ≡ slice_get octets (i - at)
 brought_there zero octets i h = let z : i - 0 ≡ i = omega arith in rw z refl
 brought_there (suc at) octets zero h = absurd (omega arith)
 brought_there (suc at) octets (suc i) h = let z : suc i - suc at ≡ i - at = omega arith in rw z (brought_there at octets i (omega arith))
@@ -155,7 +155,7 @@ kept_at ranges xs at octets ys p some w i below = elim (cases_Bool (is_in i rang
       | inr past ↦ none_behind (received_in ranges xs) i (omega (arith, length-received 0 ranges xs))
     ]
 
-kept_length : (rs : Received) (at : ℕ) (octets : List ℕ) → 0 < length octets → length (kept_with rs at octets) ≡ max (length rs) (at + length octets)
+pub kept_length : (rs : Received) (at : ℕ) (octets : List ℕ) → 0 < length octets → length (kept_with rs at octets) ≡ max (length rs) (at + length octets)
 kept_length rs at [] h = absurd (omega arith)
 kept_length rs at (x ∷ xs) h = greatest_end rs at x xs
 

@@ -10,21 +10,24 @@
 --     IsDoneAt, IsBareAt        the entry at k is done;  it has no items
 --     Carries W V answer reply  a call answered so, or memory was refused
 --     AnswersAt W V k f reply   to an event of the entry at k the reply and the next world are what f says
+--     IsTakenAt W k piece       file data that the entry at k takes;  StoresAt: it is staged for it, and nothing else changes
 --     IsAnswered reply          memory was not refused
 --     IsSteady                  of the store before and after: its capacity stays, and whether it takes memory
-use Rattle.std.specs.Prelude.{◌≡◌, ◌≢◌, ⊤, ℕ, ◌+◌, ◌-◌, ◌≤◌, Bool, true, ◌||◌, IsTrue, List, [], length, Option, Some, None, slice_get}
+use Rattle.std.specs.Prelude.{◌≡◌, ◌≢◌, ⊤, ℕ, ◌+◌, ◌-◌, ◌≤◌, ◌<◌, Bool, true, ◌||◌, IsTrue, List, [], length, Option, Some, None, slice_get}
+use Rattle.cfdp_pdus.specs.Values.{FileDataFields}
 use Rattle.cfdp_pdus.specs.declared.eof.Eof.{Eof}
 use Rattle.cfdp_actions.specs.Filestore.{Filestore, staged_in}
 use Rattle.cfdp_actions.specs.Store.{Store}
 use Rattle.cfdp_quota.specs.Budget.{Budget, entry_at, reserve_at, spare}
-use Rattle.cfdp_transactions.specs.Entry.{Phase, Done, is_live, Entry, reserve}
+use Rattle.cfdp_transactions.specs.Entry.{Phase, Done, is_live, takes_data, Entry, reserve}
 use Rattle.cfdp_transactions.specs.World.{World, free, reserves, leases_of}
 use Rattle.cfdp_transactions.specs.Pieces.{Ranges, end_of}
 use Rattle.cfdp_transactions.specs.PieceLaws.{ArePieces}
 use Rattle.cfdp_transactions.specs.Sound.{Each, IsVacant}
+use Rattle.cfdp_transactions.specs.Received.{kept_with, pieces}
 use Rattle.cfdp_transactions.specs.Events.{Reply}
 use Rattle.cfdp_transactions.specs.Ending.{ends}
-use Rattle.cfdp_transactions.specs.Delivery.{turns}
+use Rattle.cfdp_transactions.specs.Delivery.{limit, stores, turns}
 use Rattle.cfdp_transactions.specs.Rows.{Row, table_of}
 use Rattle.cfdp_transactions.specs.declared.books.Books.{Books}
 
@@ -78,6 +81,19 @@ Carries W V answer reply = answer ≡ (V, reply)
 -- of the entry at k
 abbrev pub AnswersAt : World → World → ℕ → (Option Entry → World × Reply) → Reply → Type 0
 AnswersAt W V k answer reply = (e : Entry) → slice_get W.table k ≡ Some e → Carries W V (answer (Some e)) reply
+
+-- file data that comes to its place: some octets, within the limit, in few pieces
+pub record Takes (W : World) (e : Entry) (piece : FileDataFields) : Type 0 where
+  pub opens : IsTrue (takes_data e.phase)
+  pub some : 0 < length piece.octets
+  pub below : piece.offset + length piece.octets ≤ limit e.phase W.config e
+  pub few : pieces (kept_with e.received piece.offset piece.octets) ≤ 32
+
+abbrev pub IsTakenAt : World → ℕ → FileDataFields → Type 0
+IsTakenAt W k piece = (e : Entry) × (slice_get W.table k ≡ Some e) × Takes W e piece
+
+abbrev pub StoresAt : World → World → ℕ → FileDataFields → Type 0
+StoresAt W V k piece = (e : Entry) → slice_get W.table k ≡ Some e → V ≡ stores W k e (kept_with e.received piece.offset piece.octets)
 
 abbrev pub IsAnswered : Reply → Type 0
 IsAnswered Reply.Memory = ⊥

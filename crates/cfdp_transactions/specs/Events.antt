@@ -4,8 +4,9 @@
 --     Outcome    the Finished PDU, its header, and whether it is sent
 --     Reply
 --     about      whose transaction an event is
+--     is_take, hands_out      the request for the outcome;  the reply that has one
 --     event_of   the event that a PDU is: none, where it goes toward the sender or the core does not take it
-use Rattle.std.specs.Prelude.{if◌then◌else◌, Option, Some, None}
+use Rattle.std.specs.Prelude.{Bool, true, false, if◌then◌else◌, Option, Some, None}
 use Rattle.cfdp_status.specs.declared.transaction.TransactionId.{TransactionId}
 use Rattle.cfdp_pdus.specs.declared.header.Header.{Header}
 use Rattle.cfdp_pdus.specs.declared.pdu.Pdu.{Pdu}
@@ -24,6 +25,14 @@ about (Step id) = id
 about (Cancel id) = id
 about (Check id) = id
 about (Take id) = id
+
+abbrev pub is_take : Event → Bool
+is_take (Take id) = true
+is_take event = false
+
+abbrev pub hands_out : Reply → Bool
+hands_out (Reply.Taken outcome) = true
+hands_out reply = false
 
 abbrev pub to_receiver : Header → Event → Option Event
 to_receiver h event = if h.toward_sender then None else Some event

@@ -1,6 +1,7 @@
 pub mod LowerLaws
 pub mod Config
 pub mod ConfigWords
+pub mod ConfigEquality
 pub mod Received
 pub mod Entry
 pub mod Events

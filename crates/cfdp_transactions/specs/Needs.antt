@@ -5,14 +5,16 @@
 --     StepNeeds, DataNeeds, TakeNeeds   for each entry of a sound world
 --     Follows W event reply V   what a call may do: nothing, where memory was refused, and else what the table says
 --     FollowsIsSound            then the world stays sound
-use Rattle.std.specs.Prelude.{◌≡◌, ℕ, ◌+◌, ◌-◌, ◌≤◌, IsTrue, length, Some, slice_get}
+--     may_want_memory thrifty event   whether the event may be refused memory, where the store takes none, or some
+--     OnlyTakeHandsOut          no other event's reply has an outcome
+use Rattle.std.specs.Prelude.{◌≡◌, ℕ, ◌+◌, ◌-◌, max, ◌≤◌, Bool, true, false, not, IsTrue, IsFalse, length, Some, slice_get}
 use Rattle.std.specs.List.{AllByRecursion}
 use Rattle.cfdp_actions.specs.Filestore.{staged_in, blocks_of}
 use Rattle.cfdp_actions.specs.Actions.{Item, succeeded, ticks, row}
 use Rattle.cfdp_tlv.specs.Values.{IsRequest, IsResponse}
 use Rattle.cfdp_transactions.specs.Received.{Received, staged_of}
 use Rattle.cfdp_transactions.specs.Entry.{Executing, takes_data, Entry, reserve}
-use Rattle.cfdp_transactions.specs.Events.{Event, Reply}
+use Rattle.cfdp_transactions.specs.Events.{Event, MetadataCame, DataCame, Step, Take, Reply, is_take, hands_out}
 use Rattle.cfdp_transactions.specs.Outcome.{finished}
 use Rattle.cfdp_transactions.specs.World.{World, free}
 use Rattle.cfdp_transactions.specs.Delivery.{limit}
@@ -40,7 +42,7 @@ pub record HasRoomFor (W : World) (e : Entry) (received : Received) : Type 0 whe
 abbrev pub DataNeeds : Type 0
 DataNeeds =
     (W : World) (k : ℕ) (e : Entry) (received : Received) → Sound W → slice_get W.table k ≡ Some e → IsTrue (takes_data e.phase) →
-    length received ≤ limit e.phase W.config e → HasRoomFor W e received
+    length received ≤ max (length e.received) (limit e.phase W.config e) → HasRoomFor W e received
 
 -- a response has a second name exactly where its action has one, where the requests do
 abbrev pub TakeNeeds : Type 0
@@ -54,3 +56,14 @@ Follows W event reply V = next W event ≡ (V, reply)
 
 abbrev pub FollowsIsSound : Type 0
 FollowsIsSound = (W : World) (event : Event) (reply : Reply) (V : World) → Sound W → Follows W event reply V → Sound V
+
+abbrev pub OnlyTakeHandsOut : Type 0
+OnlyTakeHandsOut = (W : World) (event : Event) (reply : Reply) (V : World) → Follows W event reply V → IsFalse (is_take event) → IsFalse (hands_out reply)
+
+-- a new entry and an outcome take memory; octets that come and items do where the store does
+abbrev pub may_want_memory : (takes_no_memory : Bool) → Event → Bool
+may_want_memory takes_no_memory (MetadataCame h m) = true
+may_want_memory takes_no_memory (Take id) = true
+may_want_memory takes_no_memory (DataCame h piece) = not takes_no_memory
+may_want_memory takes_no_memory (Step id) = not takes_no_memory
+may_want_memory takes_no_memory event = false

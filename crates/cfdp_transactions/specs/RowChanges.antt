@@ -2,9 +2,11 @@
 --     AreNamed entries          each is kept under its own name
 --     Becomes old new k f       the row at k is what f makes of it, and nothing else changes
 --     CanAdvance r install ticks      the row has a next item that may take so many ticks
-use Rattle.std.specs.Prelude.{◌≡◌, ℕ, ◌+◌, ◌≤◌, ◌<◌, pos, negsuc, ◌≤ℤ◌, Bool, false, List, Some, slice_get, slice_set}
+--     CanStore r start end      there is room for one more range of the row's octets
+use Rattle.std.specs.Prelude.{◌≡◌, ℕ, ◌+◌, ◌≤◌, ◌<◌, length, pos, negsuc, ◌≤ℤ◌, Bool, false, List, Some, slice_get, slice_set}
 use Rattle.std.specs.List.{AllByRecursion}
 use Rattle.cfdp_status.specs.declared.transaction.TransactionId.{TransactionId}
+use Rattle.cfdp_transactions.specs.Pieces.{with_range}
 use Rattle.cfdp_transactions.specs.Rows.{Row, row_name}
 
 abbrev pub AreNamed : List (TransactionId × Row) → Type 0
@@ -17,5 +19,12 @@ Becomes old new k f = (r : Row) → slice_get old k ≡ Some r → new ≡ slice
 pub record CanAdvance (r : Row) (install : Bool) (ticks : ℕ) : Type 0 where
   pub performed : install ≡ false → r.performed < 255
   pub steps : r.steps_spent + (1 + ticks) ≤ r.steps_granted
+  pub least : negsuc 65535 ≤ℤ r.blocks_spent
+  pub most : r.blocks_spent ≤ℤ pos 65536
+
+-- some octets, of which the ranges may be told, and its counter is within its range
+pub record CanStore (r : Row) (start end : ℕ) : Type 0 where
+  pub some : start < end
+  pub room : length (with_range start end r.ranges) ≤ 32
   pub least : negsuc 65535 ≤ℤ r.blocks_spent
   pub most : r.blocks_spent ≤ℤ pos 65536

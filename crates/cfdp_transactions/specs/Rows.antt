@@ -5,8 +5,10 @@
 --     entry_in F r, table_of    the entry that it is, over a filestore;  all of them
 --     row_name, row_place       its name;  where a transaction is in the table: the length where it is not there
 --     first_executing           the first one in Executing
+--     row_gaps r, row_gaps_in   what is missing between its ranges, and up to the size of its EOF;  by its phase
 --     fresh_row                 a row with nothing received and nothing spent
 --     row_ended, row_turned     a row that ends, as `ended` says;  that comes to another phase
+--     row_stored                a row for which octets were staged
 --     row_stepped               a row whose next item went well
 use Rattle.std.specs.Prelude.{ℕ, suc, ◌+◌, ℤ, pos, Bool, false, ◌||◌, if◌then◌else◌, List, [], ◌∷◌, map, take, Option, Some, None}
 use Rattle.cfdp_status.specs.declared.transaction.TransactionId.{TransactionId}
@@ -17,8 +19,8 @@ use Rattle.cfdp_actions.specs.Actions.{Item}
 use Rattle.cfdp_actions.specs.Filestore.{Filestore, staged_in}
 use Rattle.cfdp_leases.specs.Leases.{is_same}
 use Rattle.cfdp_transactions.specs.Received.{Received}
-use Rattle.cfdp_transactions.specs.Pieces.{Ranges, received_in}
-use Rattle.cfdp_transactions.specs.Entry.{Phase, Executing, Done, Ended, is_live, is_executing, id_of, Entry, spend}
+use Rattle.cfdp_transactions.specs.Pieces.{Ranges, received_in, with_range, between, end_of}
+use Rattle.cfdp_transactions.specs.Entry.{Phase, Receiving, Awaiting, Executing, Done, Ended, awaited, is_live, is_executing, id_of, Entry, spend}
 use Rattle.cfdp_transactions.specs.Sound.{all_successful}
 
 pub record Row : Type 0 where
@@ -75,6 +77,14 @@ abbrev pub first_executing : List Row → Option TransactionId
 first_executing [] = None
 first_executing (r ∷ rs) = if is_executing r.phase then Some (row_name r) else first_executing rs
 
+abbrev pub row_gaps_in : Phase → Row → Ranges
+row_gaps_in Receiving r = between 0 r.ranges (end_of r.ranges)
+row_gaps_in (Awaiting checks) r = between 0 r.ranges (awaited r.eof)
+row_gaps_in phase r = []
+
+abbrev pub row_gaps : Row → Ranges
+row_gaps r = row_gaps_in r.phase r
+
 abbrev pub fresh_row : Header → MetadataFields → Phase → ℕ → List Item → ℕ → ℕ → Row
 fresh_row h m phase slot items blocks steps = record {
   header = h;
@@ -105,6 +115,10 @@ row_ended r condition by_eof given = record r {
 
 abbrev pub row_turned : Row → Phase → Option Eof → Bool → Row
 row_turned r phase eof complete = record r { phase = phase; eof = eof; complete = complete }
+
+-- the octets of a range were staged, for which so many blocks were taken
+abbrev pub row_stored : Row → (start end taken : ℕ) → Row
+row_stored r start end taken = record r { ranges = with_range start end r.ranges; blocks_spent = spend r.blocks_spent taken 0 }
 
 -- its item `next` went well: it was the install, or a request; the free blocks were so many before and after
 abbrev pub row_stepped : Row → (next : ℕ) (last install : Bool) (before after ticks : ℕ) → Row

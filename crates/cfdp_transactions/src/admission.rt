@@ -15,8 +15,10 @@ ghost use Rattle.cfdp_transactions.specs.Books.{Carries, IsBooked, world_of};
 ghost use Rattle.cfdp_transactions.specs.Rows.{row_place};
 
 use crate::books::Books;
+use crate::conditions::UNSUPPORTED_CHECKSUM_TYPE;
 use crate::copying::copy_metadata;
 use crate::entry::Entry;
+use crate::table::MOST_TRANSACTIONS;
 use crate::{Config, Phase, Reply};
 use cfdp_actions::Filestore;
 use cfdp_paths::Memory;
@@ -24,12 +26,6 @@ use cfdp_pdus::{Header, Metadata};
 use cfdp_quota::{Quota, SLOTS};
 use cfdp_verifier::{Grant, MOST_REQUESTS, Proposal, Refusal, Verdict, verify};
 use std::alloc::Global;
-
-/// How many transactions are known at most, ended ones whose outcome was not taken included.
-pub(crate) const MOST_TRANSACTIONS: usize = 64;
-
-/// Condition code 11: the checksum type is not supported (CCSDS 727.0-B-5 §5.2.2).
-const UNSUPPORTED_CHECKSUM_TYPE: u8 = 11;
 
 /// The modular checksum (§4.2.2).
 const MODULAR_CHECKSUM: u8 = 0;

@@ -8,15 +8,10 @@ ghost use Rattle.cfdp_transactions.specs.Delivery.{checked};
 ghost use Rattle.cfdp_transactions.specs.Books.{AnswersAt, EndsAt, IsAnswered, IsBareAt, IsBooked, IsDoneAt, IsLiveAt, IsSteady, TurnsAt, world_of};
 
 use crate::books::Books;
+use crate::conditions::{CANCEL_REQUEST_RECEIVED, CHECK_LIMIT_REACHED};
 use crate::{Phase, Reply};
 use cfdp_actions::Filestore;
 use cfdp_pdus::Eof;
-
-/// Condition code 10: the check limit is reached (CCSDS 727.0-B-5 §5.2.2).
-const CHECK_LIMIT_REACHED: u8 = 10;
-
-/// Condition code 15: a cancel request came (§5.2.2).
-const CANCEL_REQUEST_RECEIVED: u8 = 15;
 
 /// The transaction at a place ends (CCSDS 727.0-B-5 §4.11): what is staged for it is given back, and its reserve and its
 /// leases go.

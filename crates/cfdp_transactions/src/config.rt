@@ -2,6 +2,7 @@
 
 ghost use Rattle.std.specs.Prelude.{◌≡◌, Some, None, IfErr, IfOk, OnOk};
 ghost use Rattle.cfdp_transactions.specs.Config.{first_fault};
+ghost use Rattle.cfdp_transactions.specs.ConfigEquality.{config_equiv, config_per, same_config, same_counts, same_store};
 ghost use Rattle.cfdp_transactions.specs.ConfigWords.{words_of};
 
 use cfdp_actions::Protected;
@@ -11,7 +12,7 @@ use std::marker::Model;
 
 /// What CCSDS 727.0-B-5 §8 leaves to the management information base of a receiving entity. All numbers are within their
 /// limits. Contracts see its values.
-#[derive(Drop)]
+#[derive(Debug, Drop)]
 pub struct Config {
     entity: u64,
     blocks: u32,
@@ -30,6 +31,37 @@ impl Model for Config {
     ghost view = { λ c. record { entity = c.entity; blocks = c.blocks; cap = c.cap; checks = c.checks; journal = c.journal; prefixes = c.protected } };
 
     ghost invariant = { λ c. words.first_fault c.blocks c.cap c.checks c.journal ≡ None };
+}
+
+/// Two are equal where each value of one is that of the other. A comparison takes no memory.
+impl PartialEq for Config {
+    ghost eq = { same_config };
+
+    ghost laws = { config_per };
+
+    fn eq(&self, other: &Config) -> bool {
+        self.entity == other.entity && has_same_store(self, other) && has_same_counts(self, other)
+    }
+}
+
+/// Whether two configurations say the same of the filestore.
+#[tactic(auto, unfolding(crate::specs::ConfigEquality::same_store))]
+fn has_same_store(a: &Config, b: &Config) -> bool
+    ensures { result ≡ same_store a.now b.now }
+{
+    a.blocks == b.blocks && a.cap == b.cap && a.protected == b.protected
+}
+
+/// Whether two configurations have the same check limit and the same journal.
+#[tactic(auto, unfolding(crate::specs::ConfigEquality::same_counts))]
+fn has_same_counts(a: &Config, b: &Config) -> bool
+    ensures { result ≡ same_counts a.now b.now }
+{
+    a.checks == b.checks && a.journal == b.journal
+}
+
+impl Eq for Config {
+    ghost laws = { config_equiv };
 }
 
 /// Which number of a configuration is outside its limits, in the order of tests.

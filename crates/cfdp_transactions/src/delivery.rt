@@ -12,16 +12,11 @@ ghost use Rattle.cfdp_transactions.specs.Books.{AnswersAt, IsAnswered, IsBooked,
 use crate::admission::{NULL_CHECKSUM, bound_of, names_file};
 use crate::books::Books;
 use crate::closing::{end, finish, turn};
+use crate::conditions::{FILE_CHECKSUM_FAILURE, FILE_SIZE_ERROR, NO_ERROR};
 use crate::entry::Entry;
 use crate::{Config, Phase, Reply};
 use cfdp_actions::{Filestore, staged_checksum};
 use cfdp_pdus::Eof;
-
-/// Condition code 5: file checksum failure (CCSDS 727.0-B-5 §5.2.2).
-const FILE_CHECKSUM_FAILURE: u8 = 5;
-
-/// Condition code 6: file size error (§5.2.2).
-const FILE_SIZE_ERROR: u8 = 6;
 
 /// The EOF of the transaction at a place (§4.6.1). Costs the checksum of what is staged, where all of it is there.
 pub(crate) fn eof<S: Filestore>(store: &mut S, books: &mut Books, place: usize, eof: Eof) -> Reply
@@ -39,7 +34,7 @@ pub(crate) fn eof<S: Filestore>(store: &mut S, books: &mut Books, place: usize, 
     if !phase.is_live() {
         return Reply::Idle;
     }
-    if eof.condition != 0 {
+    if eof.condition != NO_ERROR {
         end(store, books, place, true, eof.condition);
         return Reply::Faulted(eof.condition);
     }
@@ -75,7 +70,7 @@ fn has_wrong_size<S: Filestore>(store: &S, config: &Config, entry: &Entry, size:
 }
 
 /// Whether what is staged for a transaction has the checksum, or it is not looked at.
-fn is_right<S: Filestore>(store: &S, entry: &Entry, sum: u32) -> bool
+pub(crate) fn is_right<S: Filestore>(store: &S, entry: &Entry, sum: u32) -> bool
     requires { entry.now.slot < 64 }
     ensures { result ≡ ((entry.now.metadata.checksum_type == 15) || (checksum (staged_in (S.state store.now).filestore entry.now.slot) == sum)) }
 {

@@ -4,13 +4,14 @@ ghost use Rattle.std.specs.Prelude.{◌≡◌, false, suc, if◌then◌else◌, 
 ghost use Rattle.cfdp_actions.specs.Actions.{Perform};
 ghost use Rattle.cfdp_transactions.specs.Items.{item_of};
 ghost use Rattle.cfdp_leases.specs.Items.{items_of};
-ghost use Rattle.cfdp_transactions.specs.Entry.{Done, Executing, id_of};
-ghost use Rattle.cfdp_transactions.specs.Pieces.{is_all};
-ghost use Rattle.cfdp_transactions.specs.Rows.{fresh_row, row_ended, row_name, row_stepped, row_turned};
+ghost use Rattle.cfdp_transactions.specs.Entry.{Done, Executing, awaited, id_of};
+ghost use Rattle.cfdp_transactions.specs.Pieces.{is_all, with_range};
+ghost use Rattle.cfdp_transactions.specs.Rows.{fresh_row, row_ended, row_gaps, row_name, row_stepped, row_stored, row_turned};
 
 use crate::Phase;
 use crate::item::Item;
-use crate::ranges::Ranges;
+use crate::ranges::{MOST_GAPS, Range, Ranges};
+use arrayvec::ArrayVec;
 use cfdp_actions::Request;
 use cfdp_paths::Path;
 use cfdp_pdus::{Eof, Header, Metadata};
@@ -198,6 +199,34 @@ impl Entry {
         self.ranges.is_whole(size)
     }
 
+    /// The size that its EOF PDU gave: 0 where none came.
+    pub(crate) fn awaited_size(&self) -> u64
+        ensures { result ≡ awaited self.now.eof }
+    {
+        match self.eof {
+            None => 0,
+            Some(eof) => eof.size,
+        }
+    }
+
+    /// What is missing between the octets of its file, and once its EOF PDU came up to the size that it gave.
+    pub(crate) fn gaps(&self) -> ArrayVec<Range, MOST_GAPS>
+        ensures { result.items ≡ row_gaps self.now }
+    {
+        match self.phase {
+            Phase::Receiving => self.ranges.gaps(self.ranges.end()),
+            Phase::Awaiting(_) => self.ranges.gaps(self.awaited_size()),
+            _ => ArrayVec::new(),
+        }
+    }
+
+    /// The offsets of its file that were received.
+    pub(crate) fn ranges(&self) -> &Ranges
+        ensures { result.now ≡ self.now.ranges }
+    {
+        &self.ranges
+    }
+
     /// Where its octets are staged.
     pub(crate) fn slot(&self) -> u8
         ensures { result ≡ self.now.slot }
@@ -265,6 +294,18 @@ impl Entry {
         self.performed = performed_with(self.performed, install);
         self.blocks_spent = self.blocks_spent + i64::from(before) - i64::from(after);
         self.steps.spend(ticks + 1);
+    }
+
+    /// Its octets from `start` to `end` were staged, for which `taken` blocks were taken.
+    pub(crate) fn store(&mut self, start: u64, end: u64, taken: u32)
+        requires some { start < end }
+        requires room { length (with_range start end self.old.ranges) ≤ 32 }
+        requires least { negsuc 65535 ≤ℤ self.old.blocks_spent }
+        requires most { self.old.blocks_spent ≤ℤ pos 65536 }
+        ensures { self.new ≡ row_stored self.old start end taken }
+    {
+        self.ranges.insert(start, end);
+        self.blocks_spent += i64::from(taken);
     }
 
     /// It comes to another phase.

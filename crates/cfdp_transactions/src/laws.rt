@@ -3,7 +3,7 @@
 
 ghost use Rattle.cfdp_transactions.specs.LowerLaws.{LowerLaws};
 ghost use Rattle.cfdp_transactions.specs.Headline.{StartIsSound, NextIsSound, NextIsPromised, Headline};
-ghost use Rattle.cfdp_transactions.specs.Needs.{StepNeeds, DataNeeds, TakeNeeds, FollowsIsSound};
+ghost use Rattle.cfdp_transactions.specs.Needs.{StepNeeds, DataNeeds, TakeNeeds, FollowsIsSound, OnlyTakeHandsOut};
 ghost use Rattle.cfdp_transactions.specs.Writable.{OutcomesFit, ReadIsReadable};
 
 pub mod received;
@@ -78,6 +78,11 @@ pub fn follows_is_sound()
 {
     lower_laws();
 }
+
+/// No reply but that to a request for the outcome hands one out.
+pub fn only_take_hands_out()
+    ensures { OnlyTakeHandsOut }
+{}
 
 /// In a sound world, an entry in Executing has a next item, for which there are blocks and steps:
 /// what the calls of the layers below need of a Step.

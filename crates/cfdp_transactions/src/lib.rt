@@ -9,11 +9,13 @@
 mod admission;
 mod books;
 mod closing;
+mod conditions;
 mod config;
 mod copying;
 mod delivery;
 mod entry;
 mod event;
+mod file_data;
 mod item;
 mod keeping;
 pub mod laws;

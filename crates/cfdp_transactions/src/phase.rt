@@ -1,7 +1,7 @@
 //! How far a transaction is.
 
 ghost use Rattle.std.specs.Prelude.{◌≡◌};
-ghost use Rattle.cfdp_transactions.specs.Entry.{is_live, is_receiving};
+ghost use Rattle.cfdp_transactions.specs.Entry.{is_live, is_receiving, takes_data};
 
 /// How far a transaction is at the receiving entity (CCSDS 727.0-B-5 §4.6).
 #[derive(Clone, Copy, Debug, PartialEq, Eq)]
@@ -36,5 +36,12 @@ impl Phase {
         ensures { result ≡ is_receiving self }
     {
         matches!(self, Phase::Receiving)
+    }
+
+    /// Whether file data is taken.
+    pub(crate) fn takes_data(self) -> bool
+        ensures { result ≡ takes_data self }
+    {
+        matches!(self, Phase::Receiving | Phase::Awaiting(_))
     }
 }

@@ -1,22 +1,28 @@
 //! The core of a receiving entity.
 
-ghost use Rattle.std.specs.Prelude.{◌≡◌, ◌∷◌, [], IfOk, IsTrue};
+ghost use Rattle.std.specs.Prelude.{◌≡◌, ◌∷◌, [], IfOk, IsTrue, IsFalse};
 ghost use Rattle.cfdp_actions.specs.Store.{empty_store};
 ghost use Rattle.cfdp_transactions.specs.Sound.{Sound};
 ghost use Rattle.cfdp_transactions.specs.World.{leases_of, next_runnable, spare, start};
-ghost use Rattle.cfdp_transactions.specs.Events.{Cancel, Check, EofCame, MetadataCame, Step, Take};
-ghost use Rattle.cfdp_transactions.specs.Needs.{Follows};
+ghost use Rattle.cfdp_transactions.specs.Events.{Cancel, Check, DataCame, EofCame, MetadataCame, Step, Take};
+ghost use Rattle.cfdp_transactions.specs.Needs.{Follows, may_want_memory};
 ghost use Rattle.cfdp_transactions.specs.Books.{IsAnswered};
+ghost use Rattle.cfdp_transactions.specs.Entry.{gaps};
+ghost use Rattle.std.specs.Option.{option_map};
 ghost use Rattle.cfdp_transactions.specs.Engine.{read_of};
 
 use crate::books::Books;
 use crate::entry::name_of;
+use crate::ranges::{MOST_GAPS, Range};
 use crate::table::Table;
-use crate::{Config, Phase, Reply, admission, closing, delivery, laws, step, taking};
+use crate::{
+    Config, Event, Phase, Reply, admission, closing, delivery, file_data, laws, step, taking,
+};
+use arrayvec::ArrayVec;
 use cfdp_actions::Filestore;
 use cfdp_leases::Leases;
 use cfdp_paths::Memory;
-use cfdp_pdus::{Eof, Header, Metadata};
+use cfdp_pdus::{Eof, FileData, Header, Metadata};
 use cfdp_quota::Quota;
 use cfdp_status::TransactionId;
 use std::alloc::Global;
@@ -28,6 +34,7 @@ use std::marker::Model;
 /// transactions lease does not conflict, their reserves are free, and what is left of each succeeds within its grant.
 #[derive(Drop)]
 pub struct Core<S: Filestore> {
+    alloc: Global,
     store: S,
     books: Books,
 }
@@ -64,7 +71,11 @@ impl<S: Filestore> Core<S> {
             leases: Leases::new(alloc),
             quota,
         };
-        Ok(Core { store, books })
+        Ok(Core {
+            alloc,
+            store,
+            books,
+        })
     }
 
     /// What is true at all times: the world is sound. Does nothing.
@@ -122,6 +133,17 @@ impl<S: Filestore> Core<S> {
         Some(entry.steps_spent())
     }
 
+    /// What is missing of a transaction's file, as starts and ends in order: between the octets that came, and once its EOF PDU
+    /// came up to the size that it gave (§4.6.4.3). There are none where no file data is taken.
+    pub fn gaps(&self, id: TransactionId) -> Option<ArrayVec<Range, MOST_GAPS>>
+        ensures { option_map (λ gaps. gaps.items) result ≡ read_of gaps self.now.world id }
+    {
+        let Some(entry) = self.books.table.get(id) else {
+            return None;
+        };
+        Some(entry.gaps())
+    }
+
     /// The free blocks that nobody was granted.
     pub fn spare(&self) -> u32
         ensures { result ≡ spare self.now.world }
@@ -150,8 +172,50 @@ impl<S: Filestore> Core<S> {
         &self.books.config
     }
 
+    /// Takes an event (CCSDS 727.0-B-5 §4.6): the reply, and the world after it, are those of the table of events.
+    ///
+    /// Where memory is refused the reply is [`Reply::Memory`] and the world is as before: the event can be handed in again.
+    /// Over a store that takes no memory that is the reply to Metadata and Take alone; an EOF PDU, a request to cancel and a
+    /// check never get it. Journal-full is no reply of the core.
+    ///
+    /// Cost: that of what the event brings. Metadata costs what [`verify`](cfdp_verifier::verify) does and one copy of it;
+    /// file data its octets and the pieces that they touch; an EOF PDU with a file one pass over what is staged; a step what
+    /// its request says; the outcome a copy of the requests' names; and all else next to nothing.
+    pub fn apply(&mut self, event: &Event) -> Reply
+        ensures follows { Follows self.old.world event.now result self.new.world }
+        ensures answered { IsFalse (may_want_memory self.old.takes_no_memory event.now) → IsAnswered result }
+        ensures steady { self.new.takes_no_memory ≡ self.old.takes_no_memory }
+    {
+        match event {
+            Event::Metadata(header, metadata) => self.metadata(header, metadata),
+            Event::Data(header, piece) => self.file_data(header, piece),
+            Event::Eof(header, eof) => self.eof(header, *eof),
+            Event::Step(id) => self.step(*id),
+            Event::Cancel(id) => self.cancel(*id),
+            Event::Check(id) => self.check(*id),
+            Event::Take(id) => self.take(*id).0,
+        }
+    }
+
+    /// The same as [`apply`](Core::apply), with its reply twice: for a journal, and for whom it answers. An outcome's second
+    /// handle is made before anything changes.
+    pub fn apply_both(&mut self, event: &Event) -> (Reply, Reply)
+        ensures follows { Follows self.old.world event.now result.0 self.new.world }
+        ensures same { result.1 ≡ result.0 }
+        ensures answered { IsFalse (may_want_memory self.old.takes_no_memory event.now) → IsAnswered result.0 }
+        ensures steady { self.new.takes_no_memory ≡ self.old.takes_no_memory }
+    {
+        if let Event::Take(id) = event {
+            return self.take(*id);
+        }
+        laws::only_take_hands_out();
+        let reply = self.apply(event);
+        let again = reply.share().unwrap();
+        (reply, again)
+    }
+
     /// A Metadata PDU came (CCSDS 727.0-B-5 §5.2.5): it is copied where it begins a transaction.
-    pub(crate) fn metadata(&mut self, alloc: Global, header: &Header, metadata: &Metadata) -> Reply
+    fn metadata(&mut self, header: &Header, metadata: &Metadata) -> Reply
         ensures follows { Follows self.old.world (MetadataCame header.now metadata.now) result self.new.world }
         ensures steady { self.new.takes_no_memory ≡ self.old.takes_no_memory }
     {
@@ -159,14 +223,31 @@ impl<S: Filestore> Core<S> {
         if header.destination != self.books.config.entity() {
             return Reply::NotForUs;
         }
-        if let Some(_place) = self.books.table.find(name_of(header)) {
-            return Reply::Duplicate;
+        match self.books.table.find(name_of(header)) {
+            Some(_) => Reply::Duplicate,
+            None => admission::admit(self.alloc, &self.store, &mut self.books, header, metadata),
         }
-        admission::admit(alloc, &self.store, &mut self.books, header, metadata)
+    }
+
+    /// A File Data PDU came (§5.3 and §4.6.1).
+    fn file_data(&mut self, header: &Header, piece: &FileData) -> Reply
+        ensures follows { Follows self.old.world (DataCame header.now piece.now) result self.new.world }
+        ensures answered { IsTrue self.old.takes_no_memory → IsAnswered result }
+        ensures steady { self.new.takes_no_memory ≡ self.old.takes_no_memory }
+    {
+        laws::lower_laws();
+        laws::follows_is_sound();
+        if header.destination != self.books.config.entity() {
+            return Reply::NotForUs;
+        }
+        let Some(place) = self.books.table.find(name_of(header)) else {
+            return Reply::Unknown;
+        };
+        file_data::receive(&mut self.store, &mut self.books, place, piece)
     }
 
     /// An EOF PDU came (§5.2.2 and §4.6.1).
-    pub(crate) fn eof(&mut self, header: &Header, eof: Eof) -> Reply
+    fn eof(&mut self, header: &Header, eof: Eof) -> Reply
         ensures follows { Follows self.old.world (EofCame header.now eof) result self.new.world }
         ensures answered { IsAnswered result }
         ensures steady { self.new.takes_no_memory ≡ self.old.takes_no_memory }
@@ -181,20 +262,21 @@ impl<S: Filestore> Core<S> {
         delivery::eof(&mut self.store, &mut self.books, place, eof)
     }
 
-    /// The outcome of a transaction is asked for, with which it is forgotten.
-    pub(crate) fn take(&mut self, alloc: Global, id: TransactionId) -> Reply
-        ensures follows { Follows self.old.world (Take id) result self.new.world }
+    /// The outcome of a transaction is asked for, with which it is forgotten: the reply, twice.
+    fn take(&mut self, id: TransactionId) -> (Reply, Reply)
+        ensures follows { Follows self.old.world (Take id) result.0 self.new.world }
+        ensures same { result.1 ≡ result.0 }
         ensures steady { self.new.takes_no_memory ≡ self.old.takes_no_memory }
     {
         laws::follows_is_sound();
         let Some(place) = self.books.table.find(id) else {
-            return Reply::Unknown;
+            return (Reply::Unknown, Reply::Unknown);
         };
-        taking::take(alloc, &self.store, &mut self.books, place)
+        taking::take(self.alloc, &self.store, &mut self.books, place)
     }
 
     /// A request to cancel a transaction (CCSDS 727.0-B-5 §4.11).
-    pub(crate) fn cancel(&mut self, id: TransactionId) -> Reply
+    fn cancel(&mut self, id: TransactionId) -> Reply
         ensures follows { Follows self.old.world (Cancel id) result self.new.world }
         ensures answered { IsAnswered result }
         ensures steady { self.new.takes_no_memory ≡ self.old.takes_no_memory }
@@ -207,7 +289,7 @@ impl<S: Filestore> Core<S> {
     }
 
     /// A check timer of a transaction expired (§4.6.4).
-    pub(crate) fn check(&mut self, id: TransactionId) -> Reply
+    fn check(&mut self, id: TransactionId) -> Reply
         ensures follows { Follows self.old.world (Check id) result self.new.world }
         ensures answered { IsAnswered result }
         ensures steady { self.new.takes_no_memory ≡ self.old.takes_no_memory }
@@ -220,7 +302,7 @@ impl<S: Filestore> Core<S> {
     }
 
     /// The next item of a transaction is performed (§4.9).
-    pub(crate) fn step(&mut self, id: TransactionId) -> Reply
+    fn step(&mut self, id: TransactionId) -> Reply
         ensures follows { Follows self.old.world (Step id) result self.new.world }
         ensures answered { IsTrue self.old.takes_no_memory → IsAnswered result }
         ensures steady { self.new.takes_no_memory ≡ self.old.takes_no_memory }

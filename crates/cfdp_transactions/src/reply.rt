@@ -1,6 +1,10 @@
 //! What the receiving entity replies.
 
+ghost use Rattle.std.specs.Prelude.{◌≡◌, IsFalse, IsOk, IfOk};
+ghost use Rattle.cfdp_transactions.specs.Events.{hands_out};
+
 use crate::outcome::SharedOutcome;
+use cfdp_paths::Memory;
 use cfdp_status::Status;
 use cfdp_verifier::Refusal;
 
@@ -45,4 +49,38 @@ pub enum Reply {
     Memory,
     /// The journal is full: the event was not taken.
     JournalFull,
+}
+
+impl Reply {
+    /// The same reply once more. It copies nothing and allocates nothing.
+    ///
+    /// # Errors
+    ///
+    /// Want of memory, where it hands out an outcome that has as many handles as can be counted.
+    pub fn share(&self) -> Result<Reply, Memory>
+        ensures same { IfOk result (λ other. other ≡ self.now) }
+        ensures lean { IsFalse (hands_out self.now) → IsOk result }
+    {
+        Ok(match self {
+            Reply::Taken(outcome) => Reply::Taken(outcome.share()?),
+            Reply::Admitted(blocks, steps) => Reply::Admitted(*blocks, *steps),
+            Reply::Refused(refusal) => Reply::Refused(*refusal),
+            Reply::Faulted(condition) => Reply::Faulted(*condition),
+            Reply::Performed(status) => Reply::Performed(*status),
+            Reply::Stored => Reply::Stored,
+            Reply::Dropped => Reply::Dropped,
+            Reply::Complete => Reply::Complete,
+            Reply::Waiting => Reply::Waiting,
+            Reply::Installed => Reply::Installed,
+            Reply::Done => Reply::Done,
+            Reply::Cancelled => Reply::Cancelled,
+            Reply::Duplicate => Reply::Duplicate,
+            Reply::Unknown => Reply::Unknown,
+            Reply::Idle => Reply::Idle,
+            Reply::NotForUs => Reply::NotForUs,
+            Reply::TableFull => Reply::TableFull,
+            Reply::Memory => Reply::Memory,
+            Reply::JournalFull => Reply::JournalFull,
+        })
+    }
 }

@@ -2,8 +2,8 @@
 
 ghost use Rattle.std.specs.Prelude.{◌≡◌, ◌≤◌, ◌<◌, pos, negsuc, ◌≤ℤ◌, Some, None, [], IfSome, IfNone, IfOk, OnOk, OnErr, ◌∷◌, ◌++◌, length, slice_get, remove};
 ghost use Rattle.std.specs.Option.{option_copied};
-ghost use Rattle.cfdp_transactions.specs.Rows.{first_executing, row_name, row_place, row_ended, row_stepped, row_turned};
-ghost use Rattle.cfdp_transactions.specs.RowChanges.{Becomes, CanAdvance};
+ghost use Rattle.cfdp_transactions.specs.Rows.{first_executing, row_name, row_place, row_ended, row_stepped, row_stored, row_turned};
+ghost use Rattle.cfdp_transactions.specs.RowChanges.{Becomes, CanAdvance, CanStore};
 
 use crate::Phase;
 use crate::entry::Entry;
@@ -14,7 +14,7 @@ use indexmap::IndexMap;
 use std::alloc::Global;
 use std::marker::Model;
 
-/// How many transactions the table holds at most.
+/// How many transactions are known at most, ended ones whose outcome was not taken included.
 pub(crate) const MOST_TRANSACTIONS: usize = 64;
 
 /// The transactions in order of admission, which are found by name. Contracts see them as a list of rows.
@@ -150,6 +150,18 @@ impl Table {
             .get_index_mut(place)
             .unwrap()
             .advance(next, last, install, before, after, ticks);
+    }
+
+    /// Octets of the transaction at a place were staged, as [`Entry::store`] says.
+    pub(crate) fn store(&mut self, place: usize, start: u64, end: u64, taken: u32)
+        requires within { place < length self.old }
+        requires fits { IfSome (slice_get self.old place) (λ r. CanStore r start end) }
+        ensures { Becomes self.old self.new place (λ r. row_stored r start end taken) }
+    {
+        self.entries
+            .get_index_mut(place)
+            .unwrap()
+            .store(start, end, taken);
     }
 
     /// The transaction at a place is forgotten. Costs a move of each one behind it.

@@ -13,6 +13,7 @@ ghost use Rattle.cfdp_transactions.specs.Taking.{statuses_of, status_by, fault_b
 
 use crate::admission::names_file;
 use crate::books::Books;
+use crate::conditions::{FILESTORE_REJECTION, NO_ERROR, UNSUPPORTED_CHECKSUM_TYPE};
 use crate::entry::Entry;
 use crate::outcome::{Outcome, SharedOutcome};
 use crate::{Phase, Reply};
@@ -23,15 +24,6 @@ use cfdp_status::Status;
 use cfdp_tlv::{FilestoreRequest, FilestoreResponse};
 use std::alloc::Global;
 
-/// Condition code 0: no error (CCSDS 727.0-B-5 §5.2.2).
-const NO_ERROR: u8 = 0;
-
-/// Condition code 4: filestore rejection (§5.2.2).
-const FILESTORE_REJECTION: u8 = 4;
-
-/// Condition code 11: the checksum type is not supported (§5.2.2).
-const UNSUPPORTED_CHECKSUM_TYPE: u8 = 11;
-
 /// What became of the file (§5.2.3): it was discarded, rejected by the filestore, retained, or there was none.
 const DISCARDED: u8 = 0;
 
@@ -41,27 +33,40 @@ const RETAINED: u8 = 2;
 
 const UNREPORTED: u8 = 3;
 
-/// The transaction at a place is forgotten, and its outcome handed out. Where memory is refused nothing has changed.
-/// Cost: a copy of its requests' names.
-pub(crate) fn take<S: Filestore>(alloc: Global, store: &S, books: &mut Books, place: usize) -> Reply
+/// The transaction at a place is forgotten, and its outcome handed out: the reply, twice. Where memory is refused nothing has
+/// changed. Cost: a copy of its requests' names.
+pub(crate) fn take<S: Filestore>(
+    alloc: Global,
+    store: &S,
+    books: &mut Books,
+    place: usize,
+) -> (Reply, Reply)
     requires booked { IsBooked (S.state store.now) books.old }
     requires within { place < length books.old.table }
     ensures answer { let W = world_of (S.state store.now) books.old in
-        AnswersAt W (world_of (S.state store.now) books.new) place (taken_out W place) result }
+        AnswersAt W (world_of (S.state store.now) books.new) place (taken_out W place) result.0 }
+    ensures same { result.1 ≡ result.0 }
     ensures booked { IsBooked (S.state store.now) books.new }
 {
     let entry = books.table.at(place);
     if entry.phase().is_live() {
-        return Reply::Idle;
+        return (Reply::Idle, Reply::Idle);
     }
-    let Ok(outcome) = make_outcome(alloc, entry) else {
-        return Reply::Memory;
-    };
-    let Ok(outcome) = SharedOutcome::new(alloc, outcome) else {
-        return Reply::Memory;
+    let Ok((outcome, again)) = make_handles(alloc, entry) else {
+        return (Reply::Memory, Reply::Memory);
     };
     books.table.forget(place);
-    Reply::Taken(outcome)
+    (Reply::Taken(outcome), Reply::Taken(again))
+}
+
+/// Two handles of the outcome of a transaction that is over.
+fn make_handles(alloc: Global, entry: &Entry) -> Result<(SharedOutcome, SharedOutcome), Memory>
+    ensures outcome { IfOk result (λ both. (F : Files) → both.0 ≡ outcome_of (entry_in F entry.now)) }
+    ensures same { IfOk result (λ both. both.1 ≡ both.0) }
+{
+    let outcome = SharedOutcome::new(alloc, make_outcome(alloc, entry)?)?;
+    let again = outcome.share()?;
+    Ok((outcome, again))
 }
 
 /// The outcome of a transaction that is over.

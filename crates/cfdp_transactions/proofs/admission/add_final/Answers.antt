@@ -1,4 +1,4 @@
-use Rattle.std.proofs.Common.{◌≡◌, [], ◌∷◌, ◌++◌, refl, ap, ◌∙◌}
+use Rattle.std.proofs.Common.{◌≡◌, [], refl}
 use Rattle.cfdp_transactions.specs.Rows.{fresh_row}
 use Rattle.cfdp_transactions.proofs.RowAdded.{final_booked}
 use Rattle.cfdp_transactions.proofs.admission.add_final.Goals as goal

@@ -1,10 +1,9 @@
-use Rattle.std.proofs.Common.{◌≡◌, ◌<◌, ◌≤◌, length, refl, sym, ap, ◌∙◌, arith}
-use Rattle.std.specs.Prelude.{IsFalse, ◌&&◌, not, true, false, None}
+use Rattle.std.proofs.Common.{◌≡◌, ◌<◌, ◌≤◌, length, refl, sym, ◌∙◌, arith}
+use Rattle.std.specs.Prelude.{IsFalse, ◌&&◌, not, true, false}
 use Rattle.cfdp_quota.specs.Budget.{spare}
 use Rattle.cfdp_verifier.specs.Answers.{granted_items}
 use Rattle.cfdp_transactions.specs.Entry.{has_file}
 use Rattle.cfdp_transactions.specs.Admission.{is_known_checksum, proposal_of}
-use Rattle.cfdp_transactions.specs.Books.{world_of}
 use Rattle.cfdp_transactions.proofs.RowGranted.{just_granted, judged_so, granted_so, refused_so, file_known}
 use Rattle.cfdp_transactions.proofs.admission.admit.Goals as goal
 use Rattle.cfdp_transactions.proofs.admission.admit.Goals.{else-names_file-via-then-names_file+else-not-is_known_checksum, else-names_file-via-else-names_file}

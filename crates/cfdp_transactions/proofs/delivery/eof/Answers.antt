@@ -1,6 +1,6 @@
 use Rattle.std.proofs.Common.{◌≡◌, ◌∙◌, length, refl, sym, true, false, arith}
 use Rattle.std.proofs.lemmas.Bool.{eqb-true}
-use Rattle.std.specs.Prelude.{◌==◌, ◌||◌, nat_lt}
+use Rattle.std.specs.Prelude.{◌==◌}
 use Rattle.std.proofs.lemmas.Bool.Decides.{nat_tests}
 use Rattle.cfdp_transactions.specs.Entry.{is_live, is_receiving, has_file}
 use Rattle.cfdp_transactions.specs.Rows.{entry_in}
@@ -8,7 +8,7 @@ use Rattle.cfdp_transactions.specs.Books.{world_of}
 use Rattle.cfdp_transactions.proofs.Answering.{live_at, entry_is, carry}
 use Rattle.cfdp_transactions.proofs.RowChange.{slot_below}
 use Rattle.cfdp_transactions.proofs.Turning.{empty_by_length}
-use Rattle.cfdp_transactions.proofs.EofAnswers.{eof_idle, eof_fault, eof_again, eof_first, eof_bare, eof_no_file, eof_size, eof_waits, eof_whole, is_wrong_size, received_size, whole_row, right_row}
+use Rattle.cfdp_transactions.proofs.EofAnswers.{eof_fault, eof_again, eof_first, eof_bare, eof_no_file, eof_size, eof_waits, eof_whole, is_wrong_size, received_size, whole_row, right_row}
 use Rattle.cfdp_transactions.proofs.delivery.eof.Goals as goal
 
 pub end-requires-clause-live : goal.end-requires-clause-live
@@ -21,8 +21,8 @@ end-requires-clause-live g c =
     let live : is_live r.phase ≡ true = cc in
     live_at s b k r at live
 
-pub returns-then-eof-ne0-clause-answer : goal.returns-then-eof-ne0-clause-answer
-returns-then-eof-ne0-clause-answer g c = λ e there.
+pub returns-then-eof-ne-NO_ERROR-clause-answer : goal.returns-then-eof-ne-NO_ERROR-clause-answer
+returns-then-eof-ne-NO_ERROR-clause-answer g c = λ e there.
     let s = g.S.Filestore.state c.args.store.now in
     let b = c.args.books.now in
     let k = c.args.place in
@@ -30,7 +30,7 @@ returns-then-eof-ne0-clause-answer g c = λ e there.
     let at = c.at-entry.ensures in
     let live : is_live r.phase ≡ true = cc in
     let same = entry_is s b k r at e there in
-    let fault : (c.args.eof.condition == 0) ≡ false = grind (arith, nat_tests, c.if-eof-ne0.true) in
+    let fault : (c.args.eof.condition == 0) ≡ false = grind (arith, nat_tests, c.if-eof-ne-NO_ERROR.true) in
     eof_fault _ _ k c.args.eof e there (rw same live) fault c.end.ensures.ends
 
 pub returns-then-not-is_receiving-clause-answer : goal.returns-then-not-is_receiving-clause-answer
@@ -42,7 +42,7 @@ returns-then-not-is_receiving-clause-answer g c = λ e there.
     let at = c.at-entry.ensures in
     let live : is_live r.phase ≡ true = cc in
     let same = entry_is s b k r at e there in
-    let good : (c.args.eof.condition == 0) ≡ true = rw c.if-eof-ne0.false refl in
+    let good : (c.args.eof.condition == 0) ≡ true = rw c.if-eof-ne-NO_ERROR.false refl in
     let later : is_receiving r.phase ≡ false = cc in
     eof_again _ k c.args.eof e (rw same live) good (rw same later)
 
@@ -77,7 +77,7 @@ returns-then-is_bare-clause-answer g c = λ e there.
     let at = c.at-entry.ensures in
     let live : is_live r.phase ≡ true = cc in
     let same = entry_is s b k r at e there in
-    let good : (c.args.eof.condition == 0) ≡ true = rw c.if-eof-ne0.false refl in
+    let good : (c.args.eof.condition == 0) ≡ true = rw c.if-eof-ne-NO_ERROR.false refl in
     let first : is_receiving r.phase ≡ true = cc in
     let begin = eof_first _ k c.args.eof e (rw same live) good (rw same first) in
     let bare : (length r.items == 0) ≡ true = sym c.is_bare.ensures ∙ c.if-is_bare.true in
@@ -102,7 +102,7 @@ returns-then-not-names_file-clause-answer g c = λ e there.
     let at = c.at-entry.ensures in
     let live : is_live r.phase ≡ true = cc in
     let same = entry_is s b k r at e there in
-    let good : (c.args.eof.condition == 0) ≡ true = rw c.if-eof-ne0.false refl in
+    let good : (c.args.eof.condition == 0) ≡ true = rw c.if-eof-ne-NO_ERROR.false refl in
     let first : is_receiving r.phase ≡ true = cc in
     let begin = eof_first _ k c.args.eof e (rw same live) good (rw same first) in
     let some : (length r.items == 0) ≡ false = sym c.is_bare.ensures ∙ c.if-is_bare.false in
@@ -138,7 +138,7 @@ returns-then-has_wrong_size-clause-answer g c = λ e there.
     let at = c.at-entry.ensures in
     let live : is_live r.phase ≡ true = cc in
     let same = entry_is s b k r at e there in
-    let good : (c.args.eof.condition == 0) ≡ true = rw c.if-eof-ne0.false refl in
+    let good : (c.args.eof.condition == 0) ≡ true = rw c.if-eof-ne-NO_ERROR.false refl in
     let first : is_receiving r.phase ≡ true = cc in
     let begin = eof_first _ k c.args.eof e (rw same live) good (rw same first) in
     let some : (length r.items == 0) ≡ false = sym c.is_bare.ensures ∙ c.if-is_bare.false in
@@ -166,7 +166,7 @@ returns-then-not-is_whole-clause-answer g c = λ e there.
     let at = c.at-entry.ensures in
     let live : is_live r.phase ≡ true = cc in
     let same = entry_is s b k r at e there in
-    let good : (c.args.eof.condition == 0) ≡ true = rw c.if-eof-ne0.false refl in
+    let good : (c.args.eof.condition == 0) ≡ true = rw c.if-eof-ne-NO_ERROR.false refl in
     let first : is_receiving r.phase ≡ true = cc in
     let begin = eof_first _ k c.args.eof e (rw same live) good (rw same first) in
     let some : (length r.items == 0) ≡ false = sym c.is_bare.ensures ∙ c.if-is_bare.false in
@@ -205,7 +205,7 @@ returns-clause-answer g c = λ e there.
     let at = c.at-entry.ensures in
     let live : is_live r.phase ≡ true = cc in
     let same = entry_is s b k r at e there in
-    let good : (c.args.eof.condition == 0) ≡ true = rw c.if-eof-ne0.false refl in
+    let good : (c.args.eof.condition == 0) ≡ true = rw c.if-eof-ne-NO_ERROR.false refl in
     let first : is_receiving r.phase ≡ true = cc in
     let begin = eof_first _ k c.args.eof e (rw same live) good (rw same first) in
     let some : (length r.items == 0) ≡ false = sym c.is_bare.ensures ∙ c.if-is_bare.false in

@@ -14,7 +14,7 @@ returns-in-Some-clause-follows g c =
     let s = g.S.Filestore.state c.self.inside.store in
     let b = c.self.inside.books in
     let mine : (c.args.header.now.destination == b.config.entity) ≡ true = eq-eqb _ _ (c.if-header-entity.false ∙ c.entity.ensures) in
-    let there = found_entry s b (id_of c.args.header.now) c.in-Some._place (rw c.name_of.ensures at c.in-Some.ensures.found) c.in-Some.ensures.within in
+    let there = found_entry s b (id_of c.args.header.now) c.in-Some.field-0 (rw c.name_of.ensures at c.in-Some.ensures.found) c.in-Some.ensures.within in
     rw (← c.self.view_is, mine, there.1) refl
 
 pub invariant_of-self : goal.invariant_of-self
@@ -23,7 +23,7 @@ invariant_of-self g c =
     let b = c.self.inside.books in
     let d = c.admit.new.books in
     let id = id_of c.args.header.now in
-    let gone = rw (c.in_default.is, c.name_of.ensures) at c.find.ensures.absent in
+    let gone = rw (c.in-None.is, c.name_of.ensures) at c.find.ensures.absent in
     let none = absent_entry s b id gone in
     let mine : (c.args.header.now.destination == b.config.entity) ≡ true = eq-eqb _ _ (c.if-header-entity.false ∙ c.entity.ensures) in
     let carried : Carries (world_of s b) (world_of s d) (metadata_came (world_of s b) c.args.header.now c.args.metadata.now (entry_of (world_of s b) id)) c.admit.result = rw none c.admit.ensures.answer in
@@ -31,13 +31,13 @@ invariant_of-self g c =
     let follows = carries_follows (world_of s b) (world_of s d) event c.admit.result (ours (world_of s b) _ c.args.header.now _ _ mine carried) in
     still_whole c.follows_is_sound.ensures s s b d event c.admit.result c.self.invariant follows c.admit.ensures.booked
 
-pub returns-clause-follows : goal.returns-clause-follows
-returns-clause-follows g c =
+pub returns-in-None-clause-follows : goal.returns-in-None-clause-follows
+returns-in-None-clause-follows g c =
     let s = g.S.Filestore.state c.self.inside.store in
     let b = c.self.inside.books in
     let d = c.admit.new.books in
     let id = id_of c.args.header.now in
-    let gone = rw (c.in_default.is, c.name_of.ensures) at c.find.ensures.absent in
+    let gone = rw (c.in-None.is, c.name_of.ensures) at c.find.ensures.absent in
     let none = absent_entry s b id gone in
     let mine : (c.args.header.now.destination == b.config.entity) ≡ true = eq-eqb _ _ (c.if-header-entity.false ∙ c.entity.ensures) in
     let carried : Carries (world_of s b) (world_of s d) (metadata_came (world_of s b) c.args.header.now c.args.metadata.now (entry_of (world_of s b) id)) c.admit.result = rw none c.admit.ensures.answer in

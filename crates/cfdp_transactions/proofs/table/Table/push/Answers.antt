@@ -1,4 +1,4 @@
-use Rattle.std.proofs.Common.{◌≡◌, [], ◌∷◌, ◌++◌, length, sym, ap, ◌∙◌}
+use Rattle.std.proofs.Common.{◌≡◌, [], ◌∷◌, ◌++◌, length, ap, ◌∙◌}
 use Rattle.cfdp_transactions.specs.Rows.{row_place}
 use Rattle.cfdp_transactions.proofs.RowTable.{rows_of, push_entry, push_named, rows-push, same_either_way}
 use Rattle.cfdp_transactions.proofs.table.Table.push.Goals as goal

@@ -1,0 +1,146 @@
+//! File data that comes for a transaction (CCSDS 727.0-B-5 §4.6.1 and §5.3).
+
+ghost use Rattle.std.specs.Prelude.{◌≡◌, ◌+◌, ◌<◌, ◌^◌, IsTrue, IsOk, OnOk, OnErr, nat_lt, length, slice_get, Some};
+ghost use Rattle.cfdp_actions.specs.Filestore.{Filestore as Files};
+ghost use Rattle.cfdp_transactions.specs.Entry.{Entry as Transaction};
+ghost use Rattle.cfdp_transactions.specs.Sound.{Sound};
+ghost use Rattle.cfdp_transactions.specs.LowerLaws.{LowerLaws};
+ghost use Rattle.cfdp_transactions.specs.Delivery.{data_came, limit, stored};
+ghost use Rattle.cfdp_transactions.specs.Rows.{entry_in};
+ghost use Rattle.cfdp_transactions.specs.Books.{AnswersAt, IsAnswered, IsBooked, IsSteady, IsTakenAt, StoresAt, world_of};
+
+use crate::admission::bound_of;
+use crate::books::Books;
+use crate::closing::end;
+use crate::conditions::FILE_SIZE_ERROR;
+use crate::delivery::{is_right, judge};
+use crate::entry::Entry;
+use crate::keeping::keep;
+use crate::{Config, Phase, Reply};
+use cfdp_actions::Filestore;
+use cfdp_paths::Memory;
+use cfdp_pdus::FileData;
+
+/// File data of the transaction at a place. Where memory is refused, nothing has changed. Costs by its octets and the pieces
+/// that they touch, and, where no octet is missing any more behind an EOF PDU, the checksum of what is staged.
+pub(crate) fn receive<S: Filestore>(
+    store: &mut S,
+    books: &mut Books,
+    place: usize,
+    piece: &FileData,
+) -> Reply
+    requires laws { LowerLaws }
+    requires sound { Sound (world_of (S.state store.old) books.old) }
+    requires booked { IsBooked (S.state store.old) books.old }
+    requires within { place < length books.old.table }
+    ensures answer { let W = world_of (S.state store.old) books.old in
+        AnswersAt W (world_of (S.state store.new) books.new) place (data_came W place piece.now) result }
+    ensures answered { IsTrue (S.state store.old).takes_no_memory → IsAnswered result }
+    ensures booked { IsBooked (S.state store.new) books.new }
+    ensures steady { IsSteady (S.state store.old) (S.state store.new) }
+{
+    let entry = books.table.at(place);
+    if !entry.phase().takes_data() {
+        return Reply::Idle;
+    }
+    if piece.octets.is_empty() {
+        return Reply::Stored;
+    }
+    let count = piece.octets.len() as u64;
+    if ends_past(limit_of(&books.config, entry), piece.offset, count) {
+        end(store, books, place, false, FILE_SIZE_ERROR);
+        return Reply::Faulted(FILE_SIZE_ERROR);
+    }
+    if !entry
+        .ranges()
+        .has_room_for(piece.offset, piece.offset + count)
+    {
+        return Reply::Dropped;
+    }
+    let Ok(()) = stage(store, books, place, piece) else {
+        return Reply::Memory;
+    };
+    judge_last(store, books, place)
+}
+
+/// Where octets of a transaction's file may end: at its bound; once its EOF PDU came, at that one's size too.
+fn limit_of(config: &Config, entry: &Entry) -> u64
+    ensures { (F : Files) → result ≡ limit entry.now.phase config.now (entry_in F entry.now) }
+{
+    let bound = bound_of(config, entry.metadata());
+    match entry.phase() {
+        Phase::Awaiting(_) => bound.min(entry.awaited_size()),
+        _ => bound,
+    }
+}
+
+/// Whether so many octets at an offset end past the limit.
+fn ends_past(limit: u64, offset: u64, count: u64) -> bool
+    ensures { result ≡ nat_lt limit (offset + count) }
+{
+    count > limit || offset > limit - count
+}
+
+/// Stages file data of the transaction at a place, and takes its blocks out of the transaction's reserve.
+///
+/// # Errors
+///
+/// Want of memory, where the store takes any: nothing has changed then.
+fn stage<S: Filestore>(
+    store: &mut S,
+    books: &mut Books,
+    place: usize,
+    piece: &FileData,
+) -> Result<(), Memory>
+    requires laws { LowerLaws }
+    requires sound { Sound (world_of (S.state store.old) books.old) }
+    requires booked { IsBooked (S.state store.old) books.old }
+    requires taken { IsTakenAt (world_of (S.state store.old) books.old) place piece.now }
+    requires fits { piece.now.offset + length piece.now.octets < 2 ^ 64 }
+    ensures stored { OnOk result (StoresAt (world_of (S.state store.old) books.old) (world_of (S.state store.new) books.new) place piece.now) }
+    ensures sound { OnOk result (Sound (world_of (S.state store.new) books.new)) }
+    ensures booked { IsBooked (S.state store.new) books.new }
+    ensures err { OnErr result (world_of (S.state store.new) books.new ≡ world_of (S.state store.old) books.old) }
+    ensures steady { IsSteady (S.state store.old) (S.state store.new) }
+    ensures thrifty { IsTrue (S.state store.old).takes_no_memory → IsOk result }
+{
+    let entry = books.table.at(place);
+    let slot = entry.slot();
+    let taken = keep(
+        store,
+        slot,
+        entry.ranges(),
+        piece.offset,
+        piece.octets.as_slice(),
+    )?;
+    books.quota.took(slot, taken);
+    let end = piece.offset + piece.octets.len() as u64;
+    books.table.store(place, piece.offset, end, taken);
+    Ok(())
+}
+
+/// What follows once file data of the transaction at a place is staged: where its EOF PDU came, it may have been the last
+/// that was missing.
+fn judge_last<S: Filestore>(store: &mut S, books: &mut Books, place: usize) -> Reply
+    requires sound { Sound (world_of (S.state store.old) books.old) }
+    requires booked { IsBooked (S.state store.old) books.old }
+    requires within { place < length books.old.table }
+    ensures answer { let W = world_of (S.state store.old) books.old in
+        (e : Transaction) → slice_get W.table place ≡ Some e → stored e.phase W place e ≡ (world_of (S.state store.new) books.new, result) }
+    ensures answered { IsAnswered result }
+    ensures booked { IsBooked (S.state store.new) books.new }
+    ensures steady { IsSteady (S.state store.old) (S.state store.new) }
+{
+    let entry = books.table.at(place);
+    let Phase::Awaiting(_) = entry.phase() else {
+        return Reply::Stored;
+    };
+    let Some(eof) = entry.eof() else {
+        return Reply::Stored;
+    };
+    if !entry.is_whole(eof.size) {
+        return Reply::Stored;
+    }
+    let is_right = is_right(store, entry, eof.checksum);
+    judge(store, books, place, is_right)
+}
