@@ -1,7 +1,9 @@
-//! Each module has the lists of one kind, and `scene` what they are judged on. `guide` has the lists of the repository's
-//! `docs/GUIDE.md`, octet for octet.
+//! Each module has the lists or the events of one kind. `scene` has what lists are judged on, and `entity` a receiving entity
+//! that is handed events; `guide` has the lists of the repository's `docs/GUIDE.md`, octet for octet.
 
+mod crowded;
 mod directories;
+mod entity;
 mod guide;
 mod limits;
 mod lists;
@@ -9,7 +11,13 @@ mod live;
 mod memory;
 mod one_tree;
 mod order;
+mod phases;
+mod prefixes;
 mod protected;
+mod refused_entity;
 mod refused_views;
+mod requests;
 mod scene;
+mod settings;
+mod transfers;
 mod views;

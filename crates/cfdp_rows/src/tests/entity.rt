@@ -1,0 +1,389 @@
+//! A receiving entity that is handed events one after another, what it replies, and what it says of itself in between.
+
+ghost use Rattle.std.specs.Prelude.{◌≡◌, ◌≤◌};
+
+use super::scene::path_of;
+use cfdp_actions::{Filestore, Kind, ListStore, Protected, entry_checksum};
+use cfdp_paths::Memory;
+use cfdp_pdus::{FileData, Header, Pdu, PduFault, read_pdu};
+use cfdp_status::{Action, Status, TransactionId};
+use cfdp_transactions::{Config, Core, Event, Outcome, Phase, Reply, event_of};
+use cfdp_verifier::{Place, Refusal};
+use std::alloc::{AllocError, Global};
+use std::process::Abort;
+
+/// What is handed in. PDUs are in hexadecimal, without spaces. Transactions are those of entity 1 with these numbers.
+#[derive(Clone, Copy, Debug)]
+pub enum Given {
+    Pdu(&'static str),
+    /// File data: the offset, how many octets, and each of them.
+    Octets(u8, u64, usize, u8),
+    Step(u8),
+    Cancel(u8),
+    Check(u8),
+    Take(u8),
+}
+
+/// What is replied.
+#[derive(Clone, Copy, Debug)]
+pub enum Told {
+    Admitted(u32, u32),
+    TooManyRequests,
+    BadDestination,
+    BadName(u8),
+    Conflict(u8),
+    DestinationNotAllowed,
+    WouldFail(u8, u8),
+    TooLong(u32),
+    NoRoom(u32, u32),
+    Stored,
+    Dropped,
+    Complete,
+    Waiting,
+    Faulted(u8),
+    /// With the octet of the status.
+    Performed(u8),
+    Installed,
+    Done,
+    Cancelled,
+    /// The outcome is sent as this Finished PDU.
+    Finished(&'static str),
+    /// The outcome is not sent, and has this condition.
+    Ended(u8),
+    Duplicate,
+    Unknown,
+    Idle,
+    NotForUs,
+    TableFull,
+}
+
+/// What stands at a path: a file of so many octets with this checksum, or a directory.
+pub type Standing = (&'static [u8], Option<(u64, u32)>);
+
+/// One after another.
+#[derive(Clone, Copy, Debug)]
+pub enum Row {
+    /// An event, and the reply.
+    On(Given, Told),
+    /// The blocks that are free, and those of them that nobody was granted.
+    Store(u32, u32),
+    /// All that stands, in path order.
+    Standing(&'static [Standing]),
+    /// What is missing of a transaction's file.
+    Gaps(u8, &'static [(u64, u64)]),
+    /// The blocks and the steps that a transaction spent.
+    Spent(u8, i64, u32),
+    /// How far a transaction is: `None` where it is not known.
+    Phase(u8, Option<Phase>),
+    /// The first transaction that is performed.
+    Runnable(Option<u8>),
+}
+
+/// What a configuration leaves open: the blocks, the cap, and the protected paths.
+#[derive(Clone, Copy, Debug)]
+pub struct Limits {
+    pub blocks: u32,
+    pub cap: u64,
+    pub protected: &'static [&'static [u8]],
+}
+
+/// Of 64 blocks, where a file of unbounded size has 2,400 octets at most.
+pub const DEFAULT: Limits = Limits {
+    blocks: 64,
+    cap: 2400,
+    protected: &[],
+};
+
+/// The transaction of entity 1 with this number.
+pub fn id(number: u8) -> TransactionId {
+    TransactionId {
+        source: 1,
+        number: u64::from(number),
+    }
+}
+
+fn digit(rt: &impl Abort, digit: u8) -> u8 {
+    match digit {
+        b'0'..=b'9' => digit - b'0',
+        b'a'..=b'f' => digit - b'a' + 10,
+        _ => {
+            assert!(rt; false);
+            0
+        }
+    }
+}
+
+/// The octets of a hexadecimal text.
+pub fn octets_of(rt: &impl Abort, alloc: Global, text: &str) -> Result<Vec<u8>, Memory> {
+    let digits = text.as_bytes();
+    let mut octets = Vec::with_capacity(alloc, digits.len() / 2)?;
+    for pair in digits.chunks_exact(2) {
+        octets.push(
+            digit(rt, pair[0])
+                .wrapping_mul(16)
+                .wrapping_add(digit(rt, pair[1])),
+        )?;
+    }
+    Ok(octets)
+}
+
+/// The PDU of a hexadecimal text.
+fn pdu_of(rt: &impl Abort, alloc: Global, text: &str) -> Result<Pdu, Memory> {
+    let octets = octets_of(rt, alloc, text)?;
+    match read_pdu(alloc, &octets) {
+        Ok(pdu) => Ok(pdu),
+        Err(fault) => {
+            assert_eq!(rt; fault, PduFault::Memory, "on {text}");
+            Err(AllocError)
+        }
+    }
+}
+
+/// The event of a PDU.
+fn event_in(rt: &impl Abort, alloc: Global, text: &str) -> Result<Event, Memory> {
+    let event = event_of(pdu_of(rt, alloc, text)?);
+    assert!(rt; event.is_ok(), "on {text}");
+    event.map_err(|_| AllocError)
+}
+
+/// So many equal octets of a file.
+fn file_data(
+    alloc: Global,
+    number: u8,
+    offset: u64,
+    count: usize,
+    octet: u8,
+) -> Result<Event, Memory> {
+    let mut octets = Vec::with_capacity(alloc, count)?;
+    for _ in 0..count {
+        octets.push(octet)?;
+    }
+    let header = Header {
+        toward_sender: false,
+        acknowledged: false,
+        large: false,
+        id_len: 1,
+        number_len: 1,
+        source: 1,
+        number: u64::from(number),
+        destination: 2,
+    };
+    Ok(Event::Data(header, FileData { offset, octets }))
+}
+
+impl Given {
+    pub fn event(self, rt: &impl Abort, alloc: Global) -> Result<Event, Memory> {
+        match self {
+            Given::Pdu(text) => event_in(rt, alloc, text),
+            Given::Octets(number, offset, count, octet) => {
+                file_data(alloc, number, offset, count, octet)
+            }
+            Given::Step(number) => Ok(Event::Step(id(number))),
+            Given::Cancel(number) => Ok(Event::Cancel(id(number))),
+            Given::Check(number) => Ok(Event::Check(id(number))),
+            Given::Take(number) => Ok(Event::Take(id(number))),
+        }
+    }
+}
+
+/// The status of an octet that stands in a response.
+fn status_of(rt: &impl Abort, octet: u8) -> Status {
+    let status = Status::of_octet(octet);
+    assert!(rt; status.is_some(), "on {octet}");
+    status.unwrap_or(Status::NotAllowed(Action::CreateFile))
+}
+
+impl Told {
+    /// The reply, where it hands out no outcome.
+    fn reply(self, rt: &impl Abort) -> Option<Reply> {
+        Some(match self {
+            Told::Admitted(blocks, steps) => Reply::Admitted(blocks, steps),
+            Told::TooManyRequests => Reply::Refused(Refusal::TooManyRequests),
+            Told::BadDestination => Reply::Refused(Refusal::BadPath(Place::Destination)),
+            Told::BadName(number) => Reply::Refused(Refusal::BadPath(Place::Request(number))),
+            Told::Conflict(number) => Reply::Refused(Refusal::Conflict(id(number))),
+            Told::DestinationNotAllowed => Reply::Refused(Refusal::DestinationNotAllowed),
+            Told::WouldFail(number, octet) => {
+                Reply::Refused(Refusal::WouldFail(number, status_of(rt, octet)))
+            }
+            Told::TooLong(steps) => Reply::Refused(Refusal::TooLong(steps)),
+            Told::NoRoom(needed, spare) => Reply::Refused(Refusal::NoRoom(needed, spare)),
+            Told::Stored => Reply::Stored,
+            Told::Dropped => Reply::Dropped,
+            Told::Complete => Reply::Complete,
+            Told::Waiting => Reply::Waiting,
+            Told::Faulted(condition) => Reply::Faulted(condition),
+            Told::Performed(octet) => Reply::Performed(status_of(rt, octet)),
+            Told::Installed => Reply::Installed,
+            Told::Done => Reply::Done,
+            Told::Cancelled => Reply::Cancelled,
+            Told::Finished(_) | Told::Ended(_) => return None,
+            Told::Duplicate => Reply::Duplicate,
+            Told::Unknown => Reply::Unknown,
+            Told::Idle => Reply::Idle,
+            Told::NotForUs => Reply::NotForUs,
+            Told::TableFull => Reply::TableFull,
+        })
+    }
+}
+
+/// Whether the outcome is sent as this Finished PDU.
+fn is_sent_as(
+    rt: &impl Abort,
+    alloc: Global,
+    outcome: &Outcome,
+    text: &str,
+) -> Result<bool, Memory> {
+    let pdu = pdu_of(rt, alloc, text)?;
+    Ok(match pdu {
+        Pdu::Finished(header, finished) => {
+            outcome.send && outcome.header == header && outcome.finished == finished
+        }
+        _ => false,
+    })
+}
+
+/// Whether the reply is the one that is told.
+pub fn is_told(rt: &impl Abort, alloc: Global, reply: &Reply, told: Told) -> Result<bool, Memory> {
+    if let Some(expected) = told.reply(rt) {
+        return Ok(reply.same(&expected));
+    }
+    match (reply, told) {
+        (Reply::Taken(shared), Told::Finished(text)) => {
+            is_sent_as(rt, alloc, shared.outcome(), text)
+        }
+        (Reply::Taken(shared), Told::Ended(condition)) => {
+            let outcome = shared.outcome();
+            Ok(!outcome.send && outcome.finished.condition == condition)
+        }
+        _ => Ok(false),
+    }
+}
+
+/// The entity 2 that has just begun.
+pub fn entity_of(
+    rt: &impl Abort,
+    alloc: Global,
+    limits: Limits,
+) -> Result<Core<ListStore>, Memory> {
+    assert!(rt; 1 <= limits.blocks && limits.blocks <= 65_536);
+    let mut protected = Protected::new();
+    for name in limits.protected {
+        assert!(rt; protected.add(path_of(rt, alloc, name)?).is_ok());
+    }
+    match Config::new(2, limits.blocks, limits.cap, 2, 1000, protected) {
+        Ok(config) => Core::new(alloc, config, ListStore::new(alloc, limits.blocks)?),
+        Err(fault) => {
+            assert!(rt; false, "{fault}");
+            Err(AllocError)
+        }
+    }
+}
+
+/// The reply, by one call or by the one that gives it twice.
+fn apply(rt: &impl Abort, core: &mut Core<ListStore>, event: &Event, twice: bool) -> Reply {
+    if !twice {
+        return core.apply(event);
+    }
+    let (reply, again) = core.apply_both(event);
+    assert!(rt; reply.same(&again));
+    reply
+}
+
+/// What an event must not change where memory is refused.
+fn summary(core: &Core<ListStore>) -> (u32, u32, Option<TransactionId>) {
+    (core.spare(), core.store().free(), core.next_runnable())
+}
+
+/// The reply; where memory is refused nothing has changed, and the same event is handed in again.
+pub fn hand_in(rt: &impl Abort, core: &mut Core<ListStore>, event: &Event, twice: bool) -> Reply {
+    let before = summary(core);
+    let reply = apply(rt, core, event, twice);
+    if let Reply::Memory = reply {
+        assert_eq!(rt; summary(core), before, "on {event:?}");
+        return apply(rt, core, event, twice);
+    }
+    reply
+}
+
+/// Compares what stands with what is expected, in path order.
+fn compare_standing(
+    rt: &impl Abort,
+    alloc: Global,
+    store: &ListStore,
+    expected: &[Standing],
+) -> Result<(), Memory> {
+    let listing = store.listing(alloc)?;
+    assert_eq!(rt; listing.len(), expected.len());
+    for (entry, (name, file)) in listing.iter().zip(expected) {
+        assert!(rt; entry.path == path_of(rt, alloc, name)?, "on {name:?}");
+        let told = match entry.kind {
+            Kind::Directory => None,
+            Kind::File => Some((entry.size, entry.checksum)),
+        };
+        assert_eq!(rt; told, *file, "on {name:?}");
+    }
+    Ok(())
+}
+
+/// Compares one row.
+fn compare(
+    rt: &impl Abort,
+    alloc: Global,
+    core: &mut Core<ListStore>,
+    row: &Row,
+    twice: bool,
+) -> Result<(), Memory> {
+    match row {
+        Row::On(given, told) => {
+            let event = given.event(rt, alloc)?;
+            let reply = hand_in(rt, core, &event, twice);
+            assert!(rt; is_told(rt, alloc, &reply, *told)?, "on {row:?}");
+        }
+        Row::Store(free, spare) => {
+            assert_eq!(rt; (core.store().free(), core.spare()), (*free, *spare));
+        }
+        Row::Standing(expected) => compare_standing(rt, alloc, core.store(), expected)?,
+        Row::Gaps(number, expected) => {
+            let gaps = core.gaps(id(*number)).unwrap_or_default();
+            assert!(rt; gaps.as_slice() == *expected, "on {row:?}");
+        }
+        Row::Spent(number, blocks, steps) => {
+            let number = id(*number);
+            assert_eq!(rt; core.blocks_spent(number), Some(*blocks), "on {row:?}");
+            assert_eq!(rt; core.steps_spent(number), Some(*steps), "on {row:?}");
+        }
+        Row::Phase(number, phase) => {
+            assert_eq!(rt; core.phase(id(*number)), *phase, "on {row:?}");
+        }
+        Row::Runnable(number) => {
+            assert_eq!(rt; core.next_runnable(), number.map(id), "on {row:?}");
+        }
+    }
+    Ok(())
+}
+
+fn try_rows(
+    rt: &impl Abort,
+    alloc: Global,
+    limits: Limits,
+    rows: &[Row],
+    twice: bool,
+) -> Result<(), Memory> {
+    let mut core = entity_of(rt, alloc, limits)?;
+    for row in rows {
+        compare(rt, alloc, &mut core, row, twice)?;
+    }
+    Ok(())
+}
+
+/// Hands the rows to an entity that has just begun, and to another one whose replies are given twice. Where memory is
+/// refused beside the events all is tried once more: `rt try --test --fail-alloc N` refuses one growth.
+pub fn check(rt: &impl Abort, alloc: Global, limits: Limits, rows: &[Row]) -> Result<(), Memory> {
+    for twice in [false, true] {
+        if try_rows(rt, alloc, limits, rows, twice).is_err() {
+            try_rows(rt, alloc, limits, rows, twice)?;
+        }
+    }
+    Ok(())
+}

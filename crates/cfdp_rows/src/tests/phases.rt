@@ -1,0 +1,228 @@
+//! Each event in each phase, and PDUs of another entity.
+
+use super::entity::{DEFAULT, Given, Row, Told, check, entity_of, hand_in, is_told};
+use cfdp_paths::Memory;
+use std::alloc::Global;
+use std::process::Abort;
+
+/// A file `f` of 15 octets.
+const METADATA: Given = Given::Pdu("24000a00010a0207400000000f01730166");
+
+/// Its last 7 octets, and its first 10, two of which come twice.
+const LAST: Given = Given::Pdu("34000b00010a020000000808090a0b0c0d0e");
+
+const FIRST: Given = Given::Pdu("34000e00010a020000000000010203040506070809");
+
+const EOF: Given = Given::Pdu("24000a00010a020400181c20150000000f");
+
+/// The same transaction with a destination that is no path.
+const NO_PATH: Given = Given::Pdu("24000b00010a0207400000000f0173022e2e");
+
+/// One event of each kind.
+const EVENTS: [Given; 7] = [
+    METADATA,
+    LAST,
+    EOF,
+    Given::Step(10),
+    Given::Cancel(10),
+    Given::Check(10),
+    Given::Take(10),
+];
+
+/// What comes before, and the replies to one event of each kind, each handed in right behind that.
+type Phase = (&'static [Given], [Told; 7]);
+
+const PHASES: [Phase; 7] = [
+    // Not known.
+    (
+        &[],
+        [
+            Told::Admitted(2, 2),
+            Told::Unknown,
+            Told::Unknown,
+            Told::Unknown,
+            Told::Unknown,
+            Told::Unknown,
+            Told::Unknown,
+        ],
+    ),
+    // Receiving.
+    (
+        &[METADATA],
+        [
+            Told::Duplicate,
+            Told::Stored,
+            Told::Waiting,
+            Told::Idle,
+            Told::Cancelled,
+            Told::Idle,
+            Told::Idle,
+        ],
+    ),
+    // Awaiting.
+    (
+        &[METADATA, EOF],
+        [
+            Told::Duplicate,
+            Told::Stored,
+            Told::Duplicate,
+            Told::Idle,
+            Told::Cancelled,
+            Told::Waiting,
+            Told::Idle,
+        ],
+    ),
+    // Executing.
+    (
+        &[METADATA, FIRST, LAST, EOF],
+        [
+            Told::Duplicate,
+            Told::Idle,
+            Told::Duplicate,
+            Told::Installed,
+            Told::Cancelled,
+            Told::Idle,
+            Told::Idle,
+        ],
+    ),
+    // Refused.
+    (
+        &[NO_PATH],
+        [
+            Told::Duplicate,
+            Told::Idle,
+            Told::Idle,
+            Told::Idle,
+            Told::Idle,
+            Told::Idle,
+            Told::Finished("2c000500010a020545060102"),
+        ],
+    ),
+    // Done.
+    (
+        &[METADATA, FIRST, LAST, EOF, Given::Step(10)],
+        [
+            Told::Duplicate,
+            Told::Idle,
+            Told::Idle,
+            Told::Idle,
+            Told::Idle,
+            Told::Idle,
+            Told::Finished("2c000200010a020502"),
+        ],
+    ),
+    // Ended.
+    (
+        &[METADATA, Given::Cancel(10)],
+        [
+            Told::Duplicate,
+            Told::Idle,
+            Told::Idle,
+            Told::Idle,
+            Told::Idle,
+            Told::Idle,
+            Told::Finished("2c000500010a0205f4060102"),
+        ],
+    ),
+];
+
+/// The reply to an event behind what came before.
+fn try_event(
+    rt: &impl Abort,
+    alloc: Global,
+    before: &[Given],
+    event: Given,
+    told: Told,
+) -> Result<(), Memory> {
+    let mut core = entity_of(rt, alloc, DEFAULT)?;
+    for given in before {
+        let _reply = hand_in(rt, &mut core, &given.event(rt, alloc)?, false);
+    }
+    let reply = hand_in(rt, &mut core, &event.event(rt, alloc)?, true);
+    assert!(rt;
+        is_told(rt, alloc, &reply, told)?,
+        "{event:?} behind {before:?}"
+    );
+    Ok(())
+}
+
+#[test]
+fn each_event_in_each_phase(rt: HostRuntime) -> Result<(), Memory> {
+    for (before, replies) in PHASES {
+        for (event, told) in EVENTS.iter().zip(replies) {
+            if try_event(&rt, rt.alloc(), before, *event, told).is_err() {
+                try_event(&rt, rt.alloc(), before, *event, told)?;
+            }
+        }
+    }
+    Ok(())
+}
+
+#[test]
+fn pdus_of_another_entity(rt: HostRuntime) -> Result<(), Memory> {
+    check(
+        &rt,
+        rt.alloc(),
+        DEFAULT,
+        &[
+            Row::On(
+                Given::Pdu("24000a00010a0307400000000f01730166"),
+                Told::NotForUs,
+            ),
+            Row::On(
+                Given::Pdu("34000b00010a030000000808090a0b0c0d0e"),
+                Told::NotForUs,
+            ),
+            Row::On(
+                Given::Pdu("24000a00010a030400181c20150000000f"),
+                Told::NotForUs,
+            ),
+            Row::Phase(10, None),
+            Row::On(METADATA, Told::Admitted(2, 2)),
+            Row::On(
+                Given::Pdu("34000b00010a030000000808090a0b0c0d0e"),
+                Told::NotForUs,
+            ),
+            Row::On(
+                Given::Pdu("24000a00010a030400181c20150000000f"),
+                Told::NotForUs,
+            ),
+            Row::Store(64, 62),
+        ],
+    )
+}
+
+/// File data that has no octets, comes twice with others, ends past the size that was declared, or past that of the EOF PDU.
+#[test]
+fn octets_at_their_limits(rt: HostRuntime) -> Result<(), Memory> {
+    check(
+        &rt,
+        rt.alloc(),
+        DEFAULT,
+        &[
+            Row::On(METADATA, Told::Admitted(2, 2)),
+            Row::On(Given::Octets(10, u64::MAX, 0, 0), Told::Stored),
+            Row::On(Given::Octets(10, 0, 15, 1), Told::Stored),
+            Row::On(Given::Octets(10, 0, 15, 2), Told::Stored),
+            Row::Store(63, 62),
+            Row::On(
+                Given::Pdu("24000a00010a0204000f0f0f0e0000000f"),
+                Told::Faulted(5),
+            ),
+            Row::On(Given::Take(10), Told::Finished("2c000500010a020554060102")),
+            Row::On(METADATA, Told::Admitted(2, 2)),
+            Row::On(Given::Octets(10, 15, 1, 0), Told::Faulted(6)),
+            Row::On(Given::Take(10), Told::Finished("2c000500010a020564060102")),
+            Row::On(METADATA, Told::Admitted(2, 2)),
+            Row::On(Given::Octets(10, u64::MAX, 1, 0), Told::Faulted(6)),
+            Row::On(Given::Take(10), Told::Finished("2c000500010a020564060102")),
+            Row::On(METADATA, Told::Admitted(2, 2)),
+            Row::On(
+                Given::Pdu("24000a00010a020400000000000000000a"),
+                Told::Waiting,
+            ),
+            Row::On(Given::Octets(10, 9, 2, 0), Told::Faulted(6)),
+            Row::Store(64, 64),
+        ],
+    )
+}
