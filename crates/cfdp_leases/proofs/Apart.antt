@@ -16,14 +16,14 @@ use Rattle.cfdp_leases.proofs.ChangeFrame.{all-append}
 abbrev Grant : Type 0
 Grant = TransactionId × Footprint
 
-is_same-symm : (a b : TransactionId) → is_same a b ≡ is_same b a
+pub is_same-symm : (a b : TransactionId) → is_same a b ≡ is_same b a
 is_same-symm a b = λ i. nat_eq_equiv.symm a.source b.source i && nat_eq_equiv.symm a.number b.number i
 
-or_both : (a b : Bool) → (a || b) ≡ false → (a ≡ false) × (b ≡ false)
+pub or_both : (a b : Bool) → (a || b) ≡ false → (a ≡ false) × (b ≡ false)
 or_both true b h = absurd (true≢false h)
 or_both false b h = (refl, h)
 
-or_none : (a b : Bool) → a ≡ false → b ≡ false → (a || b) ≡ false
+pub or_none : (a b : Bool) → a ≡ false → b ≡ false → (a || b) ≡ false
 or_none a b h k = (λ i. h i || k i)
 
 none_first : (b : Bool) (g : Grant) (o : Option Grant) → option_map (λ (h : Grant). h.0) (cond b (Some g) o) ≡ None → (b ≡ false) × (option_map (λ (h : Grant). h.0) o ≡ None)
@@ -43,7 +43,7 @@ apart_push (h ∷ gs) g apart free unheld =
       apart_push gs g apart.1 frees.1 others.1,
     )
 
-all_filter : {X : Type 0} (P : X → Type 0) (test : X → Bool) (xs : List X) → AllByRecursion P xs → AllByRecursion P (filter test xs)
+pub all_filter : {X : Type 0} (P : X → Type 0) (test : X → Bool) (xs : List X) → AllByRecursion P xs → AllByRecursion P (filter test xs)
 all_filter P test [] all = tt
 all_filter P test (x ∷ xs) all =
     elim (test x) as (λ b. AllByRecursion P (cond b (x ∷ filter test xs) (filter test xs))) [ true ↦ (all.0, all_filter P test xs all.1) | false ↦ all_filter P test xs all.1 ]

@@ -1,6 +1,7 @@
 -- Which paths the footprint of a list has, and when two footprints conflict.
 --     own_footprint                a list's footprint has all paths of its items
---     HasAncestors fp              the proper ancestors of what it leases are shared, and it does not lease the root exclusively
+--     has_ancestors                it has their proper ancestors
+--     gathered                     as two lists of the same paths have
 --     conflict_by_paths            of two such footprints
 use Rattle.std.proofs.Common.{◌≡◌, ◌≢◌, sym, ◌∙◌, subst, true, ◌⊎◌, ◌↔◌, inl, inr, List, [], ◌∷◌, ◌++◌}
 use Rattle.std.specs.Prelude.{flat_map, IsTrue}
@@ -11,7 +12,7 @@ use Rattle.cfdp_paths.specs.Paths.{Path, same_path, is_at_or_below, ancestors}
 use Rattle.cfdp_paths.proofs.Comparing.{same_path-Decides}
 use Rattle.cfdp_paths.proofs.Below.{at_or_below-itself, at_or_below-trans, at_or_below-antisym, below_ancestor, ancestor_from_below}
 use Rattle.cfdp_actions.specs.Actions.{Item}
-use Rattle.cfdp_leases.specs.Footprint.{exclusive_in, read_in, shared_in, any_in, Footprint, footprint_of, leased, is_exclusive, is_covered, reaches, is_conflict, IsWithin}
+use Rattle.cfdp_leases.specs.Footprint.{exclusive_in, read_in, shared_in, any_in, SameSet, Footprint, of_lists, AreNamed, HasAncestors, footprint_of, leased, is_exclusive, is_covered, reaches, is_conflict, IsWithin}
 use Rattle.cfdp_leases.specs.Laws.{HasNames, CommonPath, ConflictByPaths, OwnFootprint}
 use Rattle.cfdp_leases.proofs.Sets.{or_left, or_right, stands, stands-append_left, stands-append_right, stands-append_cases, all_at, all_from, stands-flat_map, stands_in-flat_map, stands_from_Contains, Contains_from_stands, contains_from_stands, stands_from_contains, any_in-at, any_in-from, union_left, union_right, union_cases}
 
@@ -61,10 +62,6 @@ ancestor_stands p q h other some = stands_from_Contains q (ancestors p) (ancesto
 
 pub ancestor_above : (p q : Path) → stands q (ancestors p) → (is_at_or_below p q ≡ true) × (p ≢ q) × (q ≢ [])
 ancestor_above p q h = below_ancestor p q (Contains_from_stands q (ancestors p) h)
-
-pub record HasAncestors (fp : Footprint) : Type 0 where
-  pub above : (p q : Path) → set.contains (leased fp) p ≡ true → stands q (ancestors p) → set.contains fp.shared q ≡ true
-  pub names : (p : Path) → set.contains fp.exclusive p ≡ true → p ≢ []
 
 -- of one item: a path that it names, or one above such a path
 abbrev named_in : Item → List Path
@@ -120,17 +117,27 @@ list_names (item ∷ items) p all h =
       | inr rest ↦ list_names items p all.1 rest
     ]
 
+list_above : (items : List Item) (p q : Path) → set.contains (leased (footprint_of items)) p ≡ true → stands q (ancestors p) → set.contains (footprint_of items).shared q ≡ true
+list_above items p q h a =
+    contains_from_stands (flat_map shared_in items) q
+    (list_ancestors items p q
+    (elim (union_cases (set.from_list (flat_map exclusive_in items)) (set.from_list (flat_map shared_in items)) p h) [
+      | inl e ↦ inl (stands_from_contains (flat_map exclusive_in items) p e)
+      | inr s ↦ inr (stands_from_contains (flat_map shared_in items) p s)
+    ])
+    a)
+
 pub has_ancestors : (items : List Item) → AllByRecursion HasNames items → HasAncestors (footprint_of items)
 has_ancestors items named = record {
-  above = λ p q h a.
-      contains_from_stands (flat_map shared_in items) q
-      (list_ancestors items p q
-      (elim (union_cases (set.from_list (flat_map exclusive_in items)) (set.from_list (flat_map shared_in items)) p h) [
-        | inl e ↦ inl (stands_from_contains (flat_map exclusive_in items) p e)
-        | inr s ↦ inr (stands_from_contains (flat_map shared_in items) p s)
-      ])
-      a);
+  above = list_above items;
   names = λ p h. list_names items p named (stands_from_contains (flat_map exclusive_in items) p h);
+}
+
+-- what was gathered of a list, as lists of the same paths none of which is the root, has their ancestors too
+pub gathered : (items : List Item) (xs ys : List Path) → SameSet xs (flat_map exclusive_in items) → SameSet ys (flat_map shared_in items) → AreNamed xs → HasAncestors (of_lists xs ys)
+gathered items xs ys exclusive shared named = record {
+  above = subst (λ fp. (p q : Path) → set.contains (leased fp) p ≡ true → stands q (ancestors p) → set.contains fp.shared q ≡ true) (λ i. record { exclusive = sym exclusive i; shared = sym shared i }) (list_above items);
+  names = λ p h. all_at (λ x. x ≢ []) xs p named (stands_from_contains xs p h);
 }
 
 -- ---- conflict by paths

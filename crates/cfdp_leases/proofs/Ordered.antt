@@ -3,7 +3,7 @@
 --     searchable                   how the paths of an ordered list stand to one path never falls
 --     sorted-insert                a path is put in its place
 --     found_there                  a path that is found stands there
-use Rattle.std.proofs.Common.{◌≡◌, refl, sym, ◌∙◌, ap, subst, ℕ, zero, suc, ◌<◌, ◌≤◌, ◌==◌, Bool, true, false, ◌||◌, inl, inr, List, [], ◌∷◌, ◌++◌, length, take, drop, get_or, arith, append_assoc, take-append-drop, ◌+◌, map, Option, Some, Result, Ok, Err}
+use Rattle.std.proofs.Common.{◌≡◌, ◌≢◌, length-take, refl, sym, ◌∙◌, ap, subst, ℕ, zero, suc, ◌<◌, ◌≤◌, ◌==◌, Bool, true, false, ◌||◌, inl, inr, List, [], ◌∷◌, ◌++◌, length, take, drop, get_or, arith, append_assoc, take-append-drop, ◌+◌, map, Option, Some, Result, Ok, Err}
 use Rattle.std.specs.Prelude.{flat_map, OnOk}
 use Rattle.std.proofs.lemmas.Grind.{flat_map-append}
 use Rattle.std.proofs.lemmas.List.{take_more, map-append, append-nil}
@@ -116,7 +116,7 @@ all_after : (t x : Path) (xs : List Path) → path_cmp t x ≡ Less → AllByRec
 all_after t x [] before all = tt
 all_after t x (y ∷ xs) before all = (path_cmp_total.trans t x y before all.0, all_after t x xs before all.1)
 
-all-insert : (P : Path → Type 0) (xs : List Path) (t : Path) (i : ℕ) → AllByRecursion P xs → P t → AllByRecursion P (insert xs i t)
+pub all-insert : (P : Path → Type 0) (xs : List Path) (t : Path) (i : ℕ) → AllByRecursion P xs → P t → AllByRecursion P (insert xs i t)
 all-insert P [] t zero all this = (this, tt)
 all-insert P [] t (suc i) all this = (this, tt)
 all-insert P (x ∷ xs) t zero all this = (this, all)
@@ -135,6 +135,10 @@ sorted-insert (x ∷ xs) t (suc i) sorted within low high = (
   all-insert (λ y. path_cmp x y ≡ Less) xs t i sorted.0 (low zero x (omega arith) (omega arith)),
   sorted-insert xs t i sorted.1 (omega arith) (λ k d _ below. low (suc k) d (omega arith) (omega arith)) (λ k d above below. high (suc k) d (omega arith) (omega arith)),
 )
+
+-- a beginning of some names is not the root
+pub named-take : (n : ℕ) (p : Path) → 1 ≤ n → n ≤ length p → take n p ≢ []
+named-take n p some within none = absurd (omega (arith, length-take n p, ap length none))
 
 pub sorted-none : IsStrictlySortedBy path_cmp []
 unfolding IsStrictlySortedBy

@@ -1,4 +1,6 @@
 pub mod Footprint
 pub mod Items
 pub mod Leases
+pub mod Holders
+pub mod Live
 pub mod Laws

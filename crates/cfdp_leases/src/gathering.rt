@@ -7,7 +7,7 @@ ghost use Rattle.std.specs.List.Sorted.{IsStrictlySortedBy};
 ghost use Rattle.std.specs.Option.{option_copied};
 ghost use Rattle.cfdp_paths.specs.Paths.{ancestors, path_cmp, same_path};
 ghost use Rattle.cfdp_actions.specs.Actions.{Perform};
-ghost use Rattle.cfdp_leases.specs.Footprint.{SameSet, exclusive_in, footprint_of, read_in, shared_in};
+ghost use Rattle.cfdp_leases.specs.Footprint.{AreNamed, SameSet, exclusive_in, footprint_of, read_in, shared_in};
 ghost use Rattle.cfdp_leases.specs.Items.{install_of, items_of};
 
 use crate::footprints::Footprint;
@@ -21,7 +21,7 @@ use std::alloc::Global;
 /// # Errors
 ///
 /// Want of memory. Cost: for each named path and each of its proper ancestors a binary search among those gathered so
-/// far; each path is copied once, however often it comes.
+/// far. A path is copied once, however often it comes; it is put in its place then, and those behind it are shifted.
 pub fn footprint(
     alloc: Global,
     requests: &[Request],
@@ -51,6 +51,7 @@ fn add_install(
     requires shared_ordered { IsStrictlySortedBy path_cmp shared.old.items }
     ensures exclusive_ordered { OnOk result (IsStrictlySortedBy path_cmp exclusive.new.items) }
     ensures shared_ordered { OnOk result (IsStrictlySortedBy path_cmp shared.new.items) }
+    ensures named { AreNamed exclusive.old.items → OnOk result (AreNamed exclusive.new.items) }
     ensures exclusive { OnOk result (SameSet exclusive.new.items (exclusive.old.items ++ flat_map exclusive_in (install_of (option_copied destination.entry)))) }
     ensures shared { OnOk result (SameSet shared.new.items (shared.old.items ++ flat_map shared_in (install_of (option_copied destination.entry)))) }
 {
@@ -68,6 +69,7 @@ fn add_changed(alloc: Global, paths: &mut Vec<Path>, request: &Request) -> Resul
     requires { IsStrictlySortedBy path_cmp paths.old.items }
     ensures ordered { OnOk result (IsStrictlySortedBy path_cmp paths.new.items) }
     ensures added { OnOk result (SameSet paths.new.items (paths.old.items ++ exclusive_in (Perform request.now))) }
+    ensures named { AreNamed paths.old.items → OnOk result (AreNamed paths.new.items) }
 {
     add(alloc, paths, request.first())?;
     match request.second() {
@@ -113,16 +115,18 @@ fn add_ancestors(alloc: Global, paths: &mut Vec<Path>, path: &Path) -> Result<()
     Ok(())
 }
 
-/// Adds a path.
+/// Adds a path, in its place.
 fn add(alloc: Global, paths: &mut Vec<Path>, path: &Path) -> Result<(), Memory>
     requires { IsStrictlySortedBy path_cmp paths.old.items }
     ensures ordered { OnOk result (IsStrictlySortedBy path_cmp paths.new.items) }
     ensures added { OnOk result (SameSet paths.new.items (paths.old.items ++ path.now ∷ [])) }
+    ensures named { AreNamed paths.old.items → OnOk result (AreNamed paths.new.items) }
 {
     add_beginning(alloc, paths, path, path.depth())
 }
 
-/// Adds the path of the first `depth` names of a path; no path is made where it is there.
+/// Adds the path of the first `depth` names of a path in its place, and shifts those behind. No path is made where it is
+/// there.
 fn add_beginning(
     alloc: Global,
     paths: &mut Vec<Path>,
@@ -134,6 +138,7 @@ fn add_beginning(
     requires within { depth ≤ length path.now }
     ensures ordered { OnOk result (IsStrictlySortedBy path_cmp paths.new.items) }
     ensures added { OnOk result (SameSet paths.new.items (paths.old.items ++ take depth path.now ∷ [])) }
+    ensures named { AreNamed paths.old.items → OnOk result (AreNamed paths.new.items) }
 {
     match find_beginning(paths, path, depth) {
         Ok(_) => Ok(()),

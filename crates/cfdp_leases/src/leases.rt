@@ -1,41 +1,50 @@
 //! The footprints of all live transactions.
 
-ghost use Rattle.std.specs.Prelude.{◌≡◌, ◌++◌, ◌∷◌, [], IsFalse, None, OnOk, OnErr, find};
-ghost use Rattle.std.specs.List.{list_any};
+ghost use Rattle.std.specs.Prelude.{◌≡◌, ◌++◌, ◌∷◌, [], IsFalse, None, OnOk, OnErr, not, find, slice_get};
+ghost use Rattle.std.specs.FinSet as set;
+ghost use Rattle.std.specs.List.{list_any, prefix_len};
 ghost use Rattle.std.specs.Option.{option_map};
-ghost use Rattle.cfdp_leases.specs.Footprint.{is_conflict};
+ghost use Rattle.cfdp_leases.specs.Footprint.{has_any, leased};
 ghost use Rattle.cfdp_leases.specs.Leases.{AreApart, first_conflict, holds, is_same, without};
 
 use crate::footprints::Footprint;
-use cfdp_paths::Memory;
+use crate::lease::Lease;
+use crate::leased_paths::LeasedPaths;
+use cfdp_paths::{Memory, Path};
 use cfdp_status::TransactionId;
+use slab::Slab;
 use std::alloc::Global;
 use std::marker::Model;
 
-/// What one live transaction holds.
+/// A live transaction, and the key of its footprint.
 #[derive(Debug, Drop)]
-struct Grant {
+struct Live {
     transaction: TransactionId,
-    footprint: Footprint,
+    key: usize,
 }
 
 /// The footprints of the live transactions, no two of which conflict. Contracts see them as a list in order of admission.
 #[derive(Debug, Drop)]
 pub struct Leases {
-    grants: Vec<Grant>,
+    /// In order of admission.
+    live: Vec<Live>,
+    /// Under the keys of the live transactions.
+    footprints: Slab<Footprint>,
+    /// The paths of the footprints, with the transactions that hold them.
+    paths: LeasedPaths,
 }
 
 impl Model for Leases {
-    ghost use Rattle.std.specs.Prelude.{List, map};
     ghost use Rattle.cfdp_leases.specs.Leases as words;
+    ghost use Rattle.cfdp_leases.specs.Live as kept;
 
     ghost Value = { words.Grants };
 
     ghost coded = { words.grants_code };
 
-    ghost view = { λ leases. map (λ grant. (grant.transaction, grant.footprint)) leases.grants.items };
+    ghost view = { λ leases. kept.grants_of leases.footprints leases.live.items };
 
-    ghost invariant = { λ leases. words.AreApart (map (λ grant. (grant.transaction, grant.footprint)) leases.grants.items) };
+    ghost invariant = { λ leases. kept.AreKept leases.footprints leases.live.items leases.paths };
 }
 
 impl Leases {
@@ -44,69 +53,144 @@ impl Leases {
         ensures { result ≡ [] }
     {
         Leases {
-            grants: Vec::new(alloc),
+            live: Vec::new(alloc),
+            footprints: Slab::new(alloc),
+            paths: LeasedPaths::new(alloc),
         }
     }
 
-    /// The first transaction, in order of admission, whose footprint conflicts with this one. Takes no memory.
+    /// The first transaction, in order of admission, whose footprint conflicts with this one. Takes no memory, and makes
+    /// no path.
     ///
-    /// Cost: for each grant up to that one, at most a comparison of each exclusive path of either footprint with each path
-    /// of the other.
+    /// Cost: for each path of this footprint one search among all leased paths, and where it conflicts there a pass over
+    /// the transactions.
     pub fn conflict(&self, footprint: &Footprint) -> Option<TransactionId>
         ensures first { result ≡ first_conflict self.now footprint.now }
         ensures apart { AreApart self.now }
     {
-        find_conflict(&self.grants, footprint)
+        let leasing = self.first_leasing(&footprint.exclusive);
+        let changing = self.first_changing(&footprint.shared);
+        transaction_at(&self.live, leasing.min(changing))
     }
 
     /// Whether the transaction holds a footprint. Takes no memory, and goes through the transactions.
     pub fn holds(&self, transaction: TransactionId) -> bool
         ensures { result ≡ holds self.now transaction }
     {
-        any_of(&self.grants, transaction)
+        any_of(&self.live, transaction)
     }
 
     /// Lets a transaction hold its footprint from now on.
     ///
     /// # Errors
     ///
-    /// Want of memory: nothing has changed then, and the footprint is dropped. Cost: one growth at most, for the grant's
-    /// place; the footprint is moved, not copied.
+    /// Want of memory: nothing has changed then, and the footprint is dropped. Cost: for each path of the footprint a search
+    /// among all leased paths, and a copy where nobody leased it yet; the footprint itself is moved.
     pub fn grant(&mut self, transaction: TransactionId, footprint: Footprint) -> Result<(), Memory>
         requires free { first_conflict self.old footprint ≡ None }
         requires unheld { IsFalse (holds self.old transaction) }
         ensures granted { OnOk result (self.new ≡ self.old ++ (transaction, footprint) ∷ []) }
         ensures refused { OnErr result (self.new ≡ self.old) }
     {
-        self.grants.push(Grant {
-            transaction,
-            footprint,
-        })?;
+        let alloc = *self.live.allocator();
+        self.live.reserve(1)?;
+        self.footprints.reserve(1)?;
+        self.paths.lease(alloc, transaction, &footprint)?;
+        let key = self.footprints.insert_reserved(footprint);
+        self.live.push(Live { transaction, key }).unwrap();
         Ok(())
     }
 
-    /// Takes a transaction's footprint away; nothing changes where it holds none. Takes no memory, and goes through the
-    /// transactions.
+    /// Takes a transaction's footprint away; nothing changes where it holds none. Takes no memory.
+    ///
+    /// Cost: a pass over the transactions, and for each path of the footprint two searches among all leased paths at most
+    /// and a pass over its holders.
     pub fn release(&mut self, transaction: TransactionId)
         ensures { self.new ≡ without self.old transaction }
     {
-        self.grants.retain(|grant| grant.transaction != transaction);
+        let Some(key) = key_of(&self.live, transaction) else {
+            return;
+        };
+        let footprint = self.footprints.remove(key);
+        self.paths.release(transaction, &footprint);
+        self.live.retain(|live| live.transaction != transaction);
+    }
+
+    /// How many transactions were admitted before the first one that leases one of the paths; all of them where none does.
+    fn first_leasing(&self, paths: &[Path]) -> usize
+        ensures { result ≡ prefix_len (λ g. not (has_any (leased g.1) paths.now)) self.now }
+    {
+        let mut first = self.live.len();
+        for path in paths {
+            first = first.min(self.leasing(path));
+        }
+        first
+    }
+
+    /// How many transactions were admitted before the first one that leases one of the paths exclusively; all of them where
+    /// none does.
+    fn first_changing(&self, paths: &[Path]) -> usize
+        ensures { result ≡ prefix_len (λ g. not (has_any g.1.exclusive paths.now)) self.now }
+    {
+        let mut first = self.live.len();
+        for path in paths {
+            first = first.min(self.changing(path));
+        }
+        first
+    }
+
+    /// How many transactions were admitted before the first one that leases the path; all of them where none does.
+    fn leasing(&self, path: &Path) -> usize
+        ensures { result ≡ prefix_len (λ g. not (set.contains (leased g.1) path.now)) self.now }
+    {
+        match self.paths.first(path) {
+            Some(holder) => count_before(&self.live, holder.transaction),
+            None => self.live.len(),
+        }
+    }
+
+    /// How many transactions were admitted before the one that leases the path exclusively; all of them where none does.
+    /// Such a one is the path's only holder, so the first holder tells.
+    fn changing(&self, path: &Path) -> usize
+        ensures { result ≡ prefix_len (λ g. not (set.contains g.1.exclusive path.now)) self.now }
+    {
+        match self.paths.first(path) {
+            Some(holder) if holder.lease == Lease::Exclusive => {
+                count_before(&self.live, holder.transaction)
+            }
+            _ => self.live.len(),
+        }
     }
 }
 
-/// The first of the grants that conflicts with the footprint.
-fn find_conflict(grants: &[Grant], footprint: &Footprint) -> Option<TransactionId>
-    ensures { result ≡ option_map (λ g. g.transaction) (find (λ g. is_conflict g.footprint footprint.now) grants.now) }
+/// The transaction at a place, if there is one.
+fn transaction_at(live: &[Live], place: usize) -> Option<TransactionId>
+    ensures { result ≡ option_map (λ l. l.transaction) (slice_get live.now place) }
 {
-    grants
-        .iter()
-        .find(|grant| grant.footprint.conflicts_with(footprint))
-        .map(|grant| grant.transaction)
+    live.get(place).map(|live| live.transaction)
 }
 
-/// Whether one of the grants is the transaction's.
-fn any_of(grants: &[Grant], transaction: TransactionId) -> bool
-    ensures { result ≡ list_any (λ g. is_same g.transaction transaction) grants.now }
+/// The key of the transaction's footprint, if it is one of the live ones.
+fn key_of(live: &[Live], transaction: TransactionId) -> Option<usize>
+    ensures { result ≡ option_map (λ l. l.key) (find (λ l. is_same l.transaction transaction) live.now) }
 {
-    grants.iter().any(|grant| grant.transaction == transaction)
+    live.iter()
+        .find(|live| live.transaction == transaction)
+        .map(|live| live.key)
+}
+
+/// Whether one of them is the transaction.
+fn any_of(live: &[Live], transaction: TransactionId) -> bool
+    ensures { result ≡ list_any (λ l. is_same l.transaction transaction) live.now }
+{
+    live.iter().any(|live| live.transaction == transaction)
+}
+
+/// How many stand before the transaction; all of them where it is none of them.
+fn count_before(live: &[Live], transaction: TransactionId) -> usize
+    ensures { result ≡ prefix_len (λ l. not (is_same l.transaction transaction)) live.now }
+{
+    live.iter()
+        .take_while(|live| live.transaction != transaction)
+        .count()
 }

@@ -9,6 +9,7 @@ mod footprints;
 mod gathering;
 pub mod laws;
 mod lease;
+mod leased_paths;
 mod leases;
 #[cfg(test)]
 mod tests;

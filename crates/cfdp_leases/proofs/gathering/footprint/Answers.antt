@@ -6,6 +6,7 @@ use Rattle.cfdp_paths.specs.Paths.{ancestors}
 use Rattle.cfdp_actions.specs.Actions.{Perform}
 use Rattle.cfdp_leases.specs.Footprint.{exclusive_in, read_in, shared_in}
 use Rattle.cfdp_leases.specs.Items.{items_of}
+use Rattle.cfdp_leases.proofs.Conflict.{gathered}
 use Rattle.cfdp_leases.proofs.Ordered.{sorted-none, same_set-append, same_set-then, items-more}
 use Rattle.cfdp_leases.proofs.gathering.footprint.Goals as goal
 
@@ -23,6 +24,7 @@ loop-request-preserved c =
     record {
       exclusive_ordered = c.in_ok-add_changed.ensures.ordered;
       shared_ordered = c.in_ok-add_above.ensures.ordered;
+      named = c.in_ok-add_changed.ensures.named c.loop-request.invariant.named;
       exclusive =
           c.in_ok-add_changed.ensures.added
           ∙ same_set-append c.loop-request.exclusive.items (flat_map exclusive_in (items_of destination requests)) (exclusive_in item) c.loop-request.invariant.exclusive
@@ -33,3 +35,12 @@ loop-request-preserved c =
           ∙ same_set-append c.loop-request.shared.items (flat_map shared_in (items_of destination requests)) (shared_in item) c.loop-request.invariant.shared
           ∙ ap set.from_list (sym (items-more shared_in destination c.args.requests.now c.loop-request.request-index c.request-item.result c.loop-request-test.true c.request-item.is));
     }
+
+pub invariant_of-result : goal.invariant_of-result
+invariant_of-result c = record {
+  of_exclusive = c.loop-request.invariant.exclusive_ordered;
+  of_shared = c.loop-request.invariant.shared_ordered;
+  ancestors =
+      gathered (items_of (option_copied c.args.destination) (take c.loop-request.request-index c.args.requests.now)) c.loop-request.exclusive.items c.loop-request.shared.items
+      c.loop-request.invariant.exclusive c.loop-request.invariant.shared c.loop-request.invariant.named;
+}

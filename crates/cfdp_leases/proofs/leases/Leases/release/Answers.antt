@@ -1,22 +1,51 @@
-use Rattle.std.proofs.Common.{sym, ◌∙◌, ap, subst, not, map, rules}
+use Rattle.std.proofs.Common.{rules, ◌≡◌, sym, ◌∙◌, ap, subst, not, map}
+use Rattle.std.specs.Prelude.{IsSome, None}
+use Rattle.std.specs.Option.{option_map}
+use Rattle.std.specs.List.{find}
 use Rattle.std.proofs.lemmas.Fn.{filter_same}
-use Rattle.cfdp_leases.specs.Leases.{AreApart, is_same, without}
-use Rattle.cfdp_leases.proofs.Apart.{apart_filter}
-use Rattle.cfdp_leases.proofs.Views.{filter-map}
+use Rattle.slab.specs.Slab.{get, Updates}
+use Rattle.cfdp_leases.specs.Leases.{is_same, without}
+use Rattle.cfdp_leases.specs.Live.{AreKept, grants_of}
+use Rattle.cfdp_leases.specs.Holders.{holders_at}
+use Rattle.cfdp_leases.proofs.Kept.{all_found, elsewhere, grants-filter, kept_released, live_there, nobody_there, occupied}
 use Rattle.cfdp_leases.proofs.leases.Leases.release.Goals as goal
 
--- what is left are the others' grants
-pub returns : goal.returns
-returns c =
-    let kept = filter_same _ (λ grant. not (is_same grant.transaction c.args.transaction)) _ (λ x b f' k. search rules) _ _ c.retain.ensures.filtered in
-    ap (map (λ grant. (grant.transaction, grant.footprint))) kept
-    ∙ sym (filter-map (λ grant. (grant.transaction, grant.footprint)) (λ g. not (is_same g.0 c.args.transaction)) c.self.inside.grants.items)
-    ∙ ap (λ grants. without grants c.args.transaction) c.self.view_is
+-- it is none of the live ones
+pub returns-in_default : goal.returns-in_default
+returns-in_default c =
+    let id = c.args.transaction in
+    sym c.self.view_is
+    ∙ nobody_there c.self.inside.footprints c.self.inside.live.items id (c.in_default.ensures ∙ ap (λ live. option_map (λ l. l.key) (find (λ l. is_same l.transaction id) live)) c.deref.ensures.value)
+    ∙ ap (λ gs. without gs id) c.self.view_is
 
+pub remove-footprint-requires : goal.remove-footprint-requires
+remove-footprint-requires c =
+    let found = live_there c.self.inside.live.items c.args.transaction c.in-Some.key (c.in-Some.ensures ∙ ap (λ live. option_map (λ l. l.key) (find (λ l. is_same l.transaction c.args.transaction) live)) c.deref.ensures.value) in
+    subst (λ key. IsSome (get c.self.inside.footprints key)) found.2
+    (all_found (λ l. IsSome (get c.self.inside.footprints l.key)) (λ l. is_same l.transaction c.args.transaction) c.self.inside.live.items found.0 (occupied c.self.inside.footprints c.self.inside.live.items c.self.invariant.kept) found.1)
+
+-- what is left are the others' grants
 pub invariant_of-self : goal.invariant_of-self
 invariant_of-self c =
-    let kept = filter_same _ (λ grant. not (is_same grant.transaction c.args.transaction)) _ (λ x b f' k. search rules) _ _ c.retain.ensures.filtered in
-    let left =
-    ap (map (λ grant. (grant.transaction, grant.footprint))) kept
-    ∙ sym (filter-map (λ grant. (grant.transaction, grant.footprint)) (λ g. not (is_same g.0 c.args.transaction)) c.self.inside.grants.items) in
-    subst AreApart (sym left) (apart_filter (λ g. not (is_same g.0 c.args.transaction)) _ c.self.invariant)
+    let id = c.args.transaction in
+    let s = c.self.inside.footprints in
+    let t = c.remove-footprint.new.self in
+    let live = c.self.inside.live.items in
+    let found = live_there live id c.in-Some.key (c.in-Some.ensures ∙ ap (λ ls. option_map (λ l. l.key) (find (λ l. is_same l.transaction id) ls)) c.deref.ensures.value) in
+    let left = filter_same _ (λ l. not (is_same l.transaction id)) _ (λ x b f' k. search rules) _ _ c.retain.ensures.filtered in
+    subst (λ ls. AreKept t ls c.release.new.self) (sym left)
+    (kept_released s t live id found.0 c.remove-footprint.result c.self.inside.paths c.release.new.self c.self.invariant found.1
+    (ap (get s) found.2 ∙ c.remove-footprint.ensures.value) (subst (λ key. Updates s t key None) (sym found.2) c.remove-footprint.ensures.updates)
+    (c.release.ensures (holders_at (grants_of s live)) c.self.invariant.rows))
+
+pub returns : goal.returns
+returns c =
+    let id = c.args.transaction in
+    let s = c.self.inside.footprints in
+    let t = c.remove-footprint.new.self in
+    let live = c.self.inside.live.items in
+    let found = live_there live id c.in-Some.key (c.in-Some.ensures ∙ ap (λ ls. option_map (λ l. l.key) (find (λ l. is_same l.transaction id) ls)) c.deref.ensures.value) in
+    let left = filter_same _ (λ l. not (is_same l.transaction id)) _ (λ x b f' k. search rules) _ _ c.retain.ensures.filtered in
+    ap (grants_of t) left
+    ∙ grants-filter s t found.0.key id live (subst (λ key. Updates s t key None) (sym found.2) c.remove-footprint.ensures.updates) (elsewhere s id live found.0 c.self.invariant.kept found.1)
+    ∙ ap (λ gs. without gs id) c.self.view_is

@@ -1,0 +1,229 @@
+-- The slab of footprints, and the list of live transactions that names its keys.
+--     grants-push, footprints-push      one live transaction more
+--     found_kept, elsewhere        the footprint of a transaction, and that those of others are under other keys
+--     grants-filter, footprints-filter      one live transaction less
+--     place-live, length-live, transaction-live      places in the list are places among the grants
+--     kept_same, kept_admitted, kept_released      what is kept, after each change
+use Rattle.std.proofs.Common.{◌≡◌, ◌≢◌, refl, sym, ◌∙◌, ap, subst, ℕ, Bool, true, false, cond, not, inl, inr, List, [], ◌∷◌, ◌++◌, map, length, arith, Option, Some, None, is_some}
+use Rattle.std.specs.Prelude.{find, filter, slice_get, unwrap_or, IsSome}
+use Rattle.std.specs.BTreeMap as tree
+use Rattle.std.specs.FinSet as set
+use Rattle.std.specs.Option.{option_map}
+use Rattle.std.specs.List.{prefix_len, AllByRecursion}
+use Rattle.std.proofs.lemmas.Bool.{cases_Bool, true≢false}
+use Rattle.std.proofs.lemmas.List.{map-append, append-nil}
+use Rattle.std.proofs.lemmas.Grind.{flat_map-append}
+use Rattle.std.proofs.lemmas.Option.{slice_get-map}
+use Rattle.cfdp_paths.specs.Paths.{path_cmp}
+use Rattle.cfdp_leases.specs.declared.leased_paths.LeasedPaths.{LeasedPaths}
+use Rattle.slab.specs.Slab.{Slab, get, Updates}
+use Rattle.cfdp_status.specs.declared.transaction.TransactionId.{TransactionId}
+use Rattle.cfdp_leases.specs.declared.leases.Live.{Live}
+use Rattle.cfdp_leases.specs.Footprint.{Footprint, HasAncestors, leased, of_lists}
+use Rattle.cfdp_leases.specs.Holders.{Holds, holders_at, holders_of}
+use Rattle.cfdp_leases.specs.Leases.{AreApart, first_conflict, holds, is_same, without}
+use Rattle.cfdp_leases.specs.Live.{AreKept, HaveFootprints, footprint_at, grants_of}
+use Rattle.cfdp_leases.proofs.Apart.{all_filter, apart_push, apart_filter}
+use Rattle.cfdp_leases.proofs.Held.{rows_same, left}
+use Rattle.cfdp_leases.proofs.Views.{find-map, option_map-map}
+use Rattle.cfdp_leases.proofs.Admitted.{place_in, released}
+use Rattle.cfdp_leases.proofs.Places.{prefix_len-map}
+
+some_is : {X : Type 0} (a b : X) → Some a ≡ Some b → a ≡ b
+some_is a b same = cc
+
+pub footprint_is : (s : Slab Footprint) (key : ℕ) (fp : Footprint) → get s key ≡ Some fp → footprint_at s key ≡ fp
+footprint_is s key fp has = ap (λ o. unwrap_or o (of_lists [] [])) has
+
+-- what is found passes what all pass
+pub all_found : {X : Type 0} (P : X → Type 0) (test : X → Bool) (xs : List X) (x : X) → AllByRecursion P xs → find test xs ≡ Some x → P x
+all_found P test [] x all found = absurd (cc found)
+all_found P test (y ∷ xs) x all found =
+    elim (cases_Bool (test y)) [
+      | inl passes ↦ subst P (some_is y x (sym (ap (λ b. cond b (Some y) (find test xs)) passes) ∙ found)) all.0
+      | inr fails ↦ all_found P test xs x all.1 (sym (ap (λ b. cond b (Some y) (find test xs)) fails) ∙ found)
+    ]
+
+-- ---- one more
+
+-- the new key is none of the others'
+fresh : (s : Slab Footprint) (key : ℕ) (l : Live) → IsSome (get s l.key) → get s key ≡ None → l.key ≢ key
+fresh s key l has none same = true≢false (sym has ∙ ap (λ k. is_some (get s k)) same ∙ ap is_some none)
+
+pub grants-push : (s t : Slab Footprint) (key : ℕ) (fp : Footprint) (live : List Live) → HaveFootprints s live → get s key ≡ None → Updates s t key (Some fp)
+    → grants_of t live ≡ grants_of s live
+grants-push s t key fp [] kept none update = refl
+grants-push s t key fp (l ∷ live) kept none update =
+    λ i. (l.transaction, unwrap_or (update.others l.key (fresh s key l kept.0 none) i) (of_lists [] [])) ∷ grants-push s t key fp live kept.2 none update i
+
+others_fresh : (s : Slab Footprint) (key : ℕ) (live : List Live) → HaveFootprints s live → get s key ≡ None → AllByRecursion (λ l. l.key ≢ key) live
+others_fresh s key [] kept none = tt
+others_fresh s key (l ∷ live) kept none = (fresh s key l kept.0 none, others_fresh s key live kept.2 none)
+
+all_push : {X : Type 0} (P : X → Type 0) (xs : List X) (x : X) → AllByRecursion P xs → P x → AllByRecursion P (xs ++ x ∷ [])
+all_push P [] x all this = (this, tt)
+all_push P (y ∷ xs) x all this = (all.0, all_push P xs x all.1 this)
+
+pub footprints-push : (s t : Slab Footprint) (new : Live) (fp : Footprint) (live : List Live) → HaveFootprints s live → get s new.key ≡ None → Updates s t new.key (Some fp)
+    → HaveFootprints t (live ++ new ∷ [])
+footprints-push s t new fp [] kept none update = (ap is_some update.changed, tt, tt)
+footprints-push s t new fp (l ∷ live) kept none update = (
+  ap is_some (update.others l.key (fresh s new.key l kept.0 none)) ∙ kept.0,
+  all_push (λ m. m.key ≢ l.key) live new kept.1 (λ same. fresh s new.key l kept.0 none (sym same)),
+  footprints-push s t new fp live kept.2 none update,
+)
+
+-- ---- one less
+
+pub occupied : (s : Slab Footprint) (live : List Live) → HaveFootprints s live → AllByRecursion (λ l. IsSome (get s l.key)) live
+occupied s [] kept = tt
+occupied s (l ∷ live) kept = (kept.0, occupied s live kept.2)
+
+all_but : (P : Live → Type 0) (id : TransactionId) (live : List Live) → AllByRecursion P live → AllByRecursion (λ m. is_same m.transaction id ≡ false → P m) live
+all_but P id [] all = tt
+all_but P id (l ∷ live) all = ((λ other. all.0), all_but P id live all.1)
+
+-- the footprints of others are under other keys
+pub elsewhere : (s : Slab Footprint) (id : TransactionId) (live : List Live) (l : Live) → HaveFootprints s live → find (λ m. is_same m.transaction id) live ≡ Some l
+    → AllByRecursion (λ m. is_same m.transaction id ≡ false → m.key ≢ l.key) live
+elsewhere s id [] l kept found = tt
+elsewhere s id (m ∷ live) l kept found =
+    elim (cases_Bool (is_same m.transaction id)) [
+      | inl passes ↦
+          let this : m ≡ l = some_is m l (sym (ap (λ b. cond b (Some m) (find (λ n. is_same n.transaction id) live)) passes) ∙ found) in
+          ((λ fails. absurd (true≢false (sym passes ∙ fails))), all_but (λ n. n.key ≢ l.key) id live (subst (λ k. AllByRecursion (λ n. n.key ≢ k.key) live) this kept.1))
+      | inr fails ↦
+          let behind : find (λ n. is_same n.transaction id) live ≡ Some l = sym (ap (λ b. cond b (Some m) (find (λ n. is_same n.transaction id) live)) fails) ∙ found in
+          ((λ _ same. all_found (λ n. n.key ≢ m.key) (λ n. is_same n.transaction id) live l kept.1 behind (sym same)), elsewhere s id live l kept.2 behind)
+    ]
+
+pub grants-filter : (s t : Slab Footprint) (key : ℕ) (id : TransactionId) (live : List Live) → Updates s t key None
+    → AllByRecursion (λ m. is_same m.transaction id ≡ false → m.key ≢ key) live
+    → grants_of t (filter (λ m. not (is_same m.transaction id)) live) ≡ filter (λ g. not (is_same g.0 id)) (grants_of s live)
+grants-filter s t key id [] update all = refl
+grants-filter s t key id (m ∷ live) update all =
+    let rest = grants-filter s t key id live update all.1 in
+    elim (cases_Bool (is_same m.transaction id)) [
+      | inl passes ↦
+          ap (λ b. grants_of t (cond (not b) (m ∷ filter (λ n. not (is_same n.transaction id)) live) (filter (λ n. not (is_same n.transaction id)) live))) passes
+          ∙ rest
+          ∙ sym (ap (λ b. cond (not b) ((m.transaction, footprint_at s m.key) ∷ filter (λ g. not (is_same g.0 id)) (grants_of s live)) (filter (λ g. not (is_same g.0 id)) (grants_of s live))) passes)
+      | inr fails ↦
+          ap (λ b. grants_of t (cond (not b) (m ∷ filter (λ n. not (is_same n.transaction id)) live) (filter (λ n. not (is_same n.transaction id)) live))) fails
+          ∙ (λ i. (m.transaction, unwrap_or (update.others m.key (all.0 fails) i) (of_lists [] [])) ∷ rest i)
+          ∙ sym (ap (λ b. cond (not b) ((m.transaction, footprint_at s m.key) ∷ filter (λ g. not (is_same g.0 id)) (grants_of s live)) (filter (λ g. not (is_same g.0 id)) (grants_of s live))) fails)
+    ]
+
+pub footprints-filter : (s t : Slab Footprint) (key : ℕ) (id : TransactionId) (live : List Live) → HaveFootprints s live → Updates s t key None
+    → AllByRecursion (λ m. is_same m.transaction id ≡ false → m.key ≢ key) live → HaveFootprints t (filter (λ m. not (is_same m.transaction id)) live)
+footprints-filter s t key id [] kept update all = tt
+footprints-filter s t key id (m ∷ live) kept update all =
+    let rest = footprints-filter s t key id live kept.2 update all.1 in
+    elim (cases_Bool (is_same m.transaction id)) [
+      | inl passes ↦
+          subst (λ b. HaveFootprints t (cond (not b) (m ∷ filter (λ n. not (is_same n.transaction id)) live) (filter (λ n. not (is_same n.transaction id)) live))) (sym passes) rest
+      | inr fails ↦
+          subst (λ b. HaveFootprints t (cond (not b) (m ∷ filter (λ n. not (is_same n.transaction id)) live) (filter (λ n. not (is_same n.transaction id)) live))) (sym fails)
+          (ap is_some (update.others m.key (all.0 fails)) ∙ kept.0, all_filter (λ n. n.key ≢ m.key) (λ n. not (is_same n.transaction id)) live kept.1, rest)
+    ]
+
+-- ---- places among the live ones
+
+abbrev grant_of : Slab Footprint → Live → TransactionId × Footprint
+grant_of s l = (l.transaction, footprint_at s l.key)
+
+pub place-live : (s : Slab Footprint) (live : List Live) (id : TransactionId) → prefix_len (λ l. not (is_same l.transaction id)) live ≡ place_in (grants_of s live) id
+place-live s live id = sym (prefix_len-map (grant_of s) (λ g. not (is_same g.0 id)) live)
+
+pub length-live : (s : Slab Footprint) (live : List Live) → length live ≡ length (grants_of s live)
+length-live s [] = refl
+length-live s (l ∷ live) = omega (arith, length-live s live)
+
+pub transaction-live : (s : Slab Footprint) (live : List Live) (n : ℕ) → option_map (λ l. l.transaction) (slice_get live n) ≡ option_map (λ g. g.0) (slice_get (grants_of s live) n)
+transaction-live s live n =
+    sym (option_map-map (grant_of s) (λ g. g.0) (slice_get live n)) ∙ sym (ap (option_map (λ g. g.0)) (slice_get-map (grant_of s) live n))
+
+-- ---- what is kept
+
+pub grants-same : (s t : Slab Footprint) (live : List Live) → ((key : ℕ) → get t key ≡ get s key) → grants_of s live ≡ grants_of t live
+grants-same s t [] same = refl
+grants-same s t (l ∷ live) same = λ i. (l.transaction, unwrap_or (sym (same l.key) i) (of_lists [] [])) ∷ grants-same s t live same i
+
+pub footprints-same : (s t : Slab Footprint) (live : List Live) → ((key : ℕ) → get t key ≡ get s key) → HaveFootprints s live → HaveFootprints t live
+footprints-same s t [] same kept = tt
+footprints-same s t (l ∷ live) same kept = (ap is_some (same l.key) ∙ kept.0, kept.1, footprints-same s t live same kept.2)
+
+-- room was made, and the map has the same holders
+pub kept_same : (s t : Slab Footprint) (live now : List Live) (before paths : LeasedPaths) → ((key : ℕ) → get t key ≡ get s key) → now ≡ live
+    → AreKept s live before → Holds paths (holders_at (grants_of s live)) → AreKept t now paths
+kept_same s t live now before paths same lists kept rows =
+    subst (λ ls. AreKept t ls paths) (sym lists)
+    (let grants = grants-same s t live same in
+    record {
+      kept = footprints-same s t live same kept.kept;
+      rooted = subst (AllByRecursion (λ g. HasAncestors g.1)) grants kept.rooted;
+      apart = subst AreApart grants kept.apart;
+      rows = subst (λ gs. Holds paths (holders_at gs)) grants rows;
+    })
+
+pub grants_admitted : (s t : Slab Footprint) (live : List Live) (new : Live) (fp : Footprint) → HaveFootprints s live → get s new.key ≡ None → Updates s t new.key (Some fp)
+    → grants_of t (live ++ new ∷ []) ≡ grants_of s live ++ (new.transaction, fp) ∷ []
+grants_admitted s t live new fp kept none update =
+    map-append (grant_of t) live (new ∷ [])
+    ∙ (λ i. grants-push s t new.key fp live kept none update i ++ (new.transaction, footprint_is t new.key fp update.changed i) ∷ [])
+
+pub kept_admitted : (s t : Slab Footprint) (live : List Live) (new : Live) (fp : Footprint) (before paths : LeasedPaths) → AreKept s live before → get s new.key ≡ None
+    → Updates s t new.key (Some fp) → HasAncestors fp → first_conflict (grants_of s live) fp ≡ None → holds (grants_of s live) new.transaction ≡ false
+    → Holds paths (λ p. holders_at (grants_of s live) p ++ holders_of new.transaction fp p) → AreKept t (live ++ new ∷ []) paths
+kept_admitted s t live new fp before paths kept none update ancestors free unheld rows =
+    let gs = grants_of s live in
+    let grants = sym (grants_admitted s t live new fp kept.kept none update) in
+    record {
+      kept = footprints-push s t new fp live kept.kept none update;
+      rooted = subst (AllByRecursion (λ g. HasAncestors g.1)) grants (all_push (λ g. HasAncestors g.1) gs (new.transaction, fp) kept.rooted ancestors);
+      apart = subst AreApart grants (apart_push gs (new.transaction, fp) kept.apart free unheld);
+      rows = subst (λ ks. Holds paths (holders_at ks)) grants
+          (rows_same (λ row. row.items) (tree.get path_cmp paths.holders) (λ p. holders_at gs p ++ holders_of new.transaction fp p) (holders_at (gs ++ (new.transaction, fp) ∷ []))
+          (λ p. sym (flat_map-append (λ g. holders_of g.0 g.1 p) gs ((new.transaction, fp) ∷ []) ∙ ap (λ hs. holders_at gs p ++ hs) (append-nil (holders_of new.transaction fp p))))
+          rows);
+    }
+
+-- ---- a release
+
+-- nobody is released
+pub nobody_there : (s : Slab Footprint) (live : List Live) (id : TransactionId) → None ≡ option_map (λ l. l.key) (find (λ l. is_same l.transaction id) live) → grants_of s live ≡ without (grants_of s live) id
+nobody_there s [] id none = refl
+nobody_there s (l ∷ live) id none =
+    elim (cases_Bool (is_same l.transaction id)) [
+      | inl passes ↦ absurd (cc (none ∙ ap (λ b. option_map (λ m. m.key) (cond b (Some l) (find (λ m. is_same m.transaction id) live))) passes))
+      | inr fails ↦
+          let rest = nobody_there s live id (none ∙ ap (λ b. option_map (λ m. m.key) (cond b (Some l) (find (λ m. is_same m.transaction id) live))) fails) in
+          ap (λ gs. grant_of s l ∷ gs) rest
+          ∙ sym (ap (λ b. cond (not b) (grant_of s l ∷ without (grants_of s live) id) (without (grants_of s live) id)) fails)
+    ]
+
+pub live_there : (live : List Live) (id : TransactionId) (key : ℕ) → Some key ≡ option_map (λ l. l.key) (find (λ l. is_same l.transaction id) live)
+    → (l : Live) × (find (λ m. is_same m.transaction id) live ≡ Some l) × (l.key ≡ key)
+live_there live id key found = which (find (λ l. is_same l.transaction id) live) refl found
+  where
+    which : (o : Option Live) → find (λ l. is_same l.transaction id) live ≡ o → Some key ≡ option_map (λ l. l.key) o → (l : Live) × (find (λ m. is_same m.transaction id) live ≡ Some l) × (l.key ≡ key)
+    which None is there = absurd (cc there)
+    which (Some l) is there = (l, is, sym (some_is key l.key there))
+
+pub kept_released : (s t : Slab Footprint) (live : List Live) (id : TransactionId) (l : Live) (fp : Footprint) (before paths : LeasedPaths) → AreKept s live before
+    → find (λ m. is_same m.transaction id) live ≡ Some l → get s l.key ≡ Some fp → Updates s t l.key None
+    → Holds paths (λ p. left id (set.contains (leased fp) p) (holders_at (grants_of s live) p)) → AreKept t (filter (λ m. not (is_same m.transaction id)) live) paths
+kept_released s t live id l fp before paths kept found has update rows =
+    let gs = grants_of s live in
+    let apart_keys = elsewhere s id live l kept.kept found in
+    let grants = sym (grants-filter s t l.key id live update apart_keys) in
+    let there : find (λ g. is_same g.0 id) gs ≡ Some (l.transaction, fp) =
+    find-map (grant_of s) (λ g. is_same g.0 id) live ∙ ap (option_map (grant_of s)) found ∙ ap (λ f. Some (l.transaction, f)) (footprint_is s l.key fp has) in
+    record {
+      kept = footprints-filter s t l.key id live kept.kept update apart_keys;
+      rooted = subst (AllByRecursion (λ g. HasAncestors g.1)) grants (all_filter (λ g. HasAncestors g.1) (λ g. not (is_same g.0 id)) gs kept.rooted);
+      apart = subst AreApart grants (apart_filter (λ g. not (is_same g.0 id)) gs kept.apart);
+      rows = subst (λ ks. Holds paths (holders_at ks)) grants
+          (rows_same (λ row. row.items) (tree.get path_cmp paths.holders) (λ p. left id (set.contains (leased fp) p) (holders_at gs p)) (holders_at (without gs id))
+          (λ p. released gs id (l.transaction, fp) p kept.apart there) rows);
+    }

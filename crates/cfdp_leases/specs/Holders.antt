@@ -1,0 +1,47 @@
+-- Who holds each leased path.
+--     when b holder             the holder where b is true, and nobody otherwise
+--     holders_of id fp p        the holders of a path by a transaction's footprint: as an exclusive one, as a shared one, or both
+--     holders_at grants p       those by all grants, in order of admission
+--     others id holders         those of other transactions
+--     Holds paths holders       the map has at each path these holders, and no row where there are none
+--     HoldsSome id at holders paths      these holders, and of the transaction whichever, where `at` is true
+use Rattle.std.specs.Prelude.{◌≡◌, Bool, false, not, if◌then◌else◌, List, [], ◌∷◌, ◌++◌, Option, Some, None, filter, flat_map}
+use Rattle.std.specs.Option.{option_map}
+use Rattle.std.specs.FinSet as set
+use Rattle.std.specs.BTreeMap.{get}
+use Rattle.cfdp_status.specs.declared.transaction.TransactionId.{TransactionId}
+use Rattle.cfdp_paths.specs.Paths.{Path, path_cmp}
+use Rattle.cfdp_leases.specs.declared.lease.Lease.TheVariants.{Exclusive, Shared}
+use Rattle.cfdp_leases.specs.declared.leased_paths.Holder.{Holder}
+use Rattle.cfdp_leases.specs.declared.leased_paths.LeasedPaths.{LeasedPaths}
+use Rattle.cfdp_leases.specs.Footprint.{Footprint}
+use Rattle.cfdp_leases.specs.Leases.{Grants, is_same}
+
+abbrev pub when : Bool → Holder → List Holder
+when b holder = if b then holder ∷ [] else []
+
+abbrev pub holders_of : TransactionId → Footprint → Path → List Holder
+holders_of id fp p =
+    when (set.contains fp.exclusive p) (record { transaction = id; lease = Exclusive })
+    ++ when (set.contains fp.shared p) (record { transaction = id; lease = Shared })
+
+abbrev pub holders_at : Grants → Path → List Holder
+holders_at grants p = flat_map (λ g. holders_of g.0 g.1 p) grants
+
+abbrev pub others : TransactionId → List Holder → List Holder
+others id holders = filter (λ h. not (is_same h.transaction id)) holders
+
+abbrev pub unless_none : List Holder → Option (List Holder)
+unless_none [] = None
+unless_none (h ∷ holders) = Some (h ∷ holders)
+
+-- the map has at each path the holders that the function says, and no row where it says none
+abbrev pub Holds : LeasedPaths → (Path → List Holder) → Type 0
+Holds paths holders = (p : Path) → option_map (λ row. row.items) (get path_cmp paths.holders p) ≡ unless_none (holders p)
+
+-- the same but for holders of one transaction, which may be there at the paths of the test
+pub record HoldsSome (id : TransactionId) (at : Path → Bool) (holders : Path → List Holder) (paths : LeasedPaths) : Type 0 where
+  pub now : Path → List Holder
+  pub rows : Holds paths now
+  pub kept : (p : Path) → others id (now p) ≡ others id (holders p)
+  pub elsewhere : (p : Path) → at p ≡ false → now p ≡ holders p

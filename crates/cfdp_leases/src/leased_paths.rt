@@ -1,0 +1,159 @@
+//! Which transactions hold each leased path.
+
+ghost use Rattle.std.specs.Prelude.{◌≡◌, ◌++◌, ◌∷◌, [], ◌≤◌, List, OnOk, OnErr, length, slice_get, take, if◌then◌else◌};
+ghost use Rattle.std.specs.List.{list_any};
+ghost use Rattle.std.specs.List.Sorted.{IsStrictlySortedBy};
+ghost use Rattle.std.specs.FinSet as set;
+ghost use Rattle.cfdp_paths.specs.Paths.{Path as Names, path_cmp, same_path};
+ghost use Rattle.cfdp_leases.specs.Footprint.{leased};
+ghost use Rattle.cfdp_leases.specs.Holders.{Holds, HoldsSome, holders_of, others, when};
+
+use crate::footprints::Footprint;
+use crate::lease::Lease;
+use cfdp_paths::{Memory, Path};
+use cfdp_status::TransactionId;
+use std::alloc::Global;
+use std::collections::BTreeMap;
+
+/// One transaction's lease of a path.
+#[derive(Clone, Copy, Debug, PartialEq, Eq)]
+pub(crate) struct Holder {
+    pub(crate) transaction: TransactionId,
+    pub(crate) lease: Lease,
+}
+
+/// The holders of each leased path, in order of admission. No path is in it without a holder.
+#[derive(Debug, Drop)]
+pub(crate) struct LeasedPaths {
+    holders: BTreeMap<Path, Vec<Holder>>,
+}
+
+impl LeasedPaths {
+    /// No paths. Takes no memory.
+    pub(crate) fn new(alloc: Global) -> LeasedPaths
+        ensures { Holds result (λ _. []) }
+    {
+        LeasedPaths {
+            holders: BTreeMap::new(alloc),
+        }
+    }
+
+    /// The holder of the path that was admitted first. Takes no memory. Cost: one search.
+    pub(crate) fn first(&self, path: &Path) -> Option<Holder>
+        ensures { (holders : Names → List Holder) → Holds self.now holders → result ≡ slice_get (holders path.now) 0 }
+    {
+        self.holders.get(path)?.first().copied()
+    }
+
+    /// Lets a transaction, which holds no path, hold those of its footprint, behind all others.
+    ///
+    /// # Errors
+    ///
+    /// Want of memory: the holders of each path are as before. Cost: for each path a search, and a copy of the path where
+    /// nobody holds it yet.
+    pub(crate) fn lease(
+        &mut self,
+        alloc: Global,
+        transaction: TransactionId,
+        footprint: &Footprint,
+    ) -> Result<(), Memory>
+        ensures ok { (holders : Names → List Holder) → Holds self.old holders
+            → OnOk result (Holds self.new (λ p. holders p ++ holders_of transaction footprint.now p)) }
+        ensures err { (holders : Names → List Holder) → Holds self.old holders
+            → ((p : Names) → others transaction (holders p) ≡ holders p) → OnErr result (Holds self.new holders) }
+    {
+        let leased = self.add_footprint(alloc, transaction, footprint);
+        if leased.is_err() {
+            self.release(transaction, footprint);
+        }
+        leased
+    }
+
+    /// Takes the leases of a transaction away from the paths of its footprint. Takes no memory. Cost: for each path two
+    /// searches at most, and one pass over its holders.
+    pub(crate) fn release(&mut self, transaction: TransactionId, footprint: &Footprint)
+        ensures { (holders : Names → List Holder) → Holds self.old holders
+            → Holds self.new (λ p. if set.contains (leased footprint.now) p then others transaction (holders p) else holders p) }
+    {
+        self.remove_all(footprint.exclusive(), transaction);
+        self.remove_all(footprint.shared(), transaction);
+    }
+
+    /// Adds the leases of a footprint. Where there is no memory for one, some of them are there.
+    fn add_footprint(
+        &mut self,
+        alloc: Global,
+        transaction: TransactionId,
+        footprint: &Footprint,
+    ) -> Result<(), Memory>
+        ensures ok { (holders : Names → List Holder) → Holds self.old holders
+            → OnOk result (Holds self.new (λ p. holders p ++ holders_of transaction footprint.now p)) }
+        ensures err { (holders : Names → List Holder) → Holds self.old holders
+            → OnErr result (HoldsSome transaction (set.contains (leased footprint.now)) holders self.new) }
+    {
+        let exclusive = Holder {
+            transaction,
+            lease: Lease::Exclusive,
+        };
+        let shared = Holder {
+            transaction,
+            lease: Lease::Shared,
+        };
+        self.add_all(alloc, footprint.exclusive(), exclusive)?;
+        self.add_all(alloc, footprint.shared(), shared)
+    }
+
+    /// Adds a holder to each of the paths. Where there is no memory for one, those before it have it.
+    fn add_all(&mut self, alloc: Global, paths: &[Path], holder: Holder) -> Result<(), Memory>
+        requires { IsStrictlySortedBy path_cmp paths.now }
+        ensures ok { (holders : Names → List Holder) → Holds self.old holders
+            → OnOk result (Holds self.new (λ p. holders p ++ when (list_any (same_path p) paths.now) holder)) }
+        ensures err { (holders : Names → List Holder) → Holds self.old holders
+            → OnErr result (HoldsSome holder.transaction (λ p. list_any (same_path p) paths.now) holders self.new) }
+    {
+        for path in paths {
+            self.add(alloc, path, holder)?;
+        }
+        Ok(())
+    }
+
+    /// Adds a holder to a path, behind those that it has.
+    fn add(&mut self, alloc: Global, path: &Path, holder: Holder) -> Result<(), Memory>
+        ensures ok { (holders : Names → List Holder) → Holds self.old holders
+            → OnOk result (Holds self.new (λ p. holders p ++ when (same_path p path.now) holder)) }
+        ensures err { (holders : Names → List Holder) → Holds self.old holders → OnErr result (Holds self.new holders) }
+    {
+        match self.holders.get_mut(path) {
+            Some(holders) => holders.push(holder)?,
+            None => {
+                let holders = Vec::from_array(alloc, [holder])?;
+                self.holders.insert(path.copy(alloc)?, holders)?;
+            }
+        }
+        Ok(())
+    }
+
+    /// Takes the leases of a transaction away from each of the paths.
+    fn remove_all(&mut self, paths: &[Path], transaction: TransactionId)
+        ensures { (holders : Names → List Holder) → Holds self.old holders
+            → Holds self.new (λ p. if list_any (same_path p) paths.now then others transaction (holders p) else holders p) }
+    {
+        for path in paths {
+            self.remove(path, transaction);
+        }
+    }
+
+    /// Takes the leases of a transaction away from a path, and the path where nobody else holds it.
+    fn remove(&mut self, path: &Path, transaction: TransactionId)
+        ensures { (holders : Names → List Holder) → Holds self.old holders
+            → Holds self.new (λ p. if same_path p path.now then others transaction (holders p) else holders p) }
+    {
+        let Some(holders) = self.holders.get_mut(path) else {
+            return;
+        };
+        holders.retain(|holder| holder.transaction != transaction);
+        if holders.is_empty() {
+            self.holders.remove(path);
+        }
+    }
+}
