@@ -6,9 +6,8 @@ use Rattle.cfdp_status.specs.declared.status.Status.{Status}
 use Rattle.cfdp_status.specs.declared.status.Status.TheVariants.{NotAllowed}
 use Rattle.cfdp_status.specs.declared.action.Action.{Action}
 use Rattle.cfdp_actions.specs.Filestore.{Filestore, after}
-use Rattle.cfdp_actions.specs.Actions.{Request, Perform, Performed, Outcome, action_in, table, free_row, bars, denied, row}
-use Rattle.cfdp_states.specs.declared.extent.Outline.{Outline}
-use Rattle.cfdp_states.specs.Sketching.{IsOutline, Does, DoesOrNot, Performs, PerformsOrNot}
+use Rattle.cfdp_actions.specs.Actions.{Request, Perform, Performed, Outcome, succeeded, action_in, table, free_row, bars, denied, row}
+use Rattle.cfdp_states.specs.Sketching.{Extents, IsOutline, Does, DoesOrNot, Performs, PerformsOrNot}
 
 row_barred : (prefixes : List Path) (F : Filestore) (request : Request) → bars prefixes request ≡ true → row prefixes F 0 (Perform request) ≡ denied (Perform request)
 unfolding row
@@ -18,26 +17,25 @@ row_free : (prefixes : List Path) (F : Filestore) (request : Request) → bars p
 unfolding row free_row
 row_free prefixes F request e = ap (λ b. if b then denied (Perform request) else free_row F 0 (Perform request)) e
 
-pub barred : (prefixes : List Path) (os : List Outline) (request : Request) (b : Bool) (action : Action) → b ≡ bars prefixes request → b ≡ true → action ≡ action_in request → Performs prefixes os os request (NotAllowed action)
-barred prefixes os request b action is holds named =
+pub barred : (prefixes : List Path) (m : Extents) (request : Request) (b : Bool) (action : Action) → b ≡ bars prefixes request → b ≡ true → action ≡ action_in request → Performs prefixes m m request (NotAllowed action)
+barred prefixes m request b action is holds named =
     let e : (F : Filestore) → row prefixes F 0 (Perform request) ≡ denied (Perform request) = λ F. row_barred prefixes F request (sym is ∙ holds) in
     record {
       status = λ F h. ap (λ action. Performed (NotAllowed action)) named ∙ (λ i. (sym (e F) i).answer);
-      outlines = λ F h. subst (λ (o : Outcome). IsOutline os (after F o.changes)) (sym (e F)) h;
+      outlines = λ F h. subst (λ (o : Outcome). IsOutline m (after F o.changes)) (sym (e F)) h;
       staged = λ F h. ap (λ (o : Outcome). (after F o.changes).staged) (e F);
-      distinct = λ h. h;
     }
 
-free : (prefixes : List Path) (os os' : List Outline) (request : Request) (told : Status) → bars prefixes request ≡ false → Does os os' request told → Performs prefixes os os' request told
-free prefixes os os' request told fails does =
+free : (prefixes : List Path) (m m' : Extents) (request : Request) (told : Status) → bars prefixes request ≡ false → Does m m' request told → Performs prefixes m m' request told
+free prefixes m m' request told fails does =
     let e : (F : Filestore) → row prefixes F 0 (Perform request) ≡ table F request = λ F. row_free prefixes F request fails in
     record {
       status = λ F h. does.status F h ∙ (λ i. (sym (e F) i).answer);
-      outlines = λ F h. subst (λ (o : Outcome). IsOutline os' (after F o.changes)) (sym (e F)) (does.outlines F h);
+      outlines = λ F h. subst (λ (o : Outcome). IsOutline m' (after F o.changes)) (sym (e F)) (does.outlines F h);
       staged = λ F h. ap (λ (o : Outcome). (after F o.changes).staged) (e F) ∙ does.staged F h;
-      distinct = does.distinct;
     }
 
-pub unbarred : (prefixes : List Path) (os os' : List Outline) (request : Request) (b : Bool) (result : Result Status AllocError) → b ≡ bars prefixes request → b ≡ false → DoesOrNot os os' request result → PerformsOrNot prefixes os os' request result
-unbarred prefixes os os' request b (Ok told) is fails does = free prefixes os os' request told (sym is ∙ fails) does
-unbarred prefixes os os' request b (Err memory) is fails does = does
+pub unbarred : (prefixes : List Path) (m m' : Extents) (request : Request) (b : Bool) (result : Result Status AllocError) → b ≡ bars prefixes request → b ≡ false → DoesOrNot m m' request result → PerformsOrNot prefixes m m' request result
+unbarred prefixes m m' request b (Ok told) is fails does = free prefixes m m' request told (sym is ∙ fails) does
+unbarred prefixes m m' request b (Err memory) is fails does =
+    (does.0, does.1, λ F h. ap (λ (o : Outcome). succeeded o.answer) (row_free prefixes F request (sym is ∙ fails)) ∙ does.2 F h)

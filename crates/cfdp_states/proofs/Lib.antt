@@ -10,8 +10,7 @@ pub mod Longer
 pub mod LongerRows
 pub mod LongerFile
 pub mod AnySlot
-pub mod Listed
-pub mod Found
+pub mod Counted
 pub mod Sketched
 pub mod SketchedRows
 pub mod Barred
@@ -23,4 +22,3 @@ pub mod Surveys
 pub mod Surveyed
 pub mod Leased
 pub mod Appending
-pub mod Rehomed

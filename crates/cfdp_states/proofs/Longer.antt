@@ -13,9 +13,8 @@ use Rattle.cfdp_paths.specs.Paths.{Path, path_cmp, same_path, is_at_or_below, is
 use Rattle.cfdp_actions.specs.Filestore.{Node, Directory, File, Filestore, node_at, staged_in, blocks_of, weight, weights, blocks, Change, Becomes, Stages, changed, after, inside, has_entries, is_directory, is_good, is_root, parent_is_good, tree_at}
 use Rattle.cfdp_actions.specs.Actions.{vacated, settled, is_too_deep}
 use Rattle.cfdp_states.proofs.Order.{paths_total, paths_exact, same_path-refl, node_at-becomes}
-use Rattle.cfdp_states.proofs.Weights.{below_rest, sorted_rest, below_less, find_below}
+use Rattle.cfdp_states.proofs.Weights.{below_rest, sorted_rest, below_less, find_below, find_later}
 use Rattle.cfdp_states.proofs.Growth.{blocks_of-le}
-use Rattle.cfdp_states.proofs.Moves.{find_later}
 
 pub data Longer : Option Node → Option Node → Type 0 where
   nothing : Longer None None

@@ -16,7 +16,7 @@ use Rattle.cfdp_status.specs.declared.action.Action.TheVariants as action
 use Rattle.cfdp_status.specs.declared.status.Status.TheVariants.{NotAllowed}
 use Rattle.cfdp_actions.specs.Actions.{refused, succeeds, vacated, settled, is_too_deep, rename}
 use Rattle.cfdp_states.proofs.Order.{paths_exact, same_path-true, same_path-refl, node_at-becomes, node_at-becomes_apart}
-use Rattle.cfdp_states.proofs.Weights.{entries-retain_keys, below_rest, sorted_rest, find_below}
+use Rattle.cfdp_states.proofs.Weights.{entries-retain_keys, sorted_rest, find_later}
 use Rattle.cfdp_states.proofs.Prefixes.{rebased-below, rebased_back, same_rebased, length-parent, parent_below}
 use Rattle.cfdp_states.proofs.Growth.{Grows, grows_one}
 use Rattle.cfdp_states.proofs.Order.{paths_total}
@@ -94,10 +94,6 @@ node_at-vacated F (e ∷ es) x =
       | true ↦ elim (is_some (find path_cmp x es)) as (λ b. cond b None (cond true None (node_at F x)) ≡ None) [ true ↦ refl | false ↦ refl ]
       | false ↦ refl
     ]
-
--- the later keys are others
-pub find_later : (e : Path × Node) (es : List (Path × Node)) → T (is_sorted path_cmp (e ∷ es)) → (x : Path) → same_path x e.0 ≡ true → find path_cmp x es ≡ None
-find_later e es h x tied = ap (λ y. find path_cmp y es) (same_path-true x e.0 tied) ∙ find_below e.0 es (below_rest e es h)
 
 -- each entry is the filestore's
 abbrev pub Holds : Filestore → List (Path × Node) → Type 0

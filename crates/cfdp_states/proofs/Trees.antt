@@ -1,18 +1,18 @@
--- What stands at and below a path, outlined.
+-- What stands at and below a path, put into a map of extents.
 --     short                             the octets of few blocks are fewer than the greatest u64
 --     weights-kept, weights-small       the blocks of some entries of a small filestore
---     tree_surveyed                     what was found there, as far as the paths pass a test, is a survey of it
-use Rattle.std.proofs.Common.{◌≡◌, refl, sym, ◌∙◌, ap, Bool, true, false, cond, ◌&&◌, T, Option, Some, None, ℕ, ◌+◌, ◌≤◌, min, List, [], ◌∷◌, map, length, if◌then◌else◌, arith}
-use Rattle.std.specs.FinMap.{entries, entries_sorted, get-entries, retain_keys, get-retain_keys}
+--     tree_added                        what was found there comes to stand in the map
+use Rattle.std.proofs.Common.{◌≡◌, refl, ◌∙◌, ap, Bool, true, false, cond, ◌&&◌, T, is_some, Option, Some, None, ℕ, ◌+◌, ◌≤◌, min, List, [], ◌∷◌, map, length, if◌then◌else◌, arith}
+use Rattle.std.specs.FinMap.{entries, get, insert, get-insert}
 use Rattle.std.specs.FinMap.Entries.{is_sorted, find, where_key}
 use Rattle.cfdp_paths.specs.Paths.{Path, path_cmp, same_path, is_at_or_below}
 use Rattle.cfdp_actions.specs.Filestore.{Node, Directory, File, Filestore, node_at, blocks_of, weight, weights, blocks, tree_at}
 use Rattle.cfdp_actions.specs.Store.{standing_of, standings_of}
-use Rattle.cfdp_states.specs.declared.extent.Extent.{Extent}
 use Rattle.cfdp_states.specs.declared.extent.Extent.TheVariants as extent
-use Rattle.cfdp_states.specs.Sketching.{most_octets, extent_of, extent_in, found, extent_standing, outlines_where, AreDistinct, IsSurvey}
-use Rattle.cfdp_states.proofs.Order.{paths_total, paths_exact, same_path-true}
-use Rattle.cfdp_states.proofs.Weights.{entries-retain_keys, below_rest, sorted_rest, find_below}
+use Rattle.cfdp_states.specs.Sketching.{most_octets, extent_of, extent_in, Extents, extent_standing, added, Adds}
+use Rattle.cfdp_states.proofs.Order.{paths_total, paths_exact}
+use Rattle.cfdp_states.proofs.Weights.{entries-retain_keys, sorted_rest, find_later}
+use Rattle.cfdp_states.proofs.Moves.{tree_at-sorted, find-tree_at}
 
 pub short : (n : ℕ) → 1 + blocks_of n ≤ 65536 → n ≡ min n most_octets
 unfolding blocks_of
@@ -25,36 +25,20 @@ standing-is e le = by_node e.1 le
     by_node Directory le = refl
     by_node (File octets) le = ap (λ n. extent.File n) (short (length octets) le)
 
-module _ (test : Path → Bool) where
-  found-outlines : (es : List (Path × Node)) → weights es ≤ 65536 → (x : Path) → found (outlines_where test (map standing_of es)) x ≡ cond (test x) (extent_in (find path_cmp x es)) None
-  found-outlines [] le x = elim (test x) as (λ b. None ≡ cond {A = Option Extent} b None None) [ true ↦ refl | false ↦ refl ]
-  found-outlines (e ∷ es) le x =
-      let rest = found-outlines es (omega arith) x in
-      let os = outlines_where test (map standing_of es) in
-      elim (test e.0) as (λ b. test e.0 ≡ b → found (if b then record { path = e.0; extent = extent_standing (standing_of e) } ∷ os else os) x ≡ cond (test x) (extent_in (cond (same_path x e.0) (Some e.1) (find path_cmp x es))) None) [
-        | true ↦ λ t. elim (same_path x e.0) as (λ b. same_path x e.0 ≡ b → cond b (Some (extent_standing (standing_of e))) (found os x) ≡ cond (test x) (extent_in (cond b (Some e.1) (find path_cmp x es))) None) [
-          | true ↦ λ same. ap Some (standing-is e (omega arith)) ∙ sym (ap (λ b. cond b (Some (extent_of e.1)) None) (ap test (same_path-true x e.0 same) ∙ t))
-          | false ↦ λ same. rest
-        ] refl
-        | false ↦ λ t. rest ∙ elim (same_path x e.0) as (λ b. same_path x e.0 ≡ b → cond (test x) (extent_in (find path_cmp x es)) None ≡ cond (test x) (extent_in (cond b (Some e.1) (find path_cmp x es))) None) [
-          | true ↦ λ same. let no = ap test (same_path-true x e.0 same) ∙ t in ap (λ b. cond b (extent_in (find path_cmp x es)) None) no ∙ sym (ap (λ b. cond b (extent_in (Some e.1)) None) no)
-          | false ↦ λ same. refl
-        ] refl
-      ] refl
-
-  distinct-outlines : (es : List (Path × Node)) → weights es ≤ 65536 → T (is_sorted path_cmp es) → AreDistinct (outlines_where test (map standing_of es))
-  distinct-outlines [] le sorted = tt
-  distinct-outlines (e ∷ es) le sorted =
-      let os = outlines_where test (map standing_of es) in
-      let rest = distinct-outlines es (omega arith) (sorted_rest e es sorted) in
-      elim (test e.0) as (λ b. AreDistinct (if b then record { path = e.0; extent = extent_standing (standing_of e) } ∷ os else os)) [
-        | true ↦ (found-outlines es (omega arith) e.0 ∙ ap (λ v. cond (test e.0) (extent_in v) None) (find_below e.0 es (below_rest e es sorted)) ∙ none (test e.0), rest)
-        | false ↦ rest
-      ]
-    where
-      none : (b : Bool) → cond {A = Option Extent} b None None ≡ None
-      none true = refl
-      none false = refl
+-- with what stands there, one after another, as the entries have it
+get-added : (es : List (Path × Node)) → weights es ≤ 65536 → T (is_sorted path_cmp es) → (m : Extents) (x : Path) →
+    get (added (map standing_of es) m) x ≡ cond (is_some (find path_cmp x es)) (extent_in (find path_cmp x es)) (get m x)
+get-added [] le s m x = refl
+get-added (e ∷ es) le s m x =
+    let first : weight (Some e.1) ≤ 65536 = omega (arith, le) in
+    let v = extent_standing (standing_of e) in
+    get-added es (omega (arith, le)) (sorted_rest e es s) (insert m e.0 v) x
+    ∙ ap (λ c. cond (is_some (find path_cmp x es)) (extent_in (find path_cmp x es)) c) (get-insert paths_total m e.0 v x)
+    ∙ elim (same_path x e.0) as (λ b. same_path x e.0 ≡ b →
+    cond (is_some (find path_cmp x es)) (extent_in (find path_cmp x es)) (cond b (Some v) (get m x)) ≡ cond (is_some (cond b (Some e.1) (find path_cmp x es))) (extent_in (cond b (Some e.1) (find path_cmp x es))) (get m x)) [
+      | true ↦ λ t. ap (λ c. cond (is_some c) (extent_in c) (Some v)) (find_later e es s x t) ∙ ap Some (standing-is e first)
+      | false ↦ λ t. refl
+    ] refl
 
 pub weights-kept : (test : Path → Bool) (es : List (Path × Node)) → weights (where_key path_cmp test es) ≤ weights es
 weights-kept test [] = omega arith
@@ -74,19 +58,13 @@ tree-small F root le =
     let all = weights-small F le in
     omega (arith, kept, fewer, all)
 
-tree-found : (F : Filestore) (root x : Path) → find path_cmp x (tree_at F root) ≡ cond (is_at_or_below x root) (node_at F x) None
-tree-found F root x =
-    sym (get-entries (retain_keys F.nodes (λ q. is_at_or_below q root)) x)
-    ∙ get-retain_keys F.nodes (λ q. is_at_or_below q root) x (λ y e. ap (λ q. is_at_or_below q root) (sym (paths_exact x y e)))
-
-pub tree_surveyed : (test : Path → Bool) (F : Filestore) (root : Path) → blocks F ≤ 65536 → IsSurvey (outlines_where test (standings_of F root)) (λ x. is_at_or_below x root && test x) F
-tree_surveyed test F root le = record {
-  found = λ x. found-outlines test (tree_at F root) (tree-small F root le) x ∙ ap (λ a. cond (test x) (extent_in a) None) (tree-found F root x) ∙ both (is_at_or_below x root) (test x) (node_at F x);
-  distinct = distinct-outlines test (tree_at F root) (tree-small F root le) (entries_sorted (retain_keys F.nodes (λ q. is_at_or_below q root)));
-}
+pub tree_added : (F : Filestore) (root : Path) (m : Extents) → blocks F ≤ 65536 → Adds (λ x. is_at_or_below x root) F m (added (standings_of F root) m)
+tree_added F root m le x =
+    get-added (tree_at F root) (tree-small F root le) (tree_at-sorted F root) m x
+    ∙ ap (λ a. cond (is_some a) (extent_in a) (get m x)) (find-tree_at F root x)
+    ∙ both (is_at_or_below x root) (node_at F x)
   where
-    both : (below passes : Bool) (a : Option Node) → cond passes (extent_in (cond below a None)) None ≡ (if below && passes then extent_in a else None)
-    both true true a = refl
-    both true false a = refl
-    both false true a = refl
-    both false false a = refl
+    both : (below : Bool) (a : Option Node) → cond (is_some (cond below a None)) (extent_in (cond below a None)) (get m x) ≡ (if below && is_some (extent_in a) then extent_in a else get m x)
+    both true None = refl
+    both true (Some node) = refl
+    both false a = refl

@@ -2,26 +2,25 @@
 --     most_count                    the greatest u32, at which steps stop, and what a view tells of its need
 --     most_need                     at which the need itself stops: one more than any that can be told
 --     Sketch, sketch_code           what contracts see of a view;  that it is so seen
---     extents_of                    what a list of outlines has at each path
 --     size_of                       the greatest size of a file that is outlined
 --     length_in, length_at          the length of a file of the filestore, as far as sizes go;  of the one at a path
 --     only fp F                     the filestore with nothing but what the footprint covers
 --     IsViewOf v F start peak taken the view tells of F, where so many blocks were in use at first and at most, and so many steps are taken
 --     Tells, TellsInstall           how a view goes on with an item, and with the install
+--     Makes v request               the request makes a path, and is successful on each filestore that the view tells of
 --     installed_if                  the install's answer
 --     HasRun v fp F x items answers the view tells of these items, run alone on F with the delivered file x
-use Rattle.std.specs.Prelude.{◌≡◌, ℕ, ◌+◌, ◌-◌, ◌≤◌, min, max, Bool, IsTrue, if◌then◌else◌, List, [], ◌∷◌, Option, Some, None, length, map, refl}
+use Rattle.std.specs.Prelude.{◌≡◌, ℕ, ◌+◌, ◌-◌, ◌≤◌, min, max, Bool, IsTrue, if◌then◌else◌, List, [], ◌∷◌, Option, Some, None, length, refl}
 use Rattle.std.specs.Coded.{Coded, code_by, coded×, coded_list, coded_ℕ}
 use Rattle.std.specs.FinMap as finite
-use Rattle.cfdp_paths.specs.Paths.{Path, path_cmp}
+use Rattle.cfdp_paths.specs.Paths.{Path}
 use Rattle.cfdp_actions.specs.Filestore.{Node, Directory, File, Filestore, node_at, blocks}
-use Rattle.cfdp_actions.specs.Actions.{Item, Install, Answer, Installed, NotInstalled, row}
+use Rattle.cfdp_actions.specs.Actions.{Request, Item, Install, Perform, Answer, Installed, NotInstalled, succeeded, row}
 use Rattle.cfdp_leases.specs.Footprint.{Footprint, is_covered, IsWithin}
 use Rattle.cfdp_leases.specs.Items.{performed, step_bound}
 use Rattle.cfdp_states.specs.declared.extent.Extent.{Extent}
 use Rattle.cfdp_states.specs.declared.extent.Extent.TheVariants as extent
-use Rattle.cfdp_states.specs.declared.extent.Outline.{Outline}
-use Rattle.cfdp_states.specs.Sketching.{most_octets, extent_at}
+use Rattle.cfdp_states.specs.Sketching.{Extents, most_octets, extent_at, makes_path}
 use Rattle.cfdp_states.specs.Alone.{alone, reached, peak, steps, statuses_alone, need_alone, steps_alone}
 use Rattle.std.specs.List.{AllByRecursion}
 
@@ -33,21 +32,18 @@ most_need = 4294967296
 
 pub record Sketch : Type 0 where
   pub prefixes : List Path  -- those that are protected
-  pub extents : finite.FinMap path_cmp Extent  -- what stands
+  pub extents : Extents  -- what stands
   pub base : ℕ  -- the blocks in use at first
   pub need : ℕ  -- how many more are in use at most
   pub steps : ℕ  -- the steps that are taken
 
 abbrev pub sketch_code : Coded Extent → Coded Sketch
 sketch_code coded =
-    code_by (List Path × (finite.FinMap path_cmp Extent × (ℕ × (ℕ × ℕ))))
+    code_by (List Path × (Extents × (ℕ × (ℕ × ℕ))))
     (coded× (coded_list (coded_list (coded_list coded_ℕ))) (coded× (finite.code (coded_list (coded_list coded_ℕ)) coded) (coded× coded_ℕ (coded× coded_ℕ coded_ℕ))))
     (λ v. (v.prefixes, (v.extents, (v.base, (v.need, v.steps)))))
     (λ p. record { prefixes = p.0; extents = p.1.0; base = p.1.1.0; need = p.1.1.1.0; steps = p.1.1.1.1 })
     (λ _. refl)
-
-abbrev pub extents_of : List Outline → finite.FinMap path_cmp Extent
-extents_of os = finite.from_entries (map (λ outline. (outline.path, outline.extent)) os)
 
 -- a file's greatest size; none for a directory
 abbrev pub size_of : Option Extent → Option ℕ
@@ -81,6 +77,11 @@ Tells v w item answer =
     (F : Filestore) (start peak taken : ℕ) → IsViewOf v F start peak taken →
     let G = performed v.prefixes F 0 item in
     (answer ≡ (row v.prefixes F 0 item).answer) × IsViewOf w G start (max peak (blocks G)) (taken + (1 + step_bound F item))
+
+-- where a request takes memory: it makes a path, and is successful
+abbrev pub Makes : Sketch → Request → Type 0
+Makes v request =
+    IsTrue (makes_path request) × ((F : Filestore) (start peak taken : ℕ) → IsViewOf v F start peak taken → IsTrue (succeeded (row v.prefixes F 0 (Perform request)).answer))
 
 abbrev pub installed_if : Bool → Answer
 installed_if done = if done then Installed else NotInstalled

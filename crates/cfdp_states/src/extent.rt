@@ -4,7 +4,6 @@ ghost use Rattle.std.specs.Prelude.{◌≡◌, ◌<◌, ◌≤◌, ◌^◌};
 ghost use Rattle.cfdp_states.specs.Sketching.{extent_weight, extent_content};
 
 use cfdp_actions::BLOCK_OCTETS;
-use cfdp_paths::Path;
 
 /// What stands at a path: a directory, or a file of at most so many octets.
 #[derive(Clone, Copy, Debug, PartialEq, Eq)]
@@ -34,13 +33,4 @@ impl Extent {
     {
         1 + self.content()
     }
-}
-
-/// A path, with what stands there.
-#[derive(Debug, Drop)]
-pub struct Outline {
-    /// Where it stands.
-    pub path: Path,
-    /// What stands there.
-    pub extent: Extent,
 }

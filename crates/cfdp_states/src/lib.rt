@@ -6,10 +6,9 @@
 #![tactic(auto)]
 
 mod extent;
+mod extents;
 pub mod laws;
-mod outlines;
 mod performing;
-mod rehoming;
 mod surveying;
 mod table;
 #[cfg(test)]

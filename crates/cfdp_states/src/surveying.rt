@@ -1,109 +1,101 @@
 //! What stands in a store at some paths, without octets.
 
-ghost use Rattle.std.specs.Prelude.{◌≡◌, ◌≤◌, ◌++◌, ◌&&◌, not, IfOk, OnOk};
+ghost use Rattle.std.specs.Prelude.{◌≡◌, ◌≤◌, ◌<◌, IsTrue, IfOk, OnOk, length, take, slice_index_or};
 ghost use Rattle.std.specs.List.{list_any};
-ghost use Rattle.cfdp_paths.specs.Paths.{same_path, is_at_or_below};
+ghost use Rattle.cfdp_paths.specs.Paths.{Path, same_path, is_at_or_below};
 ghost use Rattle.cfdp_actions.specs.Filestore.{blocks};
 ghost use Rattle.cfdp_leases.specs.Footprint.{is_covered};
-ghost use Rattle.cfdp_states.specs.Sketching.{extent_at, extent_standing, outlines_where, IsSurvey};
+ghost use Rattle.cfdp_states.specs.Sketching.{Adds, IsSurvey, added, extent_at, extent_standing};
 
-use crate::extent::{Extent, Outline};
-use crate::outlines::find;
+use crate::extent::Extent;
+use crate::extents::Extents;
 use cfdp_actions::{Filestore, Kind, Standing};
 use cfdp_leases::Footprint;
 use cfdp_paths::{Memory, Path};
 use std::alloc::Global;
 
-/// An outline of each path that the footprint covers and at which something stands.
+/// What stands at each path that the footprint covers.
 pub fn survey<S: Filestore>(
     alloc: Global,
     store: &S,
     footprint: &Footprint,
-) -> Result<Vec<Outline>, Memory>
-    ensures outlines { IfOk result (λ outlines.
-        IsSurvey outlines.items (is_covered footprint.now) (S.state store.now).filestore) }
+) -> Result<Extents, Memory>
+    ensures extents { IfOk result (λ extents.
+        IsSurvey extents (is_covered footprint.now) (S.state store.now).filestore) }
     ensures small { blocks (S.state store.now).filestore ≤ 65536 }
 {
     // Its contract says that few blocks are in use, so that no size passes what an extent can tell.
     let _ = store.takes_no_memory();
     let exclusive = footprint.exclusive();
-    let mut outlines = survey_trees(alloc, store, exclusive)?;
-    let mut others = survey_others(alloc, store, footprint.shared(), exclusive)?;
-    outlines.append(&mut others)?;
-    Ok(outlines)
-}
-
-/// An outline of each path at or below these at which something stands.
-fn survey_trees<S: Filestore>(
-    alloc: Global,
-    store: &S,
-    roots: &[Path],
-) -> Result<Vec<Outline>, Memory>
-    requires { blocks (S.state store.now).filestore ≤ 65536 }
-    ensures { IfOk result (λ outlines. IsSurvey outlines.items
-        (λ path. list_any (λ root. is_at_or_below path root) roots.now) (S.state store.now).filestore) }
-{
-    let mut outlines = Vec::new(alloc);
-    for (place, root) in roots.iter().enumerate() {
-        let before = &roots[..place];
-        if has_above(before, root) {
+    let shared = footprint.shared();
+    let mut extents = Extents::new(alloc);
+    // Shared paths and leased trees in turn, all in path order, so that each new entry is the last one.
+    let mut next = 0;
+    let mut last = 0;
+    for (place, root) in exclusive.iter().enumerate() {
+        let rest = &shared[next..];
+        let before = rest.partition_point(|path| *path < *root);
+        add_paths(&mut extents, store, &rest[..before])?;
+        next += before;
+        if is_inside(exclusive, last, place) {
             continue;
         }
-        let found = store.standing(alloc, root)?;
-        add_others(&mut outlines, found, before)?;
+        add_tree(alloc, &mut extents, store, root)?;
+        last = place;
     }
-    Ok(outlines)
+    add_paths(&mut extents, store, &shared[next..])?;
+    Ok(extents)
 }
 
-/// Adds an outline of each thing found, but for those at or below one of the paths.
-fn add_others(
-    outlines: &mut Vec<Outline>,
-    found: Vec<Standing>,
-    before: &[Path],
+/// Whether the root at the place is at or below the one at an earlier place.
+fn is_inside(roots: &[Path], earlier: usize, place: usize) -> bool
+    requires order { earlier ≤ place }
+    requires within { place < length roots.now }
+    ensures { IsTrue result → (root : Path) → root ≡ slice_index_or roots.now place root
+        → IsTrue (list_any (λ above. is_at_or_below root above) (take place roots.now)) }
+{
+    earlier < place && roots[place].is_at_or_below(&roots[earlier])
+}
+
+/// Adds what stands at the path and below it.
+fn add_tree<S: Filestore>(
+    alloc: Global,
+    extents: &mut Extents,
+    store: &S,
+    root: &Path,
 ) -> Result<(), Memory>
-    ensures { OnOk result (outlines.new.items ≡ outlines.old.items
-        ++ outlines_where (λ path. not (list_any (λ root. is_at_or_below path root) before.now)) found.items) }
+    requires { blocks (S.state store.now).filestore ≤ 65536 }
+    ensures { OnOk result (Adds (λ path. is_at_or_below path root.now) (S.state store.now).filestore extents.old extents.new) }
+{
+    let found = store.standing(alloc, root)?;
+    add_all(extents, found)?;
+    Ok(())
+}
+
+/// Adds all that was found.
+fn add_all(extents: &mut Extents, found: Vec<Standing>) -> Result<(), Memory>
+    ensures { OnOk result (extents.new ≡ added found.items extents.old) }
 {
     for standing in found {
-        if !has_above(before, &standing.path) {
-            let extent = extent_standing(&standing);
-            let Standing { path, .. } = standing;
-            outlines.push(Outline { path, extent })?;
-        }
+        let extent = extent_standing(&standing);
+        let Standing { path, .. } = standing;
+        extents.insert(path, extent)?;
     }
     Ok(())
 }
 
-/// An outline of each of the paths at which something stands, but for those at or below one of the roots.
-fn survey_others<S: Filestore>(
-    alloc: Global,
-    store: &S,
-    paths: &[Path],
-    roots: &[Path],
-) -> Result<Vec<Outline>, Memory>
+/// Adds what stands at the paths.
+fn add_paths<S: Filestore>(extents: &mut Extents, store: &S, paths: &[Path]) -> Result<(), Memory>
     requires { blocks (S.state store.now).filestore ≤ 65536 }
-    ensures { IfOk result (λ outlines. IsSurvey outlines.items (λ path. list_any (same_path path) paths.now
-        && not (list_any (λ root. is_at_or_below path root) roots.now)) (S.state store.now).filestore) }
+    ensures { OnOk result (Adds (λ path. list_any (same_path path) paths.now) (S.state store.now).filestore extents.old extents.new) }
 {
-    let mut outlines = Vec::new(alloc);
     for path in paths {
-        if has_above(roots, path) || find(&outlines, path).is_some() {
-            continue;
-        }
         let Some(extent) = extent_at(store, path) else {
             continue;
         };
-        let path = path.copy(alloc)?;
-        outlines.push(Outline { path, extent })?;
+        extents.put(path, extent)?;
     }
-    Ok(outlines)
-}
-
-/// Whether the path is at or below one of the roots.
-fn has_above(roots: &[Path], path: &Path) -> bool
-    ensures { result ≡ list_any (λ root. is_at_or_below path.now root) roots.now }
-{
-    roots.iter().any(|root| path.is_at_or_below(root))
+    Ok(())
 }
 
 /// What stands at the path, if anything does.

@@ -5,11 +5,10 @@ ghost use Rattle.std.specs.FinMap as finite;
 ghost use Rattle.cfdp_actions.specs.Filestore.{blocks};
 ghost use Rattle.cfdp_actions.specs.Actions.{Perform, Performed};
 ghost use Rattle.cfdp_states.specs.Alone.{alone};
-ghost use Rattle.cfdp_states.specs.Sketching.{AreDistinct};
-ghost use Rattle.cfdp_states.specs.Views.{most_count, most_need, size_of, only, IsViewOf, Tells, TellsInstall, extents_of};
+ghost use Rattle.cfdp_states.specs.Views.{most_count, most_need, size_of, only, IsViewOf, Makes, Tells, TellsInstall};
 
-use crate::extent::{Extent, Outline};
-use crate::outlines::{blocks, find, put};
+use crate::extent::Extent;
+use crate::extents::Extents;
 use crate::performing::{can_install, content, perform, step_bound};
 use crate::surveying::survey;
 use cfdp_actions::{Filestore, Protected, Request};
@@ -20,7 +19,7 @@ use std::alloc::Global;
 use std::marker::Model;
 
 /// At which the need stops: one more than the greatest that can be told.
-const MOST_NEED: u64 = 1 << 32;
+const MOST_NEED: u128 = 1 << 32;
 
 /// What stands at and below some leased paths, a file being 'at most n octets', without contents: enough to say how a
 /// list of items goes when it runs alone (CCSDS 727.0-B-5 §4.9), how many blocks it needs and how many steps it takes.
@@ -30,24 +29,21 @@ const MOST_NEED: u64 = 1 << 32;
 #[derive(Drop)]
 pub struct View<'a> {
     protected: &'a Protected,
-    outlines: Vec<Outline>,
-    base: u64,
+    extents: Extents,
+    base: u128,
     need: u64,
     steps: u32,
 }
 
 impl<'a> Model for View<'a> {
-    ghost use Rattle.cfdp_states.specs.Sketching.{AreDistinct};
-    ghost use Rattle.cfdp_states.specs.Views.{Sketch, sketch_code, extents_of};
+    ghost use Rattle.cfdp_states.specs.Views.{Sketch, sketch_code};
     ghost use Rattle.cfdp_states.specs.contracts.extent.Extent as extent;
 
     ghost Value = { Sketch };
 
     ghost coded = { sketch_code extent.the_row.coded };
 
-    ghost view = { λ v. record { prefixes = v.protected.now; extents = extents_of v.outlines.items; base = v.base; need = v.need; steps = v.steps } };
-
-    ghost invariant = { λ v. AreDistinct v.outlines.items };
+    ghost view = { λ v. record { prefixes = v.protected.now; extents = v.extents; base = v.base; need = v.need; steps = v.steps } };
 }
 
 impl<'a> View<'a> {
@@ -57,11 +53,10 @@ impl<'a> View<'a> {
     ///
     /// Want of memory.
     ///
-    /// Cost: one `standing` for each exclusive path that is not at or below an earlier one, and for each other shared path
-    /// a `kind`, and a `size` where that is a file; no listing, no octets and no checksum. What the footprint does not
-    /// cover is not asked for (a `ListStore` finds what is asked for by going through its list). Each thing that stands
-    /// below an exclusive path is compared with the exclusive paths before that one, and each shared path with all
-    /// exclusive ones and with the shared ones that stand: the comparisons grow with the products of these counts.
+    /// Cost: one `standing` for each exclusive path that is not at or below an earlier one, and for each shared path a
+    /// `kind`, and a `size` where that is a file; no listing, no octets and no checksum. What the footprint does not cover
+    /// is not asked for (a `ListStore` finds what is asked for by going through its list). Each thing found is put in by a
+    /// search; as all come in path order, nothing is shifted.
     pub fn of<S: Filestore>(
         alloc: Global,
         store: &S,
@@ -72,11 +67,11 @@ impl<'a> View<'a> {
             IsViewOf view F (blocks F) (blocks F) 0) }
         ensures prefixes { IfOk result (λ view. view.prefixes ≡ protected.now) }
     {
-        let outlines = survey(alloc, store, footprint)?;
-        let base = blocks(&outlines);
+        let extents = survey(alloc, store, footprint)?;
+        let base = extents.blocks();
         Ok(View {
             protected,
-            outlines,
+            extents,
             base,
             need: 0,
             steps: 0,
@@ -89,17 +84,19 @@ impl<'a> View<'a> {
     ///
     /// # Errors
     ///
-    /// Want of memory; the view is then as before. Cost: a few passes over what the view has, and, of a rename, a path for
-    /// each thing that moves.
+    /// Want of memory, which only a request that makes a path takes, and only where it is successful; the view is then as
+    /// before. Cost: a few searches among what the view has, and, of a rename, a path for each thing that moves. What
+    /// stands behind in path order is shifted, in one piece.
     pub fn apply(&mut self, request: &Request) -> Result<Status, Memory>
         ensures told { IfOk result (λ status. Tells self.old self.new (Perform request.now) (Performed status)) }
         ensures prefixes { OnOk result (self.new.prefixes ≡ self.old.prefixes) }
         ensures err { OnErr result (self.new ≡ self.old) }
+        ensures thrifty { OnErr result (Makes self.old request.now) }
     {
-        let bound = step_bound(&self.outlines, request);
-        let status = perform(&mut self.outlines, self.protected, request)?;
+        let bound = step_bound(&self.extents, request);
+        let status = perform(&mut self.extents, self.protected, request)?;
         self.steps = add_steps(self.steps, bound);
-        self.need = raise_need(self.need, self.base, blocks(&self.outlines));
+        self.need = raise_need(self.need, self.base, self.extents.blocks());
         Ok(status)
     }
 
@@ -110,33 +107,33 @@ impl<'a> View<'a> {
     ///
     /// # Errors
     ///
-    /// Want of memory; the view is then as before. Cost: a few passes over what the view has.
+    /// Want of memory; the view is then as before. Cost: a few searches among what the view has.
     pub fn install(&mut self, path: &Path, bound: u64) -> Result<bool, Memory>
         ensures told { IfOk result (λ done. TellsInstall self.old self.new path.now bound done) }
         ensures prefixes { OnOk result (self.new.prefixes ≡ self.old.prefixes) }
         ensures refused { result ≡ Ok false → self.new ≡ self.old }
         ensures err { OnErr result (self.new ≡ self.old) }
     {
-        if !can_install(&self.outlines, self.protected, path) {
+        if !can_install(&self.extents, self.protected, path) {
             return Ok(false);
         }
         let file = Extent::File(bound);
-        let ticks = 1 + content(&self.outlines, path);
-        let staged = blocks(&self.outlines).saturating_add(file.content());
-        put(&mut self.outlines, path, file)?;
+        let ticks = 1 + content(&self.extents, path);
+        let staged = self.extents.blocks() + u128::from(file.content());
+        self.extents.put(path, file)?;
         self.steps = add_steps(self.steps, ticks);
         let need = raise_need(self.need, self.base, staged);
-        self.need = raise_need(need, self.base, blocks(&self.outlines));
+        self.need = raise_need(need, self.base, self.extents.blocks());
         Ok(true)
     }
 
     /// The most octets that the file at the path has, from 0 to the greatest u64, which also stands for more. `None` where
-    /// the view has no file at it: what the view's footprint does not cover it never saw. Takes no memory. Cost: a pass
-    /// over what the view has.
+    /// the view has no file at it: what the view's footprint does not cover it never saw. Takes no memory. Cost: one
+    /// search among what the view has.
     pub fn bound(&self, path: &Path) -> Option<u64>
         ensures { result ≡ size_of (finite.get self.now.extents path.now) }
     {
-        match find(&self.outlines, path) {
+        match self.extents.get(path) {
             None => None,
             Some(Extent::Directory) => None,
             Some(Extent::File(octets)) => Some(octets),
@@ -175,10 +172,11 @@ fn add_steps(steps: u32, bound: u64) -> u32
 }
 
 /// The need, where so many blocks are in use.
-fn raise_need(need: u64, base: u64, blocks: u64) -> u64
+fn raise_need(need: u64, base: u128, blocks: u128) -> u64
     ensures { result ≡ max need (min (blocks - base) most_need) }
 {
-    need.max(blocks.saturating_sub(base).min(MOST_NEED))
+    let more = blocks.saturating_sub(base).min(MOST_NEED);
+    need.max(more as u64)
 }
 
 /// The count, or the greatest u32 where it is more.

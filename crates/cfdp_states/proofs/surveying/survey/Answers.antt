@@ -1,12 +1,43 @@
-use Rattle.std.proofs.Common.{sym, subst}
-use Rattle.cfdp_leases.specs.Footprint.{is_covered}
-use Rattle.cfdp_states.specs.Sketching.{IsSurvey}
+use Rattle.std.proofs.Common.{arith}
+use Rattle.std.specs.FinMap.{empty}
+use Rattle.cfdp_states.proofs.Surveys.{adds_root, adds_inside, adds_rest, adds_before, adds_behind, next_within}
 use Rattle.cfdp_states.proofs.Surveyed.{whole_survey}
 use Rattle.cfdp_states.proofs.surveying.survey.Goals as goal
 
-pub returns-clause-outlines : goal.returns-clause-outlines
-returns-clause-outlines g c =
+pub loop-place-preserved : goal.loop-place-preserved
+loop-place-preserved g c =
     let F = (g.S.Filestore.state c.args.store.now).filestore in
-    subst (λ os. IsSurvey os (is_covered c.args.footprint.now) F) (sym c.in_ok-append.ensures.items)
-    (whole_survey c.in_ok-outlines.outlines.items c.in_ok-others.others.items c.exclusive-exclusive.result.now c.shared.result.now c.args.footprint.now F
-    c.exclusive-exclusive.ensures.paths c.shared.ensures.paths c.in_ok-outlines.ensures c.in_ok-others.ensures)
+    let roots = c.exclusive-exclusive.result.now in
+    let paths = c.shared-shared.result.now in
+    let k = c.loop-place.next in
+    let more = c.partition_point-before.result in
+    record {
+      adds = adds_root roots paths c.loop-place.place k more c.index-exclusive-place.result F c.loop-place-test.true c.index-exclusive-place.is
+          empty c.loop-place.extents c.add_paths.new.extents c.add_tree.new.extents c.loop-place.invariant.adds (adds_before paths k more F c.loop-place.extents c.add_paths.new.extents c.in_ok-add_paths.ensures) c.in_ok-add_tree.ensures;
+      next = next_within paths k more c.loop-place.invariant.next c.partition_point-before.ensures.bound;
+      last = omega arith;
+    }
+
+pub loop-place-preserved-then-is_inside : goal.loop-place-preserved-then-is_inside
+loop-place-preserved-then-is_inside g c =
+    let F = (g.S.Filestore.state c.args.store.now).filestore in
+    let roots = c.exclusive-exclusive.result.now in
+    let paths = c.shared-shared.result.now in
+    let k = c.loop-place.next in
+    let more = c.partition_point-before.result in
+    record {
+      adds = adds_inside roots paths c.loop-place.place k more c.index-exclusive-place.result F c.loop-place-test.true c.index-exclusive-place.is
+          empty c.loop-place.extents c.add_paths.new.extents c.loop-place.invariant.adds (adds_before paths k more F c.loop-place.extents c.add_paths.new.extents c.in_ok-add_paths.ensures)
+          (c.is_inside.ensures c.if-is_inside.true c.index-exclusive-place.result c.index-exclusive-place.is);
+      next = next_within paths k more c.loop-place.invariant.next c.partition_point-before.ensures.bound;
+      last = omega (arith, c.loop-place.invariant.last);
+    }
+
+pub returns-clause-extents : goal.returns-clause-extents
+returns-clause-extents g c =
+    let F = (g.S.Filestore.state c.args.store.now).filestore in
+    let roots = c.exclusive-exclusive.result.now in
+    let paths = c.shared-shared.result.now in
+    whole_survey roots paths c.args.footprint.now F c.add_paths-2.new.extents c.exclusive-exclusive.ensures.paths c.shared-shared.ensures.paths
+    (adds_rest roots paths c.loop-place.place c.loop-place.next F empty c.loop-place.extents c.add_paths-2.new.extents c.loop-place-test.false c.loop-place.invariant.adds
+    (adds_behind paths c.loop-place.next F c.loop-place.extents c.add_paths-2.new.extents c.in_ok-add_paths-2.ensures))

@@ -3,17 +3,17 @@ use Rattle.cfdp_states.proofs.SketchedRows.{found_is, some_from, append-none, ap
 use Rattle.cfdp_states.proofs.table.append.Goals as goal
 
 pub returns-in_default : goal.returns-in_default
-returns-in_default c = append-none c.args.outlines.now.items c.args.first.now c.args.second.now (found_is c.args.first.now c.deref.ensures.value c.find.ensures c.in_default.is)
+returns-in_default c = append-none c.args.extents.now c.args.first.now c.args.second.now (found_is c.get.ensures c.in_default.is)
 
-pub returns-in_default-find : goal.returns-in_default-find
-returns-in_default-find c = append-second c.args.outlines.now.items c.args.first.now c.args.second.now (some_from _ _ (found_is c.args.first.now c.deref.ensures.value c.find.ensures c.in-Some.is)) (found_is c.args.second.now c.deref-2.ensures.value c.find-2.ensures c.in_default-find.is)
+pub returns-in_default-get : goal.returns-in_default-get
+returns-in_default-get c = append-second c.args.extents.now c.args.first.now c.args.second.now (some_from _ (found_is c.get.ensures c.in-Some.is)) (found_is c.get-2.ensures c.in_default-get.is)
 
-pub returns-in_ok-put-in-File-File : goal.returns-in_ok-put-in-File-File
-returns-in_ok-put-in-File-File c = append-file c.args.outlines.now.items _ c.args.first.now c.args.second.now _ _ _
-    (found_is c.args.first.now c.deref.ensures.value c.find.ensures (c.in-Some.is ∙ ap Some c.in-File-File.is-0)) (found_is c.args.second.now c.deref-2.ensures.value c.find-2.ensures (c.in-Some-find.is ∙ ap Some c.in-File-File.is-1)) c.saturating_add.ensures c.in_ok-put-in-File-File.ensures.ok
+pub returns-in-File-File : goal.returns-in-File-File
+returns-in-File-File c = append-file c.args.extents.now _ c.args.first.now c.args.second.now _ _ _
+    (found_is c.get.ensures (c.in-Some.is ∙ ap Some c.in-File-File.is-0)) (found_is c.get-2.ensures (c.in-Some-get.is ∙ ap Some c.in-File-File.is-1)) c.saturating_add.ensures c.set.ensures
 
 pub returns-in_default-2 : goal.returns-in_default-2
-returns-in_default-2 c = append-to_folder c.args.outlines.now.items c.args.first.now c.args.second.now _ (found_is c.args.first.now c.deref.ensures.value c.find.ensures (c.in-Some.is ∙ ap Some c.in_default-2.is-0)) (found_is c.args.second.now c.deref-2.ensures.value c.find-2.ensures (c.in-Some-find.is ∙ ap Some c.in_default-2.is-1))
+returns-in_default-2 c = append-to_folder c.args.extents.now c.args.first.now c.args.second.now _ (found_is c.get.ensures (c.in-Some.is ∙ ap Some c.in_default-2.is-0)) (found_is c.get-2.ensures (c.in-Some-get.is ∙ ap Some c.in_default-2.is-1))
 
 pub returns-in_default-2-2 : goal.returns-in_default-2-2
-returns-in_default-2-2 c = append-folder c.args.outlines.now.items c.args.first.now c.args.second.now (found_is c.args.first.now c.deref.ensures.value c.find.ensures (c.in-Some.is ∙ ap Some c.in_default-2.is-0)) (some_from _ _ (found_is c.args.second.now c.deref-2.ensures.value c.find-2.ensures c.in-Some-find.is))
+returns-in_default-2-2 c = append-folder c.args.extents.now c.args.first.now c.args.second.now (found_is c.get.ensures (c.in-Some.is ∙ ap Some c.in_default-2.is-0)) (some_from _ (found_is c.get-2.ensures c.in-Some-get.is))

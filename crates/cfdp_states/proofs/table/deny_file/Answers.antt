@@ -3,10 +3,10 @@ use Rattle.cfdp_states.proofs.SketchedRows.{found_is, deny_file-none, deny_file-
 use Rattle.cfdp_states.proofs.table.deny_file.Goals as goal
 
 pub returns-in-None : goal.returns-in-None
-returns-in-None c = deny_file-none c.args.outlines.now.items c.args.path.now (found_is c.args.path.now c.deref.ensures.value c.find.ensures c.in-None.is)
+returns-in-None c = deny_file-none c.args.extents.now c.args.path.now (found_is c.get.ensures c.in-None.is)
 
 pub returns-in-Some-Directory : goal.returns-in-Some-Directory
-returns-in-Some-Directory c = deny_file-folder c.args.outlines.now.items c.args.path.now (found_is c.args.path.now c.deref.ensures.value c.find.ensures (c.in-Some-Directory.is ∙ ap Some c.in-Some-Directory.field-0-is))
+returns-in-Some-Directory c = deny_file-folder c.args.extents.now c.args.path.now (found_is c.get.ensures (c.in-Some-Directory.is ∙ ap Some c.in-Some-Directory.field-0-is))
 
 pub returns-in-Some-File : goal.returns-in-Some-File
-returns-in-Some-File c = deny_file-file c.args.outlines.now.items _ c.args.path.now _ (found_is c.args.path.now c.deref.ensures.value c.find.ensures (c.in-Some-File.is ∙ ap Some c.in-Some-File.field-0-is)) c.remove.ensures
+returns-in-Some-File c = deny_file-file c.args.extents.now _ c.args.path.now _ (found_is c.get.ensures (c.in-Some-File.is ∙ ap Some c.in-Some-File.field-0-is)) c.remove.ensures

@@ -1,0 +1,180 @@
+//! What stands at some paths, without octets, and how many blocks it takes.
+
+ghost use Rattle.std.specs.Prelude.{◌≡◌, ◌+◌, ◌≤◌, ◌<◌, ◌^◌, false, nat_lt, IsSome, IsOk, OnOk, OnErr, length};
+ghost use Rattle.std.specs.FinMap as finite;
+ghost use Rattle.std.specs.List.{list_any};
+ghost use Rattle.cfdp_paths.specs.Paths.{parent};
+ghost use Rattle.cfdp_paths.specs.PathMaps.{any_below, is_too_deep, tree_in};
+ghost use Rattle.cfdp_states.specs.Sketching.{rehomed, total_blocks, total_weight, weight_in};
+
+use crate::extent::Extent;
+use cfdp_paths::{MOST_NAMES, Memory, Path, PathMap};
+use std::alloc::Global;
+use std::marker::Model;
+
+/// What stands at some paths. A look-up is a search among them and makes no path. Contracts see a finite map.
+#[derive(Drop)]
+pub struct Extents {
+    alloc: Global,
+    entries: PathMap<Extent>,
+    /// The blocks of all together.
+    used: u128,
+}
+
+impl Model for Extents {
+    ghost use Rattle.std.specs.Prelude.{◌≡◌};
+    ghost use Rattle.std.specs.Coded.{coded_list, coded_ℕ};
+    ghost use Rattle.std.specs.FinMap as finite;
+    ghost use Rattle.cfdp_states.specs.Sketching.{Extents, IsCounted};
+    ghost use Rattle.cfdp_states.specs.contracts.extent.Extent as extent;
+
+    ghost Value = { Extents };
+
+    ghost coded = { finite.code (coded_list (coded_list coded_ℕ)) extent.the_row.coded };
+
+    ghost view = { λ x. finite.from_sorted x.entries };
+
+    ghost invariant = { λ x. IsCounted x.entries x.used };
+}
+
+impl Extents {
+    /// Nothing stands anywhere. Takes no memory.
+    pub fn new(alloc: Global) -> Extents
+        ensures { result ≡ finite.empty }
+    {
+        Extents {
+            alloc,
+            entries: PathMap::new(alloc),
+            used: 0,
+        }
+    }
+
+    /// What stands at the path, if anything does. Cost: one search.
+    pub fn get(&self, path: &Path) -> Option<Extent>
+        ensures { result ≡ finite.get self.now path.now }
+    {
+        self.entries.get(path).copied()
+    }
+
+    /// What stands at the path's parent, if anything does. Cost: one search.
+    pub fn parent(&self, path: &Path) -> Option<Extent>
+        ensures { result ≡ finite.get self.now (parent path.now) }
+    {
+        self.entries.get_beginning(path, path.depth() - 1).copied()
+    }
+
+    /// Whether anything stands strictly below the path. Cost: two searches.
+    pub fn has_below(&self, path: &Path) -> bool
+        ensures { result ≡ any_below path.now (finite.entries self.now) }
+    {
+        self.entries.has_below(path)
+    }
+
+    /// Whether a path at or below the first would have more than 8 names once the first is the second. Cost: two searches,
+    /// and a look at each path at or below the first.
+    pub fn is_too_deep(&self, from: &Path, to: &Path) -> bool
+        ensures { result ≡ is_too_deep from.now to.now (tree_in from.now (finite.entries self.now)) }
+    {
+        any_too_deep(self.entries.tree(from), from, to)
+    }
+
+    /// All blocks of what stands at the path: none where nothing does. Cost: one search.
+    pub fn weight(&self, path: &Path) -> u64
+        ensures value { result ≡ weight_in (finite.get self.now path.now) }
+        ensures within { result ≤ 2 ^ 58 }
+    {
+        match self.get(path) {
+            None => 0,
+            Some(extent) => extent.blocks(),
+        }
+    }
+
+    /// The blocks of all together. Cost: it is kept.
+    pub fn blocks(&self) -> u128
+        ensures value { result ≡ total_blocks self.now }
+        ensures within { result < 2 ^ 122 }
+    {
+        // No list has so many entries that their blocks pass what is told.
+        let _ = self.entries.entries().len();
+        self.used
+    }
+
+    /// From now on the extent stands at the path. Takes memory only where nothing stood there. Cost: a few searches; the
+    /// entries behind a new one are shifted.
+    pub fn put(&mut self, path: &Path, extent: Extent) -> Result<(), Memory>
+        ensures ok { OnOk result (self.new ≡ finite.insert self.old path.now extent) }
+        ensures err { OnErr result (self.new ≡ self.old) }
+        ensures present { IsSome (finite.get self.old path.now) → IsOk result }
+    {
+        if self.get(path).is_none() {
+            return self.insert(path.copy(self.alloc)?, extent);
+        }
+        self.set(path, extent);
+        Ok(())
+    }
+
+    /// Puts another extent at a path at which something stands. Takes no memory. Cost: a few searches.
+    pub fn set(&mut self, path: &Path, extent: Extent)
+        requires { IsSome (finite.get self.old path.now) }
+        ensures { self.new ≡ finite.insert self.old path.now extent }
+    {
+        let used = self.blocks() + u128::from(extent.blocks()) - u128::from(self.weight(path));
+        self.entries.set(path, extent);
+        self.used = used;
+    }
+
+    /// The same for a path that is given away.
+    pub fn insert(&mut self, path: Path, extent: Extent) -> Result<(), Memory>
+        ensures ok { OnOk result (self.new ≡ finite.insert self.old path extent) }
+        ensures err { OnErr result (self.new ≡ self.old) }
+    {
+        let used = self.blocks() + u128::from(extent.blocks()) - u128::from(self.weight(&path));
+        self.entries.insert(path, extent)?;
+        self.used = used;
+        Ok(())
+    }
+
+    /// From now on nothing stands at the path. Takes no memory. Cost: a few searches; the entries behind are shifted.
+    pub fn remove(&mut self, path: &Path)
+        ensures { self.new ≡ finite.remove self.old path.now }
+    {
+        let used = self.blocks() - u128::from(self.weight(path));
+        let _ = self.entries.remove(path);
+        self.used = used;
+    }
+
+    /// Moves what stands at a path and below it: each path p/r becomes q/r. Cost: that of [`PathMap::relocate`]; where
+    /// something stands at or below the second path all blocks are counted anew.
+    pub fn relocate(&mut self, from: &Path, to: &Path) -> Result<(), Memory>
+        requires { is_too_deep from.now to.now (tree_in from.now (finite.entries self.old)) ≡ false }
+        ensures ok { OnOk result (self.new ≡ rehomed from.now to.now self.old) }
+        ensures err { OnErr result (self.new ≡ self.old) }
+    {
+        let is_free = self.entries.tree(to).is_empty();
+        self.entries.relocate(from, to)?;
+        if !is_free {
+            self.used = count(self.entries.entries());
+        }
+        Ok(())
+    }
+}
+
+/// Whether an entry's path, at or below the first path, would have more than 8 names once the first is the second.
+fn any_too_deep(entries: &[(Path, Extent)], from: &Path, to: &Path) -> bool
+    ensures { result ≡ list_any (λ e. nat_lt (8 + length from.now) (length e.0 + length to.now)) entries.now }
+{
+    let most = MOST_NAMES + from.depth();
+    let more = to.depth();
+    entries.iter().any(|entry| most < entry.0.depth() + more)
+}
+
+/// The blocks of all entries.
+fn count(entries: &[(Path, Extent)]) -> u128
+    ensures { result ≡ total_weight entries.now }
+{
+    let mut total = 0u128;
+    for entry in entries {
+        total += u128::from(entry.1.blocks());
+    }
+    total
+}
