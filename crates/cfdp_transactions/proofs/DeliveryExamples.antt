@@ -45,6 +45,11 @@ out_of_order : replies (file_world 15) (second_part ∷ first_part ∷ eof 10 0x
 unfolding blocks_of weighed_from
 out_of_order = refl
 
+-- the null checksum is not looked at, whatever the EOF says
+not_looked_at : replies (with_entry (fresh 10 (record (file 15) { checksum_type = 15 }) (Install (codes "f" ∷ []) ∷ []) 2 2)) (first_part ∷ second_part ∷ eof 10 0 15 ∷ []) ≡ Reply.Stored ∷ Reply.Stored ∷ Reply.Complete ∷ []
+unfolding blocks_of weighed_from
+not_looked_at = refl
+
 -- what is missing, before and after the EOF
 missing_first : gaps_of (run (file_world 15) (second_part ∷ [])) ≡ (0, 8) ∷ []
 missing_first = refl

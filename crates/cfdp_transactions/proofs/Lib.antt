@@ -33,6 +33,7 @@ pub mod DeliveryExamples
 pub mod RunExamples
 pub mod AdmissionExamples
 pub mod StepExamples
+pub mod ConfigExamples
 pub mod PieceRanges
 pub mod Writing
 pub mod Needs
@@ -62,4 +63,5 @@ pub mod Finished
 pub mod EofAnswers
 pub mod Equality
 pub mod Handing
+pub mod Standing
 pub mod RowGaps

@@ -27,3 +27,4 @@ pub mod Adding
 pub mod Items
 pub mod Taking
 pub mod Engine
+pub mod Beside

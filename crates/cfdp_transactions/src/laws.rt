@@ -4,6 +4,7 @@
 ghost use Rattle.cfdp_transactions.specs.LowerLaws.{LowerLaws};
 ghost use Rattle.cfdp_transactions.specs.Headline.{StartIsSound, NextIsSound, NextIsPromised, Headline};
 ghost use Rattle.cfdp_transactions.specs.Needs.{StepNeeds, DataNeeds, TakeNeeds, FollowsIsSound, OnlyTakeHandsOut};
+ghost use Rattle.cfdp_transactions.specs.Beside.{OnlyStepsChange};
 ghost use Rattle.cfdp_transactions.specs.Writable.{OutcomesFit, ReadIsReadable};
 
 pub mod received;
@@ -82,6 +83,11 @@ pub fn follows_is_sound()
 /// No reply but that to a request for the outcome hands one out.
 pub fn only_take_hands_out()
     ensures { OnlyTakeHandsOut }
+{}
+
+/// No event but a step changes what stands in the filestore.
+pub fn only_steps_change()
+    ensures { OnlyStepsChange }
 {}
 
 /// In a sound world, an entry in Executing has a next item, for which there are blocks and steps:

@@ -1,0 +1,5 @@
+use Rattle.cfdp_transactions.proofs.Standing as standing
+use Rattle.cfdp_transactions.proofs.laws.only_steps_change.Goals as goal
+
+pub returns : goal.returns
+returns c = standing.only_steps_change
