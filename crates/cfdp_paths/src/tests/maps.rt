@@ -49,6 +49,8 @@ fn changes(rt: HostRuntime) -> Result<(), Fail> {
     assert_eq!(rt; shown(alloc, &map)?.as_str(), "a=3 b=0 c=2 ");
     let b = Path::parse(alloc, b"b")?;
     assert!(rt; map.get(&b).is_some());
+    assert_eq!(rt; map.exchange(&b, 9), 0);
+    assert!(rt; map.get(&b).is_some());
     map.set(&b, 7);
     assert_eq!(rt; map.remove(&Path::parse(alloc, b"a")?), Some(3));
     assert_eq!(rt; map.remove(&Path::parse(alloc, b"a")?), None);
