@@ -1,9 +1,8 @@
 pub mod PresentLaws
 pub mod SummingLaws
 pub mod RowLaws
-pub mod ListLaws
+pub mod WeighedLaws
 pub mod ShownLaws
 pub mod SurveyLaws
 pub mod StagedLaws
-pub mod RelocatingLaws
 pub mod StoreLaws

@@ -1,49 +1,172 @@
--- What a change of one entry does to the paths and nodes that the entries show.
---     place_there         the place of a path that is found, and the path of the entry there
---     shown_exchanged     an entry with other content
---     shown_inserted      an entry more
---     shown_removed       an entry less
-use Rattle.std.proofs.Common.{◌≡◌, ◌≢◌, ℕ, suc, ◌<◌, true, List, ◌∷◌, ◌++◌, is_some, length, take, drop, set, get_or, sym, ap, ◌∙◌, arith}
-use Rattle.std.specs.FinMap.{put, is_sorted}
-use Rattle.std.specs.List.{insert, remove}
-use Rattle.std.proofs.Math.ListN.{get_or-map}
-use Rattle.std.proofs.lemmas.List.{map-set, map-append, length-map, take-map, drop-map}
-use Rattle.cfdp_paths.specs.Paths.{Path, path_cmp}
-use Rattle.cfdp_actions.specs.Filestore.{Node}
-use Rattle.cfdp_actions.specs.Ranks.{rank}
-use Rattle.cfdp_actions.specs.Listed.{node_of, shown_entry, shown, found}
-use Rattle.cfdp_actions.specs.declared.listed.Content.{Content}
-use Rattle.cfdp_actions.specs.declared.listed.Listed.{Listed}
-use Rattle.cfdp_actions.proofs.ListLaws.{put-there, put-new, there, without, without_at}
+-- What entries show: each change of the entries is that change of the paths and nodes that they show.
+--     shown_put, shown_where, shown_relocated    one entry put into its place;  those whose path passes a test;  a tree moved
+--     found_is, found_some, found_none           what stands at a path
+--     put-put, put-same                          a path put twice;  what stands there put again
+--     shown_twice                                 one entry put twice
+--     found_other, second_octets                  what stands at another path than the one that was put, and its octets
+--     stands, put_stands                          that something stands there
+--     shown_deep, shown_below                    whether a tree is too deep for another place;  whether anything stands below a path
+use Rattle.std.proofs.Common.{◌≡◌, ℕ, ◌||◌, Bool, true, false, not, nat_lt, if◌then◌else◌, List, [], ◌∷◌, Option, Some, None, is_some, length, refl, sym, ap, ◌∙◌, Bor, MatchOption, option_copied}
+use Rattle.std.specs.Cmp.{tied_itself}
+use Rattle.std.specs.FinMap.{find, put, is_sorted}
+use Rattle.std.specs.FinMap.Entries.{where_key, below_all, find-put}
+use Rattle.std.specs.Option.{option_map, IsSomeAnd}
+use Rattle.std.specs.declared.cmp.Ordering.TheVariants.{Less, Equal, Greater}
+use Rattle.std.proofs.lemmas.Bool.{and_parts, false≢true}
+use Rattle.cfdp_paths.specs.Paths.{Path, path_cmp, same_path, is_at_or_below, is_below, rebased}
+use Rattle.cfdp_paths.specs.PathMaps as maps
+use Rattle.cfdp_paths.proofs.Comparing.{same_path-Decides, path_cmp-total}
+use Rattle.cfdp_paths.proofs.InOrder.{put-less, put-equal, put-greater, find-less, find-equal, find-greater, below_before, not_in}
+use Rattle.cfdp_actions.specs.Actions.{is_too_deep}
+use Rattle.cfdp_actions.specs.Filestore.{Node, Directory, File, octets_in, is_file, is_directory}
+use Rattle.cfdp_actions.specs.Store.{kind_of, kind_in}
+use Rattle.cfdp_actions.specs.Listed.{Entries, node_of, shown, found}
+use Rattle.cfdp_actions.specs.declared.content.Content.{Content}
+use Rattle.cfdp_actions.specs.declared.kind.Kind.{Kind}
 
-module _ (ls : List Listed) (k : Path) (i : ℕ) (place : i ≡ rank k (shown ls)) where
-  pub place_within : (x : Path × Node) → is_sorted path_cmp (shown ls) ≡ true → is_some (found ls k) ≡ true → i < length ls
-  place_within x s p = omega (arith, place, (there k x.1 x (shown ls) s p).0, length-map ls shown_entry)
+abbrev shown_entry : Path × Content → Path × Node
+shown_entry e = (e.0, node_of e.1)
 
-  pub place_path : (x : Listed) → is_sorted path_cmp (shown ls) ≡ true → is_some (found ls k) ≡ true → x ≡ get_or ls i x → x.path ≡ k
-  place_path x s p e =
-      ap (λ (y : Listed). y.path) e ∙ ap (λ (y : Path × Node). y.0) (sym (get_or-map shown_entry ls i x))
-      ∙ ap (λ n. (get_or (shown ls) n (shown_entry x)).0) place ∙ (there k (shown_entry x).1 (shown_entry x) (shown ls) s p).1
+pub shown_put : (k : Path) (x : Content) (es : Entries) → shown (put path_cmp k x es) ≡ put path_cmp k (node_of x) (shown es)
+shown_put k x [] = refl
+shown_put k x (e ∷ es) =
+    elim (path_cmp k e.0) as (λ o. path_cmp k e.0 ≡ o → shown (put path_cmp k x (e ∷ es)) ≡ put path_cmp k (node_of x) (shown (e ∷ es))) [
+      | Less ↦ λ p. ap shown (put-less k x e es p) ∙ sym (put-less k (node_of x) (shown_entry e) (shown es) p)
+      | Equal ↦ λ p. ap shown (put-equal k x e es p) ∙ sym (put-equal k (node_of x) (shown_entry e) (shown es) p)
+      | Greater ↦ λ p. ap shown (put-greater k x e es p) ∙ ap (λ ys. shown_entry e ∷ ys) (shown_put k x es) ∙ sym (put-greater k (node_of x) (shown_entry e) (shown es) p)
+    ] refl
 
-  pub shown_exchanged : (x : Listed) (content : Content) → i < length ls → x ≡ get_or ls i x → x.path ≡ k → shown (set ls i record { path = x.path; content = content }) ≡ put path_cmp k (node_of content) (shown ls)
-  shown_exchanged x content h e same =
-      let e1 : shown_entry x ≡ get_or (shown ls) (rank k (shown ls)) (shown_entry x) = ap shown_entry e ∙ sym (get_or-map shown_entry ls i x) ∙ ap (λ n. get_or (shown ls) n (shown_entry x)) place in
-      let less : rank k (shown ls) < length (shown ls) = omega (arith, place, h, length-map ls shown_entry) in
-      map-set shown_entry ls i record { path = x.path; content = content }
-      ∙ ap (λ p. set (shown ls) i (p, node_of content)) same
-      ∙ ap (λ n. set (shown ls) n (k, node_of content)) place
-      ∙ sym (put-there k (node_of content) (shown_entry x) (shown ls) less (sym (ap (λ (y : Path × Node). y.0) e1) ∙ same))
+pub shown_where : (test : Path → Bool) (es : Entries) → shown (where_key path_cmp test es) ≡ where_key path_cmp test (shown es)
+shown_where test [] = refl
+shown_where test (e ∷ es) =
+    elim (test e.0) as (λ b. test e.0 ≡ b → shown (where_key path_cmp test (e ∷ es)) ≡ where_key path_cmp test (shown (e ∷ es))) [
+      | true ↦ λ p. rw p (ap (λ ys. shown_entry e ∷ ys) (shown_where test es))
+      | false ↦ λ p. rw p (shown_where test es)
+    ] refl
 
-  pub shown_inserted : (d : Listed) (content : Content) → (i < length ls → (get_or ls i d).path ≢ k) → shown (insert ls i record { path = k; content = content }) ≡ put path_cmp k (node_of content) (shown ls)
-  shown_inserted d content other =
-      map-append shown_entry (take i ls) (record { path = k; content = content } ∷ drop i ls)
-      ∙ ap (λ y. y ++ (k, node_of content) ∷ shown (drop i ls)) (sym (take-map shown_entry i ls))
-      ∙ ap (λ y. take i (shown ls) ++ (k, node_of content) ∷ y) (sym (drop-map shown_entry i ls))
-      ∙ ap (λ n. take n (shown ls) ++ (k, node_of content) ∷ drop n (shown ls)) place
-      ∙ sym (put-new k (node_of content) (shown_entry d) (shown ls) (λ less same. other (omega (arith, place, less, length-map ls shown_entry))
-      (ap (λ (y : Path × Node). y.0) (sym (get_or-map shown_entry ls i d)) ∙ ap (λ n. (get_or (shown ls) n (shown_entry d)).0) place ∙ same)))
+pub shown_without : (k : Path) (es : Entries) → shown (maps.without k es) ≡ maps.without k (shown es)
+shown_without k es = shown_where (λ x. not (same_path k x)) es
 
-  pub shown_removed : (x : Path × Node) → is_sorted path_cmp (shown ls) ≡ true → is_some (found ls k) ≡ true → shown (remove ls i) ≡ without k (shown ls)
-  shown_removed x s p =
-      map-append shown_entry (take i ls) (drop (suc i) ls) ∙ ap (λ y. y ++ shown (drop (suc i) ls)) (sym (take-map shown_entry i ls)) ∙ ap (λ y. take i (shown ls) ++ y) (sym (drop-map shown_entry (suc i) ls))
-      ∙ ap (λ n. take n (shown ls) ++ drop (suc n) (shown ls)) place ∙ sym (without_at k x.1 x (shown ls) s p)
+shown_puts : (es more : Entries) → shown (maps.puts es more) ≡ maps.puts (shown es) (shown more)
+shown_puts es [] = refl
+shown_puts es (e ∷ more) = shown_puts (put path_cmp e.0 e.1 es) more ∙ ap (λ ys. maps.puts ys (shown more)) (shown_put e.0 e.1 es)
+
+shown_moved : (p q : Path) (es : Entries) → shown (maps.moved_to p q es) ≡ maps.moved_to p q (shown es)
+shown_moved p q [] = refl
+shown_moved p q (e ∷ es) = ap (λ ys. (rebased p q e.0, node_of e.1) ∷ ys) (shown_moved p q es)
+
+pub shown_relocated : (p q : Path) (es : Entries)
+    → shown (maps.puts (maps.rest_in p es) (maps.moved_to p q (maps.tree_in p es))) ≡ maps.puts (maps.rest_in p (shown es)) (maps.moved_to p q (maps.tree_in p (shown es)))
+shown_relocated p q es =
+    shown_puts (maps.rest_in p es) (maps.moved_to p q (maps.tree_in p es))
+    ∙ ap (λ ys. maps.puts ys (shown (maps.moved_to p q (maps.tree_in p es)))) (shown_where (λ x. not (is_at_or_below x p)) es)
+    ∙ ap (maps.puts (maps.rest_in p (shown es))) (shown_moved p q (maps.tree_in p es) ∙ ap (maps.moved_to p q) (shown_where (λ x. is_at_or_below x p) es))
+
+-- ---- a path put again
+
+pub put-put : (k : Path) (v w : Node) (es : List (Path × Node)) → put path_cmp k v (put path_cmp k w es) ≡ put path_cmp k v es
+put-put k v w [] = put-equal k v (k, w) [] (tied_itself path_cmp-total k)
+put-put k v w (e ∷ es) =
+    elim (path_cmp k e.0) as (λ o. path_cmp k e.0 ≡ o → put path_cmp k v (put path_cmp k w (e ∷ es)) ≡ put path_cmp k v (e ∷ es)) [
+      | Less ↦ λ p. ap (put path_cmp k v) (put-less k w e es p) ∙ put-equal k v (k, w) (e ∷ es) (tied_itself path_cmp-total k) ∙ sym (put-less k v e es p)
+      | Equal ↦ λ p. ap (put path_cmp k v) (put-equal k w e es p) ∙ put-equal k v (e.0, w) es p ∙ sym (put-equal k v e es p)
+      | Greater ↦ λ p. ap (put path_cmp k v) (put-greater k w e es p) ∙ put-greater k v e (put path_cmp k w es) p ∙ ap (λ ys. e ∷ ys) (put-put k v w es) ∙ sym (put-greater k v e es p)
+    ] refl
+
+other_way : {u v : Node} → Some u ≡ Some v → v ≡ u
+other_way e = cc
+
+pub put-same : (k : Path) (v : Node) (es : List (Path × Node)) → is_sorted path_cmp es ≡ true → find path_cmp k es ≡ Some v → put path_cmp k v es ≡ es
+put-same k v [] s h = cc
+put-same k v (e ∷ es) s h =
+    let parts = and_parts (below_all path_cmp e.0 es) (is_sorted path_cmp es) s in
+    elim (path_cmp k e.0) as (λ o. path_cmp k e.0 ≡ o → put path_cmp k v (e ∷ es) ≡ e ∷ es) [
+      | Less ↦ λ p. let none : None ≡ Some v = sym (find-less k e es p ∙ not_in k es (below_before k e.0 es p parts.0)) ∙ h in cc
+      | Equal ↦ λ p. let same : Some e.1 ≡ Some v = sym (find-equal k e es p) ∙ h in put-equal k v e es p ∙ ap (λ u. (e.0, u) ∷ es) (other_way same)
+      | Greater ↦ λ p. put-greater k v e es p ∙ ap (λ ys. e ∷ ys) (put-same k v es parts.1 (sym (find-greater k e es p) ∙ h))
+    ] refl
+
+-- ---- look-ups
+
+pub found_is : (k : Path) (es : Entries) → found es k ≡ option_map node_of (find path_cmp k es)
+found_is k [] = refl
+found_is k (e ∷ es) =
+    elim (path_cmp k e.0) as (λ o. path_cmp k e.0 ≡ o → found (e ∷ es) k ≡ option_map node_of (find path_cmp k (e ∷ es))) [
+      | Less ↦ λ p. find-less k (shown_entry e) (shown es) p ∙ found_is k es ∙ sym (ap (option_map node_of) (find-less k e es p))
+      | Equal ↦ λ p. find-equal k (shown_entry e) (shown es) p ∙ sym (ap (option_map node_of) (find-equal k e es p))
+      | Greater ↦ λ p. find-greater k (shown_entry e) (shown es) p ∙ found_is k es ∙ sym (ap (option_map node_of) (find-greater k e es p))
+    ] refl
+
+pub found_some : (k : Path) (es : Entries) (x : Content) → Some x ≡ find path_cmp k es → found es k ≡ Some (node_of x)
+found_some k es x h = found_is k es ∙ sym (ap (option_map node_of) h)
+
+pub found_none : (k : Path) (es : Entries) → None ≡ find path_cmp k es → found es k ≡ None
+found_none k es h = found_is k es ∙ sym (ap (option_map node_of) h)
+
+pub shown_deep : (p q : Path) (es : Entries) → maps.is_too_deep p q es ≡ is_too_deep p q (shown es)
+shown_deep p q [] = refl
+shown_deep p q (e ∷ es) = ap (λ b. nat_lt 8 (length (rebased p q e.0)) || b) (shown_deep p q es)
+
+pub shown_below : (q : Path) (es : Entries) → maps.any_below q es ≡ maps.any_below q (shown es)
+shown_below q [] = refl
+shown_below q (e ∷ es) = ap (λ b. is_below e.0 q || b) (shown_below q es)
+
+pub found_other : (k q : Path) (x : Content) (es : Entries) → same_path q k ≡ false → found (put path_cmp k x es) q ≡ found es q
+found_other k q x es other =
+    ap (find path_cmp q) (shown_put k x es) ∙ find-put path_cmp path_cmp-total q k (node_of x) (shown es) ∙ ap (λ b. if b then Some (node_of x) else found es q) other
+
+pub shown_twice : (k : Path) (x w : Content) (es es1 es2 : Entries) → es1 ≡ put path_cmp k w es → es2 ≡ put path_cmp k x es1 → shown es2 ≡ put path_cmp k (node_of x) (shown es)
+shown_twice k x w es es1 es2 first second =
+    ap shown second ∙ shown_put k x es1 ∙ ap (put path_cmp k (node_of x)) (ap shown first ∙ shown_put k w es) ∙ put-put k (node_of x) (node_of w) (shown es)
+
+pub same_path-comm : (p q : Path) → same_path p q ≡ same_path q p
+same_path-comm p q = both_ways (same_path p q) (same_path q p) (λ h. (same_path-Decides q p).1 (sym ((same_path-Decides p q).0 h))) (λ h. (same_path-Decides p q).1 (sym ((same_path-Decides q p).0 h)))
+  where
+    both_ways : (a b : Bool) → (a ≡ true → b ≡ true) → (b ≡ true → a ≡ true) → a ≡ b
+    both_ways true b f g = sym (f refl)
+    both_ways false true f g = g refl
+    both_ways false false f g = refl
+
+-- the octets at q, which may be those of k, at which something else was put
+pub second_octets : (b : Bool) (k q : Path) (w : Content) (es es1 : Entries) (octets : List ℕ) → b ≡ same_path k q → es1 ≡ put path_cmp k w es → octets ≡ octets_in (found es k)
+    → (if b then octets else octets_in (found es1 q)) ≡ octets_in (found es q)
+second_octets true k q w es es1 octets e first front = front ∙ ap (λ p. octets_in (found es p)) ((same_path-Decides k q).0 (sym e))
+second_octets false k q w es es1 octets e first front = ap (λ ys. octets_in (found ys q)) first ∙ ap octets_in (found_other k q w es (same_path-comm q k ∙ sym e))
+
+is_some-map : (o : Option Content) → is_some (option_map node_of o) ≡ is_some o
+is_some-map None = refl
+is_some-map (Some x) = refl
+
+pub stands : (k : Path) (es : Entries) → is_some (found es k) ≡ true → is_some (find path_cmp k es) ≡ true
+stands k es h = sym (ap is_some (found_is k es) ∙ is_some-map (find path_cmp k es)) ∙ h
+
+pub put_stands : (k : Path) (x : Content) (es es1 : Entries) → es1 ≡ put path_cmp k x es → is_some (find path_cmp k es1) ≡ true
+put_stands k x es es1 e =
+    ap (λ ys. is_some (find path_cmp k ys)) e ∙ ap is_some (find-put path_cmp path_cmp-total k k x es) ∙ ap (λ b. is_some (if b then Some x else find path_cmp k es)) ((same_path-Decides k k).1 refl)
+
+pub file_there : (o : Option Node) → is_file o ≡ true → is_some o ≡ true
+file_there None h = cc
+file_there (Some node) h = refl
+
+pub file_is : (o : Option Node) → is_file o ≡ true → o ≡ Some (File (octets_in o))
+file_is None h = cc
+file_is (Some Directory) h = cc
+file_is (Some (File octets)) h = refl
+
+-- ---- answers of a look-up
+
+pub kind_answers : (o : Option (Bor Content)) (r : Option Kind) (k : Path) (es : Entries) → MatchOption o (r ≡ None) (λ x. IsSomeAnd r (λ y. y ≡ kind_of (node_of x.now)))
+    → option_copied o ≡ find path_cmp k es → r ≡ kind_in (found es k)
+kind_answers None r k es cases e = cases ∙ sym (ap kind_in (found_none k es e))
+kind_answers (Some x) None k es cases e = absurd cases
+kind_answers (Some x) (Some y) k es cases e = ap Some cases ∙ sym (ap kind_in (found_some k es x.now e))
+
+pub directory_answers : (o : Option (Bor Content)) (r : Bool) (k : Path) (es : Entries) → MatchOption o (r ≡ false) (λ x. r ≡ is_directory (Some (node_of x.now)))
+    → option_copied o ≡ find path_cmp k es → r ≡ is_directory (found es k)
+directory_answers None r k es cases e = cases ∙ sym (ap is_directory (found_none k es e))
+directory_answers (Some x) r k es cases e = cases ∙ sym (ap is_directory (found_some k es x.now e))
+
+-- b is whether there is an answer
+pub found_absent : (k : Path) (es : Entries) (o : Option (Bor Content)) (b : Bool) → option_copied o ≡ find path_cmp k es → b ≡ is_some o → b ≡ false → found es k ≡ None
+found_absent k es None b e is h = found_none k es e
+found_absent k es (Some x) b e is h = absurd (false≢true (sym h ∙ is))

@@ -5,6 +5,4 @@ pub mod Prefixes
 pub mod Performing
 pub mod Listed
 pub mod Codes
-pub mod Ranks
-pub mod Relocating
 pub mod Sources

@@ -1,19 +1,18 @@
 //! The filestore, and the filestore requests of CFDP performed on it (CCSDS 727.0-B-5 §4.9).
 //!
 //! A store is anything that meets the trait [`Filestore`]: contracts see it as a finite map from paths to files and
-//! directories, 64 staged lists and a capacity in blocks. [`ListStore`] keeps it in a plain list. [`perform`] does what
+//! directories, 64 staged lists and a capacity in blocks. [`ListStore`] keeps it in one list in path order. [`perform`] does what
 //! the action table of `specs/Actions.antt` says, over any store, except at the prefixes that are [`Protected`].
 #![tactic(auto)]
 
 mod blocks;
 mod checksum;
+mod content;
 mod filestore;
 mod kind;
 mod list_store;
-mod listed;
 mod performed;
 mod protected;
-mod relocating;
 mod request;
 mod rows;
 mod staging;

@@ -1,31 +1,32 @@
-//! A store that is kept in a plain list.
+//! A store that is kept in one list, in path order.
 
 ghost use Rattle.std.specs.Prelude.{◌≡◌, ◌+◌, ◌≤◌, false, length, slice_range, IfOk};
 ghost use Rattle.cfdp_actions.specs.Store.{empty_store};
 
 use crate::blocks::blocks_of;
-use crate::listed::{Content, Listed};
-use crate::{Entry, Filestore, Kind, Standing, listed, relocating, staging, survey};
-use cfdp_paths::{Memory, Path};
+use crate::content::{Content, Growth, append, octets_at};
+use crate::{Entry, Filestore, Kind, Standing, staging, survey};
+use cfdp_paths::{Memory, Path, PathMap};
 use std::alloc::Global;
 use std::marker::Model;
 
 /// How many slots for staged lists a store has.
 pub const SLOTS: usize = 64;
 
-/// A store that keeps its paths in a plain list, in path order: the program that other stores are measured by.
+/// A store that keeps its paths in one list, in path order: the program that other stores are measured by.
 ///
-/// Most of its changes take memory. Cost: a look-up goes through the list up to its path, or through all of it where
-/// nothing stands there; `make_file`, `make_dir`, `remove`, and an `install` where nothing stood, also move what stands
-/// after the path. `free`, `has_entries`, `deepest`, `standing` and `listing` go through the list once at most, `rename` a
-/// few times and once more for each path that it moves. Octets are copied by `read`, `read_staged` and `stage_put`, which
-/// copy those that they are asked for, by `append` and `replace`, which make the first file's new octets anew, and by
-/// `stage_extend`, where the staged list has to move to grow; `listing` reads all octets, for the checksums. A staged list
-/// is moved into its file, not copied.
+/// Most of its changes take memory. Cost: a call searches for each path that it names, by halves, and makes none to look
+/// one up; `free` is one subtraction. `make_file`, `make_dir`, `remove`, and an `install` where nothing stood, also move
+/// the entries after the path, and `rename` a few times those between the two paths and after them. `deepest` and
+/// `standing` go through what stands at and below the path, `listing` through the whole list, with all octets for the
+/// checksums. Octets are copied by `read`, `read_staged` and `stage_put`, which copy those that they are asked for, by
+/// `append` and `replace`, which copy the second file's, and where the first file of an `append` or the list of a
+/// `stage_extend` has to move to grow. A staged list is moved into its file, not copied.
 #[derive(Drop)]
 pub struct ListStore {
-    entries: Vec<Listed>,
+    entries: PathMap<Content>,
     staged: Vec<Vec<u8>>,
+    used: u32,
     capacity: u32,
 }
 
@@ -39,9 +40,9 @@ impl Model for ListStore {
 
     ghost use Rattle.cfdp_actions.specs.Listed.{store_of, IsKept};
 
-    ghost view = { λ s. store_of s.entries.items s.staged.items s.capacity };
+    ghost view = { λ s. store_of s.entries s.staged.items s.capacity };
 
-    ghost invariant = { λ s. IsKept s.entries.items s.staged.items s.capacity };
+    ghost invariant = { λ s. IsKept s.entries s.staged.items s.used s.capacity };
 }
 
 impl ListStore {
@@ -60,8 +61,9 @@ impl ListStore {
             staged.push(Vec::new(alloc))?;
         }
         Ok(ListStore {
-            entries: Vec::new(alloc),
+            entries: PathMap::new(alloc),
             staged,
+            used: 0,
             capacity: blocks,
         })
     }
@@ -80,30 +82,33 @@ impl Filestore for ListStore {
     ghost state = { λ s. s };
 
     fn kind(&self, path: &Path) -> Option<Kind> {
-        match listed::find(&self.entries, path) {
-            Some(content) => Some(content.kind()),
-            None => None,
-        }
+        self.entries.get(path).map(Content::kind)
     }
 
     fn parent_is_good(&self, path: &Path) -> bool {
-        survey::parent_is_good(&self.entries, path)
+        let depth = path.depth() - 1;
+        if depth == 0 {
+            return true;
+        }
+        self.entries
+            .get_beginning(path, depth)
+            .is_some_and(Content::is_directory)
     }
 
     fn has_entries(&self, path: &Path) -> bool {
-        survey::has_entries(&self.entries, path)
+        self.entries.has_below(path)
     }
 
     fn size(&self, path: &Path) -> u64 {
-        listed::octets_at(&self.entries, path).len() as u64
+        octets_at(&self.entries, path).len() as u64
     }
 
     fn read(&self, path: &Path, at: u64, buffer: &mut [u8]) {
-        copy_out(listed::octets_at(&self.entries, path), at as usize, buffer);
+        copy_out(octets_at(&self.entries, path), at as usize, buffer);
     }
 
     fn deepest(&self, path: &Path) -> u8 {
-        survey::deepest(&self.entries, path)
+        survey::deepest(self.entries.tree(path))
     }
 
     fn staged_size(&self, slot: u8) -> u64 {
@@ -116,7 +121,7 @@ impl Filestore for ListStore {
     }
 
     fn free(&self) -> u32 {
-        self.capacity - survey::used(&self.entries, &self.staged)
+        self.capacity - self.used
     }
 
     fn takes_no_memory(&self) -> bool {
@@ -125,59 +130,62 @@ impl Filestore for ListStore {
     }
 
     fn listing(&self, alloc: Global) -> Result<Vec<Entry>, Memory> {
-        survey::listing(&self.entries, alloc)
+        survey::listing(alloc, self.entries.entries())
     }
 
     fn standing(&self, alloc: Global, path: &Path) -> Result<Vec<Standing>, Memory> {
-        survey::standing(&self.entries, alloc, path)
+        survey::standing(alloc, self.entries.tree(path))
     }
 
     fn make_file(&mut self, path: &Path) -> Result<u32, Memory> {
-        let alloc = *self.entries.allocator();
+        let alloc = *self.staged.allocator();
         let file = Content::File(Vec::new(alloc));
-        listed::put(&mut self.entries, path.copy(alloc)?, file)?;
+        self.entries.insert(path.copy(alloc)?, file)?;
+        self.used += 1;
         Ok(1)
     }
 
     fn make_dir(&mut self, path: &Path) -> Result<u32, Memory> {
-        let alloc = *self.entries.allocator();
-        listed::put(&mut self.entries, path.copy(alloc)?, Content::Directory)?;
+        let alloc = *self.staged.allocator();
+        self.entries.insert(path.copy(alloc)?, Content::Directory)?;
+        self.used += 1;
         Ok(1)
     }
 
     fn remove(&mut self, path: &Path) -> Result<u32, Memory> {
-        let blocks = listed::blocks_at(&self.entries, path);
-        listed::withdraw(&mut self.entries, path);
+        let removed = self.entries.remove(path).unwrap();
+        let blocks = removed.blocks();
+        self.used -= blocks;
         Ok(blocks)
     }
 
     fn rename(&mut self, from: &Path, to: &Path) -> Result<u32, Memory> {
-        relocating::relocate(&mut self.entries, from, to)?;
+        let overwrites = self.entries.has_below(to);
+        self.entries.relocate(from, to)?;
+        if overwrites {
+            self.used = survey::blocks_in(self.entries.entries(), &self.staged);
+        }
         Ok(0)
     }
 
     fn append(&mut self, first: &Path, second: &Path) -> Result<u32, Memory> {
-        let alloc = *self.entries.allocator();
-        let front = listed::octets_at(&self.entries, first);
-        let back = listed::octets_at(&self.entries, second);
-        let size = front.len() as u64;
-        let added = back.len() as u64;
-        let ticks = blocks_of(size + added) - blocks_of(size) + blocks_of(added);
-        let octets = listed::joined(alloc, front, back)?;
-        listed::exchange(&mut self.entries, first, Content::File(octets));
-        Ok(ticks)
+        let alloc = *self.staged.allocator();
+        let Growth { from, to } = append(&mut self.entries, alloc, first, second)?;
+        let taken = blocks_of(to) - blocks_of(from);
+        self.used += taken;
+        Ok(taken + blocks_of(to - from))
     }
 
     fn replace(&mut self, first: &Path, second: &Path) -> Result<u32, Memory> {
-        let given = blocks_of(listed::octets_at(&self.entries, first).len() as u64);
         if first == second {
             return Ok(0);
         }
-        let alloc = *self.entries.allocator();
-        let octets = listed::octets_at(&self.entries, second);
+        let alloc = *self.staged.allocator();
+        let octets = Vec::from_slice(alloc, octets_at(&self.entries, second))?;
         let taken = blocks_of(octets.len() as u64);
-        let copy = Vec::from_slice(alloc, octets)?;
-        listed::exchange(&mut self.entries, first, Content::File(copy));
+        let old = self.entries.exchange(first, Content::File(octets));
+        let given = blocks_of(old.octets().len() as u64);
+        self.used = self.used + taken - given;
         Ok(given + 2 * taken)
     }
 
@@ -186,6 +194,7 @@ impl Filestore for ListStore {
         let old = blocks_of(self.staged[slot].len() as u64);
         let ticks = blocks_of(size) - old;
         staging::extend(&mut self.staged, slot, size as usize)?;
+        self.used += ticks;
         Ok(ticks)
     }
 
@@ -194,28 +203,28 @@ impl Filestore for ListStore {
     }
 
     fn unstage(&mut self, slot: u8) -> u32 {
-        let alloc = *self.entries.allocator();
+        let alloc = *self.staged.allocator();
         let dropped = staging::take_list(&mut self.staged, usize::from(slot), alloc);
-        blocks_of(dropped.len() as u64)
+        let given = blocks_of(dropped.len() as u64);
+        self.used -= given;
+        given
     }
 
     fn install(&mut self, slot: u8, path: &Path) -> Result<u32, Memory> {
-        let alloc = *self.entries.allocator();
+        let alloc = *self.staged.allocator();
         let slot = usize::from(slot);
-        match listed::find(&self.entries, path) {
-            Some(content) => {
-                let given = blocks_of(content.octets().len() as u64);
-                let octets = staging::take_list(&mut self.staged, slot, alloc);
-                listed::exchange(&mut self.entries, path, Content::File(octets));
-                Ok(given)
-            }
-            None => {
-                let copy = path.copy(alloc)?;
-                self.entries.reserve(1)?;
-                let octets = staging::take_list(&mut self.staged, slot, alloc);
-                listed::put_reserved(&mut self.entries, copy, Content::File(octets));
-                Ok(1)
-            }
+        if self.entries.get(path).is_some() {
+            let octets = staging::take_list(&mut self.staged, slot, alloc);
+            let old = self.entries.exchange(path, Content::File(octets));
+            let given = blocks_of(old.octets().len() as u64);
+            self.used -= given;
+            return Ok(given);
         }
+        let empty = Content::File(Vec::new(alloc));
+        self.entries.insert(path.copy(alloc)?, empty)?;
+        let octets = staging::take_list(&mut self.staged, slot, alloc);
+        self.entries.set(path, Content::File(octets));
+        self.used += 1;
+        Ok(1)
     }
 }

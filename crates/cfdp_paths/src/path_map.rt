@@ -10,6 +10,7 @@ use crate::relocating::relocate;
 use crate::{Memory, Path};
 use std::alloc::Global;
 use std::marker::Model;
+use std::mem;
 
 /// A map from paths to values, in path order: what stands at and below a path is one piece of it.
 ///
@@ -79,6 +80,16 @@ impl<T: Drop> PathMap<T> {
 }
 
 impl<T> PathMap<T> {
+    /// Puts another value at a path that has one, and answers the one that stood there. Takes no memory. Cost: one search.
+    pub fn exchange(&mut self, path: &Path, value: T) -> T
+        requires { IsSome (find path_cmp path.now self.old) }
+        ensures old { find path_cmp path.now self.old ≡ Some result }
+        ensures put { self.new ≡ put path_cmp path.now value self.old }
+    {
+        let place = find_place(&self.entries, path, path.depth()).unwrap();
+        mem::replace(&mut self.entries[place].1, value)
+    }
+
     /// A map with no entry. Takes no memory.
     pub fn new(alloc: Global) -> PathMap<T>
         ensures { result ≡ [] }

@@ -75,15 +75,19 @@ fn beginnings(rt: HostRuntime) -> Result<(), Fail> {
     Ok(())
 }
 
-/// A map of three, after a value was set and an entry was taken out twice.
+/// A map of three, after a value was exchanged and set, and an entry was taken out twice.
 fn changed(alloc: Global) -> Result<String, PathFault> {
     let mut map = map_of(alloc, &[b"b", b"a", b"c", b"a"])?;
     let a = Path::parse(alloc, b"a")?;
     let b = Path::parse(alloc, b"b")?;
+    let mut was = None;
     if map.get(&b).is_some() {
+        was = Some(map.exchange(&b, 9));
+    }
+    if map.get(&b) == Some(&9) {
         map.set(&b, 7);
     }
-    let taken = (map.remove(&a), map.remove(&a));
+    let taken = (was, map.remove(&a), map.remove(&a));
     Ok(format!(in alloc; "{taken:?} {:?}", map.entries())?)
 }
 
@@ -91,7 +95,7 @@ fn changed(alloc: Global) -> Result<String, PathFault> {
 fn changes(rt: HostRuntime) -> Result<(), Fail> {
     let found = changed(rt.alloc())?;
     assert!(rt;
-        found.as_str() == "(Some(3), None) [(b, 7), (c, 2)]",
+        found.as_str() == "(Some(0), Some(3), None) [(b, 7), (c, 2)]",
         "{found}"
     );
     Ok(())

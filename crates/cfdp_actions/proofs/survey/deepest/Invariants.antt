@@ -1,11 +1,7 @@
 use Rattle.std.proofs.Common.{◌≡◌, ◌≤◌, max, drop}
-use Rattle.std.specs.FinMap.Entries.{where_key}
-use Rattle.cfdp_paths.specs.Paths.{path_cmp, is_at_or_below}
 use Rattle.cfdp_actions.specs.Filestore.{deepest_of}
 use Rattle.cfdp_actions.specs.Listed.{shown}
 use Rattle.cfdp_actions.proofs.survey.deepest.Given as goal
 
 abbrev pub invariant-loop-entry : goal.invariant-loop-entry
-invariant-loop-entry l =
-    (max l.deepest (deepest_of (where_key path_cmp (λ q. is_at_or_below q l.path) (shown (drop l.entry-index l.entries))))
-    ≡ deepest_of (where_key path_cmp (λ q. is_at_or_below q l.path) (shown l.entries))) × (l.deepest ≤ 8)
+invariant-loop-entry l = (max l.deepest (deepest_of (shown (drop l.entry-index l.entries))) ≡ deepest_of (shown l.entries)) × (l.deepest ≤ 8)

@@ -12,16 +12,17 @@ invariant_of-result c =
     let all : c.loop-slot._slot ≡ 64 = omega (arith, c.loop-slot-test.false, c.loop-slot.auto._slot-end) in
     let lists = empty_lists c.loop-slot.staged.items c.loop-slot._slot c.loop-slot.invariant in
     let count = ap (λ (xs : List (List ℕ)). length xs) c.loop-slot.invariant in
-    subst (λ ls. IsKept ls c.loop-slot.staged.items c.args.blocks) (sym c.new-2.ensures.items) (record {
+    subst (λ es. IsKept es c.loop-slot.staged.items 0 c.args.blocks) (sym c.new-2.ensures) (record {
       sorted = refl;
       slots = omega (arith, all, count, length-map c.loop-slot.staged.items (λ vector. vector.items), length-replicate {A = List ℕ} c.loop-slot._slot []);
-      fits = omega (arith, lists);
+      counted = omega (arith, lists);
+      fits = omega arith;
       small = c.requires.few;
     })
 
 pub returns : goal.returns
 returns c =
     let all : c.loop-slot._slot ≡ 64 = omega (arith, c.loop-slot-test.false, c.loop-slot.auto._slot-end) in
-    ap (λ ls. store_of ls c.loop-slot.staged.items c.args.blocks) c.new-2.ensures.items
+    ap (λ es. store_of es c.loop-slot.staged.items c.args.blocks) c.new-2.ensures
     ∙ ap (λ (m : finite.FinMap path_cmp Node). record { filestore = record { nodes = m; staged = octets_of c.loop-slot.staged.items }; capacity = c.args.blocks; takes_no_memory = false }) empty_nodes
     ∙ ap (λ (lists : List (List ℕ)). record { filestore = record { nodes = finite.empty; staged = lists }; capacity = c.args.blocks; takes_no_memory = false }) (c.loop-slot.invariant ∙ ap (λ n. replicate n []) all)

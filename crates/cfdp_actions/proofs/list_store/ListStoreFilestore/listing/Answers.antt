@@ -6,5 +6,5 @@ use Rattle.cfdp_actions.proofs.list_store.ListStoreFilestore.listing.Goals as go
 
 pub returns : goal.returns
 returns c =
-    let all = ap (λ ls. map entry_of (shown ls)) c.deref.ensures.value ∙ ap (map entry_of) (sym (seen_entries _ _ _ c.self.invariant _ c.self.view_is)) in
+    let all = ap (λ es. map entry_of (shown es)) c.entries.ensures.entries ∙ ap (map entry_of) (sym (seen_entries _ _ _ _ c.self.invariant _ c.self.view_is)) in
     subst (λ xs. IfOk c.listing.result (λ entries. entries.items ≡ xs)) all c.listing.ensures

@@ -1,6 +1,6 @@
 use Rattle.std.proofs.Common.{arith, length}
 use Rattle.cfdp_actions.proofs.SurveyLaws.{weights_next, lists_next, blocks_of-bound}
-use Rattle.cfdp_actions.proofs.survey.used.Goals as goal
+use Rattle.cfdp_actions.proofs.survey.blocks_in.Goals as goal
 
 pub blocks-blocks-requires : goal.blocks-blocks-requires
 blocks-blocks-requires c = omega (arith, weights_next _ _ _ c.loop-entry-test.true c.entry-item.is, c.requires, c.loop-entry.invariant)

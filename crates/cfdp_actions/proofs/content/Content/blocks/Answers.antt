@@ -2,7 +2,7 @@ use Rattle.std.proofs.Common.{◌≤◌, Some, length, subst, arith}
 use Rattle.cfdp_actions.specs.Filestore.{weight}
 use Rattle.cfdp_actions.specs.Listed.{node_of}
 use Rattle.cfdp_actions.proofs.SurveyLaws.{blocks_of-bound}
-use Rattle.cfdp_actions.proofs.listed.Content.blocks.Goals as goal
+use Rattle.cfdp_actions.proofs.content.Content.blocks.Goals as goal
 
 pub blocks_of-requires : goal.blocks_of-requires
 blocks_of-requires c =

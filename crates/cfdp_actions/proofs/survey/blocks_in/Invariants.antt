@@ -1,7 +1,7 @@
 use Rattle.std.proofs.Common.{◌≡◌, ◌+◌, drop, sum_by, length}
 use Rattle.cfdp_actions.specs.Filestore.{weights, blocks_of}
 use Rattle.cfdp_actions.specs.Listed.{shown, octets_of}
-use Rattle.cfdp_actions.proofs.survey.used.Given as goal
+use Rattle.cfdp_actions.proofs.survey.blocks_in.Given as goal
 
 abbrev pub invariant-loop-entry : goal.invariant-loop-entry
 invariant-loop-entry l = l.blocks + weights (shown (drop l.entry-index l.entries)) ≡ weights (shown l.entries)
