@@ -1,5 +1,5 @@
 //! The link of a free block: the number of the next free one, in the block's first two octets, the low octet first.
-ghost use Rattle.std.specs.Prelude.{◌≡◌, ◌<◌, length};
+ghost use Rattle.std.specs.Prelude.{◌≡◌, ◌<◌};
 ghost use Rattle.cfdp_arena.specs.FreeList.{link};
 ghost use Rattle.cfdp_arena.specs.Blocks.{blank_block};
 
@@ -10,7 +10,7 @@ pub(crate) fn next_free(block: &Block) -> u32
     ensures value { result ≡ link block.now }
     ensures small { result < 65536 }
 {
-    u32::from(block[0]) + 256 * u32::from(block[1])
+    u32::from(u16::from_le_bytes([block[0], block[1]]))
 }
 
 /// Links a free block to the free block `next`.
@@ -18,8 +18,9 @@ pub(crate) fn link_to(block: &mut Block, next: u32)
     requires small { next < 65536 }
     ensures linked { link block.new ≡ next }
 {
-    block[0] = (next % 256) as u8;
-    block[1] = (next / 256) as u8;
+    let [low, high] = (next as u16).to_le_bytes();
+    block[0] = low;
+    block[1] = high;
 }
 
 /// Sets every octet of a block to 0.

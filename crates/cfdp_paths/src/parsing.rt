@@ -2,7 +2,7 @@
 
 ghost use Rattle.std.specs.Prelude.{◌≡◌, ◌||◌, [], ◌∷◌};
 ghost use Rattle.cfdp_paths.specs.Faults.{fault_of, fault_of_name};
-ghost use Rattle.cfdp_paths.specs.Paths.{dot, is_slash, same_name, without_slash};
+ghost use Rattle.cfdp_paths.specs.Paths.{dot, same_name, without_slash};
 
 use crate::fault::PathFault;
 use crate::{LONGEST_NAME, MOST_NAMES};

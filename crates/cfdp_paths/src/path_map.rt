@@ -1,6 +1,6 @@
 //! Maps by path.
 
-ghost use Rattle.std.specs.Prelude.{◌≡◌, ◌+◌, ◌<◌, ◌≤◌, vec_len, vec_capacity, IsSome, IfSome, IfNone, None, IsOk, IfOk, OnOk, OnErr, not, false, List, [], length, take, drop, map, option_copied};
+ghost use Rattle.std.specs.Prelude.{◌≡◌, ◌+◌, ◌<◌, ◌≤◌, vec_len, vec_capacity, IsSome, IfSome, IfNone, None, IsOk, OnOk, OnErr, not, false, List, [], length, take, option_copied};
 ghost use Rattle.std.specs.FinMap.{find, put};
 ghost use Rattle.std.specs.List.{list_any};
 ghost use Rattle.cfdp_paths.specs.Paths.{path_cmp, same_path, is_at_or_below};

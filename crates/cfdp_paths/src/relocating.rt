@@ -1,10 +1,8 @@
 //! Moves of what stands at and below a path, in entries in path order.
 
-ghost use Rattle.std.specs.Prelude.{◌≡◌, ◌+◌, ◌≤◌, false, true, IsTrue, IfOk, OnOk, OnErr, [], ◌++◌, length, take, drop, map, vec_len, vec_capacity};
+ghost use Rattle.std.specs.Prelude.{◌≡◌, ◌+◌, ◌≤◌, false, IsTrue, IfOk, OnOk, OnErr, [], ◌++◌, length, take, drop, map, vec_len, vec_capacity};
 ghost use Rattle.std.specs.List.{list_all, between};
-ghost use Rattle.std.specs.FinMap.{put};
-ghost use Rattle.std.specs.VecDeque.{deque_len};
-ghost use Rattle.cfdp_paths.specs.Paths.{path_cmp, is_at_or_below, rebased};
+ghost use Rattle.cfdp_paths.specs.Paths.{is_at_or_below, rebased};
 ghost use Rattle.cfdp_paths.specs.PathMaps.{IsOrdered, tree_in, rest_in, puts, moved_to, with_paths, is_too_deep};
 
 use crate::path_map::{piece, put_reserved};

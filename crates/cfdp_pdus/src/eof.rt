@@ -15,7 +15,7 @@ use crate::put::{fault_len, header_len, push_fault, push_header, push_number};
 use crate::{Header, PduFault, WriteFault};
 
 /// An EOF PDU's data field (CCSDS 727.0-B-5 §5.2.2), its fault location apart.
-#[derive(Clone, Copy, Debug, PartialEq, Eq, Hash)]
+#[derive(Clone, Copy, Debug, PartialEq, Eq)]
 pub struct Eof {
     /// The condition code, 0 to 15.
     pub condition: u8,

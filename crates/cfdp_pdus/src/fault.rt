@@ -7,7 +7,7 @@ use std::error::Error;
 use std::fmt;
 
 /// Why a PDU was not read.
-#[derive(Clone, Copy, Debug, PartialEq, Eq, Hash)]
+#[derive(Clone, Copy, Debug, PartialEq, Eq)]
 pub enum PduFault {
     /// The octets end before the PDU does.
     Truncated,
@@ -60,7 +60,7 @@ impl From<AllocError> for PduFault {
 }
 
 /// Why a PDU was not written.
-#[derive(Clone, Copy, Debug, PartialEq, Eq, Hash)]
+#[derive(Clone, Copy, Debug, PartialEq, Eq)]
 pub enum WriteFault {
     /// A name or a value has more than 255 octets, or the data field more than 65,535.
     TooLong,

@@ -1,6 +1,6 @@
 //! The File Data PDU, which brings a piece of the file.
 
-ghost use Rattle.std.specs.Prelude.{◌≡◌, ◌≤◌, ◌<◌, ◌+◌, ◌⊎◌, ◌↔◌, ◌++◌, length, vec_len, min, Bool, true, false, nat_le, IfErr, OnOk, OnErr, IsErrOf, IsOk};
+ghost use Rattle.std.specs.Prelude.{◌≡◌, ◌≤◌, ◌<◌, ◌+◌, ◌⊎◌, ◌↔◌, ◌++◌, length, vec_len, true, false, IfErr, OnOk, OnErr, IsErrOf, IsOk};
 ghost use Rattle.std.specs.Vec.{vec_capacity};
 ghost use Rattle.cfdp_tlv.specs.Reading.{Answers, Gives};
 ghost use Rattle.cfdp_pdus.specs.First.{behind_segment, file_data_at};

@@ -1,13 +1,12 @@
 //! The Finished PDU, which tells the sender how a transaction went.
 
-ghost use Rattle.std.specs.Prelude.{◌≡◌, ◌≤◌, ◌<◌, ◌+◌, ◌^◌, ◌⊎◌, ◌↔◌, ◌++◌, length, vec_len, min, Bool, true, false, nat_le, IfErr, OnOk, OnErr, IsErrOf, IsOk};
+ghost use Rattle.std.specs.Prelude.{◌≡◌, ◌≤◌, ◌<◌, ◌+◌, ◌⊎◌, ◌↔◌, ◌++◌, length, vec_len, min, true, false, IfErr, OnOk, OnErr, IsErrOf, IsOk};
 ghost use Rattle.std.specs.List.{flat_map, list_all};
-ghost use Rattle.std.specs.Option.{ForSome};
 ghost use Rattle.std.specs.Vec.{vec_capacity};
 ghost use Rattle.cfdp_pdus.specs.Equality.{same_codes};
 ghost use Rattle.cfdp_tlv.specs.Reading.{Gives};
 ghost use Rattle.cfdp_pdus.specs.First.{finished_at};
-ghost use Rattle.cfdp_pdus.specs.Canonical.{IsHeader, IsSizedFinished, pdu_octets, finished_field, finished_fits, response_field, fault_location, is_short_response};
+ghost use Rattle.cfdp_pdus.specs.Canonical.{IsHeader, IsSizedFinished, pdu_octets, finished_field, finished_fits, response_field, is_short_response};
 ghost use Rattle.cfdp_pdus.specs.declared.fault.PduFault.TheVariants.{Memory as OutOfMemory};
 ghost use Rattle.cfdp_pdus.specs.declared.fault.WriteFault.TheVariants.{TooLong, Memory};
 

@@ -9,7 +9,7 @@ use byteorder::{BigEndian, ByteOrder};
 use std::marker::Model;
 
 /// The fixed PDU header (CCSDS 727.0-B-5 §5.1), without what says where its parts lie.
-#[derive(Clone, Copy, Debug, PartialEq, Eq, Hash)]
+#[derive(Clone, Copy, Debug, PartialEq, Eq)]
 pub struct Header {
     /// The direction: toward the file sender, and not the file receiver.
     pub toward_sender: bool,

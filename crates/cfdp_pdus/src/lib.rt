@@ -14,7 +14,7 @@ mod field;
 mod file_data;
 mod finished;
 mod header;
-mod laws;
+pub mod laws;
 mod metadata;
 mod number;
 mod pdu;
@@ -27,10 +27,6 @@ pub use fault::{PduFault, WriteFault};
 pub use file_data::{FileData, write_file_data};
 pub use finished::{Finished, write_finished};
 pub use header::Header;
-pub use laws::{
-    eof_reads_back, file_data_reads_back, finished_reads_back, metadata_reads_back,
-    pdus_have_one_reading,
-};
 pub use metadata::{Metadata, write_metadata};
 pub use pdu::Pdu;
 pub use read::read_pdu;

@@ -1,18 +1,17 @@
 //! The worked examples of the format, the faults, and a slow reader beside the real one.
 
+mod limits;
 mod meanings;
-mod refused;
 mod slow;
 mod writing;
 
 use crate::*;
-use cfdp_status::Action;
 use std::alloc::{AllocError, Global};
 use std::process::Abort;
 use std::test::Fail;
 
-// PDUs as they stand in worked examples: Metadata, File Data, EOF, Finished, and one that is not ours.
-const EXAMPLES: [&str; 44] = [
+// PDUs as they stand in worked examples, as a writer writes them: Metadata, File Data, EOF and Finished.
+static WRITTEN: [&str; 38] = [
     "24000d00010502 0740 00000000 0000 0003000161",
     "24000a00010502 0400 00000000 00000000",
     "2c0008000105020503010400016100",
@@ -35,7 +34,6 @@ const EXAMPLES: [&str; 44] = [
     "2c001700010c02 05f3 010400016100 01040f016200 01040f016300 060102",
     "24001400010e02 0740 00000000 0000 000370017a 00058003792f7a",
     "2c001000010e02 0503 010470017a00 01068003792f7a00",
-    "24000300010502 065000",
     "25000e00010f02 0740 ffffffffffffffff 0173 0166",
     "2d000500010f020545060102",
     "20000800011002 0700 00000000 0000",
@@ -48,12 +46,17 @@ const EXAMPLES: [&str; 44] = [
     "2c000b00011a02 05f7 01040f016100 060101",
     "24000a00011b02 0742 0000000f 0173 0166",
     "2c000200011b0205b4",
-    "34000708010a0281ff0000000041",
-    "2c001200010502 0503 020161 060102 010400016100 06020103",
     "24001100010602 0740 00000078 0173 0161 00053001610161",
     "24001100010602 0740 00000077 0173 0161 00053001610161",
     "24000a00010602 0400 1e1e1e1e 00000078",
     "24000a00010602 0400 1e1e1e1d 00000077",
+];
+
+// Others: four that are not ours, segment metadata, and two fault locations.
+static OTHERS: [&str; 6] = [
+    "24000300010502 065000",
+    "34000708010a0281ff0000000041",
+    "2c001200010502 0503 020161 060102 010400016100 06020103",
     "24000100010502 08",
     "24000100010502 09",
     "24000100010502 0c",
@@ -120,34 +123,44 @@ fn agree_around(rt: &impl Abort, alloc: Global, pdu: &mut [u8]) {
     agree_on_changes(rt, alloc, pdu);
 }
 
-#[test]
-fn as_the_slow_reader(rt: HostRuntime) -> Result<(), Fail> {
-    let alloc = rt.alloc();
-    for example in EXAMPLES {
-        agree_around(&rt, alloc, &mut octets(alloc, example)?);
+fn agree_around_each(rt: &impl Abort, alloc: Global, examples: &[&str]) -> Result<(), Fail> {
+    for example in examples {
+        agree_around(rt, alloc, &mut octets(alloc, example)?);
     }
     Ok(())
 }
 
-// So many octets 01 behind a header and an offset.
+#[test]
+fn as_the_slow_reader(rt: HostRuntime) -> Result<(), Fail> {
+    agree_around_each(&rt, rt.alloc(), &WRITTEN)?;
+    agree_around_each(&rt, rt.alloc(), &OTHERS)
+}
+
+// A header and an offset, and so many octets 01 behind them.
+fn data(alloc: Global, before: &str, len: usize) -> Result<Vec<u8>, AllocError> {
+    let mut pdu = octets(alloc, before)?;
+    pdu.extend_from_slice(&vec![in alloc; 1; len]?)?;
+    Ok(pdu)
+}
+
 #[test]
 fn data_as_the_slow_reader(rt: HostRuntime) -> Result<(), Fail> {
     let alloc = rt.alloc();
-    for (before, len) in [
-        ("34007c00010602 00000000", 120usize),
-        ("34007b00010602 00000000", 119),
-    ] {
-        let mut pdu = octets(alloc, before)?;
-        for _ in 0..len {
-            pdu.push(1)?;
-        }
-        agree_around(&rt, alloc, &mut pdu);
-    }
+    agree_around(
+        &rt,
+        alloc,
+        &mut data(alloc, "34007c00010602 00000000", 120)?,
+    );
+    agree_around(
+        &rt,
+        alloc,
+        &mut data(alloc, "34007b00010602 00000000", 119)?,
+    );
     Ok(())
 }
 
 // What is no PDU, and its fault.
-const FAULTS: [(&str, PduFault); 23] = [
+static FAULTS: [(&str, PduFault); 23] = [
     ("", PduFault::Truncated),
     (
         "04000d00010502 0740 00000000 0000 0003000161",
@@ -194,82 +207,46 @@ const FAULTS: [(&str, PduFault); 23] = [
     ("2c000300010502 0503 01", PduFault::BadTlv),
 ];
 
+// The fault of the octets that hexadecimal digits say.
+fn fault_of(alloc: Global, text: &str) -> Result<Option<PduFault>, AllocError> {
+    Ok(read_pdu(alloc, &octets(alloc, text)?).err())
+}
+
 #[test]
-fn faults(rt: HostRuntime) -> Result<(), Fail> {
-    let alloc = rt.alloc();
-    for (text, fault) in FAULTS {
-        let pdu = octets(alloc, text)?;
-        assert!(rt; read_pdu(alloc, &pdu) == Err(fault), "{text}");
+fn faults(rt: HostRuntime) {
+    for (text, fault) in &FAULTS {
+        assert!(rt; fault_of(rt.alloc(), text) == Ok(Some(*fault)), "{text}");
     }
-    Ok(())
+}
+
+// A field that is wrong behind one that is right.
+static WRONG_BEHIND_RIGHT: [&[u8]; 4] = [
+    // a request, and one with no action
+    b"\x24\x00\x12\x00\x01\x05\x02\x07\x40\x00\x00\x00\x00\x00\x00\x00\x03\x00\x01a\x00\x03\x90\x01a",
+    // a request, and a field that is cut
+    b"\x24\x00\x0f\x00\x01\x05\x02\x07\x40\x00\x00\x00\x00\x00\x00\x00\x03\x00\x01a\x00\x03",
+    // a response, and one with no status
+    b"\x2c\x00\x0e\x00\x01\x05\x02\x05\x03\x01\x04\x00\x01a\x00\x01\x04\x02\x01a\x00",
+    // a response, and an entity ID of no octet
+    b"\x2c\x00\x0a\x00\x01\x05\x02\x05\x03\x01\x04\x00\x01a\x00\x06\x00",
+];
+
+// It is found before memory is asked for, so each allocation may be refused.
+#[test]
+fn faults_before_memory(rt: HostRuntime) {
+    for pdu in &WRONG_BEHIND_RIGHT {
+        let fault = read_pdu(rt.alloc(), pdu).err();
+        assert!(rt; fault == Some(PduFault::BadTlv), "{pdu:?}");
+    }
 }
 
 // A PDU of 20 octets that is cut anywhere is truncated.
 #[test]
 fn cuts(rt: HostRuntime) -> Result<(), Fail> {
-    let alloc = rt.alloc();
-    let pdu = octets(alloc, EXAMPLES[0])?;
-    assert_eq!(rt; pdu.len(), 20);
+    let pdu = octets(rt.alloc(), WRITTEN[0])?;
     for len in 0..pdu.len() {
-        assert!(rt;
-            read_pdu(alloc, &pdu[..len]) == Err(PduFault::Truncated),
-            "{len}"
-        );
+        let fault = read_pdu(rt.alloc(), &pdu[..len]).err();
+        assert!(rt; fault == Some(PduFault::Truncated), "{len}");
     }
-    Ok(())
-}
-
-// 96 times `p`, a slash, and so many times another octet.
-fn deep_name(alloc: Global, octet: u8, count: usize) -> Result<Vec<u8>, AllocError> {
-    let mut name = vec![in alloc; b'p'; 96]?;
-    name.push(b'/')?;
-    for _ in 0..count {
-        name.push(octet)?;
-    }
-    Ok(name)
-}
-
-// A Metadata PDU without a file, whose request renames one deep name to another. What stands before
-// each name has its length, and the first of them those of the data field and the request too.
-fn renames(
-    alloc: Global,
-    before: [&[u8]; 2],
-    first: &[u8],
-    second: &[u8],
-) -> Result<Vec<u8>, AllocError> {
-    let mut pdu = Vec::from_slice(alloc, before[0])?;
-    pdu.extend_from_slice(first)?;
-    pdu.extend_from_slice(before[1])?;
-    pdu.extend_from_slice(second)?;
-    Ok(pdu)
-}
-
-// A request's value of 254 octets is read with its names, and one of 255 is refused.
-#[test]
-fn longest_rename(rt: HostRuntime) -> Result<(), Fail> {
-    let alloc = rt.alloc();
-    let first = deep_name(alloc, b'q', 28)?;
-    let second = deep_name(alloc, b'r', 29)?;
-    let before = [
-        b"\x24\x01\x08\x00\x01\x05\x02\x07\x40\x00\x00\x00\x00\x00\x00\x00\xfe\x20\x7d".as_slice(),
-        b"\x7e",
-    ];
-    let pdu = renames(alloc, before, &first, &second)?;
-    let Pdu::Metadata(_, metadata) = read_pdu(alloc, &pdu)? else {
-        return Err(Fail::new("it is another PDU"));
-    };
-    assert_eq!(rt; metadata.requests.len(), 1);
-    let request = &metadata.requests[0];
-    assert!(rt; request.action() == Action::RenameFile);
-    assert!(rt; request.first() == first.as_slice());
-    assert!(rt; request.second() == Some(second.as_slice()));
-
-    let second = deep_name(alloc, b'r', 30)?;
-    let before = [
-        b"\x24\x01\x09\x00\x01\x05\x02\x07\x40\x00\x00\x00\x00\x00\x00\x00\xff\x20\x7d".as_slice(),
-        b"\x7f",
-    ];
-    let pdu = renames(alloc, before, &first, &second)?;
-    assert!(rt; read_pdu(alloc, &pdu) == Err(PduFault::RequestTooLong));
     Ok(())
 }

@@ -8,7 +8,7 @@ use std::error::Error;
 use std::fmt;
 
 /// Why a field was not read or written.
-#[derive(Clone, Copy, Debug, PartialEq, Eq, Hash)]
+#[derive(Clone, Copy, Debug, PartialEq, Eq)]
 pub enum TlvFault {
     /// The octets end before the field does.
     Truncated,

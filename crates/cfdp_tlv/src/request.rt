@@ -1,6 +1,6 @@
 //! Filestore requests, read and written.
 
-ghost use Rattle.std.specs.Prelude.{◌≡◌, ◌≤◌, ◌<◌, ◌+◌, ◌↔◌, ◌⊎◌, ◌++◌, List, [], ℕ, length, vec_len, min, option_map, is_some, IfOk, OnOk, OnErr, IfErr, IsOk, IsErrOf, Ok, Err};
+ghost use Rattle.std.specs.Prelude.{◌≡◌, ◌≤◌, ◌<◌, ◌+◌, ◌↔◌, ◌⊎◌, ◌++◌, [], length, vec_len, min, option_map, is_some, IfOk, OnOk, OnErr, IfErr, IsOk, IsErrOf, Ok, Err};
 ghost use Rattle.std.specs.Vec.{vec_capacity};
 ghost use Rattle.cfdp_tlv.specs.Reading.{Gives};
 ghost use Rattle.cfdp_tlv.specs.Field.{tlv};

@@ -1,6 +1,7 @@
 //! A slow reader of PDUs, by the places at which the format puts things, beside the real one.
 
-ghost use Rattle.std.specs.Prelude.{◌≤◌};
+ghost use Rattle.std.specs.Prelude.{◌≡◌, ◌≤◌, is_some, IfOk};
+ghost use Rattle.cfdp_status.specs.Codes.{has_second};
 
 use crate::*;
 use cfdp_status::{Action, Status};
@@ -23,102 +24,129 @@ fn number(octets: &[u8], at: usize, len: usize, fault: PduFault) -> Result<u64, 
 }
 
 // As many octets as the one at a place says, and the place behind them.
-fn counted(
-    alloc: Global,
-    octets: &[u8],
-    at: usize,
-    fault: PduFault,
-) -> Result<(Vec<u8>, usize), PduFault> {
+fn counted(octets: &[u8], at: usize, fault: PduFault) -> Result<(&[u8], usize), PduFault> {
     let start = at.wrapping_add(1);
     let end = start.wrapping_add(usize::from(octet(octets, at, fault)?));
-    let mut value = Vec::new(alloc);
-    for place in start..end {
-        push(&mut value, octet(octets, place, fault)?)?;
-    }
+    let value = octets.get(start..end).ok_or(fault)?;
     Ok((value, end))
 }
 
-fn push<T: Drop>(items: &mut Vec<T>, item: T) -> Result<(), PduFault> {
-    items.push(item).map_err(|_| PduFault::Memory)
+// The second name, where the action has one, and the place behind it.
+fn second_name(action: Action, value: &[u8], at: usize) -> Result<(Option<&[u8]>, usize), PduFault>
+    ensures { IfOk result (λ x. is_some x.0 ≡ has_second action) }
+{
+    if !action.has_second() {
+        return Ok((None, at));
+    }
+    let (second, end) = counted(value, at, PduFault::BadTlv)?;
+    Ok((Some(second), end))
 }
 
 fn request(alloc: Global, value: &[u8]) -> Result<FilestoreRequest, PduFault> {
     let fault = PduFault::BadTlv;
-    let code = octet(value, 0, fault)? / 16;
-    let action = Action::of_code(code).ok_or(fault)?;
-    let (first, at) = counted(alloc, value, 1, fault)?;
-    let (request, end) = if action.has_second() {
-        let (second, end) = counted(alloc, value, at, fault)?;
-        let request = FilestoreRequest::new(alloc, action, &first, Some(&second))?;
-        (request, end)
-    } else {
-        (FilestoreRequest::new(alloc, action, &first, None)?, at)
-    };
+    let action = Action::of_code(octet(value, 0, fault)? / 16).ok_or(fault)?;
+    let (first, at) = counted(value, 1, fault)?;
+    let (second, end) = second_name(action, value, at)?;
     if end != value.len() {
         return Err(fault);
     }
     if value.len() > 254 {
         return Err(PduFault::RequestTooLong);
     }
-    Ok(request)
+    Ok(FilestoreRequest::new(alloc, action, first, second)?)
 }
 
 fn response(alloc: Global, value: &[u8]) -> Result<FilestoreResponse, PduFault> {
     let fault = PduFault::BadTlv;
     let status = Status::of_octet(octet(value, 0, fault)?).ok_or(fault)?;
-    let (first, at) = counted(alloc, value, 1, fault)?;
-    if status.action().has_second() {
-        let (second, at) = counted(alloc, value, at, fault)?;
-        let (message, end) = counted(alloc, value, at, fault)?;
-        if end != value.len() {
-            return Err(fault);
-        }
-        let second = Some(second.as_slice());
-        return Ok(FilestoreResponse::new(alloc, status, &first, second, &message)?);
-    }
-    let (message, end) = counted(alloc, value, at, fault)?;
+    let (first, at) = counted(value, 1, fault)?;
+    let (second, at) = second_name(status.action(), value, at)?;
+    let (message, end) = counted(value, at, fault)?;
     if end != value.len() {
         return Err(fault);
     }
-    Ok(FilestoreResponse::new(alloc, status, &first, None, &message)?)
+    Ok(FilestoreResponse::new(alloc, status, first, second, message)?)
 }
 
-// What the TLV fields from a place on say.
-#[derive(Drop)]
-struct Parts {
-    requests: Vec<FilestoreRequest>,
-    responses: Vec<FilestoreResponse>,
-    fault: Option<u64>,
+// The type and the value of the TLV field at a place, and the place behind it.
+fn tlv(field: &[u8], at: usize) -> Result<(u8, &[u8], usize), PduFault> {
+    let kind = octet(field, at, PduFault::BadTlv)?;
+    let (value, next) = counted(field, at.wrapping_add(1), PduFault::BadTlv)?;
+    Ok((kind, value, next))
 }
 
-fn options(alloc: Global, field: &[u8], start: usize, directive: u8) -> Result<Parts, PduFault> {
-    let mut parts = Parts {
-        requests: Vec::new(alloc),
-        responses: Vec::new(alloc),
-        fault: None,
-    };
+// The requests among the TLV fields from a place on.
+fn requests(alloc: Global, field: &[u8], start: usize) -> Result<Vec<FilestoreRequest>, PduFault> {
+    let mut requests = Vec::new(alloc);
     let mut at = start;
     for _ in 0..field.len() {
         if at >= field.len() {
             break;
         }
-        let kind = octet(field, at, PduFault::BadTlv)?;
-        let (value, next) = counted(alloc, field, at.wrapping_add(1), PduFault::BadTlv)?;
-        if directive == 7 && kind == 0 {
-            push(&mut parts.requests, request(alloc, &value)?)?;
-        }
-        if directive == 5 && kind == 1 {
-            push(&mut parts.responses, response(alloc, &value)?)?;
-        }
-        if directive == 5 && kind == 6 {
-            if value.is_empty() || value.len() > 8 {
-                return Err(PduFault::BadTlv);
-            }
-            parts.fault = Some(number(&value, 0, value.len(), PduFault::BadTlv)?);
+        let (kind, value, next) = tlv(field, at)?;
+        if kind == 0 {
+            push(&mut requests, request(alloc, value)?)?;
         }
         at = next;
     }
-    Ok(parts)
+    Ok(requests)
+}
+
+fn push<T: Drop>(items: &mut Vec<T>, item: T) -> Result<(), PduFault> {
+    items.push(item).map_err(|_| PduFault::Memory)
+}
+
+// The responses among the TLV fields from a place on.
+fn responses(
+    alloc: Global,
+    field: &[u8],
+    start: usize,
+) -> Result<Vec<FilestoreResponse>, PduFault> {
+    let mut responses = Vec::new(alloc);
+    let mut at = start;
+    for _ in 0..field.len() {
+        if at >= field.len() {
+            break;
+        }
+        let (kind, value, next) = tlv(field, at)?;
+        if kind == 1 {
+            push(&mut responses, response(alloc, value)?)?;
+        }
+        at = next;
+    }
+    Ok(responses)
+}
+
+// The last fault location among the TLV fields from a place on.
+fn fault_location(field: &[u8], start: usize) -> Result<Option<u64>, PduFault> {
+    let mut fault = None;
+    let mut at = start;
+    for _ in 0..field.len() {
+        if at >= field.len() {
+            break;
+        }
+        let (kind, value, next) = tlv(field, at)?;
+        if kind == 6 && (value.is_empty() || value.len() > 8) {
+            return Err(PduFault::BadTlv);
+        }
+        if kind == 6 {
+            fault = Some(number(value, 0, value.len(), PduFault::BadTlv)?);
+        }
+        at = next;
+    }
+    Ok(fault)
+}
+
+// The place behind the TLV fields from a place on, if none is cut.
+fn behind_fields(field: &[u8], start: usize) -> Result<usize, PduFault> {
+    let mut at = start;
+    for _ in 0..field.len() {
+        if at >= field.len() {
+            break;
+        }
+        at = tlv(field, at)?.2;
+    }
+    Ok(at)
 }
 
 // How many octets a file size or an offset has.
@@ -134,32 +162,27 @@ fn metadata(alloc: Global, header: Header, field: &[u8]) -> Result<Pdu, PduFault
     let size_len = size_len(&header);
     let flags = octet(field, 1, fault)?;
     let size = number(field, 2, size_len, fault)?;
-    let (source_name, at) = counted(alloc, field, 2 + size_len, fault)?;
-    let (destination_name, at) = counted(alloc, field, at, fault)?;
-    let Parts {
-        requests,
-        responses: _,
-        fault: _,
-    } = options(alloc, field, at, 7)?;
+    let (source, at) = counted(field, 2 + size_len, fault)?;
+    let (destination, at) = counted(field, at, fault)?;
     let metadata = Metadata {
         closure: flags & 0x40 != 0,
         checksum_type: flags & 0x0f,
         size,
-        source_name,
-        destination_name,
-        requests,
+        source_name: Vec::from_slice(alloc, source)?,
+        destination_name: Vec::from_slice(alloc, destination)?,
+        requests: requests(alloc, field, at)?,
     };
     Ok(Pdu::Metadata(header, metadata))
 }
 
 // An EOF PDU's data field.
-fn eof(alloc: Global, header: Header, field: &[u8]) -> Result<Pdu, PduFault> {
+fn eof(header: Header, field: &[u8]) -> Result<Pdu, PduFault> {
     let fault = PduFault::LengthMismatch;
     let size_len = size_len(&header);
     let condition = octet(field, 1, fault)? / 16;
     let checksum = number(field, 2, 4, fault)?;
     let size = number(field, 6, size_len, fault)?;
-    let _ = options(alloc, field, 6 + size_len, 4)?;
+    behind_fields(field, 6 + size_len)?;
     let eof = Eof {
         condition,
         checksum: (checksum & 0xffff_ffff) as u32,
@@ -171,17 +194,12 @@ fn eof(alloc: Global, header: Header, field: &[u8]) -> Result<Pdu, PduFault> {
 // A Finished PDU's data field.
 fn finished(alloc: Global, header: Header, field: &[u8]) -> Result<Pdu, PduFault> {
     let flags = octet(field, 1, PduFault::LengthMismatch)?;
-    let Parts {
-        requests: _,
-        responses,
-        fault,
-    } = options(alloc, field, 2, 5)?;
     let finished = Finished {
         condition: flags / 16,
         incomplete: flags & 4 != 0,
         file_status: flags & 3,
-        responses,
-        fault,
+        fault: fault_location(field, 2)?,
+        responses: responses(alloc, field, 2)?,
     };
     Ok(Pdu::Finished(header, finished))
 }
@@ -190,7 +208,7 @@ fn finished(alloc: Global, header: Header, field: &[u8]) -> Result<Pdu, PduFault
 fn directive(alloc: Global, header: Header, field: &[u8]) -> Result<Pdu, PduFault> {
     match octet(field, 0, PduFault::LengthMismatch)? {
         7 => metadata(alloc, header, field),
-        4 => eof(alloc, header, field),
+        4 => eof(header, field),
         5 => finished(alloc, header, field),
         6 => Ok(Pdu::NotOurs(header, 6)),
         8 => Ok(Pdu::NotOurs(header, 8)),
@@ -214,10 +232,8 @@ fn file_data(
     }
     let size_len = size_len(&header);
     let offset = number(field, at, size_len, fault)?;
-    let mut octets = Vec::new(alloc);
-    for place in at.wrapping_add(size_len)..field.len() {
-        push(&mut octets, octet(field, place, fault)?)?;
-    }
+    let octets = field.get(at.wrapping_add(size_len)..).ok_or(fault)?;
+    let octets = Vec::from_slice(alloc, octets)?;
     Ok(Pdu::FileData(header, FileData { offset, octets }))
 }
 
@@ -261,12 +277,9 @@ pub fn read(alloc: Global, octets: &[u8]) -> Result<Pdu, PduFault> {
     if octets.len() > end {
         return Err(PduFault::LengthMismatch);
     }
-    let mut field = Vec::new(alloc);
-    for place in field_at..end {
-        push(&mut field, octet(octets, place, cut)?)?;
-    }
+    let field = octets.get(field_at..).ok_or(cut)?;
     if first & 0x10 != 0 {
-        return file_data(alloc, header, fourth & 0x08 != 0, &field);
+        return file_data(alloc, header, fourth & 0x08 != 0, field);
     }
-    directive(alloc, header, &field)
+    directive(alloc, header, field)
 }
