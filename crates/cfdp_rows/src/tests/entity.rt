@@ -3,7 +3,7 @@
 ghost use Rattle.std.specs.Prelude.{◌≡◌, ◌≤◌};
 
 use super::scene::path_of;
-use cfdp_actions::{Filestore, Kind, ListStore, Protected, entry_checksum};
+use cfdp_actions::{Entry, Filestore, Kind, ListStore, Protected};
 use cfdp_paths::Memory;
 use cfdp_pdus::{FileData, Header, Pdu, PduFault, read_pdu};
 use cfdp_status::{Action, Status, TransactionId};
@@ -306,6 +306,20 @@ pub fn hand_in(rt: &impl Abort, core: &mut Core<ListStore>, event: &Event, twice
     reply
 }
 
+/// Whether an entry of the listing is what is expected.
+fn is_standing(
+    rt: &impl Abort,
+    alloc: Global,
+    entry: &Entry,
+    expected: Standing,
+) -> Result<bool, Memory> {
+    let told = match entry.kind {
+        Kind::Directory => None,
+        Kind::File => Some((entry.size, entry.checksum)),
+    };
+    Ok(told == expected.1 && entry.path == path_of(rt, alloc, expected.0)?)
+}
+
 /// Compares what stands with what is expected, in path order.
 fn compare_standing(
     rt: &impl Abort,
@@ -314,16 +328,46 @@ fn compare_standing(
     expected: &[Standing],
 ) -> Result<(), Memory> {
     let listing = store.listing(alloc)?;
-    assert_eq!(rt; listing.len(), expected.len());
-    for (entry, (name, file)) in listing.iter().zip(expected) {
-        assert!(rt; entry.path == path_of(rt, alloc, name)?, "on {name:?}");
-        let told = match entry.kind {
-            Kind::Directory => None,
-            Kind::File => Some((entry.size, entry.checksum)),
-        };
-        assert_eq!(rt; told, *file, "on {name:?}");
+    assert!(rt; listing.len() == expected.len(), "{listing:?}");
+    for (entry, row) in listing.iter().zip(expected) {
+        let same = is_standing(rt, alloc, entry, *row)?;
+        assert!(rt; same, "{row:?}");
     }
     Ok(())
+}
+
+/// Compares the reply to an event.
+fn compare_reply(
+    rt: &impl Abort,
+    alloc: Global,
+    core: &mut Core<ListStore>,
+    given: Given,
+    told: Told,
+    twice: bool,
+) -> Result<(), Memory> {
+    let event = given.event(rt, alloc)?;
+    let reply = hand_in(rt, core, &event, twice);
+    let same = is_told(rt, alloc, &reply, told)?;
+    assert!(rt; same, "{told:?} on {given:?}");
+    Ok(())
+}
+
+/// Whether so many blocks are free, and so many of them were granted to nobody.
+fn has_free(core: &Core<ListStore>, free: u32, spare: u32) -> bool {
+    core.store().free() == free && core.spare() == spare
+}
+
+/// Whether this is what is missing of a transaction's file.
+fn has_gaps(core: &Core<ListStore>, number: u8, expected: &[(u64, u64)]) -> bool {
+    match core.gaps(id(number)) {
+        None => expected.is_empty(),
+        Some(gaps) => gaps.as_slice() == expected,
+    }
+}
+
+/// Whether a transaction spent so many blocks and steps.
+fn has_spent(core: &Core<ListStore>, number: u8, blocks: i64, steps: u32) -> bool {
+    core.blocks_spent(id(number)) == Some(blocks) && core.steps_spent(id(number)) == Some(steps)
 }
 
 /// Compares one row.
@@ -331,35 +375,21 @@ fn compare(
     rt: &impl Abort,
     alloc: Global,
     core: &mut Core<ListStore>,
-    row: &Row,
+    row: Row,
     twice: bool,
 ) -> Result<(), Memory> {
-    match row {
-        Row::On(given, told) => {
-            let event = given.event(rt, alloc)?;
-            let reply = hand_in(rt, core, &event, twice);
-            assert!(rt; is_told(rt, alloc, &reply, *told)?, "on {row:?}");
+    let same = match row {
+        Row::On(given, told) => return compare_reply(rt, alloc, core, given, told, twice),
+        Row::Standing(expected) => {
+            return compare_standing(rt, alloc, core.store(), expected);
         }
-        Row::Store(free, spare) => {
-            assert_eq!(rt; (core.store().free(), core.spare()), (*free, *spare));
-        }
-        Row::Standing(expected) => compare_standing(rt, alloc, core.store(), expected)?,
-        Row::Gaps(number, expected) => {
-            let gaps = core.gaps(id(*number)).unwrap_or_default();
-            assert!(rt; gaps.as_slice() == *expected, "on {row:?}");
-        }
-        Row::Spent(number, blocks, steps) => {
-            let number = id(*number);
-            assert_eq!(rt; core.blocks_spent(number), Some(*blocks), "on {row:?}");
-            assert_eq!(rt; core.steps_spent(number), Some(*steps), "on {row:?}");
-        }
-        Row::Phase(number, phase) => {
-            assert_eq!(rt; core.phase(id(*number)), *phase, "on {row:?}");
-        }
-        Row::Runnable(number) => {
-            assert_eq!(rt; core.next_runnable(), number.map(id), "on {row:?}");
-        }
-    }
+        Row::Store(free, spare) => has_free(core, free, spare),
+        Row::Gaps(number, expected) => has_gaps(core, number, expected),
+        Row::Spent(number, blocks, steps) => has_spent(core, number, blocks, steps),
+        Row::Phase(number, phase) => core.phase(id(number)) == phase,
+        Row::Runnable(number) => core.next_runnable() == number.map(id),
+    };
+    assert!(rt; same, "at {row:?}");
     Ok(())
 }
 
@@ -372,7 +402,7 @@ fn try_rows(
 ) -> Result<(), Memory> {
     let mut core = entity_of(rt, alloc, limits)?;
     for row in rows {
-        compare(rt, alloc, &mut core, row, twice)?;
+        compare(rt, alloc, &mut core, *row, twice)?;
     }
     Ok(())
 }
