@@ -1,9 +1,12 @@
 //! Worked leases and footprints, and grants for which there is no memory.
 
+mod plain;
+
 use super::*;
 use cfdp_actions::Request;
 use cfdp_paths::{Memory, Path, PathFault};
 use cfdp_status::{Action, TransactionId};
+use plain::Plain;
 use std::alloc::{AllocError, Global};
 use std::process::Abort;
 
@@ -66,18 +69,27 @@ fn admit(
     leases.grant(transaction, footprint)
 }
 
-fn happen(rt: &impl Abort, alloc: Global, leases: &mut Leases, event: Event) -> Result<(), Memory> {
+fn happen(
+    rt: &impl Abort,
+    alloc: Global,
+    leases: &mut Leases,
+    plain: &mut Plain,
+    event: Event,
+) -> Result<(), Memory> {
     match event {
         Event::Granted(number, named) => {
             admit(rt, leases, number, footprint_of(rt, alloc, named)?)?;
+            plain.grant(id(number), footprint_of(rt, alloc, named)?)?;
             assert!(rt; leases.holds(id(number)));
         }
         Event::Asked(named, first) => {
-            let found = leases.conflict(&footprint_of(rt, alloc, named)?);
-            assert_eq!(rt; found, first.map(id), "on {named:?}");
+            let footprint = footprint_of(rt, alloc, named)?;
+            let found = [leases.conflict(&footprint), plain.conflict(&footprint)];
+            assert_eq!(rt; found, [first.map(id); 2], "on {named:?}");
         }
         Event::Released(number) => {
             leases.release(id(number));
+            plain.release(id(number));
             assert!(rt; !leases.holds(id(number)));
         }
     }
@@ -86,13 +98,14 @@ fn happen(rt: &impl Abort, alloc: Global, leases: &mut Leases, event: Event) -> 
 
 fn try_events(rt: &impl Abort, alloc: Global, events: &[Event]) -> Result<(), Memory> {
     let mut leases = Leases::new(alloc);
+    let mut plain = Plain::new(alloc);
     for event in events {
-        happen(rt, alloc, &mut leases, *event)?;
+        happen(rt, alloc, &mut leases, &mut plain, *event)?;
     }
     Ok(())
 }
 
-/// Goes through the events on leases of nothing. Where memory is refused all is tried once more.
+/// Goes through the events on leases of nothing, and on the plain list. Where memory is refused all is tried once more.
 fn check(rt: &impl Abort, alloc: Global, events: &[Event]) -> Result<(), Memory> {
     match try_events(rt, alloc, events) {
         Ok(()) => Ok(()),
@@ -111,11 +124,12 @@ fn a_directory_is_shared_and_not_removed(rt: HostRuntime) -> Result<(), Memory> 
             Event::Asked((Action::RemoveDirectory, b"d", b""), Some(22)),
             Event::Asked((Action::RenameFile, b"d", b"e"), Some(22)),
             Event::Asked((Action::AppendFile, b"z", b"d/x"), Some(22)),
+            Event::Asked((Action::AppendFile, b"d/z", b"y"), None),
         ],
     )
 }
 
-/// Removes the directory in which three transactions create a file each.
+/// Removes the directory in which transactions create a file each.
 const REMOVE: Named = (Action::RemoveDirectory, b"d", b"");
 
 #[test]
@@ -190,14 +204,14 @@ fn answers(
     (conflicts, leased, held)
 }
 
-/// The footprints of five creates, of `a` to `e`.
+/// The footprints of five creates, of `a` to `e` in one directory.
 fn five(rt: &impl Abort, alloc: Global) -> Result<Vec<Footprint>, Memory> {
     let creates: [Named; 5] = [
-        (Action::CreateFile, b"a", b""),
-        (Action::CreateFile, b"b", b""),
-        (Action::CreateFile, b"c", b""),
-        (Action::CreateFile, b"d", b""),
-        (Action::CreateFile, b"e", b""),
+        (Action::CreateFile, b"d/a", b""),
+        (Action::CreateFile, b"d/b", b""),
+        (Action::CreateFile, b"d/c", b""),
+        (Action::CreateFile, b"d/d", b""),
+        (Action::CreateFile, b"d/e", b""),
     ];
     let mut footprints = Vec::with_capacity(alloc, 5)?;
     for named in creates {
@@ -210,10 +224,10 @@ fn five(rt: &impl Abort, alloc: Global) -> Result<Vec<Footprint>, Memory> {
 /// from then on: that changes no answer, and the same is granted when it is asked for again.
 fn grant_five(rt: &impl Abort, alloc: Global) -> Result<(), Memory> {
     let probes = [
-        footprint_of(rt, alloc, (Action::DeleteFile, b"a", b""))?,
-        footprint_of(rt, alloc, (Action::DeleteFile, b"e", b""))?,
+        footprint_of(rt, alloc, REMOVE)?,
+        footprint_of(rt, alloc, (Action::DeleteFile, b"d/e", b""))?,
     ];
-    let paths = [path_of(rt, alloc, b"a")?, path_of(rt, alloc, b"e")?];
+    let paths = [path_of(rt, alloc, b"d")?, path_of(rt, alloc, b"d/e")?];
     let wanted = five(rt, alloc)?.into_iter().zip(five(rt, alloc)?);
     let mut leases = Leases::new(alloc);
     for (number, (footprint, again)) in (1..=5u64).zip(wanted) {
