@@ -3,5 +3,6 @@
 
 mod calls;
 mod counted;
+mod many;
 mod refused;
 mod worked;

@@ -10,10 +10,10 @@ use std::process::Abort;
 use std::test::Fail;
 
 /// A request, and the status octet, the ticks and the free blocks that it comes to. No second name: empty.
-type Row = (Action, &'static [u8], &'static [u8], u8, u32, u32);
+pub type Row = (Action, &'static [u8], &'static [u8], u8, u32, u32);
 
 /// Performs the rows one after another.
-fn run<S: Filestore>(
+pub fn run<S: Filestore>(
     rt: &impl Abort,
     alloc: Global,
     store: &mut S,
