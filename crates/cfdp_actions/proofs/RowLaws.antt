@@ -2,11 +2,12 @@
 --     nothing_there, something_there, file_there, directory_there    what the answer of `kind` says of the node
 --     fits, full                a row that fits into the free blocks, and one that does not
 --     acts, acts_full           the same for a request where nothing is protected
---     does_refused, does_full, does_changed   what a call did: nothing, or the row's changes
+--     does_refused, does_full, does_changed   what a call did: nothing, or the row's changes;  does_wanting: or it had no memory for them
 --     create_.., delete_.., ..  the rows
-use Rattle.std.proofs.Common.{◌≡◌, ℕ, ◌+◌, ◌-◌, ◌*◌, ◌<◌, ◌≤◌, Bool, true, false, if◌then◌else◌, List, [], ◌∷◌, ◌++◌, Option, Some, None, Ok, is_some, not, length, drop, max, nat_lt, ◌||◌, length-append, length-drop, refl, sym, ap, ◌∙◌, arith}
+use Rattle.std.proofs.Common.{◌≡◌, ℕ, ◌+◌, ◌-◌, ◌*◌, ◌<◌, ◌≤◌, Bool, true, false, if◌then◌else◌, List, [], ◌∷◌, ◌++◌, Option, Some, None, Ok, Err, IsTrue, is_some, not, length, drop, max, nat_lt, ◌||◌, length-append, length-drop, refl, sym, ap, ◌∙◌, arith}
 use Rattle.std.proofs.lemmas.Bool.{le-leb, lt-leb, false≢true}
 use Rattle.std.proofs.lemmas.Bool.Decides.{nat_tests}
+use Rattle.std.specs.declared.alloc.AllocError.{AllocError}
 use Rattle.cfdp_status.specs.declared.action.Action.{Action}
 use Rattle.cfdp_status.specs.declared.action.Action.TheVariants as action
 use Rattle.cfdp_status.specs.declared.status.Status.{Status}
@@ -14,7 +15,7 @@ use Rattle.cfdp_status.specs.declared.status.Status.TheVariants.{Successful, Not
 use Rattle.cfdp_paths.specs.Paths.{Path, same_path, is_at_or_below}
 use Rattle.cfdp_paths.proofs.Comparing.{same_path-Decides}
 use Rattle.cfdp_actions.specs.Filestore.{Node, Directory, File, Filestore, node_at, octets_in, octets_at, is_directory, is_file, blocks_of, Change, Becomes, has_entries, parent_is_good, tree_at, deepest_of}
-use Rattle.cfdp_actions.specs.Actions.{Request, CreateFile, DeleteFile, RenameFile, AppendFile, ReplaceFile, CreateDirectory, RemoveDirectory, DenyFile, DenyDirectory, action_in, Item, Perform, Performed as Status_of, Outcome, ticks, refused, succeeds, create, gone, delete_file, is_too_deep, vacated, settled, rename, append, replace, remove_directory, deny_file, deny_directory, table, bars, denied, within, act}
+use Rattle.cfdp_actions.specs.Actions.{Request, CreateFile, DeleteFile, RenameFile, AppendFile, ReplaceFile, CreateDirectory, RemoveDirectory, DenyFile, DenyDirectory, action_in, Item, Perform, Performed as Status_of, Outcome, succeeded, ticks, refused, succeeds, create, gone, delete_file, is_too_deep, vacated, settled, rename, append, replace, remove_directory, deny_file, deny_directory, table, bars, denied, within, act}
 use Rattle.cfdp_actions.specs.Store.{Store, free_blocks, with_changes, kind_in, is_file_kind}
 use Rattle.cfdp_actions.specs.Performing.{Does}
 use Rattle.cfdp_actions.specs.declared.kind.Kind.{Kind}
@@ -138,6 +139,13 @@ pub does_changed : (old new : Store) (request : Request) (action : Action) (chan
 does_changed old new request action changes taken given moved k done e h d t n =
     let o : Outcome = succeeds action changes taken given moved in
     does old new request o done (acts old.filestore (free_blocks old) request o e h) (ap (λ (x : Performed). Status_of x.status) d) (ap (λ (x : Performed). x.ticks) d ∙ t) n
+
+-- there was no memory for what the row does
+pub does_wanting : (old new : Store) (request : Request) (action : Action) (changes : List Change) (taken given moved : ℕ) (memory : AllocError) → table old.filestore request ≡ succeeds action changes taken given moved → taken ≤ free_blocks old + given → new ≡ old →
+    (IsTrue old.takes_no_memory → IsTrue false) → Does old new request (Err memory)
+does_wanting old new request action changes taken given moved memory e h same never =
+    let o : Outcome = succeeds action changes taken given moved in
+    record { end = (same, ap (λ (x : Outcome). succeeded x.answer) (acts old.filestore (free_blocks old) request o e h)); thrifty = never }
 
 -- ---- the rows
 
@@ -443,6 +451,16 @@ module _ (old : Store) (p q : Path) (done : Performed) (first : is_file (node_at
   -- too many blocks: the names differ then
   pub does_replace_full : free_blocks old + blocks_of (length (octets_at old.filestore p)) < blocks_of (length (octets_at old.filestore q)) → done ≡ record { status = NotAllowed action.ReplaceFile; ticks = 0 } → Does old old (ReplaceFile p q) (Ok done)
   does_replace_full = replace_full_by (same_path p q) refl
+
+module _ (old new : Store) (p q : Path) (memory : AllocError) (first : is_file (node_at old.filestore p) ≡ true) (second : is_file (node_at old.filestore q) ≡ true) where
+  replace_wanting_by : (same : Bool) → same_path p q ≡ same → blocks_of (length (octets_at old.filestore q)) ≤ free_blocks old + blocks_of (length (octets_at old.filestore p)) → new ≡ old →
+      (IsTrue old.takes_no_memory → IsTrue false) → Does old new (ReplaceFile p q) (Err memory)
+  replace_wanting_by true e room n never = does_wanting old new (ReplaceFile p q) _ _ _ _ _ memory (replace_of_itself old.filestore p q e first second) (omega arith) n never
+  replace_wanting_by false e room n never = does_wanting old new (ReplaceFile p q) _ _ _ _ _ memory (replace_of_files old.filestore p q e first second) room n never
+
+  pub does_replace_wanting : blocks_of (length (octets_at old.filestore q)) ≤ free_blocks old + blocks_of (length (octets_at old.filestore p)) → new ≡ old →
+      (IsTrue old.takes_no_memory → IsTrue false) → Does old new (ReplaceFile p q) (Err memory)
+  does_replace_wanting = replace_wanting_by (same_path p q) refl
 
 -- ---- rename
 

@@ -4,7 +4,7 @@
 use Rattle.std.specs.Prelude.{◌≡◌, IsTrue, IsOk, List, [], Result, Ok, Err}
 use Rattle.std.specs.declared.alloc.AllocError.{AllocError}
 use Rattle.cfdp_paths.specs.Paths.{Path}
-use Rattle.cfdp_actions.specs.Actions.{Request, Outcome, Performed as Status_of, act, ticks}
+use Rattle.cfdp_actions.specs.Actions.{Request, Outcome, Performed as Status_of, succeeded, act, ticks}
 use Rattle.cfdp_actions.specs.Store.{Store, free_blocks, with_changes}
 use Rattle.cfdp_actions.specs.declared.performed.Performed.{Performed}
 
@@ -17,11 +17,12 @@ pub record IsDone (old new : Store) (o : Outcome) (done : Performed) : Type 0 wh
   pub ticks : done.ticks ≡ ticks o
   pub state : new ≡ with_changes old o.changes
 
--- want of memory leaves the store as it was, and does not come where the store takes no memory
+-- want of memory comes only where the table's answer is successful, and leaves the store as it was
 abbrev pub IsEnd : Store → Store → Outcome → Result Performed AllocError → Type 0
 IsEnd old new o (Ok done) = IsDone old new o done
-IsEnd old new o (Err memory) = new ≡ old
+IsEnd old new o (Err memory) = (new ≡ old) × IsTrue (succeeded o.answer)
 
+-- and it does not come where the store takes no memory
 pub record Does (old new : Store) (request : Request) (result : Result Performed AllocError) : Type 0 where
   pub end : IsEnd old new (outcome_of [] old request) result
   pub thrifty : IsTrue old.takes_no_memory → IsOk result

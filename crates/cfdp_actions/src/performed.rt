@@ -1,7 +1,7 @@
 //! Filestore requests, performed on any store, and what they come to.
 
 ghost use Rattle.std.specs.Prelude.{◌≡◌, IsTrue, IsOk, IfOk, OnOk, OnErr};
-ghost use Rattle.cfdp_actions.specs.Actions.{Performed as Status_of, ticks};
+ghost use Rattle.cfdp_actions.specs.Actions.{Performed as Status_of, succeeded, ticks};
 ghost use Rattle.cfdp_actions.specs.Store.{with_changes};
 ghost use Rattle.cfdp_actions.specs.Performing.{outcome_of};
 
@@ -20,7 +20,8 @@ pub struct Performed {
 
 /// Performs a filestore request on a store (CCSDS 727.0-B-5 §4.9), except where the prefixes bar it.
 ///
-/// Status, state after and ticks are those of the action table. After want of memory the store is as before. Cost: at
+/// Status, state after and ticks are those of the action table. Memory is wanted only
+/// where the table's answer is successful; after want of it the store is as before. Cost: at
 /// most two comparisons with each prefix, a few reads of the store, and its change.
 pub fn perform<S: Filestore>(
     store: &mut S,
@@ -35,6 +36,7 @@ pub fn perform<S: Filestore>(
         ≡ with_changes (S.state store.old) (outcome_of protected.now (S.state store.old) request.now).changes) }
     ensures err { OnErr result (S.state store.new ≡ S.state store.old) }
     ensures thrifty { IsTrue (S.state store.old).takes_no_memory → IsOk result }
+    ensures lean { OnErr result (IsTrue (succeeded (outcome_of protected.now (S.state store.old) request.now).answer)) }
 {
     let action = request.action();
     if protected.bars(request) {

@@ -3,7 +3,7 @@
 --                                      what they need and take; or the first one that is not successful is named
 --     JudgesAlone, Judges              a list whose file may be installed and whose requests succeed, with the view that tells what it needs
 --                                      and takes, or why it is refused;  and what it is granted
---     Affords w spare result           whether a list of which the view tells this is granted what it costs
+--     Affords w spare result           a list of which the view tells this is granted what it costs, or refused
 use Rattle.std.specs.Prelude.{◌≡◌, ⊤, ℕ, ◌+◌, ◌-◌, ◌≤◌, min, max, List, Option, Some, None, Result, Ok, Err}
 use Rattle.cfdp_status.specs.declared.status.Status.{Status}
 use Rattle.cfdp_paths.specs.Paths.{Path}
@@ -12,6 +12,7 @@ use Rattle.cfdp_actions.specs.Actions.{Item}
 use Rattle.cfdp_states.specs.Alone.{statuses, steps, peak}
 use Rattle.cfdp_states.specs.Views.{most_need, Sketch, IsViewOf}
 use Rattle.cfdp_verifier.specs.declared.refusal.NotGranted.{NotGranted}
+use Rattle.cfdp_verifier.specs.declared.refusal.Refusal.{Refusal}
 use Rattle.cfdp_verifier.specs.declared.refusal.NotGranted.TheVariants as no
 use Rattle.cfdp_verifier.specs.declared.judging.Costs.{Costs}
 use Rattle.cfdp_verifier.specs.Verdict.{WouldFail, Verdict, Refuse, Grant, capped, first_failure, judged, judged_apart}
@@ -49,6 +50,10 @@ Judges items v (Ok costs) = v ≡ Grant items costs.blocks costs.steps
 Judges items v (Err fault) = RefusesSo fault v
 
 -- where the view tells of a list that needs and takes so much
-abbrev pub Affords : Sketch → ℕ → Result Costs NotGranted → Type 0
+abbrev pub Settles : List Item → Verdict → Result Costs Refusal → Type 0
+Settles items v (Ok costs) = v ≡ Grant items costs.blocks costs.steps
+Settles items v (Err refusal) = v ≡ Refuse refusal
+
+abbrev pub Affords : Sketch → ℕ → Result Costs Refusal → Type 0
 Affords w spare result =
-    (items : List Item) (needed taken : ℕ) → w.need ≡ min needed most_need → w.steps ≡ capped taken → Judges items (judged spare items None needed taken) result
+    (items : List Item) (needed taken : ℕ) → w.need ≡ min needed most_need → w.steps ≡ capped taken → Settles items (judged spare items None needed taken) result

@@ -42,11 +42,14 @@ pub fn judge<S: Filestore>(
         Judges list (judged_apart protected.now (S.state store.now).filestore spare (replicate bound 0) list None) result }
 {
     let view = run_alone(alloc, store, protected, footprint, items, bound)?;
-    afford(&view, spare)
+    match afford(&view, spare) {
+        Ok(taken) => Ok(taken),
+        Err(refusal) => Err(NotGranted::Refused(refusal)),
+    }
 }
 
-/// What the list cost that ran on the view, where it may have that.
-fn afford(view: &View<'_>, spare: u32) -> Result<Costs, NotGranted>
+/// What the list cost that ran on the view, where it may have that. Takes no memory.
+fn afford(view: &View<'_>, spare: u32) -> Result<Costs, Refusal>
     ensures { Affords view.now spare result }
 {
     let costs = Costs {
@@ -54,9 +57,9 @@ fn afford(view: &View<'_>, spare: u32) -> Result<Costs, NotGranted>
         steps: view.steps(),
     };
     if costs.steps > MOST_STEPS {
-        Err(NotGranted::Refused(Refusal::TooLong(costs.steps)))
+        Err(Refusal::TooLong(costs.steps))
     } else if !view.needs_at_most(spare) {
-        Err(NotGranted::Refused(Refusal::NoRoom(costs.blocks, spare)))
+        Err(Refusal::NoRoom(costs.blocks, spare))
     } else {
         Ok(costs)
     }

@@ -1,6 +1,6 @@
 //! The verdict, from its first test to its last.
 
-ghost use Rattle.std.specs.Prelude.{◌≡◌, IfNone, IfOk};
+ghost use Rattle.std.specs.Prelude.{◌≡◌, ◌<◌, ◌≤◌, IfNone, IfOk, IsOk, length};
 ghost use Rattle.cfdp_quota.specs.Budget.{spare};
 ghost use Rattle.cfdp_verifier.specs.Answers.{Grants, HasFootprint, answered};
 ghost use Rattle.cfdp_verifier.specs.Verdict.{verdict};
@@ -27,7 +27,7 @@ use std::alloc::{AllocError, Global};
 ///
 /// # Errors
 ///
-/// Want of memory. Cost: that of reading the names, of `footprint`, `Leases::conflict` and `View::of` on what they name,
+/// Want of memory, which a list of more than 64 requests does not take. Cost: that of reading the names, of `footprint`, `Leases::conflict` and `View::of` on what they name,
 /// and of one `View::install` and a `View::apply` for each request.
 pub fn verify<S: Filestore>(
     alloc: Global,
@@ -41,7 +41,11 @@ pub fn verify<S: Filestore>(
     ensures verdict { IfOk result (λ answer. answered answer
         ≡ verdict protected.now (S.state store.now).filestore leases.now (spare quota.now) proposal.now) }
     ensures footprint { IfOk result HasFootprint }
+    ensures lean { 64 < length proposal.now.requests → IsOk result }
 {
+    if proposal.requests.len() > MOST_REQUESTS {
+        return Ok(Verdict::Refuse(Refusal::TooManyRequests));
+    }
     match find_grant(alloc, store, leases, quota, protected, proposal) {
         Ok(grant) => Ok(Verdict::Grant(grant)),
         Err(NotGranted::Refused(refusal)) => Ok(Verdict::Refuse(refusal)),
@@ -49,7 +53,7 @@ pub fn verify<S: Filestore>(
     }
 }
 
-/// What the list is granted, or why it isn't.
+/// What a list of at most 64 requests is granted, or why it isn't.
 fn find_grant<S: Filestore>(
     alloc: Global,
     store: &S,
@@ -58,12 +62,10 @@ fn find_grant<S: Filestore>(
     protected: &Protected,
     proposal: &Proposal<'_>,
 ) -> Result<Grant, NotGranted>
+    requires few { length proposal.now.requests ≤ 64 }
     requires bound { IfNone proposal.now.destination (proposal.now.bound ≡ 0) }
     ensures { Grants (verdict protected.now (S.state store.now).filestore leases.now (spare quota.now) proposal.now) result }
 {
-    if proposal.requests.len() > MOST_REQUESTS {
-        return Err(NotGranted::Refused(Refusal::TooManyRequests));
-    }
     let items = parse_items(alloc, proposal)?;
     let footprint = footprint(alloc, &items.requests, items.destination.as_ref())?;
     if let Some(transaction) = leases.conflict(&footprint) {

@@ -1,5 +1,6 @@
 use Rattle.std.proofs.Common.{arith, ◌+◌}
-use Rattle.cfdp_actions.proofs.RowLaws.{nothing_there, something_there, file_by, directory_by, does_refused, does_full, does_changed, blocks_of-mono, append_first_absent, append_second_absent, append_first_directory, append_second_directory, append_of_files, blocks_of_both, blocks_of_one}
+use Rattle.std.proofs.lemmas.Result.{err_from_is_err_and}
+use Rattle.cfdp_actions.proofs.RowLaws.{nothing_there, something_there, file_by, directory_by, does_refused, does_wanting, does_full, does_changed, blocks_of-mono, append_first_absent, append_second_absent, append_first_directory, append_second_directory, append_of_files, blocks_of_both, blocks_of_one}
 use Rattle.cfdp_actions.proofs.rows.append.Goals as goal
 use Rattle.cfdp_actions.proofs.rows.append.Goals.{then-not-is_file-via-then-not-is_file, then-not-is_file-via-else-not-is_file+then-not-is_file-2}
 
@@ -37,3 +38,13 @@ returns-then-not-is_file g c =
       | then-not-is_file-via-then-not-is_file w ↦ does_refused _ _ _ _ (append_first_directory _ _ _ (directory_by _ _ _ _ c.kind.ensures c.in-Some.is c.is_file.ensures w.if-not-is_file.true) second) c.not_allowed.ensures
       | then-not-is_file-via-else-not-is_file+then-not-is_file-2 w ↦ does_refused _ _ _ _ (append_second_directory _ _ _ first (directory_by _ _ _ _ c.kind-2.ensures c.in-Some-kind.is w.is_file-else-not-is_file.ensures w.if-not-is_file-2.true)) c.not_allowed.ensures
     ]
+
+pub returns-in_err-ticks : goal.returns-in_err-ticks
+returns-in_err-ticks g c =
+    let first = file_by _ _ _ _ c.kind.ensures c.in-Some.is c.is_file.ensures c.if-not-is_file.false in
+    let second = file_by _ _ _ _ c.kind-2.ensures c.in-Some-kind.is c.is_file-else-not-is_file.ensures c.if-not-is_file-2.false in
+    let both = blocks_of_both _ _ _ _ _ c.blocks_of.ensures c.size-size.ensures.value c.size.ensures.value in
+    let one = blocks_of_one _ _ _ c.blocks_of-2.ensures c.size-size.ensures.value in
+    let fault = c.in_err-ticks.ensures in
+    let gone = err_from_is_err_and c.from_residual.result c.from_residual.ensures.1 in
+    rw gone.1 (does_wanting _ _ _ _ _ _ _ _ _ (append_of_files _ _ _ first second) (omega (arith, both, one, c.free.ensures.value, c.if-more-free.false)) fault.err fault.thrifty)

@@ -1,5 +1,6 @@
 use Rattle.std.proofs.Common.{arith}
-use Rattle.cfdp_actions.proofs.RowLaws.{nothing_there, file_there, directory_there, does_refused, does_changed, delete_absent, delete_of_directory, delete_of_file}
+use Rattle.std.proofs.lemmas.Result.{err_from_is_err_and}
+use Rattle.cfdp_actions.proofs.RowLaws.{nothing_there, file_there, directory_there, does_refused, does_wanting, does_changed, delete_absent, delete_of_directory, delete_of_file}
 use Rattle.cfdp_actions.proofs.rows.delete_file.Goals as goal
 
 pub returns-in-None : goal.returns-in-None
@@ -15,3 +16,10 @@ returns-in_ok-ticks-in-Some-File g c =
     let there = file_there _ _ _ c.kind.ensures c.in-Some-File.is c.in-Some-File.field-0-is in
     let done = c.in_ok-ticks-in-Some-File.ensures in
     does_changed _ _ _ _ _ _ _ _ _ _ (delete_of_file _ _ there) (omega arith) c.successful.ensures (omega (arith, done.ticks)) done.gone
+
+pub returns-in_err-ticks-in-Some-File : goal.returns-in_err-ticks-in-Some-File
+returns-in_err-ticks-in-Some-File g c =
+    let there = file_there _ _ _ c.kind.ensures c.in-Some-File.is c.in-Some-File.field-0-is in
+    let fault = c.in_err-ticks-in-Some-File.ensures in
+    let gone = err_from_is_err_and c.from_residual.result c.from_residual.ensures.1 in
+    rw gone.1 (does_wanting _ _ _ _ _ _ _ _ _ (delete_of_file _ _ there) (omega arith) fault.err fault.thrifty)

@@ -1,5 +1,6 @@
 use Rattle.std.proofs.Common.{sym, ◌∙◌, arith}
-use Rattle.cfdp_actions.proofs.RowLaws.{nothing_there, file_there, directory_there, does_refused, does_changed, remove_absent, remove_of_file, remove_of_full, remove_of_empty}
+use Rattle.std.proofs.lemmas.Result.{err_from_is_err_and}
+use Rattle.cfdp_actions.proofs.RowLaws.{nothing_there, file_there, directory_there, does_refused, does_wanting, does_changed, remove_absent, remove_of_file, remove_of_full, remove_of_empty}
 use Rattle.cfdp_actions.proofs.rows.remove_directory.Goals as goal
 
 pub returns-in-None : goal.returns-in-None
@@ -20,3 +21,10 @@ returns-in_ok-ticks-in-Some-Directory g c =
     let there = directory_there _ _ _ c.kind.ensures c.in-Some-Directory.is c.in-Some-Directory.field-0-is in
     let done = c.in_ok-ticks-in-Some-Directory.ensures in
     does_changed _ _ _ _ _ _ _ _ _ _ (remove_of_empty _ _ there (sym c.has_entries.ensures ∙ c.if-has_entries.false)) (omega arith) c.successful.ensures (omega (arith, done.ticks)) done.gone
+
+pub returns-in_err-ticks-in-Some-Directory : goal.returns-in_err-ticks-in-Some-Directory
+returns-in_err-ticks-in-Some-Directory g c =
+    let there = directory_there _ _ _ c.kind.ensures c.in-Some-Directory.is c.in-Some-Directory.field-0-is in
+    let fault = c.in_err-ticks-in-Some-Directory.ensures in
+    let gone = err_from_is_err_and c.from_residual.result c.from_residual.ensures.1 in
+    rw gone.1 (does_wanting _ _ _ _ _ _ _ _ _ (remove_of_empty _ _ there (sym c.has_entries.ensures ∙ c.if-has_entries.false)) (omega arith) fault.err fault.thrifty)

@@ -1,5 +1,6 @@
 use Rattle.std.proofs.Common.{arith}
-use Rattle.cfdp_actions.proofs.RowLaws.{nothing_there, something_there, file_by, directory_by, does_refused, replace_first_absent, replace_second_absent, replace_first_directory, replace_second_directory, does_replace, does_replace_full, blocks_of_one, blocks_of-small}
+use Rattle.std.proofs.lemmas.Result.{err_from_is_err_and}
+use Rattle.cfdp_actions.proofs.RowLaws.{nothing_there, something_there, file_by, directory_by, does_refused, replace_first_absent, replace_second_absent, replace_first_directory, replace_second_directory, does_replace, does_replace_wanting, does_replace_full, blocks_of_one, blocks_of-small}
 use Rattle.cfdp_actions.proofs.rows.replace.Goals as goal
 use Rattle.cfdp_actions.proofs.rows.replace.Goals.{then-not-is_file-via-then-not-is_file, then-not-is_file-via-else-not-is_file+then-not-is_file-2}
 
@@ -37,3 +38,13 @@ returns-then-not-is_file g c =
       | then-not-is_file-via-then-not-is_file w ↦ does_refused _ _ _ _ (replace_first_directory _ _ _ (directory_by _ _ _ _ c.kind.ensures c.in-Some.is c.is_file.ensures w.if-not-is_file.true) second) c.not_allowed.ensures
       | then-not-is_file-via-else-not-is_file+then-not-is_file-2 w ↦ does_refused _ _ _ _ (replace_second_directory _ _ _ first (directory_by _ _ _ _ c.kind-2.ensures c.in-Some-kind.is w.is_file-else-not-is_file.ensures w.if-not-is_file-2.true)) c.not_allowed.ensures
     ]
+
+pub returns-in_err-ticks : goal.returns-in_err-ticks
+returns-in_err-ticks g c =
+    let first = file_by _ _ _ _ c.kind.ensures c.in-Some.is c.is_file.ensures c.if-not-is_file.false in
+    let second = file_by _ _ _ _ c.kind-2.ensures c.in-Some-kind.is c.is_file-else-not-is_file.ensures c.if-not-is_file-2.false in
+    let given = blocks_of_one _ _ _ c.blocks_of-given.ensures c.size.ensures.value in
+    let taken = blocks_of_one _ _ _ c.blocks_of.ensures c.size-2.ensures.value in
+    let fault = c.in_err-ticks.ensures in
+    let gone = err_from_is_err_and c.from_residual.result c.from_residual.ensures.1 in
+    rw gone.1 (does_replace_wanting _ _ _ _ _ first second (omega (arith, given, taken, c.free.ensures.value, c.if-blocks_of-free.false)) fault.err fault.thrifty)

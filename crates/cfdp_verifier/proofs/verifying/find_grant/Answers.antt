@@ -3,14 +3,14 @@ use Rattle.std.proofs.lemmas.Result.{err_from_is_err_and}
 use Rattle.cfdp_quota.specs.Budget.{spare}
 use Rattle.cfdp_leases.specs.Footprint.{footprint_of}
 use Rattle.cfdp_leases.specs.Items.{items_of}
-use Rattle.cfdp_verifier.specs.Verdict.{Proposal, Verdict, judged_apart}
+use Rattle.cfdp_verifier.specs.Verdict.{Verdict, judged_apart}
 use Rattle.cfdp_verifier.specs.Judging.{RefusesSo}
 use Rattle.cfdp_verifier.proofs.Tested.{past_tests}
 use Rattle.cfdp_verifier.proofs.verifying.find_grant.Goals as goal
 
 pub returns-in-Some : goal.returns-in-Some
 returns-in-Some g c =
-    let few : length c.args.proposal.now.requests ≤ 64 = subst (λ (P : Proposal). length P.requests ≤ 64) c.proposal.view_is c.if-proposal-gt-MOST_REQUESTS.false in
+    let few : length c.args.proposal.now.requests ≤ 64 = c.requires.few in
     let leased : c.in_ok-footprint.footprint ≡ footprint_of (items_of c.in_ok-items.items.destination c.in_ok-items.items.requests.items) =
     rw (c.as_ref.ensures.value, c.deref.ensures.value) at c.in_ok-footprint.ensures in
     past_tests c.args.protected.now (g.S.Filestore.state c.args.store.now).filestore c.args.leases.now (spare c.args.quota.now) c.args.proposal.now
@@ -19,7 +19,7 @@ returns-in-Some g c =
 
 pub returns-in_err-costs : goal.returns-in_err-costs
 returns-in_err-costs g c =
-    let few : length c.args.proposal.now.requests ≤ 64 = subst (λ (P : Proposal). length P.requests ≤ 64) c.proposal.view_is c.if-proposal-gt-MOST_REQUESTS.false in
+    let few : length c.args.proposal.now.requests ≤ 64 = c.requires.few in
     let leased : c.in_ok-footprint.footprint ≡ footprint_of (items_of c.in_ok-items.items.destination c.in_ok-items.items.requests.items) =
     rw (c.as_ref.ensures.value, c.deref.ensures.value) at c.in_ok-footprint.ensures in
     let list = items_of c.in_ok-items.items.destination c.in_ok-items.items.requests.items in
@@ -33,7 +33,7 @@ returns-in_err-costs g c =
 
 pub returns : goal.returns
 returns g c =
-    let few : length c.args.proposal.now.requests ≤ 64 = subst (λ (P : Proposal). length P.requests ≤ 64) c.proposal.view_is c.if-proposal-gt-MOST_REQUESTS.false in
+    let few : length c.args.proposal.now.requests ≤ 64 = c.requires.few in
     let leased : c.in_ok-footprint.footprint ≡ footprint_of (items_of c.in_ok-items.items.destination c.in_ok-items.items.requests.items) =
     rw (c.as_ref.ensures.value, c.deref.ensures.value) at c.in_ok-footprint.ensures in
     let list = items_of c.in_ok-items.items.destination c.in_ok-items.items.requests.items in
