@@ -370,6 +370,18 @@ fn has_spent(core: &Core<ListStore>, number: u8, blocks: i64, steps: u32) -> boo
     core.blocks_spent(id(number)) == Some(blocks) && core.steps_spent(id(number)) == Some(steps)
 }
 
+/// Whether the entity says of itself what a row expects, where that is neither a reply nor what stands.
+fn holds(core: &Core<ListStore>, row: Row) -> bool {
+    match row {
+        Row::Store(free, spare) => has_free(core, free, spare),
+        Row::Gaps(number, expected) => has_gaps(core, number, expected),
+        Row::Spent(number, blocks, steps) => has_spent(core, number, blocks, steps),
+        Row::Phase(number, phase) => core.phase(id(number)) == phase,
+        Row::Runnable(number) => core.next_runnable() == number.map(id),
+        Row::On(..) | Row::Standing(_) => false,
+    }
+}
+
 /// Compares one row.
 fn compare(
     rt: &impl Abort,
@@ -378,17 +390,13 @@ fn compare(
     row: Row,
     twice: bool,
 ) -> Result<(), Memory> {
-    let same = match row {
-        Row::On(given, told) => return compare_reply(rt, alloc, core, given, told, twice),
-        Row::Standing(expected) => {
-            return compare_standing(rt, alloc, core.store(), expected);
-        }
-        Row::Store(free, spare) => has_free(core, free, spare),
-        Row::Gaps(number, expected) => has_gaps(core, number, expected),
-        Row::Spent(number, blocks, steps) => has_spent(core, number, blocks, steps),
-        Row::Phase(number, phase) => core.phase(id(number)) == phase,
-        Row::Runnable(number) => core.next_runnable() == number.map(id),
-    };
+    if let Row::On(given, told) = row {
+        return compare_reply(rt, alloc, core, given, told, twice);
+    }
+    if let Row::Standing(expected) = row {
+        return compare_standing(rt, alloc, core.store(), expected);
+    }
+    let same = holds(core, row);
     assert!(rt; same, "at {row:?}");
     Ok(())
 }

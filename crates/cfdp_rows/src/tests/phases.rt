@@ -158,71 +158,65 @@ fn each_event_in_each_phase(rt: HostRuntime) -> Result<(), Memory> {
     Ok(())
 }
 
+static PDUS_OF_ANOTHER_ENTITY: [Row; 8] = [
+    Row::On(
+        Given::Pdu("24000a00010a0307400000000f01730166"),
+        Told::NotForUs,
+    ),
+    Row::On(
+        Given::Pdu("34000b00010a030000000808090a0b0c0d0e"),
+        Told::NotForUs,
+    ),
+    Row::On(
+        Given::Pdu("24000a00010a030400181c20150000000f"),
+        Told::NotForUs,
+    ),
+    Row::Phase(10, None),
+    Row::On(METADATA, Told::Admitted(2, 2)),
+    Row::On(
+        Given::Pdu("34000b00010a030000000808090a0b0c0d0e"),
+        Told::NotForUs,
+    ),
+    Row::On(
+        Given::Pdu("24000a00010a030400181c20150000000f"),
+        Told::NotForUs,
+    ),
+    Row::Store(64, 62),
+];
+
 #[test]
 fn pdus_of_another_entity(rt: HostRuntime) -> Result<(), Memory> {
-    check(
-        &rt,
-        rt.alloc(),
-        DEFAULT,
-        &[
-            Row::On(
-                Given::Pdu("24000a00010a0307400000000f01730166"),
-                Told::NotForUs,
-            ),
-            Row::On(
-                Given::Pdu("34000b00010a030000000808090a0b0c0d0e"),
-                Told::NotForUs,
-            ),
-            Row::On(
-                Given::Pdu("24000a00010a030400181c20150000000f"),
-                Told::NotForUs,
-            ),
-            Row::Phase(10, None),
-            Row::On(METADATA, Told::Admitted(2, 2)),
-            Row::On(
-                Given::Pdu("34000b00010a030000000808090a0b0c0d0e"),
-                Told::NotForUs,
-            ),
-            Row::On(
-                Given::Pdu("24000a00010a030400181c20150000000f"),
-                Told::NotForUs,
-            ),
-            Row::Store(64, 62),
-        ],
-    )
+    check(&rt, rt.alloc(), DEFAULT, &PDUS_OF_ANOTHER_ENTITY)
 }
+
+static OCTETS_AT_THEIR_LIMITS: [Row; 17] = [
+    Row::On(METADATA, Told::Admitted(2, 2)),
+    Row::On(Given::Octets(10, u64::MAX, 0, 0), Told::Stored),
+    Row::On(Given::Octets(10, 0, 15, 1), Told::Stored),
+    Row::On(Given::Octets(10, 0, 15, 2), Told::Stored),
+    Row::Store(63, 62),
+    Row::On(
+        Given::Pdu("24000a00010a0204000f0f0f0e0000000f"),
+        Told::Faulted(5),
+    ),
+    Row::On(Given::Take(10), Told::Finished("2c000500010a020554060102")),
+    Row::On(METADATA, Told::Admitted(2, 2)),
+    Row::On(Given::Octets(10, 15, 1, 0), Told::Faulted(6)),
+    Row::On(Given::Take(10), Told::Finished("2c000500010a020564060102")),
+    Row::On(METADATA, Told::Admitted(2, 2)),
+    Row::On(Given::Octets(10, u64::MAX, 1, 0), Told::Faulted(6)),
+    Row::On(Given::Take(10), Told::Finished("2c000500010a020564060102")),
+    Row::On(METADATA, Told::Admitted(2, 2)),
+    Row::On(
+        Given::Pdu("24000a00010a020400000000000000000a"),
+        Told::Waiting,
+    ),
+    Row::On(Given::Octets(10, 9, 2, 0), Told::Faulted(6)),
+    Row::Store(64, 64),
+];
 
 /// File data that has no octets, comes twice with others, ends past the size that was declared, or past that of the EOF PDU.
 #[test]
 fn octets_at_their_limits(rt: HostRuntime) -> Result<(), Memory> {
-    check(
-        &rt,
-        rt.alloc(),
-        DEFAULT,
-        &[
-            Row::On(METADATA, Told::Admitted(2, 2)),
-            Row::On(Given::Octets(10, u64::MAX, 0, 0), Told::Stored),
-            Row::On(Given::Octets(10, 0, 15, 1), Told::Stored),
-            Row::On(Given::Octets(10, 0, 15, 2), Told::Stored),
-            Row::Store(63, 62),
-            Row::On(
-                Given::Pdu("24000a00010a0204000f0f0f0e0000000f"),
-                Told::Faulted(5),
-            ),
-            Row::On(Given::Take(10), Told::Finished("2c000500010a020554060102")),
-            Row::On(METADATA, Told::Admitted(2, 2)),
-            Row::On(Given::Octets(10, 15, 1, 0), Told::Faulted(6)),
-            Row::On(Given::Take(10), Told::Finished("2c000500010a020564060102")),
-            Row::On(METADATA, Told::Admitted(2, 2)),
-            Row::On(Given::Octets(10, u64::MAX, 1, 0), Told::Faulted(6)),
-            Row::On(Given::Take(10), Told::Finished("2c000500010a020564060102")),
-            Row::On(METADATA, Told::Admitted(2, 2)),
-            Row::On(
-                Given::Pdu("24000a00010a020400000000000000000a"),
-                Told::Waiting,
-            ),
-            Row::On(Given::Octets(10, 9, 2, 0), Told::Faulted(6)),
-            Row::Store(64, 64),
-        ],
-    )
+    check(&rt, rt.alloc(), DEFAULT, &OCTETS_AT_THEIR_LIMITS)
 }
