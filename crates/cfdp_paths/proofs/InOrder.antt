@@ -17,7 +17,6 @@ use Rattle.std.specs.declared.cmp.Ordering.{Ordering}
 use Rattle.std.specs.declared.cmp.Ordering.TheVariants.{Less, Equal, Greater}
 use Rattle.std.proofs.lemmas.Bool.{and_parts, true≢false}
 use Rattle.std.proofs.lemmas.List.{get_or_default}
-use Rattle.std.proofs.Math.Seq.{take-length}
 use Rattle.std.proofs.Math.Dec.{T}
 use Rattle.std.specs.List.{insert, remove}
 use Rattle.cfdp_paths.specs.Paths.{Path, path_cmp}
@@ -66,10 +65,6 @@ module _ {Y : Type 0} (test : Y → Bool) where
       let yes : test y ≡ true = point.0 0 y (omega arith) (omega arith) in
       let rest = prefix_len_of_point ys i (omega arith) ((λ j d a b. point.0 (suc j) d (omega arith) (omega arith)), (λ j d a b. point.1 (suc j) d (omega arith) (omega arith))) in
       rw yes (omega (arith, rest))
-
--- the whole path as its own beginning
-pub whole : (k : Path) (n : ℕ) → n ≡ length k → take n k ≡ k
-whole k n long = ap (λ m. take m k) long ∙ take-length k
 
 module _ {X : Type 0} where
   -- ---- by the comparison with the first entry
@@ -292,8 +287,8 @@ module _ {X : Type 0} where
       let there_is : path_cmp (get_or es (rank k es) x).0 k ≡ Equal = ap (λ p. path_cmp p k) (path_there k es i x at) ∙ tied_itself path_cmp-total k in
       ap (λ (y : Path × X). Some y.1) read ∙ ap (λ n. Some (get_or es n x).1) at.first ∙ sym (found_at k x es (within_there k es i at) there_is)
 
-  pub placed : (k : Path) (n : ℕ) (es fs : List (Path × X)) (i : ℕ) → n ≡ length k → fs ≡ es → IsPlaceOf (take n k) fs i → IsPlaceOf k es i
-  placed k n es fs i long same at = subst (λ p. IsPlaceOf p es i) (whole k n long) (subst (λ ys. IsPlaceOf (take n k) ys i) same at)
+  pub placed : (k p : Path) (es fs : List (Path × X)) (i : ℕ) → p ≡ k → fs ≡ es → IsPlaceOf p fs i → IsPlaceOf k es i
+  placed k p es fs i sought same at = subst (λ q. IsPlaceOf q es i) sought (subst (λ ys. IsPlaceOf p ys i) same at)
 
   -- ---- one entry changed at its place
 
@@ -312,10 +307,9 @@ module _ {X : Type 0} where
       ∙ sym (put-new k (k, v) v es (λ less same.
       true≢false (ap is_some (sym (found_at k (k, v) es less (ap (λ p. path_cmp p k) same ∙ tied_itself path_cmp-total k)) ∙ none))))
 
-  pub put_between : (k : Path) (v : X) (n m : ℕ) (es fs gs : List (Path × X)) (i : ℕ) → n ≡ length k → m ≡ length k → fs ≡ es → gs ≡ es
-      → find path_cmp (take n k) fs ≡ None → i ≡ rank (take m k) gs → insert es i (k, v) ≡ put path_cmp k v es
-  put_between k v n m es fs gs i long long' same same' none place =
-      put_gap k v es i (place ∙ ap (λ p. rank p gs) (whole k m long') ∙ ap (rank k) same') (sym (ap (λ p. find path_cmp p fs) (whole k n long) ∙ ap (find path_cmp k) same) ∙ none)
+  pub put_between : (k p : Path) (v : X) (es fs : List (Path × X)) (i : ℕ) → p ≡ k → fs ≡ es → find path_cmp p fs ≡ None → i ≡ rank p fs → insert es i (k, v) ≡ put path_cmp k v es
+  put_between k p v es fs i sought same none place =
+      put_gap k v es i (place ∙ ap (λ q. rank q fs) sought ∙ ap (rank k) same) (sym (ap (λ q. find path_cmp q fs) sought ∙ ap (find path_cmp k) same) ∙ none)
 
   -- ---- the order is kept
 

@@ -5,20 +5,21 @@
 --     tree_all, moved_all        what is taken is at or below the path, and what is put in at or below the other
 --     moved_ordered              the order is kept
 --     with_paths-rebased         new paths are the rebased ones
+--     one_tree, one_read, one_rest, one_below, one_shallow, one_moved     where the piece is one entry
 --     puts_piece                 where nothing stands at or below the path, the entries go in as one piece
-use Rattle.std.proofs.Common.{◌≡◌, ℕ, suc, ◌+◌, ◌-◌, ◌≤◌, Bool, true, false, not, Result, Ok, Err, OnOk, OnErr, List, [], ◌∷◌, ◌++◌, map, length, take, drop, refl, sym, ap, subst, ◌∙◌, arith, append_assoc, length-take, length-drop, length-append}
+use Rattle.std.proofs.Common.{◌≡◌, ℕ, zero, suc, ◌+◌, ◌-◌, ◌<◌, ◌≤◌, Bool, true, false, not, Result, Ok, Err, OnOk, OnErr, List, [], ◌∷◌, ◌++◌, map, length, take, drop, get_or, refl, sym, ap, subst, ◌∙◌, arith, append_assoc, length-take, length-drop, length-append}
 use Rattle.std.specs.Cmp.{tied_itself}
 use Rattle.std.specs.Cmp.Lexicographic.{slice_cmp, nat_list_cmp_total}
 use Rattle.std.specs.FinMap.{put, is_sorted}
 use Rattle.std.specs.FinMap.Entries.{below_all}
 use Rattle.std.specs.declared.alloc.AllocError.{AllocError}
-use Rattle.std.specs.List.{list_all, between}
+use Rattle.std.specs.List.{list_all, between, remove}
 use Rattle.std.specs.Ordering.{is_lt, nat_cmp}
 use Rattle.std.specs.declared.cmp.Ordering.TheVariants.{Less, Equal, Greater}
-use Rattle.std.proofs.lemmas.Bool.{and_parts, true≢false}
-use Rattle.std.proofs.lemmas.List.{take-append-drop, take_at, drop_at, drop-take, take-take, drop-drop}
+use Rattle.std.proofs.lemmas.Bool.{and_parts, or_parts, ltb-false, true≢false}
+use Rattle.std.proofs.lemmas.List.{get_or_default, take-append-drop, take_at, drop_at, drop-take, take-take, drop-drop}
 use Rattle.cfdp_paths.specs.Paths.{Path, path_cmp, is_at_or_below, rebased}
-use Rattle.cfdp_paths.specs.PathMaps.{IsPieceOf, rank, spread, tree_in, rest_in, puts, moved_to, with_paths}
+use Rattle.cfdp_paths.specs.PathMaps.{IsPieceOf, rank, spread, tree_in, rest_in, puts, moved_to, with_paths, is_too_deep}
 use Rattle.cfdp_paths.proofs.Comparing.{path_cmp-total}
 use Rattle.cfdp_paths.proofs.Below.{append_from_at_or_below, at_or_below-append}
 use Rattle.cfdp_paths.proofs.InOrder.{path_antisym, less_by, less_back, greater_back, put-less, put-greater, below_before, ordered-put, ordered-where}
@@ -249,3 +250,40 @@ module _ {X : Type 0} where
   ordered-relocated (Ok done) p q es fs s ok err =
       ap (is_sorted path_cmp) ok ∙ ordered-puts (rest_in p es) (moved_to p q (tree_in p es)) (ordered-where (λ x. not (is_at_or_below x p)) es (rest_in p es) refl s)
   ordered-relocated (Err want) p q es fs s ok err = ap (is_sorted path_cmp) err ∙ s
+
+  -- ---- the piece is one entry
+
+  one_between : (es : List (Path × X)) (i : ℕ) (x : Path × X) → i < length es → take 1 (drop i es) ≡ get_or es i x ∷ []
+  one_between [] i x h = absurd (omega arith)
+  one_between (e ∷ es) zero x h = refl
+  one_between (e ∷ es) (suc i) x h = one_between es i x (omega arith)
+
+  pub one_tree : (p : Path) (es : List (Path × X)) (i : ℕ) (x y : Path × X) → is_sorted path_cmp es ≡ true → IsPieceOf p es i (i + 1) → y ≡ get_or es i x → tree_in p es ≡ y ∷ []
+  one_tree p es i x y s piece read =
+      sym (tree_between p es es i (i + 1) s refl piece) ∙ ap (λ n. take n (drop i es)) (one_more i) ∙ one_between es i x (omega (arith, piece.within)) ∙ ap (λ z. z ∷ []) (sym read)
+    where
+      one_more : (n : ℕ) → n + 1 - n ≡ 1
+      one_more n = omega arith
+
+  pub one_read : (p : Path) (es : List (Path × X)) (i : ℕ) (y z : Path × X) → IsPieceOf p es i (i + 1) → y ≡ get_or es i y → z ≡ get_or es i z → y ≡ z
+  one_read p es i y z piece read read' = read ∙ get_or_default es i y z (omega (arith, piece.within)) ∙ sym read'
+
+  pub one_rest : (p : Path) (es : List (Path × X)) (i : ℕ) → is_sorted path_cmp es ≡ true → IsPieceOf p es i (i + 1) → remove es i ≡ rest_in p es
+  one_rest p es i s piece = ap (λ n. take i es ++ drop n es) (one_up i) ∙ rest_around p es i (i + 1) s piece
+    where
+      one_up : (n : ℕ) → suc n ≡ n + 1
+      one_up n = omega arith
+
+  pub one_below : (p : Path) (es : List (Path × X)) (e : Path × X) → tree_in p es ≡ e ∷ [] → is_at_or_below e.0 p ≡ true
+  one_below p es e tree = (and_parts (is_at_or_below e.0 p) true (sym (ap (list_all (λ f. is_at_or_below f.0 p)) tree) ∙ tree_all p es)).0
+
+  pub one_shallow : (p q : Path) (es : List (Path × X)) (e : Path × X) → tree_in p es ≡ e ∷ [] → is_too_deep p q (tree_in p es) ≡ false → length e.0 + length q ≤ 8 + length p
+  one_shallow p q es e tree shallow =
+      let short : length (rebased p q e.0) ≤ 8 = ltb-false 8 (length (rebased p q e.0)) (or_parts _ false (sym (ap (is_too_deep p q) tree) ∙ shallow)).0 in
+      omega (arith, short, length-append q (drop (length p) e.0), length-drop (length p) e.0)
+
+  pub one_moved : (p q : Path) (es : List (Path × X)) (e f : Path × X) (x : Path) → tree_in p es ≡ e ∷ [] → f ≡ e → x ≡ rebased p q e.0 → (rest : List (Path × X)) → rest ≡ rest_in p es
+      → put path_cmp x f.1 rest ≡ puts (rest_in p es) (moved_to p q (tree_in p es))
+  one_moved p q es e f x tree same made rest left =
+      ap (λ ys. put path_cmp x f.1 ys) left ∙ ap (λ (g : Path × X). put path_cmp x g.1 (rest_in p es)) same
+      ∙ ap (λ y. put path_cmp y e.1 (rest_in p es)) made ∙ ap (λ ts. puts (rest_in p es) (moved_to p q ts)) (sym tree)

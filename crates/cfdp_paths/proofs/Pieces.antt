@@ -19,7 +19,7 @@ use Rattle.std.proofs.lemmas.Slice.{between_to_end}
 use Rattle.cfdp_paths.specs.Paths.{Name, Path, path_cmp, same_name, same_path, is_at_or_below}
 use Rattle.cfdp_paths.specs.PathMaps.{IsPieceOf, rank, spread, tree_in, rest_in, any_below}
 use Rattle.cfdp_paths.proofs.Comparing.{path_cmp-total, same_name-Decides}
-use Rattle.cfdp_paths.proofs.InOrder.{less_by, less_back, below_at, prefix_len_of_point, whole}
+use Rattle.cfdp_paths.proofs.InOrder.{less_by, less_back, below_at, prefix_len_of_point}
 
 -- the order of names
 abbrev name_cmp : Name → Name → Ordering
@@ -175,22 +175,22 @@ module _ {X : Type 0} (p : Path) where
 
   -- ---- by place
 
-  pub piece_of : (n : ℕ) (es : List (Path × X)) (start count : ℕ) → n ≡ length p → start ≡ rank (take n p) es → start ≤ length es
+  pub piece_of : (q : Path) (es : List (Path × X)) (start count : ℕ) → q ≡ p → start ≡ rank q es → start ≤ length es
       → count ≤ length (between start (length es) es) → IsPartitionPoint (λ e. is_at_or_below e.0 p ≡ true) (λ e. is_at_or_below e.0 p ≡ false) (between start (length es) es) count
       → IsPieceOf p es start (start + count)
-  piece_of n es start count long place within few point =
+  piece_of q es start count sought place within few point =
       let behind : between start (length es) es ≡ drop start es = between_to_end es start (length es) (omega arith) in
       let spread_is = prefix_len_of_point (λ (e : Path × X). is_at_or_below e.0 p) (between start (length es) es) count few point in
       record {
-        begins = place ∙ ap (λ q. rank q es) (whole p n long);
+        begins = place ∙ ap (λ r. rank r es) sought;
         ends = ap (λ m. start + m) (spread_is ∙ ap (spread p) behind);
         within = omega (arith, few, ap length behind, length-drop start es);
       }
 
-  pub behind_parted : (n : ℕ) (es : List (Path × X)) (start : ℕ) → n ≡ length p → start ≡ rank (take n p) es → is_sorted path_cmp es ≡ true
+  pub behind_parted : (q : Path) (es : List (Path × X)) (start : ℕ) → q ≡ p → start ≡ rank q es → is_sorted path_cmp es ≡ true
       → IsPartitionedBy (λ e. is_at_or_below e.0 p) (between start (length es) es)
-  behind_parted n es start long place s =
-      let begins : start ≡ rank p es = place ∙ ap (λ q. rank q es) (whole p n long) in
+  behind_parted q es start sought place s =
+      let begins : start ≡ rank p es = place ∙ ap (λ r. rank r es) sought in
       let behind : drop start es ≡ between start (length es) es = sym (between_to_end es start (length es) (omega arith)) in
       subst (IsPartitionedBy (λ e. is_at_or_below e.0 p)) behind
       (spreads_parted (drop start es) (sorted_behind es start s) (subst (λ m. BeginsAt (drop m es)) (sym begins) (begins_at_rank es)))

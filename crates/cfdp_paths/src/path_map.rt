@@ -1,9 +1,10 @@
 //! Maps by path.
 
-ghost use Rattle.std.specs.Prelude.{◌≡◌, ◌+◌, ◌<◌, ◌≤◌, vec_len, vec_capacity, IsSome, IfSome, IfNone, None, IsOk, OnOk, OnErr, not, false, List, [], length, take, option_copied};
+ghost use Rattle.std.specs.Prelude.{◌≡◌, ◌+◌, ◌<◌, ◌≤◌, vec_len, vec_capacity, IsSome, None, IsOk, IfOk, IfErr, OnOk, OnErr, not, false, List, [], length, take};
+ghost use Rattle.std.specs.Option.{option_copied};
 ghost use Rattle.std.specs.FinMap.{find, put};
 ghost use Rattle.std.specs.List.{list_any};
-ghost use Rattle.cfdp_paths.specs.Paths.{path_cmp, same_path, is_at_or_below};
+ghost use Rattle.cfdp_paths.specs.Paths.{path_cmp, path_in, same_path, is_at_or_below};
 ghost use Rattle.cfdp_paths.specs.PathMaps.{IsOrdered, IsPlaceOf, IsPieceOf, rank, without, tree_in, rest_in, any_below, puts, moved_to, is_too_deep};
 
 use crate::relocating::relocate;
@@ -38,8 +39,7 @@ impl<T: Drop> PathMap<T> {
         requires { IsSome (find path_cmp path.now self.old) }
         ensures { self.new ≡ put path_cmp path.now value self.old }
     {
-        let place = find_place(&self.entries, path, path.depth()).unwrap();
-        self.entries[place].1 = value;
+        let _ = self.exchange(path, value);
     }
 
     /// Puts the value at the path, in the place of what stood there.
@@ -53,13 +53,16 @@ impl<T: Drop> PathMap<T> {
         ensures err { OnErr result (self.new ≡ self.old) }
         ensures present { IsSome (find path_cmp path self.old) → IsOk result }
     {
-        if let Some(place) = find_place(&self.entries, &path, path.depth()) {
-            self.entries[place].1 = value;
-            return Ok(());
+        match search(&self.entries, path.octets()) {
+            Ok(place) => {
+                self.entries[place].1 = value;
+                Ok(())
+            }
+            Err(place) => {
+                self.entries.insert(place, (path, value))?;
+                Ok(())
+            }
         }
-        let place = place(&self.entries, &path, path.depth());
-        self.entries.insert(place, (path, value))?;
-        Ok(())
     }
 
     /// Moves what stands at a path and below it: each path p/r becomes q/r. What stood there before is gone.
@@ -86,7 +89,7 @@ impl<T> PathMap<T> {
         ensures old { find path_cmp path.now self.old ≡ Some result }
         ensures put { self.new ≡ put path_cmp path.now value self.old }
     {
-        let place = find_place(&self.entries, path, path.depth()).unwrap();
+        let place = search(&self.entries, path.octets()).unwrap();
         mem::replace(&mut self.entries[place].1, value)
     }
 
@@ -111,7 +114,7 @@ impl<T> PathMap<T> {
     pub fn get(&self, path: &Path) -> Option<&T>
         ensures { option_copied result ≡ find path_cmp path.now self.now }
     {
-        self.get_beginning(path, path.depth())
+        self.find(path.octets())
     }
 
     /// The value at the path of the first `depth` names of `path`, if there is one. Takes no memory, and makes no path.
@@ -120,7 +123,16 @@ impl<T> PathMap<T> {
         requires { depth ≤ length path.now }
         ensures { option_copied result ≡ find path_cmp (take depth path.now) self.now }
     {
-        let place = find_place(&self.entries, path, depth)?;
+        self.find(path.first_octets(depth))
+    }
+
+    /// The value at the path that is looked up, if there is one.
+    fn find(&self, sought: Option<&[u8]>) -> Option<&T>
+        ensures { option_copied result ≡ find path_cmp (path_in (option_copied sought.entry)) self.now }
+    {
+        let Ok(place) = search(&self.entries, sought) else {
+            return None;
+        };
         Some(&self.entries[place].1)
     }
 
@@ -145,38 +157,36 @@ impl<T> PathMap<T> {
         ensures value { result ≡ find path_cmp path.now self.old }
         ensures removed { self.new ≡ without path.now self.old }
     {
-        let place = find_place(&self.entries, path, path.depth())?;
+        let Ok(place) = search(&self.entries, path.octets()) else {
+            return None;
+        };
         let (_, value) = self.entries.remove(place);
         Some(value)
     }
 }
 
-/// How many entries stand before the path of the first `depth` names of `path`.
-fn place<T>(entries: &[(Path, T)], path: &Path, depth: usize) -> usize
-    requires ordered { IsOrdered entries.now }
-    requires names { depth ≤ length path.now }
-    ensures value { result ≡ rank (take depth path.now) entries.now }
+/// How many entries stand before the path that is looked up.
+fn rank<T>(entries: &[(Path, T)], sought: Option<&[u8]>) -> usize
+    requires { IsOrdered entries.now }
+    ensures value { result ≡ rank (path_in (option_copied sought.entry)) entries.now }
     ensures within { result ≤ length entries.now }
 {
-    entries.partition_point(
-        |entry: &(Path, T)| -> bool
-            requires { depth ≤ length path.now }
-        { entry.0.cmp_beginning(path, depth).is_lt() },
-    )
+    entries.partition_point(|entry| entry.0.cmp_sought(sought).is_lt())
 }
 
-/// The place of the entry at the path of the first `depth` names of `path`, if there is one.
-fn find_place<T>(entries: &[(Path, T)], path: &Path, depth: usize) -> Option<usize>
-    requires ordered { IsOrdered entries.now }
-    requires names { depth ≤ length path.now }
-    ensures found { IfSome result (λ place. IsPlaceOf (take depth path.now) entries.now place) }
-    ensures none { IfNone result (find path_cmp (take depth path.now) entries.now ≡ None) }
+/// The place of the entry at the path that is looked up; where there is none, the place at which it would stand.
+fn search<T>(entries: &[(Path, T)], sought: Option<&[u8]>) -> Result<usize, usize>
+    requires { IsOrdered entries.now }
+    ensures found { IfOk result (λ place. IsPlaceOf (path_in (option_copied sought.entry)) entries.now place) }
+    ensures absent { OnErr result (find path_cmp (path_in (option_copied sought.entry)) entries.now ≡ None) }
+    ensures place { IfErr result (λ place. place ≡ rank (path_in (option_copied sought.entry)) entries.now) }
+    ensures within { IfErr result (λ place. place ≤ length entries.now) }
 {
-    let place = place(entries, path, depth);
-    if place < entries.len() && entries[place].0.cmp_beginning(path, depth).is_eq() {
-        return Some(place);
+    let place = rank(entries, sought);
+    if place < entries.len() && entries[place].0.cmp_sought(sought).is_eq() {
+        return Ok(place);
     }
-    None
+    Err(place)
 }
 
 /// Whether an entry is that of another path.
@@ -191,7 +201,7 @@ pub(crate) fn piece<T>(entries: &[(Path, T)], path: &Path) -> (usize, usize)
     requires { IsOrdered entries.now }
     ensures { IsPieceOf path.now entries.now result.0 result.1 }
 {
-    let start = place(entries, path, path.depth());
+    let start = rank(entries, path.octets());
     let behind = &entries[start..];
     let count = behind.partition_point(|entry| entry.0.is_at_or_below(path));
     (start, start + count)
@@ -205,10 +215,8 @@ pub(crate) fn put_reserved<T: Drop>(entries: &mut Vec<(Path, T)>, path: Path, va
     ensures capacity { vec_capacity entries.new ≡ vec_capacity entries.old }
     ensures longer { vec_len entries.new ≤ vec_len entries.old + 1 }
 {
-    if let Some(place) = find_place(entries, &path, path.depth()) {
-        entries[place].1 = value;
-        return;
+    match search(entries, path.octets()) {
+        Ok(place) => entries[place].1 = value,
+        Err(place) => entries.insert(place, (path, value)).unwrap(),
     }
-    let place = place(entries, &path, path.depth());
-    entries.insert(place, (path, value)).unwrap();
 }

@@ -3,10 +3,11 @@
 ghost use Rattle.std.proofs.Common.{rules};
 ghost use Rattle.std.specs.Cmp.Rules.{comparing};
 ghost use Rattle.std.specs.Cmp.{partial_order_from_own_ties};
+ghost use Rattle.std.specs.Option.{option_copied};
 ghost use Rattle.std.specs.Ordering.{as_partial_cmp};
 ghost use Rattle.std.specs.Prelude.{◌≡◌, ◌≢◌, ◌+◌, ◌≤◌, ◌↔◌, ◌⊎◌, List, [], length, take, IsTrue, IsOk, IfOk, IfErr, MatchResult};
 ghost use Rattle.cfdp_paths.specs.Faults.{fault_of};
-ghost use Rattle.cfdp_paths.specs.Paths.{Name, IsPath, Spells, ancestors, is_at_or_below, is_below, joined, names_of, parent, path_cmp, path_of, rebased, same_path, unless_root};
+ghost use Rattle.cfdp_paths.specs.Paths.{Name, IsPath, Spells, ancestors, is_at_or_below, is_below, joined, names_of, parent, path_cmp, path_in, path_of, rebased, same_path, unless_root};
 
 use crate::Memory;
 use crate::buffers::{SEPARATOR, count_separators, first_names, replaced};
@@ -106,11 +107,36 @@ impl Path {
         requires { depth ≤ length other.now }
         ensures { result ≡ path_cmp self.now (take depth other.now) }
     {
-        let octets = self.octets.as_slice();
+        self.cmp_sought(other.first_octets(depth))
+    }
+
+    /// The octets of the whole path, to look it up by.
+    pub(crate) fn octets(&self) -> Option<&[u8]>
+        ensures path { path_in (option_copied result) ≡ self.now }
+    {
+        Some(&self.octets)
+    }
+
+    /// The octets of the first `depth` names, to look their path up by; `None` for no name.
+    pub(crate) fn first_octets(&self, depth: usize) -> Option<&[u8]>
+        requires { depth ≤ length self.now }
+        ensures path { path_in (option_copied result) ≡ take depth self.now }
+    {
         if depth == 0 {
-            return Ordering::Greater;
+            return None;
         }
-        octets.cmp(&first_names(&other.octets, depth))
+        Some(first_names(&self.octets, depth))
+    }
+
+    /// How this path stands to the one that is looked up.
+    pub(crate) fn cmp_sought(&self, sought: Option<&[u8]>) -> Ordering
+        ensures { result ≡ path_cmp self.now (path_in (option_copied sought.entry)) }
+    {
+        let octets = self.octets.as_slice();
+        match sought {
+            Some(sought) => octets.cmp(&sought),
+            None => Ordering::Greater,
+        }
     }
 
     /// The path of this path's first `depth` names.
@@ -203,14 +229,6 @@ impl Path {
         octets.extend_from_slice(&to.octets)?;
         octets.extend_from_slice(rest)?;
         Ok(Path { octets })
-    }
-}
-
-#[cfg(test)]
-impl Path {
-    /// The names with [`SEPARATOR`] between them.
-    pub(crate) fn octets(&self) -> &[u8] {
-        &self.octets
     }
 }
 

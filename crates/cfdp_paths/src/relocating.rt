@@ -3,7 +3,7 @@
 ghost use Rattle.std.specs.Prelude.{◌≡◌, ◌+◌, ◌≤◌, false, IsTrue, IfOk, OnOk, OnErr, [], ◌++◌, length, take, drop, map, vec_len, vec_capacity};
 ghost use Rattle.std.specs.List.{list_all, between};
 ghost use Rattle.cfdp_paths.specs.Paths.{is_at_or_below, rebased};
-ghost use Rattle.cfdp_paths.specs.PathMaps.{IsOrdered, tree_in, rest_in, puts, moved_to, with_paths, is_too_deep};
+ghost use Rattle.cfdp_paths.specs.PathMaps.{IsOrdered, IsPieceOf, tree_in, rest_in, puts, moved_to, with_paths, is_too_deep};
 
 use crate::path_map::{piece, put_reserved};
 use crate::{Memory, Path};
@@ -24,10 +24,35 @@ pub(crate) fn relocate<T: Drop>(
 {
     let alloc = *entries.allocator();
     let (start, end) = piece(entries, from);
+    if end - start == 1 {
+        return relocate_entry(entries, start, from, to);
+    }
     let paths = new_paths(alloc, &entries[start..end], from, to)?;
     let moved = Vec::with_capacity(alloc, paths.len())?;
     let taken = detach(entries, start, end)?;
     settle(entries, to, renamed(taken, paths, moved));
+    Ok(())
+}
+
+/// Moves the entry at the place, which is all that stands at and below the first path. Cost: one path, one search, and
+/// two shifts of the entries behind.
+fn relocate_entry<T: Drop>(
+    entries: &mut Vec<(Path, T)>,
+    place: usize,
+    from: &Path,
+    to: &Path,
+) -> Result<(), Memory>
+    requires ordered { IsOrdered entries.old.items }
+    requires piece { IsPieceOf from.now entries.old.items place (place + 1) }
+    requires depth { is_too_deep from.now to.now (tree_in from.now entries.old.items) ≡ false }
+    ensures ok { OnOk result (entries.new.items
+        ≡ puts (rest_in from.now entries.old.items) (moved_to from.now to.now (tree_in from.now entries.old.items))) }
+    ensures err { OnErr result (entries.new.items ≡ entries.old.items) }
+{
+    let alloc = *entries.allocator();
+    let path = entries[place].0.rebased(alloc, from, to)?;
+    let (_, value) = entries.remove(place);
+    put_reserved(entries, path, value);
     Ok(())
 }
 

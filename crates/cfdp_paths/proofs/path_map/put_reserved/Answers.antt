@@ -1,18 +1,20 @@
 use Rattle.std.proofs.Common.{ap, ◌∙◌, if◌then◌else◌}
 use Rattle.std.specs.List.{insert}
+use Rattle.std.specs.Option.{option_copied}
+use Rattle.cfdp_paths.specs.Paths.{path_in}
 use Rattle.cfdp_paths.proofs.InOrder.{placed, put_at, put_between}
 use Rattle.cfdp_paths.proofs.path_map.put_reserved.Goals as goal
 
-pub returns-in-Some-clause-put : goal.returns-in-Some-clause-put
-returns-in-Some-clause-put g c =
+pub returns-in-Ok-clause-put : goal.returns-in-Ok-clause-put
+returns-in-Ok-clause-put g c =
     let k = c.args.path in
     let es = c.args.entries.now.items in
-    put_at k c.args.value es c.in-Some.place c.index_mut.result.now (placed k c.depth.result es c.deref.result.now c.in-Some.place c.depth.ensures.depth c.deref.ensures.value c.in-Some.ensures.found) c.index_mut.ensures.value
+    put_at k c.args.value es c.in-Ok.place c.index_mut.result.now
+    (placed k (path_in (option_copied c.octets.result)) es c.deref.result.now c.in-Ok.place c.octets.ensures.path c.deref.ensures.value c.in-Ok.ensures.found) c.index_mut.ensures.value
 
-pub returns-clause-put : goal.returns-clause-put
-returns-clause-put g c =
+pub returns-in-Err-clause-put : goal.returns-in-Err-clause-put
+returns-in-Err-clause-put g c =
     let k = c.args.path in
     let es = c.args.entries.now.items in
-    c.insert.ensures.items ∙ ap (λ b. if b then insert es c.place-place.result (k, c.args.value) else es) (c.insert.ensures.succeeds c.requires.room)
-    ∙ put_between k c.args.value c.depth.result c.depth-2.result es c.deref.result.now c.deref-2.result.now c.place-place.result c.depth.ensures.depth c.depth-2.ensures.depth
-    c.deref.ensures.value c.deref-2.ensures.value c.in_default.ensures.none c.place-place.ensures.value
+    c.insert.ensures.items ∙ ap (λ b. if b then insert es c.in-Err.place (k, c.args.value) else es) (c.insert.ensures.succeeds c.requires.room)
+    ∙ put_between k (path_in (option_copied c.octets.result)) c.args.value es c.deref.result.now c.in-Err.place c.octets.ensures.path c.deref.ensures.value c.in-Err.ensures.absent c.in-Err.ensures.place
