@@ -29,6 +29,16 @@ fn three_blocks(rt: HostRuntime) -> Result<(), Fail> {
 }
 
 #[test]
+fn the_most_blocks(rt: HostRuntime) -> Result<(), Fail> {
+    let mut arena = Arena::new(rt.alloc(), 65_536)?;
+    assert_eq!(rt; arena.free(), 65_536);
+    let block = arena.take().expect(&rt, "the first");
+    assert_eq!(rt; arena.free(), 65_535);
+    assert_eq!(rt; *arena.bytes(block), [0; 128]);
+    Ok(())
+}
+
+#[test]
 fn one_octet_is_copied(rt: HostRuntime) -> Result<(), Fail> {
     let mut arena = Arena::new(rt.alloc(), 2)?;
     let first = arena.take().expect(&rt, "first");

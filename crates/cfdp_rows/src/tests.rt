@@ -9,6 +9,7 @@ mod limits;
 mod lists;
 mod live;
 mod memory;
+mod moves;
 mod one_tree;
 mod order;
 mod phases;

@@ -11,8 +11,6 @@ pub mod laws;
 mod performing;
 mod surveying;
 mod table;
-#[cfg(test)]
-mod tests;
 mod view;
 
 pub use view::View;

@@ -1,0 +1,55 @@
+//! Moves of a directory with many entries, on a view that has as many others.
+
+use super::scene::{Before, Scene, request};
+use super::views::{Item, requests};
+use cfdp_actions::perform;
+use cfdp_leases::footprint;
+use cfdp_paths::Memory;
+use cfdp_states::View;
+use cfdp_status::Action;
+use std::alloc::Global;
+use std::process::Abort;
+
+/// So many that moves which compared each entry that stays with each that moves would not end in the time of a test.
+const MANY: usize = 4_096;
+
+/// Two directories.
+const BEFORE: &[Before] = &[
+    Before::Performed(b"\x00\x07\x50\x05moves"),
+    Before::Performed(b"\x00\x07\x50\x05stays"),
+];
+
+/// One moves there and back, and the other is leased too.
+const MOVES: &[Item] = &[
+    (Action::RenameFile, b"moves", b"moved", 0x20),
+    (Action::RenameFile, b"moved", b"moves", 0x20),
+    (Action::RemoveDirectory, b"stays", b"", 0x62),
+];
+
+/// Makes empty files in the directory.
+fn fill(rt: &impl Abort, alloc: Global, scene: &mut Scene, directory: &str) -> Result<(), Memory> {
+    for number in 0..MANY {
+        let name = format!(in alloc; "{directory}/{number}")?;
+        let create = request(rt, alloc, Action::CreateFile, name.as_bytes(), b"")?;
+        perform(&mut scene.store, &scene.protected, &create)?;
+    }
+    Ok(())
+}
+
+#[test]
+fn many_entries_move_often(rt: HostRuntime) -> Result<(), Memory> {
+    let alloc = rt.alloc();
+    let mut scene = Scene::new(&rt, alloc, 16_384, BEFORE)?;
+    fill(&rt, alloc, &mut scene, "moves")?;
+    fill(&rt, alloc, &mut scene, "stays")?;
+    let requests = requests(&rt, alloc, MOVES)?;
+    let leased = footprint(alloc, &requests, None)?;
+    let mut view = View::of(alloc, &scene.store, &scene.protected, &leased)?;
+    for _ in 0..32 {
+        for (request, (_, _, _, status)) in requests.iter().zip(MOVES) {
+            assert_eq!(rt; view.apply(request)?.octet(), *status, "on {request:?}");
+        }
+    }
+    assert_eq!(rt; (view.need(), view.steps()), (0, 128));
+    Ok(())
+}
