@@ -1,10 +1,18 @@
 -- Laws beside the headline.
 --     is_step                   the event that performs an item
 --     OnlyStepsChange           no other event changes what stands in the filestore
-use Rattle.std.specs.Prelude.{◌≡◌, Bool, true, false, IsFalse}
+--     EachKeyIsAPath            something stands only at paths
+--     HasItsFile e              the file was installed exactly where there is one, and the Finished PDU says so
+--     DoneIsInstalled           so it is of each entry that is done
+use Rattle.std.specs.Prelude.{◌≡◌, Bool, true, false, if◌then◌else◌, IsFalse, List}
+use Rattle.cfdp_leases.specs.Laws.{KeysArePaths}
+use Rattle.cfdp_transactions.specs.Config.{Config}
+use Rattle.cfdp_transactions.specs.Entry.{Done, Entry, has_file}
 use Rattle.cfdp_transactions.specs.Events.{Event, Step}
-use Rattle.cfdp_transactions.specs.World.{World}
-use Rattle.cfdp_transactions.specs.Next.{next}
+use Rattle.cfdp_transactions.specs.Outcome.{finished}
+use Rattle.cfdp_transactions.specs.World.{World, start}
+use Rattle.cfdp_transactions.specs.Next.{next, run}
+use Rattle.cfdp_transactions.specs.Sound.{Each}
 
 abbrev pub is_step : Event → Bool
 is_step (Step id) = true
@@ -12,3 +20,18 @@ is_step event = false
 
 abbrev pub OnlyStepsChange : Type 0
 OnlyStepsChange = (W : World) (event : Event) → IsFalse (is_step event) → (next W event).0.filestore.nodes ≡ W.filestore.nodes
+
+-- In each world of each run, which is the last one of a shorter list of events, something stands only at a path: at 1 to 8
+-- names, each within the limits. Nothing is asked of the events: they carry octets, and a list with octets that spell no
+-- path is refused.
+abbrev pub EachKeyIsAPath : Type 0
+EachKeyIsAPath = (c : Config) (events : List Event) → KeysArePaths (run (start c) events).filestore
+
+-- file status 2: retained;  3: unreported, as there is none
+pub record HasItsFile (e : Entry) : Type 0 where
+  pub installed : e.installed ≡ has_file e.metadata
+  pub file_status : (finished e).file_status ≡ (if has_file e.metadata then 2 else 3)
+
+-- in each world of each run
+abbrev pub DoneIsInstalled : Type 0
+DoneIsInstalled = (c : Config) (events : List Event) → Each (λ e. e.phase ≡ Done → HasItsFile e) (run (start c) events).table

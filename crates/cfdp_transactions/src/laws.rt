@@ -4,12 +4,12 @@
 ghost use Rattle.cfdp_transactions.specs.LowerLaws.{LowerLaws};
 ghost use Rattle.cfdp_transactions.specs.Headline.{StartIsSound, NextIsSound, NextIsPromised, Headline};
 ghost use Rattle.cfdp_transactions.specs.Needs.{StepNeeds, DataNeeds, TakeNeeds, FollowsIsSound, OnlyTakeHandsOut};
-ghost use Rattle.cfdp_transactions.specs.Beside.{OnlyStepsChange};
+ghost use Rattle.cfdp_transactions.specs.Beside.{DoneIsInstalled, EachKeyIsAPath, OnlyStepsChange};
 ghost use Rattle.cfdp_transactions.specs.Writable.{OutcomesFit, ReadIsReadable};
 
 pub mod received;
 
-use cfdp_leases::laws::{isolation, own_footprint, stays_rooted};
+use cfdp_leases::laws::{isolation, keys_stay_paths, own_footprint, stays_rooted};
 use cfdp_states::laws::{
     any_slot_with, enough_room, foreign_change_with, growth, longer_file, own_step,
 };
@@ -88,6 +88,20 @@ pub fn only_take_hands_out()
 /// No event but a step changes what stands in the filestore.
 pub fn only_steps_change()
     ensures { OnlyStepsChange }
+{}
+
+/// Whatever the events, something stands in the filestore only at paths: at 1 to 8 names, each within
+/// the limits.
+pub fn each_key_is_a_path()
+    ensures { EachKeyIsAPath }
+{
+    keys_stay_paths();
+}
+
+/// Whatever the events, an entry that is done has its file installed exactly where its Metadata names
+/// a destination, and its Finished PDU says so.
+pub fn done_is_installed()
+    ensures { DoneIsInstalled }
 {}
 
 /// In a sound world, an entry in Executing has a next item, for which there are blocks and steps:
