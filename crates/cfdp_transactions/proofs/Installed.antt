@@ -1,10 +1,8 @@
 -- An entry that is done has its file installed exactly where there is one.
-use Rattle.std.proofs.Common.{◌≡◌, refl, sym, ◌∙◌, ap}
-use Rattle.std.specs.Prelude.{Bool, true, false, not, ◌||◌, if◌then◌else◌, List, ℕ}
-use Rattle.cfdp_transactions.specs.Config.{Config}
+use Rattle.std.proofs.Common.{◌≡◌, refl, sym, ◌∙◌}
+use Rattle.std.specs.Prelude.{Bool, true, false, not, ◌||◌, if◌then◌else◌, ℕ}
 use Rattle.cfdp_transactions.specs.Entry.{Done, Entry, has_file}
 use Rattle.cfdp_transactions.specs.Outcome.{is_refused}
-use Rattle.cfdp_transactions.specs.Events.{Event}
 use Rattle.cfdp_transactions.specs.Beside.{HasItsFile, DoneIsInstalled}
 use Rattle.cfdp_transactions.proofs.ItemOrder.{IsInOrder, run_ordered}
 

@@ -18,7 +18,7 @@ use Rattle.cfdp_leases.specs.Footprint.{Footprint}
 use Rattle.cfdp_leases.specs.Laws.{NamesPaths}
 use Rattle.cfdp_tlv.specs.Values.{RequestFields}
 use Rattle.cfdp_pdus.specs.Values.{MetadataFields}
-use Rattle.cfdp_verifier.specs.Verdict.{Grant, Parsed, Bad, Good, named, request_named, and_then, parsed_from, with_file, with_destination, parsed, verdict}
+use Rattle.cfdp_verifier.specs.Verdict.{Grant, Parsed, Bad, Good, named, request_named, and_then, parsed_from, with_file, with_destination, verdict}
 use Rattle.cfdp_transactions.specs.Config.{Config}
 use Rattle.cfdp_transactions.specs.Entry.{has_file}
 use Rattle.cfdp_transactions.specs.Admission.{proposal_of}

@@ -8,10 +8,9 @@ use Rattle.std.specs.List.{AllByRecursion}
 use Rattle.std.specs.FinMap as finite
 use Rattle.std.proofs.lemmas.Bool.{cond_both, true≢false}
 use Rattle.cfdp_paths.specs.Paths.{path_cmp}
-use Rattle.cfdp_actions.specs.Filestore.{Node, Filestore, node_at, empty_filestore, after}
-use Rattle.cfdp_actions.specs.Actions.{Item, Install, Perform, succeeded, Outcome, denied, row, act_item}
+use Rattle.cfdp_actions.specs.Filestore.{Node, Filestore, empty_filestore, after}
+use Rattle.cfdp_actions.specs.Actions.{Item, Install, Perform, succeeded, Outcome, denied, row}
 use Rattle.cfdp_leases.specs.Laws.{KeysArePaths, NamesPaths, KeysStayPaths}
-use Rattle.cfdp_transactions.specs.Config.{Config}
 use Rattle.cfdp_transactions.specs.Entry.{Phase, Receiving, Awaiting, Executing, Refused, Done, Ended, Entry}
 use Rattle.cfdp_transactions.specs.Events.{Event, MetadataCame, DataCame, EofCame, Step, Cancel, Check, Take, Reply}
 use Rattle.cfdp_transactions.specs.World.{World, start, index_of, entry_of, free}
