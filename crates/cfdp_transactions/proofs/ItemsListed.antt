@@ -35,7 +35,7 @@ pub record IsListed (file : Bool) (items : List Item) : Type 0 where
   pub first : is_next_install items ≡ file
   pub behind : has_install (drop 1 items) ≡ false
 
-first_is : (item : Item) (items : List Item) → is_next_install (item ∷ items) ≡ is_install item
+pub first_is : (item : Item) (items : List Item) → is_next_install (item ∷ items) ≡ is_install item
 first_is (Install p) items = refl
 first_is (Perform request) items = refl
 

@@ -69,3 +69,5 @@ pub mod ItemsListed
 pub mod ItemOrder
 pub mod Installed
 pub mod Keys
+pub mod InstallReplies
+pub mod BesideExamples

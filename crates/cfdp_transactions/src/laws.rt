@@ -4,7 +4,7 @@
 ghost use Rattle.cfdp_transactions.specs.LowerLaws.{LowerLaws};
 ghost use Rattle.cfdp_transactions.specs.Headline.{StartIsSound, NextIsSound, NextIsPromised, Headline};
 ghost use Rattle.cfdp_transactions.specs.Needs.{StepNeeds, DataNeeds, TakeNeeds, FollowsIsSound, OnlyTakeHandsOut};
-ghost use Rattle.cfdp_transactions.specs.Beside.{DoneIsInstalled, EachKeyIsAPath, OnlyStepsChange};
+ghost use Rattle.cfdp_transactions.specs.Beside.{DoneIsInstalled, EachKeyIsAPath, FirstIsInstalled, OnlyStepsChange};
 ghost use Rattle.cfdp_transactions.specs.Writable.{OutcomesFit, ReadIsReadable};
 
 pub mod received;
@@ -103,6 +103,15 @@ pub fn each_key_is_a_path()
 pub fn done_is_installed()
     ensures { DoneIsInstalled }
 {}
+
+/// Whatever the events before, 'installed' is replied to a step at the first item of a transaction whose
+/// Metadata names a destination, and to no other event: the answers to a transaction's items begin with
+/// 'installed' exactly where there is a file, and no other is 'installed'.
+pub fn first_is_installed()
+    ensures { FirstIsInstalled }
+{
+    lower_laws();
+}
 
 /// In a sound world, an entry in Executing has a next item, for which there are blocks and steps:
 /// what the calls of the layers below need of a Step.
