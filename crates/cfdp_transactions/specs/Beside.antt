@@ -3,7 +3,7 @@
 --     OnlyStepsChange           no other event changes what stands in the filestore
 --     EachKeyIsAPath            something stands only at paths
 --     HasItsFile e              the file was installed exactly where there is one, and the Finished PDU says so
---     DoneIsInstalled           so it is of each entry that is done
+--     DoneIsInstalled           this holds of each entry that is done
 --     says_installed reply      the reply to an install that went well
 --     installs W event          a step at the first item of a transaction with a file: installs_next, is_first, by its entry
 --     FirstIsInstalled          just these events have that reply
@@ -30,7 +30,7 @@ OnlyStepsChange = (W : World) (event : Event) → IsFalse (is_step event) → (n
 abbrev pub EachKeyIsAPath : Type 0
 EachKeyIsAPath = (c : Config) (events : List Event) → KeysArePaths (run (start c) events).filestore
 
--- file status 2: retained;  3: unreported, as there is none
+-- the install was performed exactly where there is a file;  file status 2: retained;  3: unreported, as there is none
 pub record HasItsFile (e : Entry) : Type 0 where
   pub installed : e.installed ≡ has_file e.metadata
   pub file_status : (finished e).file_status ≡ (if has_file e.metadata then 2 else 3)

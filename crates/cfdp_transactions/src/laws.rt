@@ -98,8 +98,8 @@ pub fn each_key_is_a_path()
     keys_stay_paths();
 }
 
-/// Whatever the events, an entry that is done has its file installed exactly where its Metadata names
-/// a destination, and its Finished PDU says so.
+/// Whatever the events, of an entry that is done the file was installed exactly where its Metadata
+/// names a destination, and its Finished PDU says so: retained, else unreported.
 pub fn done_is_installed()
     ensures { DoneIsInstalled }
 {}
