@@ -1,4 +1,6 @@
--- An entry that is done has its file installed exactly where there is one.
+-- Of an entry that is done the file was installed exactly where there is one.
+--     done_has_its_file         of one entry whose items are in order
+--     done_is_installed         of each entry in each world of a run
 use Rattle.std.proofs.Common.{◌≡◌, refl, sym, ◌∙◌}
 use Rattle.std.specs.Prelude.{Bool, true, false, not, ◌||◌, if◌then◌else◌, ℕ}
 use Rattle.cfdp_transactions.specs.Entry.{Done, Entry, has_file}
