@@ -5,11 +5,11 @@
 --     first_leasing                the first holder of a path has the first grant that leases it
 --     changing_first, changing_none      the same of an exclusive lease, since its holder is the only one
 --     released                     what a release takes away
-use Rattle.std.proofs.Common.{◌≡◌, ◌≢◌, refl, sym, ◌∙◌, ap, subst, ℕ, suc, ◌+◌, Bool, true, false, cond, not, ◌||◌, ◌&&◌, inl, inr, List, [], ◌∷◌, ◌++◌, length, ◌==◌, Option, Some, None, arith}
-use Rattle.std.specs.Prelude.{find, filter, slice_get, if◌then◌else◌}
-use Rattle.std.specs.List.{list_any, prefix_len, AllByRecursion}
+use Rattle.std.proofs.Common.{◌≡◌, refl, sym, ◌∙◌, ap, subst, ℕ, ◌+◌, Bool, true, false, cond, not, inl, inr, List, [], ◌∷◌, ◌++◌, length, ◌==◌, Some, None, arith}
+use Rattle.std.specs.Prelude.{find, slice_get}
+use Rattle.std.specs.List.{prefix_len, AllByRecursion}
 use Rattle.std.specs.FinSet as set
-use Rattle.std.proofs.lemmas.Bool.{cases_Bool, true≢false, eqb-true, and_parts, or_cases}
+use Rattle.std.proofs.lemmas.Bool.{cases_Bool, true≢false, eqb-true, and_parts}
 use Rattle.std.proofs.lemmas.List.Elements.{filter-append}
 use Rattle.cfdp_status.specs.declared.transaction.TransactionId.{TransactionId}
 use Rattle.cfdp_paths.specs.Paths.{Path}
@@ -17,7 +17,7 @@ use Rattle.cfdp_paths.proofs.Below.{at_or_below-itself}
 use Rattle.cfdp_leases.specs.declared.lease.Lease.TheVariants.{Exclusive, Shared}
 use Rattle.cfdp_leases.specs.declared.leased_paths.Holder.{Holder}
 use Rattle.cfdp_leases.specs.Footprint.{Footprint, leased, is_conflict, reaches}
-use Rattle.cfdp_leases.specs.Leases.{Grants, is_same, holds, without, IsApartFrom, AreApart}
+use Rattle.cfdp_leases.specs.Leases.{Grants, is_same, holds, without, AreApart}
 use Rattle.cfdp_leases.specs.Holders.{when, holders_of, holders_at, others}
 use Rattle.cfdp_leases.proofs.Sets.{path_cmp_total, or_left, or_right, union_cases}
 use Rattle.cfdp_leases.proofs.ChangeFrame.{all-append}

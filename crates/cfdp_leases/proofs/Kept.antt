@@ -4,7 +4,7 @@
 --     grants-filter, footprints-filter      one live transaction less
 --     place-live, length-live, transaction-live      places in the list are places among the grants
 --     kept_same, kept_admitted, kept_released      what is kept, after each change
-use Rattle.std.proofs.Common.{◌≡◌, ◌≢◌, refl, sym, ◌∙◌, ap, subst, ℕ, Bool, true, false, cond, not, inl, inr, List, [], ◌∷◌, ◌++◌, map, length, arith, Option, Some, None, is_some}
+use Rattle.std.proofs.Common.{◌≡◌, ◌≢◌, refl, sym, ◌∙◌, ap, subst, ℕ, Bool, false, cond, not, inl, inr, List, [], ◌∷◌, ◌++◌, length, arith, Option, Some, None, is_some}
 use Rattle.std.specs.Prelude.{find, filter, slice_get, unwrap_or, IsSome}
 use Rattle.std.specs.BTreeMap as tree
 use Rattle.std.specs.FinSet as set

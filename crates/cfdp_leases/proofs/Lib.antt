@@ -10,3 +10,4 @@ pub mod Held
 pub mod Admitted
 pub mod Places
 pub mod Kept
+pub mod Keys

@@ -3,18 +3,18 @@
 --     find_at                      what is found there
 --     conflict_at                  the first conflict is the first grant that leases one of the exclusive paths, or leases one
 --                                  of the shared ones exclusively
-use Rattle.std.proofs.Common.{◌≡◌, refl, sym, ◌∙◌, ap, subst, ℕ, suc, ◌+◌, ◌<◌, min, Bool, true, false, cond, not, ◌||◌, inl, inr, List, [], ◌∷◌, ◌++◌, length, get_or, take, map, Option, Some, None, arith}
+use Rattle.std.proofs.Common.{◌≡◌, refl, sym, ◌∙◌, ap, ℕ, suc, ◌+◌, ◌<◌, min, Bool, true, false, cond, not, ◌||◌, inl, inr, List, [], ◌∷◌, ◌++◌, length, get_or, take, map, Some, arith}
 use Rattle.std.specs.Prelude.{find, slice_get}
 use Rattle.std.specs.Option.{option_map}
-use Rattle.std.specs.List.{list_any, prefix_len, AllByRecursion}
+use Rattle.std.specs.List.{prefix_len, AllByRecursion}
 use Rattle.std.specs.FinSet as set
 use Rattle.std.proofs.lemmas.Bool.{or_cases}
 use Rattle.std.proofs.lemmas.List.{take_more}
 use Rattle.std.proofs.lemmas.List.Folds.{list_any-append}
-use Rattle.cfdp_paths.specs.Paths.{Path, path_cmp, same_path}
+use Rattle.cfdp_paths.specs.Paths.{Path}
 use Rattle.cfdp_leases.specs.Footprint.{PathSet, Footprint, HasAncestors, leased, has_any, is_conflict}
 use Rattle.cfdp_leases.specs.Leases.{Grants, first_conflict}
-use Rattle.cfdp_leases.proofs.Sets.{path_cmp_total, or_left, or_right, by_truth, any_at, any_from, contains_from_stands, stands_from_contains, union_left, union_right, union_cases}
+use Rattle.cfdp_leases.proofs.Sets.{or_left, or_right, by_truth, any_at, any_from, contains_from_stands, stands_from_contains, union_left, union_right, union_cases}
 use Rattle.cfdp_leases.proofs.Conflict.{conflict_by_paths}
 
 -- ---- where a test first holds

@@ -138,10 +138,10 @@ found_each (e ∷ es) h =
     )
 
 -- of an entry of the tree at p
-abbrev Of : Filestore → Path → Entry → Type 0
+abbrev pub Of : Filestore → Path → Entry → Type 0
 Of F p e = (is_at_or_below e.0 p ≡ true) × (node_at F e.0 ≡ Some e.1)
 
-tree_at-of : (F : Filestore) (p : Path) → AllByRecursion (Of F p) (tree_at F p)
+pub tree_at-of : (F : Filestore) (p : Path) → AllByRecursion (Of F p) (tree_at F p)
 tree_at-of F p =
     let kept = finite.retain_keys F.nodes (λ q. is_at_or_below q p) in
     all_both (λ (e : Entry). is_at_or_below e.0 p ≡ true) (λ (e : Entry). find path_cmp e.0 (tree_at F p) ≡ Some e.1) (Of F p)

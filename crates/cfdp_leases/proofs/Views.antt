@@ -2,14 +2,14 @@
 --     is_exclusive-view, is_shared-view      of a footprint made of two lists
 --     find-map, option_map-map, list_any-map      of grants made of live transactions
 use Rattle.std.proofs.Common.{◌≡◌, refl, sym, ◌∙◌, ap, Bool, true, false, cond, ◌||◌, List, [], ◌∷◌, map}
-use Rattle.std.specs.Prelude.{Option, Some, None, find, filter}
+use Rattle.std.specs.Prelude.{Option, Some, None, find}
 use Rattle.std.specs.Option.{option_map}
 use Rattle.std.specs.List.{list_any}
 use Rattle.std.specs.FinSet as set
 use Rattle.std.specs.Cmp.{eq_by_cmp_equiv}
 use Rattle.cfdp_paths.specs.Paths.{Path, same_path, is_at_or_below}
-use Rattle.cfdp_leases.specs.Footprint.{any_in, Footprint, of_lists, leased, is_exclusive, is_shared, reaches}
-use Rattle.cfdp_leases.proofs.Sets.{path_cmp_total, any_in-from_list, any_in-union}
+use Rattle.cfdp_leases.specs.Footprint.{Footprint, of_lists, is_exclusive, is_shared}
+use Rattle.cfdp_leases.proofs.Sets.{path_cmp_total, any_in-from_list}
 
 pub is_exclusive-view : (xs ys : List Path) (fp : Footprint) (p : Path) → of_lists xs ys ≡ fp → is_exclusive fp p ≡ list_any (λ held. is_at_or_below p held) xs
 is_exclusive-view xs ys fp p view = ap (λ f. is_exclusive f p) (sym view) ∙ any_in-from_list (λ held. is_at_or_below p held) xs

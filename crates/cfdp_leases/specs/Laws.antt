@@ -6,10 +6,12 @@
 --     IsOwn fp slot change, OwnChanges           each change of a row is at an exclusive path or in the slot
 --     FrameOfChanges, Isolation                  so nothing else changes, and no footprint without a conflict is touched
 --     StaysRooted, Growth, WithinBound           what a row does to directories and to the blocks in use, and how long it takes
-use Rattle.std.specs.Prelude.{◌≡◌, ◌≢◌, ℕ, ◌+◌, ◌≤◌, ◌<◌, ◌||◌, IsTrue, IsFalse, List, [], ◌++◌, ◌↔◌, length}
+--     KeysArePaths F, NamesPaths item            each key of the filestore, or each name of the item, is a path within the limits
+--     KeysStayPaths                              a row of such an item keeps the keys so
+use Rattle.std.specs.Prelude.{◌≡◌, ◌≢◌, ℕ, ◌+◌, ◌≤◌, ◌<◌, ◌||◌, IsTrue, IsFalse, IsSome, List, [], ◌++◌, ◌↔◌, length}
 use Rattle.std.specs.List.{AllByRecursion}
 use Rattle.std.specs.FinSet as set
-use Rattle.cfdp_paths.specs.Paths.{Path}
+use Rattle.cfdp_paths.specs.Paths.{Path, IsPath}
 use Rattle.cfdp_actions.specs.Filestore.{Filestore, node_at, staged_in, blocks, Change, Becomes, Stages, IsRooted}
 use Rattle.cfdp_actions.specs.Actions.{Item, ticks, row}
 use Rattle.cfdp_leases.specs.Items.{performed, step_bound}
@@ -82,3 +84,16 @@ Growth =
 abbrev pub WithinBound : Type 0
 WithinBound =
     (prefixes : List Path) (F : Filestore) (slot : ℕ) (item : Item) → ticks (row prefixes F slot item) ≤ step_bound F item
+
+-- each key is a path: something stands only at 1 to 8 names, each within the limits
+abbrev pub KeysArePaths : Filestore → Type 0
+KeysArePaths F = (p : Path) → IsSome (node_at F p) → IsPath p
+
+-- each name of the item is a path
+abbrev pub NamesPaths : Item → Type 0
+NamesPaths item = AllByRecursion IsPath (exclusive_in item ++ read_in item)
+
+-- each key stays a path, also where a directory moves with all below it
+abbrev pub KeysStayPaths : Type 0
+KeysStayPaths =
+    (prefixes : List Path) (F : Filestore) (slot : ℕ) (item : Item) → NamesPaths item → KeysArePaths F → KeysArePaths (performed prefixes F slot item)

@@ -1,7 +1,7 @@
 //! What is true of footprints and of the action table by their definitions alone. A law is a function that does
 //! nothing: its contract is the statement, which stands in `specs/Laws.antt`.
 
-ghost use Rattle.cfdp_leases.specs.Laws.{ConflictByPaths, FrameOfChanges, FrameOfReads, Isolation, OwnChanges, OwnFootprint, StaysRooted};
+ghost use Rattle.cfdp_leases.specs.Laws.{ConflictByPaths, FrameOfChanges, FrameOfReads, Isolation, KeysStayPaths, OwnChanges, OwnFootprint, StaysRooted};
 
 /// The footprints of two lists conflict exactly where some path stands in both and is exclusive in at least one. So
 /// the paths of one, looked up among the leased ones, show every conflict.
@@ -38,4 +38,10 @@ pub fn isolation()
 /// A row keeps each path's parent the root or a directory, also where it moves a directory with all below it.
 pub fn stays_rooted()
     ensures { StaysRooted }
+{}
+
+/// A row of an item whose names are paths, each of 1 to 8 names within the limits, keeps each key of the filestore a
+/// path, also where it moves a directory with all below it.
+pub fn keys_stay_paths()
+    ensures { KeysStayPaths }
 {}

@@ -65,3 +65,9 @@ pub mod Equality
 pub mod Handing
 pub mod Standing
 pub mod RowGaps
+pub mod ItemsListed
+pub mod ItemOrder
+pub mod Installed
+pub mod Keys
+pub mod InstallReplies
+pub mod BesideExamples

@@ -4,12 +4,12 @@
 ghost use Rattle.cfdp_transactions.specs.LowerLaws.{LowerLaws};
 ghost use Rattle.cfdp_transactions.specs.Headline.{StartIsSound, NextIsSound, NextIsPromised, Headline};
 ghost use Rattle.cfdp_transactions.specs.Needs.{StepNeeds, DataNeeds, TakeNeeds, FollowsIsSound, OnlyTakeHandsOut};
-ghost use Rattle.cfdp_transactions.specs.Beside.{OnlyStepsChange};
+ghost use Rattle.cfdp_transactions.specs.Beside.{DoneIsInstalled, EachKeyIsAPath, FirstIsInstalled, OnlyStepsChange};
 ghost use Rattle.cfdp_transactions.specs.Writable.{OutcomesFit, ReadIsReadable};
 
 pub mod received;
 
-use cfdp_leases::laws::{isolation, own_footprint, stays_rooted};
+use cfdp_leases::laws::{isolation, keys_stay_paths, own_footprint, stays_rooted};
 use cfdp_states::laws::{
     any_slot_with, enough_room, foreign_change_with, growth, longer_file, own_step,
 };
@@ -89,6 +89,29 @@ pub fn only_take_hands_out()
 pub fn only_steps_change()
     ensures { OnlyStepsChange }
 {}
+
+/// Whatever the events, something stands in the filestore only at paths: at 1 to 8 names, each within
+/// the limits.
+pub fn each_key_is_a_path()
+    ensures { EachKeyIsAPath }
+{
+    keys_stay_paths();
+}
+
+/// Whatever the events, of an entry that is done the file was installed exactly where its Metadata
+/// names a destination, and its Finished PDU says so: retained, else unreported.
+pub fn done_is_installed()
+    ensures { DoneIsInstalled }
+{}
+
+/// Whatever the events before, 'installed' is replied to a step at the first item of a transaction whose
+/// Metadata names a destination, and to no other event: the answers to a transaction's items begin with
+/// 'installed' exactly where there is a file, and no other is 'installed'.
+pub fn first_is_installed()
+    ensures { FirstIsInstalled }
+{
+    lower_laws();
+}
 
 /// In a sound world, an entry in Executing has a next item, for which there are blocks and steps:
 /// what the calls of the layers below need of a Step.

@@ -1,4 +1,4 @@
-use Rattle.std.proofs.Common.{◌++◌, ◌∷◌, [], subst, List}
+use Rattle.std.proofs.Common.{◌++◌, subst, List}
 use Rattle.std.specs.Prelude.{OnOk}
 use Rattle.cfdp_paths.specs.Paths.{Path, ancestors}
 use Rattle.cfdp_leases.specs.Footprint.{SameSet}

@@ -1,4 +1,4 @@
-use Rattle.std.proofs.Common.{◌≡◌, sym, ◌∙◌, ap, ◌++◌, ◌∷◌, [], take, arith}
+use Rattle.std.proofs.Common.{sym, ◌∙◌, ap, ◌++◌, ◌∷◌, [], take, arith}
 use Rattle.std.specs.FinSet as set
 use Rattle.cfdp_paths.specs.Paths.{ancestors}
 use Rattle.cfdp_paths.proofs.Below.{ancestors-take}

@@ -1,8 +1,7 @@
-use Rattle.std.proofs.Common.{rules, ◌≡◌, sym, ◌∙◌, ap, ◌++◌, ◌∷◌, [], subst, List}
+use Rattle.std.proofs.Common.{rules, ◌≡◌, sym, ◌∙◌, ◌++◌, ◌∷◌, [], subst, List}
 use Rattle.std.specs.Prelude.{OnOk}
 use Rattle.cfdp_status.specs.declared.action.Action.TheVariants.{RenameFile}
 use Rattle.cfdp_paths.specs.Paths.{Path}
-use Rattle.cfdp_actions.specs.Actions.{action_in}
 use Rattle.cfdp_leases.specs.Footprint.{SameSet}
 use Rattle.cfdp_leases.proofs.Ordered.{and_then, changed-rename}
 use Rattle.cfdp_leases.proofs.gathering.add_changed.Goals as goal

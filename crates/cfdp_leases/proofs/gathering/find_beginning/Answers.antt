@@ -1,4 +1,4 @@
-use Rattle.std.proofs.Common.{rules, ◌≡◌, ℕ, ◌≤◌, length, take, List, Ok, Err, Result}
+use Rattle.std.proofs.Common.{rules, ℕ, ◌≤◌, length, take, List, Ok, Err, Result}
 use Rattle.std.specs.Prelude.{IfOk, IfErr, IsTrue, insert}
 use Rattle.std.specs.List.{list_any}
 use Rattle.std.specs.List.Sorted.{IsStrictlySortedBy, IsSearchInRange, IsBinarySearchResult}

@@ -1,9 +1,9 @@
-use Rattle.std.proofs.Common.{rules, cond, ◌≡◌, refl, sym, ◌∙◌, ap, ◌++◌, ◌∷◌, [], Some, None, List}
+use Rattle.std.proofs.Common.{rules, cond, refl, sym, ◌∙◌, ap, ◌++◌, ◌∷◌, [], Some}
 use Rattle.std.specs.BTreeMap.{get}
 use Rattle.std.specs.Option.{option_map}
 use Rattle.std.specs.Ordering.{is_eq}
-use Rattle.cfdp_paths.specs.Paths.{Path, path_cmp, same_path}
-use Rattle.cfdp_leases.specs.Holders.{Holds, when, unless_none}
+use Rattle.cfdp_paths.specs.Paths.{path_cmp, same_path}
+use Rattle.cfdp_leases.specs.Holders.{when, unless_none}
 use Rattle.cfdp_leases.proofs.Held.{on_err, changed, row_there, row_none, some_pushed, when_here, when_not}
 use Rattle.cfdp_leases.proofs.leased_paths.LeasedPaths.add.Goals as goal
 

@@ -1,4 +1,4 @@
-use Rattle.std.proofs.Common.{take, List, ◌++◌}
+use Rattle.std.proofs.Common.{take, ◌++◌}
 use Rattle.std.specs.BTreeMap.{get}
 use Rattle.std.specs.List.{list_any}
 use Rattle.cfdp_paths.specs.Paths.{path_cmp, same_path}

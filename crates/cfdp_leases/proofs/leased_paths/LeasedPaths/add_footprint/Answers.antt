@@ -1,4 +1,4 @@
-use Rattle.std.proofs.Common.{refl, sym, ◌∙◌, ap, take, List, ◌++◌, append_assoc}
+use Rattle.std.proofs.Common.{refl, ◌∙◌, ap, ◌++◌, append_assoc}
 use Rattle.std.specs.BTreeMap.{get}
 use Rattle.std.specs.List.{list_any}
 use Rattle.std.specs.FinSet as set

@@ -1,13 +1,13 @@
-use Rattle.std.proofs.Common.{rules, ◌≡◌, refl, sym, ◌∙◌, ap, subst, cond, not, arith, ◌<◌, [], Some, None, List, if◌then◌else◌, length}
+use Rattle.std.proofs.Common.{rules, ◌≡◌, sym, ◌∙◌, ap, subst, cond, not, arith, ◌<◌, Some, None, length}
 use Rattle.std.specs.BTreeMap.{get}
 use Rattle.std.specs.Option.{option_map}
 use Rattle.std.specs.Ordering.{is_eq}
 use Rattle.std.proofs.lemmas.Fn.{filter_same}
 use Rattle.std.proofs.lemmas.Bool.{eqb-true, eqb-false}
-use Rattle.cfdp_paths.specs.Paths.{Path, path_cmp, same_path}
+use Rattle.cfdp_paths.specs.Paths.{path_cmp, same_path}
 use Rattle.cfdp_leases.specs.Leases.{is_same}
-use Rattle.cfdp_leases.specs.Holders.{Holds, others, unless_none}
-use Rattle.cfdp_leases.proofs.Held.{changed, rows_same, row_there, row_none, some_left, none_left, left, left_here, left_elsewhere, left_nobody, cond_twice}
+use Rattle.cfdp_leases.specs.Holders.{others, unless_none}
+use Rattle.cfdp_leases.proofs.Held.{changed, row_there, row_none, some_left, none_left, left, left_here, left_elsewhere, left_nobody, cond_twice}
 use Rattle.cfdp_leases.proofs.leased_paths.LeasedPaths.remove.Goals as goal
 
 -- nobody holds the path

@@ -1,7 +1,4 @@
-use Rattle.std.proofs.Common.{◌≡◌, sym, ◌∙◌, ap, arith, length, min, not, take}
-use Rattle.std.specs.FinSet as set
-use Rattle.std.specs.List.{prefix_len}
-use Rattle.cfdp_leases.specs.Footprint.{leased, has_any}
+use Rattle.std.proofs.Common.{◌≡◌, ◌∙◌, ap, arith, length, min}
 use Rattle.cfdp_leases.proofs.Places.{first_more, prefix_len-none}
 use Rattle.cfdp_leases.proofs.Kept.{length-live}
 use Rattle.cfdp_leases.proofs.leases.Leases.first_changing.Goals as goal

@@ -1,4 +1,4 @@
-use Rattle.std.proofs.Common.{◌≡◌, refl, sym, ◌∙◌, ap, subst, arith, false, ◌++◌, ◌∷◌, [], if◌then◌else◌, List}
+use Rattle.std.proofs.Common.{refl, sym, ◌∙◌, ap, subst, ◌++◌, ◌∷◌, [], if◌then◌else◌}
 use Rattle.std.specs.Result.{is_ok}
 use Rattle.slab.specs.Slab.{SameValues, get}
 use Rattle.cfdp_leases.specs.declared.leases.Live.{Live}

@@ -1,4 +1,4 @@
-use Rattle.std.proofs.Common.{rules, ◌≡◌, sym, ◌∙◌, ap, subst, not, map}
+use Rattle.std.proofs.Common.{rules, sym, ◌∙◌, ap, subst, not}
 use Rattle.std.specs.Prelude.{IsSome, None}
 use Rattle.std.specs.Option.{option_map}
 use Rattle.std.specs.List.{find}

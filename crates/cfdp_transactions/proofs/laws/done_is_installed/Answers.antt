@@ -1,0 +1,5 @@
+use Rattle.cfdp_transactions.proofs.Installed as installed
+use Rattle.cfdp_transactions.proofs.laws.done_is_installed.Goals as goal
+
+pub returns : goal.returns
+returns c = installed.done_is_installed

@@ -1,0 +1,5 @@
+use Rattle.cfdp_transactions.proofs.Keys as keys
+use Rattle.cfdp_transactions.proofs.laws.each_key_is_a_path.Goals as goal
+
+pub returns : goal.returns
+returns c = keys.each_key_is_a_path c.keys_stay_paths.ensures
