@@ -1,6 +1,6 @@
 //! What happens to the receiving entity.
 
-ghost use Rattle.std.specs.Prelude.{◌≡◌, Some, None, IfOk, OnErr};
+ghost use Rattle.std.specs.Prelude.{◌≡◌, codes, Some, None, IfOk, OnErr};
 ghost use Rattle.cfdp_transactions.specs.Events.{event_of};
 
 use cfdp_pdus::{Eof, FileData, Header, Metadata, Pdu};
@@ -33,6 +33,8 @@ pub enum Event {
 pub struct NotOurs;
 
 impl fmt::Display for NotOurs {
+    ghost output = { λ _. Some (codes "the PDU is not for the receiving entity") };
+
     fn fmt<W: fmt::Write>(&self, f: &mut fmt::Formatter<W>) -> fmt::Result {
         f.write_str("the PDU is not for the receiving entity")
     }
