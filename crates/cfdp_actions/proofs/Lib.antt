@@ -6,3 +6,5 @@ pub mod ShownLaws
 pub mod SurveyLaws
 pub mod StagedLaws
 pub mod StoreLaws
+pub mod Refusing
+pub mod Allowed

@@ -6,3 +6,4 @@ pub mod Performing
 pub mod Listed
 pub mod Codes
 pub mod Sources
+pub mod Refusals

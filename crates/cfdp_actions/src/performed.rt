@@ -5,9 +5,9 @@ ghost use Rattle.cfdp_actions.specs.Actions.{Performed as Status_of, succeeded, 
 ghost use Rattle.cfdp_actions.specs.Store.{with_changes};
 ghost use Rattle.cfdp_actions.specs.Performing.{outcome_of};
 
-use crate::{Filestore, Protected, Request, rows};
+use crate::{Filestore, Protected, Request, refusal, rows};
 use cfdp_paths::Memory;
-use cfdp_status::{Action, Status};
+use cfdp_status::Status;
 
 /// How a request went, and the ticks that it took: blocks taken, blocks given back, and blocks whose octets were moved.
 #[derive(Clone, Copy, Debug, PartialEq, Eq)]
@@ -40,18 +40,24 @@ pub fn perform<S: Filestore>(
 {
     let action = request.action();
     if protected.bars(request) {
-        return Ok(rows::not_allowed(action));
+        return Ok(refused(Status::NotAllowed(action)));
     }
-    let first = request.first();
-    match action {
-        Action::CreateFile => rows::create_file(store, first),
-        Action::DeleteFile => rows::delete_file(store, first),
-        Action::RenameFile => rows::rename(store, first, request.second().unwrap()),
-        Action::AppendFile => rows::append(store, first, request.second().unwrap()),
-        Action::ReplaceFile => rows::replace(store, first, request.second().unwrap()),
-        Action::CreateDirectory => rows::create_directory(store, first),
-        Action::RemoveDirectory => rows::remove_directory(store, first),
-        Action::DenyFile => rows::deny_file(store, first),
-        Action::DenyDirectory => rows::deny_directory(store, first),
+    if let Some(status) = refusal(&*store, request) {
+        return Ok(refused(status));
     }
+    if !rows::has_room(store, request) {
+        return Ok(refused(Status::NotAllowed(action)));
+    }
+    let ticks = rows::change(store, request)?;
+    Ok(Performed {
+        status: Status::Successful(action),
+        ticks,
+    })
+}
+
+/// A status that is not successful: no change, no tick.
+fn refused(status: Status) -> Performed
+    ensures { result ≡ record { status = status; ticks = 0 } }
+{
+    Performed { status, ticks: 0 }
 }

@@ -2,7 +2,9 @@
 --     none_in, folder_in, file_in              what an extent says of a node
 --     entries-outlined                         the entries of the map are those of the filestore
 --     good_parent-is, entries-is, depth-is     whether the parent is good, anything stands below, a path would be too deep
---     unchanged-does, one-does, moved-does     no change;  one path changes;  a directory moves
+--     Follows, does-at                         what `Does` asks at one filestore;  `Does` is that at each
+--     follows-same, refused-does, follows-one, follows-moved    no change;  one path changes;  a directory moves
+--     kept                                     a map to which what stands already is put
 use Rattle.std.proofs.Common.{◌≡◌, ◌≢◌, refl, sym, ◌∙◌, ap, subst, Bool, true, false, cond, not, ◌&&◌, ◌||◌, ◌==◌, T, is_some, Option, Some, None, ℕ, min, List, [], ◌∷◌, ◌++◌, map, length, nat_lt, ne_eqb, true≢false, arith}
 use Rattle.std.specs.List.{list_any}
 use Rattle.std.specs.Ordering.{is_lt}
@@ -16,7 +18,7 @@ use Rattle.cfdp_actions.specs.Actions.{Request, RenameFile, Performed, Outcome, 
 use Rattle.cfdp_states.specs.declared.extent.Extent.{Extent}
 use Rattle.cfdp_states.specs.declared.extent.Extent.TheVariants as extent
 use Rattle.cfdp_states.specs.Sketching.{most_octets, extent_of, extent_in, extent_at, Extents, rehomed, is_folder, good_among, good_parent, IsOutline, Does}
-use Rattle.cfdp_states.proofs.Order.{paths_total, paths_exact, node_at-becomes}
+use Rattle.cfdp_states.proofs.Order.{paths_total, paths_exact, node_at-becomes, same_path-true}
 use Rattle.cfdp_states.proofs.Weights.{entries-retain_keys}
 use Rattle.cfdp_states.proofs.Prefixes.{rebased-below}
 use Rattle.cfdp_states.proofs.Moves.{after-append, tree_at-all, tree_at-sorted, find-tree_at, node_at-vacated, node_at-settled, node_at-settled_apart, moved}
@@ -144,31 +146,48 @@ module _ (m : Extents) (F : Filestore) (h : IsOutline m F) where
 
 -- ---- no change, and one path that changes
 
-pub unchanged-does : (m : Extents) (request : Request) (told : Status) → ((F : Filestore) → IsOutline m F → (Performed told ≡ (table F request).answer) × ((table F request).changes ≡ [])) → Does m m request told
-unchanged-does m request told same = record {
-  status = λ F h. (same F h).0;
-  outlines = λ F h. subst (λ (cs : List Change). IsOutline m (after F cs)) (sym (same F h).1) h;
-  staged = λ F h. ap (λ (cs : List Change). (after F cs).staged) (same F h).1;
+-- what `Does` asks at one filestore
+pub record Follows (m' : Extents) (F : Filestore) (o : Outcome) (told : Status) : Type 0 where
+  pub status : Performed told ≡ o.answer
+  pub outlines : IsOutline m' (after F o.changes)
+  pub staged : (after F o.changes).staged ≡ F.staged
+
+pub does-at : (m m' : Extents) (request : Request) (told : Status) → ((F : Filestore) → IsOutline m F → Follows m' F (table F request) told) → Does m m' request told
+does-at m m' request told at = record {
+  status = λ F h. (at F h).status;
+  outlines = λ F h. (at F h).outlines;
+  staged = λ F h. (at F h).staged;
+}
+
+pub follows-same : (m' : Extents) (F : Filestore) (o : Outcome) (told : Status) → Performed told ≡ o.answer → o.changes ≡ [] → IsOutline m' F → Follows m' F o told
+follows-same m' F o told answer changes h = record {
+  status = answer;
+  outlines = subst (λ (cs : List Change). IsOutline m' (after F cs)) (sym changes) h;
+  staged = ap (λ (cs : List Change). (after F cs).staged) changes;
 }
 
 pub refused-does : (m : Extents) (request : Request) (told : Status) → ((F : Filestore) → IsOutline m F → table F request ≡ refused told) → Does m m request told
-refused-does m request told same = unchanged-does m request told (λ F h. (λ i. (sym (same F h) i).answer, λ i. (same F h i).changes))
+refused-does m request told same = does-at m m request told (λ F h.
+    follows-same m F (table F request) told (λ i. (sym (same F h) i).answer) (λ i. (same F h i).changes) h)
 
--- the row makes p become something of the extent c
-abbrev pub Becoming : Outcome → Status → Path → Option Extent → Type 0
-Becoming o told p c = (node : Option Node) × (Performed told ≡ o.answer) × (o.changes ≡ Becomes p node ∷ []) × (extent_in node ≡ c)
+pub follows-one : (m m' : Extents) (F : Filestore) (o : Outcome) (told : Status) (p : Path) (node : Option Node) → IsOutline m F → Performed told ≡ o.answer → o.changes ≡ Becomes p node ∷ [] →
+    ((x : Path) → get m' x ≡ cond (same_path x p) (extent_in node) (get m x)) → Follows m' F o told
+follows-one m m' F o told p node h answer changes now = record {
+  status = answer;
+  outlines = subst (λ (cs : List Change). IsOutline m' (after F cs)) (sym changes) (record {
+    found = λ x. now x ∙ ap (λ v. cond (same_path x p) (extent_in node) v) (h.found x)
+        ∙ sym (extent-cond (same_path x p) node (node_at F x)) ∙ ap extent_in (sym (node_at-becomes F p node x));
+  });
+  staged = ap (λ (cs : List Change). (after F cs).staged) changes;
+}
 
-pub one-does : (m m' : Extents) (request : Request) (told : Status) (p : Path) (c : Option Extent) →
-    ((F : Filestore) → IsOutline m F → Becoming (table F request) told p c) → ((x : Path) → get m' x ≡ cond (same_path x p) c (get m x)) → Does m m' request told
-one-does m m' request told p c row now = record {
-  status = λ F h. (row F h).1;
-  outlines = λ F h.
-      let node = (row F h).0 in
-      subst (λ (cs : List Change). IsOutline m' (after F cs)) (sym (row F h).2) (record {
-        found = λ x. now x ∙ ap (λ v. cond (same_path x p) c v) (h.found x) ∙ ap (λ v. cond (same_path x p) v (extent_at F x)) (sym (row F h).3)
-            ∙ sym (extent-cond (same_path x p) node (node_at F x)) ∙ ap extent_in (sym (node_at-becomes F p node x));
-      });
-  staged = λ F h. ap (λ (cs : List Change). (after F cs).staged) (row F h).2;
+-- what stands at p already
+pub kept : (m m' : Extents) (F : Filestore) (p : Path) (c : Option Extent) → IsOutline m F → extent_at F p ≡ c → ((x : Path) → get m' x ≡ cond (same_path x p) c (get m x)) → IsOutline m' F
+kept m m' F p c h here now = record {
+  found = λ x. now x ∙ elim (same_path x p) as (λ b. same_path x p ≡ b → cond b c (get m x) ≡ extent_at F x) [
+    | true ↦ λ t. sym here ∙ ap (extent_at F) (sym (same_path-true x p t))
+    | false ↦ λ t. h.found x
+  ] refl;
 }
 
 -- ---- a directory that moves
@@ -207,10 +226,10 @@ staged-settled : (p q : Path) (F : Filestore) (es : List (Path × Node)) → (af
 staged-settled p q F [] = refl
 staged-settled p q F (e ∷ es) = staged-settled p q (changed F (Becomes (rebased p q e.0) (Some e.1))) es
 
-pub moved-does : (m : Extents) (p q : Path) (told : Status) → ((F : Filestore) → IsOutline m F → (Performed told ≡ (table F (RenameFile p q)).answer) × ((table F (RenameFile p q)).changes ≡ vacated (tree_at F p) ++ settled p q (tree_at F p))) → Does m (rehomed p q m) (RenameFile p q) told
-moved-does m p q told row = record {
-  status = λ F h. (row F h).0;
-  outlines = λ F h. subst (λ (cs : List Change). IsOutline (rehomed p q m) (after F cs)) (sym (row F h).1) (record {
+pub follows-moved : (m : Extents) (F : Filestore) (o : Outcome) (told : Status) (p q : Path) → IsOutline m F → Performed told ≡ o.answer → o.changes ≡ vacated (tree_at F p) ++ settled p q (tree_at F p) → Follows (rehomed p q m) F o told
+follows-moved m F o told p q h answer changes = record {
+  status = answer;
+  outlines = subst (λ (cs : List Change). IsOutline (rehomed p q m) (after F cs)) (sym changes) (record {
     found = λ x.
         let y = rebased q p x in
         get-rehomed p q m x
@@ -218,7 +237,7 @@ moved-does m p q told row = record {
         ∙ through (is_at_or_below x q) (is_at_or_below x p) (node_at F y) (node_at F x)
         ∙ ap extent_in (sym (moved_where F p q x));
   });
-  staged = λ F h. ap (λ (cs : List Change). (after F cs).staged) (row F h).1 ∙ ap (λ (G : Filestore). G.staged) (after-append F (vacated (tree_at F p)) (settled p q (tree_at F p))) ∙ staged-settled p q (after F (vacated (tree_at F p))) (tree_at F p) ∙ staged-vacated F (tree_at F p);
+  staged = ap (λ (cs : List Change). (after F cs).staged) changes ∙ ap (λ (G : Filestore). G.staged) (after-append F (vacated (tree_at F p)) (settled p q (tree_at F p))) ∙ staged-settled p q (after F (vacated (tree_at F p))) (tree_at F p) ∙ staged-vacated F (tree_at F p);
 }
   where
     through : (a b : Bool) (v w : Option Node) → cond a (cond (is_some (extent_in v)) (extent_in v) (cond b None (extent_in w))) (cond b None (extent_in w)) ≡ extent_in (cond a (cond (is_some v) v (cond b None w)) (cond b None w))

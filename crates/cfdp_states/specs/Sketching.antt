@@ -4,6 +4,7 @@
 --     extent_content, extent_weight              the blocks of an extent's octets;  one more for itself
 --     content_in, weight_in                      of what stands at a path
 --     Extents                                    a finite map from paths to extents
+--     size_in, resized p octets m                the octets of a file;  the map with a file of so many octets where anything stands
 --     total_weight, total_blocks                 the blocks of all entries together;  of all that the map has
 --     AreSmall, IsCounted es used                no extent has more blocks than a u64 of octets;  the entries are in order, and their blocks are counted
 --     rehomed p q m                              the map once each p/r is at q/r
@@ -65,6 +66,16 @@ weight_in (Some e) = extent_weight e
 -- what stands at some paths
 abbrev pub Extents : Type 0
 Extents = finite.FinMap path_cmp Extent
+
+-- the most octets of a file, 0 where there is none
+abbrev pub size_in : Option Extent → ℕ
+size_in None = 0
+size_in (Some extent.Directory) = 0
+size_in (Some (extent.File octets)) = octets
+
+-- what stands at p, if anything does, is a file of so many octets
+abbrev pub resized : Path → ℕ → Extents → Extents
+resized p octets m = if is_some (finite.get m p) then finite.insert m p (extent.File octets) else m
 
 -- the blocks of all together
 abbrev pub total_weight : List (Path × Extent) → ℕ

@@ -1,11 +1,11 @@
 //! What stands at some paths, without octets, and how many blocks it takes.
 
-ghost use Rattle.std.specs.Prelude.{◌≡◌, ◌+◌, ◌≤◌, ◌<◌, ◌^◌, false, nat_lt, IsSome, IsOk, OnOk, OnErr, length};
+ghost use Rattle.std.specs.Prelude.{◌≡◌, ◌≢◌, [], ◌+◌, ◌≤◌, ◌<◌, ◌^◌, false, nat_lt, IsSome, IsOk, OnOk, OnErr, length};
 ghost use Rattle.std.specs.FinMap as finite;
 ghost use Rattle.std.specs.List.{list_any};
 ghost use Rattle.cfdp_paths.specs.Paths.{parent};
 ghost use Rattle.cfdp_paths.specs.PathMaps.{any_below, is_too_deep, tree_in};
-ghost use Rattle.cfdp_states.specs.Sketching.{rehomed, total_blocks, total_weight, weight_in};
+ghost use Rattle.cfdp_states.specs.Sketching.{good_parent, rehomed, total_blocks, total_weight, weight_in};
 
 use crate::extent::Extent;
 use cfdp_paths::{MOST_NAMES, Memory, Path, PathMap};
@@ -61,6 +61,14 @@ impl Extents {
         ensures { result ≡ finite.get self.now (parent path.now) }
     {
         self.entries.get_beginning(path, path.depth() - 1).copied()
+    }
+
+    /// Whether the path's parent is the root or a directory. Cost: at most one search.
+    pub fn has_good_parent(&self, path: &Path) -> bool
+        ensures good { result ≡ good_parent self.now path.now }
+        ensures named { path.now ≢ [] }
+    {
+        path.depth() == 1 || self.parent(path) == Some(Extent::Directory)
     }
 
     /// Whether anything stands strictly below the path. Cost: two searches.

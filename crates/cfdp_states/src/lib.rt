@@ -7,6 +7,7 @@
 
 mod extent;
 mod extents;
+mod kinds;
 pub mod laws;
 mod performing;
 mod surveying;

@@ -7,8 +7,8 @@ ghost use Rattle.cfdp_states.specs.Sketching.{content_in, bound_on, can_install,
 
 use crate::extent::Extent;
 use crate::extents::Extents;
-use crate::table::{self, parent_is_good};
-use cfdp_actions::{Protected, Request};
+use crate::table::change;
+use cfdp_actions::{Protected, Request, refusal};
 use cfdp_paths::{Memory, Path};
 use cfdp_status::{Action, Status};
 
@@ -30,18 +30,11 @@ pub fn perform(
 fn perform_freely(extents: &mut Extents, request: &Request) -> Result<Status, Memory>
     ensures { DoesOrNot extents.old extents.new request.now result }
 {
-    let first = request.first();
-    match request.action() {
-        Action::CreateFile => table::create_file(extents, first),
-        Action::DeleteFile => Ok(table::delete_file(extents, first)),
-        Action::RenameFile => table::rename(extents, first, request.second().unwrap()),
-        Action::AppendFile => Ok(table::append(extents, first, request.second().unwrap())),
-        Action::ReplaceFile => Ok(table::replace(extents, first, request.second().unwrap())),
-        Action::CreateDirectory => table::create_directory(extents, first),
-        Action::RemoveDirectory => Ok(table::remove_directory(extents, first)),
-        Action::DenyFile => Ok(table::deny_file(extents, first)),
-        Action::DenyDirectory => Ok(table::deny_directory(extents, first)),
+    if let Some(status) = refusal(&*extents, request) {
+        return Ok(status);
     }
+    change(extents, request)?;
+    Ok(Status::Successful(request.action()))
 }
 
 /// Whether a delivered file may be installed at the path: its parent is good, and neither a directory nor a protected
@@ -50,7 +43,7 @@ pub fn can_install(extents: &Extents, protected: &Protected, path: &Path) -> boo
     ensures value { result ≡ can_install protected.now extents.now path.now }
     ensures named { path.now ≢ [] }
 {
-    let good = parent_is_good(extents, path);
+    let good = extents.has_good_parent(path);
     match extents.get(path) {
         None => good,
         Some(Extent::Directory) => false,
