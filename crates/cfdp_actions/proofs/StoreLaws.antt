@@ -302,10 +302,6 @@ module _ (es : Entries) (staged : List (Vec ℕ Global)) (used capacity : ℕ) (
           small = kept.small;
         }
 
-pub weight-some : (node : Node) → 1 ≤ weight (Some node)
-weight-some Directory = omega arith
-weight-some (File octets) = omega arith
-
 pub empty_nodes : nodes_of [] ≡ finite.empty
 empty_nodes = finite.empty_of_len (nodes_of []) (finite.len-entries (nodes_of []) ∙ ap (λ es. length es) (entries-from_sorted path_cmp [] tt))
 
@@ -365,9 +361,6 @@ module _ (es : Entries) (staged : List (Vec ℕ Global)) (used capacity : ℕ) (
 
   pub seen_free : free_blocks now + used ≡ capacity
   seen_free = omega (arith, seen_blocks, seen_capacity, kept.fits)
-
-  pub seen_memory : now.takes_no_memory ≡ false
-  seen_memory = ap (λ (s : Store). s.takes_no_memory) (sym view)
 
   pub seen_put : (es' : Entries) (p : Path) (node : Node) → shown es' ≡ put path_cmp p node (shown es) → store_of es' staged capacity ≡ with_changes now (Becomes p (Some node) ∷ [])
   seen_put es' p node e = put_store es staged used capacity kept es' p node e ∙ ap (λ (s : Store). with_changes s (Becomes p (Some node) ∷ [])) view

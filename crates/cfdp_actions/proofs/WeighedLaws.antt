@@ -1,7 +1,7 @@
 -- The blocks of entries in path order after a change.
 --     weights-put, weights-put-le    one entry put into its place: exactly, and at most
 --     weights-without                one path taken out
---     weights-puts-le                several put into their places, at most
+--     weights-relocated-le           a tree moved, at most
 --     weights-relocated              a tree moved to where nothing stands
 use Rattle.std.proofs.Common.{◌≡◌, ◌+◌, ◌≤◌, Bool, true, false, not, if◌then◌else◌, List, [], ◌∷◌, Some, None, Option, refl, sym, ap, ◌∙◌, arith}
 use Rattle.std.specs.FinMap.{find, put, is_sorted}

@@ -55,8 +55,7 @@ impl<'a> View<'a> {
     ///
     /// Cost: one `standing` for each exclusive path that is not at or below an earlier one, and for each shared path a
     /// `kind`, and a `size` where that is a file; no listing, no octets and no checksum. What the footprint does not cover
-    /// is not asked for (a `ListStore` finds what is asked for by going through its list). Each thing found is put in by a
-    /// search; as all come in path order, nothing is shifted.
+    /// is not asked for. Each thing found is put in by a search; as all come in path order, nothing is shifted.
     pub fn of<S: Filestore>(
         alloc: Global,
         store: &S,

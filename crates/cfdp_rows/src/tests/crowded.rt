@@ -1,25 +1,15 @@
 //! A table with as many transactions, and a file in as many pieces, as there may be.
 
-use super::entity::{DEFAULT, Given, Told, entity_of, hand_in, id, is_told};
+use super::entity::{DEFAULT, Given, Told, entity_of, hand_in, header, id, is_told};
 use cfdp_actions::ListStore;
 use cfdp_paths::Memory;
-use cfdp_pdus::{Header, Metadata};
+use cfdp_pdus::Metadata;
 use cfdp_transactions::{Core, Event};
 use std::alloc::Global;
 use std::process::Abort;
 
 /// A transaction of entity 1 that has neither a file nor requests.
 fn nothing_to_do(alloc: Global, number: u8) -> Event {
-    let header = Header {
-        toward_sender: false,
-        acknowledged: false,
-        large: false,
-        id_len: 1,
-        number_len: 1,
-        source: 1,
-        number: u64::from(number),
-        destination: 2,
-    };
     let metadata = Metadata {
         closure: true,
         checksum_type: 0,
@@ -28,7 +18,7 @@ fn nothing_to_do(alloc: Global, number: u8) -> Event {
         destination_name: Vec::new(alloc),
         requests: Vec::new(alloc),
     };
-    Event::Metadata(header, metadata)
+    Event::Metadata(header(number), metadata)
 }
 
 /// Hands in an event, and compares the reply.

@@ -94,6 +94,20 @@ pub const DEFAULT: Limits = Limits {
     protected: &[],
 };
 
+/// The header of a PDU of entity 1 to entity 2, in unacknowledged mode.
+pub fn header(number: u8) -> Header {
+    Header {
+        toward_sender: false,
+        acknowledged: false,
+        large: false,
+        id_len: 1,
+        number_len: 1,
+        source: 1,
+        number: u64::from(number),
+        destination: 2,
+    }
+}
+
 /// The transaction of entity 1 with this number.
 pub fn id(number: u8) -> TransactionId {
     TransactionId {
@@ -158,17 +172,7 @@ fn file_data(
     for _ in 0..count {
         octets.push(octet)?;
     }
-    let header = Header {
-        toward_sender: false,
-        acknowledged: false,
-        large: false,
-        id_len: 1,
-        number_len: 1,
-        source: 1,
-        number: u64::from(number),
-        destination: 2,
-    };
-    Ok(Event::Data(header, FileData { offset, octets }))
+    Ok(Event::Data(header(number), FileData { offset, octets }))
 }
 
 impl Given {
