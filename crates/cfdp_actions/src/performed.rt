@@ -22,7 +22,9 @@ pub struct Performed {
 ///
 /// Status, state after and ticks are those of the action table. Memory is wanted only
 /// where the table's answer is successful; after want of it the store is as before. Cost: at
-/// most two comparisons with each prefix, a few reads of the store, and its change.
+/// most two comparisons with each prefix, the reads of [`refusal`], a `free` where blocks are
+/// taken, the `size` of each file that is joined, one `kind` more of a path that is denied, and
+/// the change.
 pub fn perform<S: Filestore>(
     store: &mut S,
     protected: &Protected,
