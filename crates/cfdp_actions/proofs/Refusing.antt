@@ -4,7 +4,7 @@
 --     create_present, create_bad, create_made    an empty node is made only where nothing stands and the parent is good
 --     rename_old_absent, rename_new_present, rename_bad_parent, rename_into_itself, rename_too_deep, rename_of_tree
 --                                          a tree moves only from where it stands to where it may
-use Rattle.std.proofs.Common.{◌≡◌, refl, ap, ◌∙◌, Bool, true, false, if◌then◌else◌, is_some, List, [], ◌∷◌, ◌++◌, Option, Some, None}
+use Rattle.std.proofs.Common.{◌≡◌, refl, ap, Bool, true, false, if◌then◌else◌, is_some, List, [], ◌∷◌, ◌++◌, Option, Some, None}
 use Rattle.cfdp_status.specs.declared.action.Action.{Action}
 use Rattle.cfdp_status.specs.declared.action.Action.TheVariants as action
 use Rattle.cfdp_status.specs.declared.status.Status.{Status}

@@ -13,7 +13,8 @@ use cfdp_status::{Action, Status};
 
 /// What the tests of the action table ask of a store, or of an outline of one that has no octets.
 ///
-/// Contracts see which filestores the value `tells` of: it answers for each of them alike.
+/// Contracts see which filestores the value `tells` of, and it answers for each of them alike; and which moves it calls
+/// `deep`, whether it tells of a filestore or not. Every store meets it: it tells of the filestore that it has.
 pub trait Kinds {
     ghost tells: { Self → Filestore → Type 0 };
 
@@ -53,28 +54,20 @@ pub fn refusal<K: Kinds>(kinds: &K, request: &Request) -> Option<Status>
         Action::CreateFile => creation(kinds, Action::CreateFile, first),
         Action::DeleteFile => of_file(kinds, Action::DeleteFile, first, Some(Status::DeleteAbsent)),
         Action::RenameFile => renaming(kinds, first, request.second().unwrap()),
-        Action::AppendFile => joining(
-            kinds,
-            Action::AppendFile,
-            first,
-            request.second().unwrap(),
-            (Status::AppendFirstAbsent, Status::AppendSecondAbsent),
-        ),
-        Action::ReplaceFile => joining(
-            kinds,
-            Action::ReplaceFile,
-            first,
-            request.second().unwrap(),
-            (Status::ReplaceFirstAbsent, Status::ReplaceSecondAbsent),
-        ),
+        Action::AppendFile => {
+            let second = request.second().unwrap();
+            let absent = (Status::AppendFirstAbsent, Status::AppendSecondAbsent);
+            joining(kinds, Action::AppendFile, first, second, absent)
+        }
+        Action::ReplaceFile => {
+            let second = request.second().unwrap();
+            let absent = (Status::ReplaceFirstAbsent, Status::ReplaceSecondAbsent);
+            joining(kinds, Action::ReplaceFile, first, second, absent)
+        }
         Action::CreateDirectory => creation(kinds, Action::CreateDirectory, first),
         Action::RemoveDirectory => {
-            of_directory(
-                kinds,
-                Action::RemoveDirectory,
-                first,
-                Some(Status::RemoveAbsent),
-            )
+            let absent = Some(Status::RemoveAbsent);
+            of_directory(kinds, Action::RemoveDirectory, first, absent)
         }
         Action::DenyFile => of_file(kinds, Action::DenyFile, first, None),
         Action::DenyDirectory => of_directory(kinds, Action::DenyDirectory, first, None),
@@ -83,7 +76,8 @@ pub fn refusal<K: Kinds>(kinds: &K, request: &Request) -> Option<Status>
 
 /// Why nothing may be made at the path: something stands there, or the parent is not good.
 fn creation<K: Kinds>(kinds: &K, action: Action, path: &Path) -> Option<Status>
-    ensures { (F : Filestore) (node : Node) → K.tells kinds.now F → Refuses (create action node path.now (node_at F path.now) (parent_is_good F path.now)) result }
+    ensures { (F : Filestore) (node : Node) → K.tells kinds.now F
+        → Refuses (create action node path.now (node_at F path.now) (parent_is_good F path.now)) result }
 {
     if kinds.kind(path).is_some() || !kinds.parent_is_good(path) {
         return Some(Status::NotAllowed(action));
@@ -114,7 +108,8 @@ fn of_directory<K: Kinds>(
     path: &Path,
     absent: Option<Status>,
 ) -> Option<Status>
-    ensures { (F : Filestore) → K.tells kinds.now F → result ≡ directory_refusal action absent (kind_at F path.now) (has_entries F path.now) }
+    ensures { (F : Filestore) → K.tells kinds.now F
+        → result ≡ directory_refusal action absent (kind_at F path.now) (has_entries F path.now) }
 {
     match kinds.kind(path) {
         None => absent,
@@ -128,7 +123,8 @@ fn of_directory<K: Kinds>(
     }
 }
 
-/// Why what stands at the first path may not move to the second.
+/// Why what stands at the first path may not move to the second: nothing stands there, something stands at the second
+/// path, the second's parent is not good, it is at or below the first, or a path would be too deep.
 fn renaming<K: Kinds>(kinds: &K, from: &Path, to: &Path) -> Option<Status>
     ensures told { (F : Filestore) → K.tells kinds.now F → Refuses (table F (RenameFile from.now to.now)) result }
     ensures shallow { IfNone result (K.deep kinds.now from.now to.now ≡ false) }
@@ -145,8 +141,8 @@ fn renaming<K: Kinds>(kinds: &K, from: &Path, to: &Path) -> Option<Status>
     None
 }
 
-/// Why the two files may not be joined: nothing stands at the first or the second path, which are the two statuses in
-/// `absent`, or a directory.
+/// Why the two files may not be joined: nothing stands at the first path, or at the second, which are the two statuses of
+/// `absent`; or a directory stands at one of them.
 fn joining<K: Kinds>(
     kinds: &K,
     action: Action,
@@ -154,7 +150,8 @@ fn joining<K: Kinds>(
     second: &Path,
     absent: (Status, Status),
 ) -> Option<Status>
-    ensures { (F : Filestore) → K.tells kinds.now F → result ≡ joint_refusal action absent (kind_at F first.now) (kind_at F second.now) }
+    ensures { (F : Filestore) → K.tells kinds.now F
+        → result ≡ joint_refusal action absent (kind_at F first.now) (kind_at F second.now) }
 {
     match (kinds.kind(first), kinds.kind(second)) {
         (None, _) => Some(absent.0),

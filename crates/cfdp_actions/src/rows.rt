@@ -33,7 +33,7 @@ pub fn has_room<S: Filestore>(store: &S, request: &Request) -> bool
     }
 }
 
-/// Changes the store as the row says, and answers its ticks.
+/// Changes the store as the row says, and answers its ticks. After want of memory the store is as before.
 pub fn change<S: Filestore>(store: &mut S, request: &Request) -> Result<u32, Memory>
     requires allowed { IsTrue (succeeded (table (S.state store.old).filestore request.now).answer) }
     requires room { let o = table (S.state store.old).filestore request.now in

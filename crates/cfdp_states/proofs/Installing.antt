@@ -10,7 +10,7 @@ use Rattle.cfdp_states.specs.Alone.{alone}
 use Rattle.cfdp_states.specs.Sketching.{most_octets, extent_in, extent_at, Extents, total_blocks, bound_on, gives_way, can_install, IsOutline}
 use Rattle.cfdp_states.specs.Views.{most_count, most_need, Sketch, IsViewOf, TellsInstall}
 use Rattle.cfdp_states.proofs.Order.{paths_total, node_at-becomes}
-use Rattle.cfdp_states.proofs.Sketched.{here, extent-cond, good_parent-is}
+use Rattle.cfdp_states.proofs.Sketched.{extent-cond, good_parent-is}
 use Rattle.cfdp_states.proofs.Counting.{enough, blocks-counted, bound-counted}
 use Rattle.cfdp_states.proofs.Viewing.{sketch, outlined, nothing_staged, needs, takes}
 

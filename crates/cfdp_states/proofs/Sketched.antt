@@ -1,11 +1,11 @@
--- What a row of the action table reads of a filestore and does to it, seen through a map of extents.
---     none_in, folder_in, file_in              what an extent says of a node
+-- What the tests of the action table read of a filestore, and what its rows do to it, seen through a map of extents.
+--     extent-cond                              of one node or another
 --     entries-outlined                         the entries of the map are those of the filestore
 --     good_parent-is, entries-is, depth-is     whether the parent is good, anything stands below, a path would be too deep
 --     Follows, does-at                         what `Does` asks at one filestore;  `Does` is that at each
 --     follows-same, refused-does, follows-one, follows-moved    no change;  one path changes;  a directory moves
 --     kept                                     a map to which what stands already is put
-use Rattle.std.proofs.Common.{◌≡◌, ◌≢◌, refl, sym, ◌∙◌, ap, subst, Bool, true, false, cond, not, ◌&&◌, ◌||◌, ◌==◌, T, is_some, Option, Some, None, ℕ, min, List, [], ◌∷◌, ◌++◌, map, length, nat_lt, ne_eqb, true≢false, arith}
+use Rattle.std.proofs.Common.{◌≡◌, ◌≢◌, refl, sym, ◌∙◌, ap, subst, Bool, true, false, cond, not, ◌&&◌, ◌||◌, ◌==◌, T, is_some, Option, Some, None, List, [], ◌∷◌, ◌++◌, map, length, nat_lt, ne_eqb, arith}
 use Rattle.std.specs.List.{list_any}
 use Rattle.std.specs.Ordering.{is_lt}
 use Rattle.std.specs.FinMap.{entries, entries_sorted, get, get-entries, len-entries}
@@ -14,53 +14,22 @@ use Rattle.cfdp_paths.specs.Paths.{Path, path_cmp, parent, same_path, is_at_or_b
 use Rattle.cfdp_paths.specs.PathMaps.{any_below, tree_in, is_too_deep as is_deep}
 use Rattle.cfdp_status.specs.declared.status.Status.{Status}
 use Rattle.cfdp_actions.specs.Filestore.{Node, Directory, File, Filestore, node_at, inside, Change, Becomes, changed, after, has_entries, is_directory, is_good, parent_is_good, tree_at}
-use Rattle.cfdp_actions.specs.Actions.{Request, RenameFile, Performed, Outcome, refused, vacated, settled, is_too_deep, table}
+use Rattle.cfdp_actions.specs.Actions.{Request, Performed, Outcome, refused, vacated, settled, is_too_deep, table}
 use Rattle.cfdp_states.specs.declared.extent.Extent.{Extent}
-use Rattle.cfdp_states.specs.declared.extent.Extent.TheVariants as extent
-use Rattle.cfdp_states.specs.Sketching.{most_octets, extent_of, extent_in, extent_at, Extents, rehomed, is_folder, good_among, good_parent, IsOutline, Does}
+use Rattle.cfdp_states.specs.Sketching.{extent_of, extent_in, extent_at, Extents, rehomed, is_folder, good_among, good_parent, IsOutline, Does}
 use Rattle.cfdp_states.proofs.Order.{paths_total, paths_exact, node_at-becomes, same_path-true}
 use Rattle.cfdp_states.proofs.Weights.{entries-retain_keys}
 use Rattle.cfdp_states.proofs.Prefixes.{rebased-below}
 use Rattle.cfdp_states.proofs.Moves.{after-append, tree_at-all, tree_at-sorted, find-tree_at, node_at-vacated, node_at-settled, node_at-settled_apart, moved}
 use Rattle.cfdp_states.proofs.Counted.{get-rehomed}
 
--- ---- what an extent says of a node
-
-pub none_in : (a : Option Node) → extent_in a ≡ None → a ≡ None
-none_in None e = refl
-none_in (Some node) e = absurd (true≢false (ap is_some e))
-
-file_where : Option Extent → Bool
-file_where None = false
-file_where (Some extent.Directory) = false
-file_where (Some (extent.File octets)) = true
-
-pub folder_in : (a : Option Node) → extent_in a ≡ Some extent.Directory → a ≡ Some Directory
-unfolding file_where
-folder_in None e = absurd (true≢false (sym (ap is_some e)))
-folder_in (Some Directory) e = refl
-folder_in (Some (File octets)) e = absurd (true≢false (ap file_where e))
-
-size_in : Option Extent → ℕ
-size_in None = 0
-size_in (Some extent.Directory) = 0
-size_in (Some (extent.File octets)) = octets
-
-pub file_in : (a : Option Node) (n : ℕ) → extent_in a ≡ Some (extent.File n) → (octets : List ℕ) × (a ≡ Some (File octets)) × (min (length octets) most_octets ≡ n)
-unfolding file_where size_in
-file_in None n e = absurd (true≢false (sym (ap is_some e)))
-file_in (Some Directory) n e = absurd (true≢false (sym (ap file_where e)))
-file_in (Some (File octets)) n e = (octets, refl, ap size_in e)
+-- ---- the extent of a node
 
 pub extent-cond : (b : Bool) (a c : Option Node) → extent_in (cond b a c) ≡ cond b (extent_in a) (extent_in c)
 extent-cond true a c = refl
 extent-cond false a c = refl
 
-pub extent-some : (a : Option Node) → is_some (extent_in a) ≡ is_some a
-extent-some None = refl
-extent-some (Some node) = refl
-
-pub extent-folder : (a : Option Node) → is_folder (extent_in a) ≡ is_directory a
+extent-folder : (a : Option Node) → is_folder (extent_in a) ≡ is_directory a
 extent-folder None = refl
 extent-folder (Some Directory) = refl
 extent-folder (Some (File octets)) = refl
@@ -117,9 +86,6 @@ entries-outlined m F h =
     (λ x. sym (get-entries m x) ∙ h.found x ∙ ap extent_in (get-entries F.nodes x) ∙ sym (find-outlines x (entries F.nodes)))
 
 module _ (m : Extents) (F : Filestore) (h : IsOutline m F) where
-  pub here : (p : Path) (c : Option Extent) → get m p ≡ c → extent_at F p ≡ c
-  here p c e = sym (h.found p) ∙ e
-
   -- ---- what is read
 
   pub good_parent-is : (p : Path) → p ≢ [] → good_parent m p ≡ parent_is_good F p

@@ -1,6 +1,6 @@
 -- The rows of the action table that are not refused, on a map of extents.
 --     file-created, directory-created, gone, moves, appends, replaces    how the map goes on, row by row
-use Rattle.std.proofs.Common.{◌≡◌, refl, sym, ◌∙◌, ap, subst, ◌⊎◌, inl, inr, Bool, true, false, cond, is_some, is_none, if◌then◌else◌, Option, Some, None, ℕ, ◌+◌, min, List, [], ◌∷◌, ◌++◌, length, length-append, true≢false, arith}
+use Rattle.std.proofs.Common.{◌≡◌, refl, sym, ◌∙◌, ap, subst, ◌⊎◌, inl, inr, Bool, true, false, cond, is_some, is_none, if◌then◌else◌, Option, Some, None, ℕ, ◌+◌, min, [], ◌∷◌, ◌++◌, length, length-append, true≢false, arith}
 use Rattle.std.specs.FinMap.{get, insert, remove, get-insert, get-remove}
 use Rattle.cfdp_paths.specs.Paths.{Path, same_path}
 use Rattle.cfdp_status.specs.declared.status.Status.TheVariants.{Successful}

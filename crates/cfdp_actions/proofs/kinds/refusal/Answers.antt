@@ -1,9 +1,6 @@
-use Rattle.std.proofs.Common.{rules, ◌≡◌, Bool, false, IsTrue, IsSome, IfNone, ℕ, ◌+◌, ◌-◌, ◌*◌, ◌<◌, ◌≤◌, length, ◌/◌, ◌%◌, true, nat_eq, nat_lt, List, [], ◌∷◌, ◌++◌, slice_index_or, slice_set, bit_and, bit_or, Fits, w8, w32, w64, Bor, MutBor}
-use Rattle.cfdp_paths.specs.Paths.{Path}
+use Rattle.std.proofs.Common.{rules, ◌≡◌, []}
 use Rattle.cfdp_actions.specs.Filestore.{Directory, File}
 use Rattle.cfdp_actions.specs.Actions.{CreateFile, CreateDirectory}
-use Rattle.cfdp_actions.specs.Store.{kind_at}
-use Rattle.cfdp_actions.specs.Refusals.{Refuses, file_refusal, directory_refusal, joint_refusal}
 use Rattle.cfdp_actions.proofs.Refusing.{file_creation, directory_creation, deletion, denial, removal, directory_denial, appending, replacement}
 use Rattle.cfdp_actions.proofs.kinds.refusal.Goals as goal
 

@@ -1,4 +1,4 @@
-use Rattle.std.proofs.Common.{rules, ◌≡◌, ◌⊎◌, ◌≤◌, ◌+◌, arith}
+use Rattle.std.proofs.Common.{rules, ◌≡◌, ◌⊎◌, arith}
 use Rattle.cfdp_actions.specs.Actions.{CreateFile, DeleteFile, RenameFile, AppendFile, ReplaceFile, CreateDirectory, RemoveDirectory, DenyFile, DenyDirectory}
 use Rattle.cfdp_actions.proofs.Allowed.{file_made, directory_made, removed, denied, moved, appended, replaced, replace_fits}
 use Rattle.cfdp_actions.proofs.rows.change.Goals as goal
