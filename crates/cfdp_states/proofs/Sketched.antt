@@ -3,7 +3,7 @@
 --     entries-outlined                         the entries of the map are those of the filestore
 --     good_parent-is, entries-is, depth-is     whether the parent is good, anything stands below, a path would be too deep
 --     Follows, does-at                         what `Does` asks at one filestore;  `Does` is that at each
---     follows-same, refused-does, follows-one, follows-moved    no change;  one path changes;  a directory moves
+--     follows-same, follows-one, follows-moved    no change;  one path changes;  a directory moves
 --     kept                                     a map to which what stands already is put
 use Rattle.std.proofs.Common.{◌≡◌, ◌≢◌, refl, sym, ◌∙◌, ap, subst, Bool, true, false, cond, not, ◌&&◌, ◌||◌, ◌==◌, T, is_some, Option, Some, None, List, [], ◌∷◌, ◌++◌, map, length, nat_lt, ne_eqb, arith}
 use Rattle.std.specs.List.{list_any}
@@ -14,7 +14,7 @@ use Rattle.cfdp_paths.specs.Paths.{Path, path_cmp, parent, same_path, is_at_or_b
 use Rattle.cfdp_paths.specs.PathMaps.{any_below, tree_in, is_too_deep as is_deep}
 use Rattle.cfdp_status.specs.declared.status.Status.{Status}
 use Rattle.cfdp_actions.specs.Filestore.{Node, Directory, File, Filestore, node_at, inside, Change, Becomes, changed, after, has_entries, is_directory, is_good, parent_is_good, tree_at}
-use Rattle.cfdp_actions.specs.Actions.{Request, Performed, Outcome, refused, vacated, settled, is_too_deep, table}
+use Rattle.cfdp_actions.specs.Actions.{Request, Performed, Outcome, vacated, settled, is_too_deep, table}
 use Rattle.cfdp_states.specs.declared.extent.Extent.{Extent}
 use Rattle.cfdp_states.specs.Sketching.{extent_of, extent_in, extent_at, Extents, rehomed, is_folder, good_among, good_parent, IsOutline, Does}
 use Rattle.cfdp_states.proofs.Order.{paths_total, paths_exact, node_at-becomes, same_path-true}
@@ -131,10 +131,6 @@ follows-same m' F o told answer changes h = record {
   outlines = subst (λ (cs : List Change). IsOutline m' (after F cs)) (sym changes) h;
   staged = ap (λ (cs : List Change). (after F cs).staged) changes;
 }
-
-pub refused-does : (m : Extents) (request : Request) (told : Status) → ((F : Filestore) → IsOutline m F → table F request ≡ refused told) → Does m m request told
-refused-does m request told same = does-at m m request told (λ F h.
-    follows-same m F (table F request) told (λ i. (sym (same F h) i).answer) (λ i. (same F h i).changes) h)
 
 pub follows-one : (m m' : Extents) (F : Filestore) (o : Outcome) (told : Status) (p : Path) (node : Option Node) → IsOutline m F → Performed told ≡ o.answer → o.changes ≡ Becomes p node ∷ [] →
     ((x : Path) → get m' x ≡ cond (same_path x p) (extent_in node) (get m x)) → Follows m' F o told
