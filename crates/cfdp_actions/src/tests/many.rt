@@ -60,48 +60,52 @@ fn stands_in_order(rt: HostRuntime) -> Result<(), Fail> {
     Ok(lists(&rt, rt.alloc(), &store, paths)?)
 }
 
+/// What [`changes`] performs.
+static CHANGES: [Row; 12] = [
+    (Action::RenameFile, b"a", b"z", 0x20, 0, 19),
+    (Action::RenameFile, b"z/8", b"b/0", 0x20, 0, 19),
+    (Action::DeleteFile, b"z/5", b"", 0x10, 1, 20),
+    (Action::CreateDirectory, b"z/5", b"", 0x50, 1, 19),
+    (Action::RenameFile, b"z", b"c/z", 0x20, 0, 19),
+    (Action::CreateFile, b"c/z/5/9", b"", 0x00, 1, 18),
+    (Action::RemoveDirectory, b"c/z", b"", 0x62, 0, 18),
+    (Action::CreateFile, b"a", b"", 0x00, 1, 17),
+    (Action::DenyDirectory, b"e", b"", 0x82, 0, 17),
+    (Action::DenyFile, b"e/1", b"", 0x70, 1, 18),
+    (Action::RenameFile, b"d/8", b"d/80", 0x20, 0, 18),
+    (Action::RenameFile, b"c", b"c/z/9", 0x23, 0, 18),
+];
+
 /// What changes at one place leaves all else.
 #[test]
 fn changes(rt: HostRuntime) -> Result<(), Fail> {
     let alloc = rt.alloc();
-    let rows: [Row; 12] = [
-        (Action::RenameFile, b"a", b"z", 0x20, 0, 19),
-        (Action::RenameFile, b"z/8", b"b/0", 0x20, 0, 19),
-        (Action::DeleteFile, b"z/5", b"", 0x10, 1, 20),
-        (Action::CreateDirectory, b"z/5", b"", 0x50, 1, 19),
-        (Action::RenameFile, b"z", b"c/z", 0x20, 0, 19),
-        (Action::CreateFile, b"c/z/5/9", b"", 0x00, 1, 18),
-        (Action::RemoveDirectory, b"c/z", b"", 0x62, 0, 18),
-        (Action::CreateFile, b"a", b"", 0x00, 1, 17),
-        (Action::DenyDirectory, b"e", b"", 0x82, 0, 17),
-        (Action::DenyFile, b"e/1", b"", 0x70, 1, 18),
-        (Action::RenameFile, b"d/8", b"d/80", 0x20, 0, 18),
-        (Action::RenameFile, b"c", b"c/z/9", 0x23, 0, 18),
-    ];
     let mut store = filled(alloc)?;
-    run(&rt, alloc, &mut store, &Protected::new(), &rows)?;
+    run(&rt, alloc, &mut store, &Protected::new(), &CHANGES)?;
     let paths = b"a b b/0 b/1 b/2 b/3 b/4 b/5 b/6 b/7 b/8 \
         c c/1 c/2 c/3 c/4 c/5 c/6 c/7 c/8 c/z c/z/1 c/z/2 c/z/3 c/z/4 c/z/5 c/z/5/9 c/z/6 c/z/7 \
         d d/1 d/2 d/3 d/4 d/5 d/6 d/7 d/80 e e/2 e/3 e/4 e/5 e/6 e/7 e/8 ";
     Ok(lists(&rt, alloc, &store, paths)?)
 }
 
+/// What [`moves_octets`] performs.
+static MOVES_OCTETS: [Row; 5] = [
+    (Action::AppendFile, b"b/3", b"b/3", 0x30, 3, 16),
+    (Action::AppendFile, b"c/1", b"b/3", 0x30, 6, 13),
+    (Action::ReplaceFile, b"d/8", b"c/1", 0x40, 6, 10),
+    (Action::DeleteFile, b"b/3", b"", 0x10, 4, 14),
+    (Action::ReplaceFile, b"c/1", b"e/1", 0x40, 3, 17),
+];
+
 /// Octets that are installed, appended, put in the place of others, and given back.
 #[test]
 fn moves_octets(rt: HostRuntime) -> Result<(), Fail> {
     let alloc = rt.alloc();
-    let rows: [Row; 5] = [
-        (Action::AppendFile, b"b/3", b"b/3", 0x30, 3, 16),
-        (Action::AppendFile, b"c/1", b"b/3", 0x30, 6, 13),
-        (Action::ReplaceFile, b"d/8", b"c/1", 0x40, 6, 10),
-        (Action::DeleteFile, b"b/3", b"", 0x10, 4, 14),
-        (Action::ReplaceFile, b"c/1", b"e/1", 0x40, 3, 17),
-    ];
     let mut store = filled(alloc)?;
     let file = Path::parse(alloc, b"b/3")?;
     assert_eq!(rt; deliver(&mut store, &file, &[7; 121])?, Some((2, 0)));
     assert_eq!(rt; store.free(), 17);
-    run(&rt, alloc, &mut store, &Protected::new(), &rows)?;
+    run(&rt, alloc, &mut store, &Protected::new(), &MOVES_OCTETS)?;
     Ok(holds_all(&rt, alloc, &store)?)
 }
 

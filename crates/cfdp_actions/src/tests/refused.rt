@@ -178,51 +178,67 @@ fn new(rt: HostRuntime) -> Result<(), Fail> {
     Ok(())
 }
 
+/// What [`creates`] performs.
+static CREATES: [Row; 4] = [
+    (Action::CreateDirectory, b"d", b"", 0x50, 1),
+    (Action::CreateFile, b"d/x", b"", 0x00, 1),
+    (Action::CreateFile, b"d/x", b"", 0x01, 0),
+    (Action::CreateFile, b"c", b"", 0x00, 1),
+];
+
+/// What stands then.
+static CREATES_LEAVES: [Stands; 3] = [
+    (b"c", Kind::File, 0, 0),
+    (b"d", Kind::Directory, 0, 0),
+    (b"d/x", Kind::File, 0, 0),
+];
+
 #[test]
 fn creates(rt: HostRuntime) -> Result<(), Fail> {
-    let rows: [Row; 4] = [
-        (Action::CreateDirectory, b"d", b"", 0x50, 1),
-        (Action::CreateFile, b"d/x", b"", 0x00, 1),
-        (Action::CreateFile, b"d/x", b"", 0x01, 0),
-        (Action::CreateFile, b"c", b"", 0x00, 1),
-    ];
-    let standing: [Stands; 3] = [
-        (b"c", Kind::File, 0, 0),
-        (b"d", Kind::Directory, 0, 0),
-        (b"d/x", Kind::File, 0, 0),
-    ];
     let mut store = new_store(&rt, rt.alloc())?;
-    run(&rt, rt.alloc(), &mut store, &rows, &standing)
+    run(&rt, rt.alloc(), &mut store, &CREATES, &CREATES_LEAVES)
 }
+
+/// What [`renames`] performs.
+static RENAMES: [Row; 4] = [
+    (Action::CreateDirectory, b"d", b"", 0x50, 1),
+    (Action::CreateFile, b"d/x", b"", 0x00, 1),
+    (Action::RenameFile, b"d", b"e", 0x20, 0),
+    (Action::RenameFile, b"e/x", b"c", 0x20, 0),
+];
+
+/// What stands then.
+static RENAMES_LEAVES: [Stands; 2] = [(b"c", Kind::File, 0, 0), (b"e", Kind::Directory, 0, 0)];
 
 #[test]
 fn renames(rt: HostRuntime) -> Result<(), Fail> {
-    let rows: [Row; 4] = [
-        (Action::CreateDirectory, b"d", b"", 0x50, 1),
-        (Action::CreateFile, b"d/x", b"", 0x00, 1),
-        (Action::RenameFile, b"d", b"e", 0x20, 0),
-        (Action::RenameFile, b"e/x", b"c", 0x20, 0),
-    ];
-    let standing: [Stands; 2] = [(b"c", Kind::File, 0, 0), (b"e", Kind::Directory, 0, 0)];
     let mut store = new_store(&rt, rt.alloc())?;
-    run(&rt, rt.alloc(), &mut store, &rows, &standing)
+    run(&rt, rt.alloc(), &mut store, &RENAMES, &RENAMES_LEAVES)
 }
+
+/// What [`removes`] performs.
+static REMOVES: [Row; 8] = [
+    (Action::CreateFile, b"a", b"", 0x00, 1),
+    (Action::DeleteFile, b"a", b"", 0x10, 1),
+    (Action::CreateFile, b"a", b"", 0x00, 1),
+    (Action::DenyFile, b"a", b"", 0x70, 1),
+    (Action::CreateDirectory, b"a", b"", 0x50, 1),
+    (Action::RemoveDirectory, b"a", b"", 0x60, 1),
+    (Action::CreateDirectory, b"a", b"", 0x50, 1),
+    (Action::DenyDirectory, b"a", b"", 0x80, 1),
+];
 
 #[test]
 fn removes(rt: HostRuntime) -> Result<(), Fail> {
-    let rows: [Row; 8] = [
-        (Action::CreateFile, b"a", b"", 0x00, 1),
-        (Action::DeleteFile, b"a", b"", 0x10, 1),
-        (Action::CreateFile, b"a", b"", 0x00, 1),
-        (Action::DenyFile, b"a", b"", 0x70, 1),
-        (Action::CreateDirectory, b"a", b"", 0x50, 1),
-        (Action::RemoveDirectory, b"a", b"", 0x60, 1),
-        (Action::CreateDirectory, b"a", b"", 0x50, 1),
-        (Action::DenyDirectory, b"a", b"", 0x80, 1),
-    ];
     let mut store = new_store(&rt, rt.alloc())?;
-    run(&rt, rt.alloc(), &mut store, &rows, &[])
+    run(&rt, rt.alloc(), &mut store, &REMOVES, &[])
 }
+
+/// What [`appends`] performs.
+static APPENDS: [Row; 1] = [(Action::AppendFile, b"a", b"a", 0x30, 2)];
+
+/// What stands then.
+static APPENDS_LEAVES: [Stands; 1] = [(b"a", Kind::File, 240, 0x3c3c_3c3c)];
 
 #[test]
 fn appends(rt: HostRuntime) -> Result<(), Fail> {
@@ -232,10 +248,20 @@ fn appends(rt: HostRuntime) -> Result<(), Fail> {
         deliver(&rt, alloc, &mut store, b"a", &[1; 120])?,
         (Some(1), Some(1))
     );
-    let rows: [Row; 1] = [(Action::AppendFile, b"a", b"a", 0x30, 2)];
-    let standing: [Stands; 1] = [(b"a", Kind::File, 240, 0x3c3c_3c3c)];
-    run(&rt, alloc, &mut store, &rows, &standing)
+    run(&rt, alloc, &mut store, &APPENDS, &APPENDS_LEAVES)
 }
+
+/// What [`replaces`] performs.
+static REPLACES: [Row; 2] = [
+    (Action::CreateFile, b"b", b"", 0x00, 1),
+    (Action::ReplaceFile, b"b", b"a", 0x40, 2),
+];
+
+/// What stands then.
+static REPLACES_LEAVES: [Stands; 2] = [
+    (b"a", Kind::File, 120, 0x1e1e_1e1e),
+    (b"b", Kind::File, 120, 0x1e1e_1e1e),
+];
 
 #[test]
 fn replaces(rt: HostRuntime) -> Result<(), Fail> {
@@ -245,15 +271,7 @@ fn replaces(rt: HostRuntime) -> Result<(), Fail> {
         deliver(&rt, alloc, &mut store, b"a", &[1; 120])?,
         (Some(1), Some(1))
     );
-    let rows: [Row; 2] = [
-        (Action::CreateFile, b"b", b"", 0x00, 1),
-        (Action::ReplaceFile, b"b", b"a", 0x40, 2),
-    ];
-    let standing: [Stands; 2] = [
-        (b"a", Kind::File, 120, 0x1e1e_1e1e),
-        (b"b", Kind::File, 120, 0x1e1e_1e1e),
-    ];
-    run(&rt, alloc, &mut store, &rows, &standing)
+    run(&rt, alloc, &mut store, &REPLACES, &REPLACES_LEAVES)
 }
 
 /// What is staged grows, is installed where nothing stands, and then over the file.
@@ -282,16 +300,23 @@ fn stages_and_installs(rt: HostRuntime) -> Result<(), Fail> {
     )
 }
 
+/// What [`what_stands`] performs.
+static WHAT_STANDS: [Row; 2] = [
+    (Action::CreateDirectory, b"d", b"", 0x50, 1),
+    (Action::CreateFile, b"d/x", b"", 0x00, 1),
+];
+
+/// What stands then.
+static WHAT_STANDS_LEAVES: [Stands; 2] = [
+    (b"d", Kind::Directory, 0, 0),
+    (b"d/x", Kind::File, 0, 0),
+];
+
 #[test]
 fn what_stands(rt: HostRuntime) -> Result<(), Fail> {
     let alloc = rt.alloc();
     let mut store = new_store(&rt, alloc)?;
-    let rows: [Row; 2] = [
-        (Action::CreateDirectory, b"d", b"", 0x50, 1),
-        (Action::CreateFile, b"d/x", b"", 0x00, 1),
-    ];
-    let stand: [Stands; 2] = [(b"d", Kind::Directory, 0, 0), (b"d/x", Kind::File, 0, 0)];
-    run(&rt, alloc, &mut store, &rows, &stand)?;
+    run(&rt, alloc, &mut store, &WHAT_STANDS, &WHAT_STANDS_LEAVES)?;
     let names = [parsed(alloc, b"d")?, parsed(alloc, b"d/x")?];
     Ok(stand_below(&rt, alloc, &store, &names)?)
 }

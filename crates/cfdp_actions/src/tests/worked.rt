@@ -46,77 +46,91 @@ fn run_on_both(
     run(rt, alloc, &mut counted, protected, rows)
 }
 
+/// What [`creates_and_removes`] performs.
+static CREATES_AND_REMOVES: [Row; 11] = [
+    (Action::CreateDirectory, b"d", b"", 0x50, 1, 63),
+    (Action::CreateFile, b"d/x", b"", 0x00, 1, 62),
+    (Action::RemoveDirectory, b"d", b"", 0x62, 0, 62),
+    (Action::RenameFile, b"d/x", b"b", 0x20, 0, 62),
+    (Action::ReplaceFile, b"b", b"c", 0x42, 0, 62),
+    (Action::RemoveDirectory, b"d", b"", 0x60, 1, 63),
+    (Action::DenyDirectory, b"d", b"", 0x80, 0, 63),
+    (Action::AppendFile, b"b", b"b", 0x30, 0, 63),
+    (Action::DenyFile, b"b", b"", 0x70, 1, 64),
+    (Action::DeleteFile, b"b", b"", 0x11, 0, 64),
+    (Action::CreateFile, b"x/y", b"", 0x01, 0, 64),
+];
+
 #[test]
 fn creates_and_removes(rt: HostRuntime) -> Result<(), Fail> {
-    let rows: [Row; 11] = [
-        (Action::CreateDirectory, b"d", b"", 0x50, 1, 63),
-        (Action::CreateFile, b"d/x", b"", 0x00, 1, 62),
-        (Action::RemoveDirectory, b"d", b"", 0x62, 0, 62),
-        (Action::RenameFile, b"d/x", b"b", 0x20, 0, 62),
-        (Action::ReplaceFile, b"b", b"c", 0x42, 0, 62),
-        (Action::RemoveDirectory, b"d", b"", 0x60, 1, 63),
-        (Action::DenyDirectory, b"d", b"", 0x80, 0, 63),
-        (Action::AppendFile, b"b", b"b", 0x30, 0, 63),
-        (Action::DenyFile, b"b", b"", 0x70, 1, 64),
-        (Action::DeleteFile, b"b", b"", 0x11, 0, 64),
-        (Action::CreateFile, b"x/y", b"", 0x01, 0, 64),
-    ];
-    run_on_both(&rt, rt.alloc(), &Protected::new(), &rows)
+    run_on_both(&rt, rt.alloc(), &Protected::new(), &CREATES_AND_REMOVES)
 }
+
+/// What [`denies`] performs.
+static DENIES: [Row; 6] = [
+    (Action::DenyFile, b"z", b"", 0x70, 0, 64),
+    (Action::DenyDirectory, b"y/z", b"", 0x80, 0, 64),
+    (Action::CreateDirectory, b"d", b"", 0x50, 1, 63),
+    (Action::CreateFile, b"d/x", b"", 0x00, 1, 62),
+    (Action::DenyDirectory, b"d", b"", 0x82, 0, 62),
+    (Action::DenyFile, b"d", b"", 0x72, 0, 62),
+];
 
 #[test]
 fn denies(rt: HostRuntime) -> Result<(), Fail> {
-    let rows: [Row; 6] = [
-        (Action::DenyFile, b"z", b"", 0x70, 0, 64),
-        (Action::DenyDirectory, b"y/z", b"", 0x80, 0, 64),
-        (Action::CreateDirectory, b"d", b"", 0x50, 1, 63),
-        (Action::CreateFile, b"d/x", b"", 0x00, 1, 62),
-        (Action::DenyDirectory, b"d", b"", 0x82, 0, 62),
-        (Action::DenyFile, b"d", b"", 0x72, 0, 62),
-    ];
-    run_on_both(&rt, rt.alloc(), &Protected::new(), &rows)
+    run_on_both(&rt, rt.alloc(), &Protected::new(), &DENIES)
 }
+
+/// What [`moves_a_directory`] performs.
+static MOVES_A_DIRECTORY: [Row; 8] = [
+    (Action::CreateDirectory, b"d", b"", 0x50, 1, 63),
+    (Action::CreateFile, b"d/x", b"", 0x00, 1, 62),
+    (Action::RenameFile, b"d", b"e", 0x20, 0, 62),
+    (Action::DeleteFile, b"e/x", b"", 0x10, 1, 63),
+    (Action::RenameFile, b"e", b"e/f", 0x23, 0, 63),
+    (Action::RenameFile, b"e", b"e", 0x22, 0, 63),
+    (Action::RenameFile, b"q", b"r", 0x21, 0, 63),
+    (Action::RenameFile, b"e", b"q/r", 0x23, 0, 63),
+];
 
 #[test]
 fn moves_a_directory(rt: HostRuntime) -> Result<(), Fail> {
-    let rows: [Row; 8] = [
-        (Action::CreateDirectory, b"d", b"", 0x50, 1, 63),
-        (Action::CreateFile, b"d/x", b"", 0x00, 1, 62),
-        (Action::RenameFile, b"d", b"e", 0x20, 0, 62),
-        (Action::DeleteFile, b"e/x", b"", 0x10, 1, 63),
-        (Action::RenameFile, b"e", b"e/f", 0x23, 0, 63),
-        (Action::RenameFile, b"e", b"e", 0x22, 0, 63),
-        (Action::RenameFile, b"q", b"r", 0x21, 0, 63),
-        (Action::RenameFile, b"e", b"q/r", 0x23, 0, 63),
-    ];
-    run_on_both(&rt, rt.alloc(), &Protected::new(), &rows)
+    run_on_both(&rt, rt.alloc(), &Protected::new(), &MOVES_A_DIRECTORY)
 }
+
+/// What [`moves_no_deeper_than_eight_names`] performs.
+static MOVES_NO_DEEPER_THAN_EIGHT_NAMES: [Row; 11] = [
+    (Action::CreateDirectory, b"e", b"", 0x50, 1, 63),
+    (Action::CreateDirectory, b"a", b"", 0x50, 1, 62),
+    (Action::CreateDirectory, b"a/b", b"", 0x50, 1, 61),
+    (Action::CreateDirectory, b"a/b/c", b"", 0x50, 1, 60),
+    (Action::CreateDirectory, b"a/b/c/d", b"", 0x50, 1, 59),
+    (Action::CreateDirectory, b"a/b/c/d/e", b"", 0x50, 1, 58),
+    (Action::CreateDirectory, b"a/b/c/d/e/f", b"", 0x50, 1, 57),
+    (Action::CreateDirectory, b"a/b/c/d/e/f/g", b"", 0x50, 1, 56),
+    (
+        Action::CreateDirectory,
+        b"a/b/c/d/e/f/g/h",
+        b"",
+        0x50,
+        1,
+        55,
+    ),
+    (Action::RenameFile, b"a", b"e/a", 0x23, 0, 55),
+    (Action::RenameFile, b"a", b"z", 0x20, 0, 55),
+];
 
 #[test]
 fn moves_no_deeper_than_eight_names(rt: HostRuntime) -> Result<(), Fail> {
     let alloc = rt.alloc();
-    let rows: [Row; 11] = [
-        (Action::CreateDirectory, b"e", b"", 0x50, 1, 63),
-        (Action::CreateDirectory, b"a", b"", 0x50, 1, 62),
-        (Action::CreateDirectory, b"a/b", b"", 0x50, 1, 61),
-        (Action::CreateDirectory, b"a/b/c", b"", 0x50, 1, 60),
-        (Action::CreateDirectory, b"a/b/c/d", b"", 0x50, 1, 59),
-        (Action::CreateDirectory, b"a/b/c/d/e", b"", 0x50, 1, 58),
-        (Action::CreateDirectory, b"a/b/c/d/e/f", b"", 0x50, 1, 57),
-        (Action::CreateDirectory, b"a/b/c/d/e/f/g", b"", 0x50, 1, 56),
-        (
-            Action::CreateDirectory,
-            b"a/b/c/d/e/f/g/h",
-            b"",
-            0x50,
-            1,
-            55,
-        ),
-        (Action::RenameFile, b"a", b"e/a", 0x23, 0, 55),
-        (Action::RenameFile, b"a", b"z", 0x20, 0, 55),
-    ];
     let mut store = ListStore::new(alloc, 64)?;
-    run(&rt, alloc, &mut store, &Protected::new(), &rows)?;
+    run(
+        &rt,
+        alloc,
+        &mut store,
+        &Protected::new(),
+        &MOVES_NO_DEEPER_THAN_EIGHT_NAMES,
+    )?;
     for (name, names) in [(b"z", Some(8)), (b"e", Some(1)), (b"a", None)] {
         assert_eq!(rt; deepest(&store, &Path::parse(alloc, name)?), names);
     }
@@ -125,22 +139,24 @@ fn moves_no_deeper_than_eight_names(rt: HostRuntime) -> Result<(), Fail> {
     Ok(())
 }
 
+/// What [`protects`] performs.
+static PROTECTS: [Row; 8] = [
+    (Action::CreateDirectory, b"sys", b"", 0x50, 1, 63),
+    (Action::RenameFile, b"sys", b"s", 0x23, 0, 63),
+    (Action::RemoveDirectory, b"sys", b"", 0x60, 1, 64),
+    (Action::CreateDirectory, b"sys", b"", 0x50, 1, 63),
+    (Action::CreateFile, b"sys/boot", b"", 0x00, 1, 62),
+    (Action::DeleteFile, b"sys/boot", b"", 0x12, 0, 62),
+    (Action::DenyFile, b"sys/boot/z", b"", 0x72, 0, 62),
+    (Action::ReplaceFile, b"sys/boot", b"sys/boot", 0x43, 0, 62),
+];
+
 #[test]
 fn protects(rt: HostRuntime) -> Result<(), Fail> {
     let mut protected = Protected::new();
     let path = Path::parse(rt.alloc(), b"sys/boot")?;
     assert!(rt; protected.add(path).is_ok());
-    let rows: [Row; 8] = [
-        (Action::CreateDirectory, b"sys", b"", 0x50, 1, 63),
-        (Action::RenameFile, b"sys", b"s", 0x23, 0, 63),
-        (Action::RemoveDirectory, b"sys", b"", 0x60, 1, 64),
-        (Action::CreateDirectory, b"sys", b"", 0x50, 1, 63),
-        (Action::CreateFile, b"sys/boot", b"", 0x00, 1, 62),
-        (Action::DeleteFile, b"sys/boot", b"", 0x12, 0, 62),
-        (Action::DenyFile, b"sys/boot/z", b"", 0x72, 0, 62),
-        (Action::ReplaceFile, b"sys/boot", b"sys/boot", 0x43, 0, 62),
-    ];
-    run_on_both(&rt, rt.alloc(), &protected, &rows)
+    run_on_both(&rt, rt.alloc(), &protected, &PROTECTS)
 }
 
 #[test]
@@ -178,6 +194,9 @@ fn stands_alone(
     Ok(())
 }
 
+/// What [`append_to_itself`] performs.
+static APPEND_TO_ITSELF: [Row; 1] = [(Action::AppendFile, b"a", b"a", 0x30, 2, 61)];
+
 /// A file of so many octets, all 1, and what it comes to once it is appended to itself.
 fn append_to_itself(
     rt: &impl Abort,
@@ -190,8 +209,7 @@ fn append_to_itself(
     let file = Path::parse(alloc, b"a")?;
     assert_eq!(rt; deliver(&mut store, &file, octets)?, Some((1, 1)));
     assert_eq!(rt; store.free(), 62);
-    let rows: [Row; 1] = [(Action::AppendFile, b"a", b"a", 0x30, 2, 61)];
-    run(rt, alloc, &mut store, &Protected::new(), &rows)?;
+    run(rt, alloc, &mut store, &Protected::new(), &APPEND_TO_ITSELF)?;
     Ok(stands_alone(rt, alloc, &store, &file, size, sum)?)
 }
 
@@ -232,6 +250,13 @@ fn deliver_over(
     holds(rt, alloc, store, file, b"xyz", 0x7879_7a00)
 }
 
+/// What [`replaces`] performs.
+static REPLACES: [Row; 3] = [
+    (Action::ReplaceFile, b"a", b"a", 0x40, 0, 62),
+    (Action::CreateFile, b"b", b"", 0x00, 1, 61),
+    (Action::ReplaceFile, b"b", b"a", 0x40, 2, 60),
+];
+
 #[test]
 fn replaces(rt: HostRuntime) -> Result<(), Fail> {
     let alloc = rt.alloc();
@@ -239,12 +264,7 @@ fn replaces(rt: HostRuntime) -> Result<(), Fail> {
     let first = Path::parse(alloc, b"a")?;
     let second = Path::parse(alloc, b"b")?;
     assert_eq!(rt; deliver(&mut store, &first, &[1; 120])?, Some((1, 1)));
-    let rows: [Row; 3] = [
-        (Action::ReplaceFile, b"a", b"a", 0x40, 0, 62),
-        (Action::CreateFile, b"b", b"", 0x00, 1, 61),
-        (Action::ReplaceFile, b"b", b"a", 0x40, 2, 60),
-    ];
-    run(&rt, alloc, &mut store, &Protected::new(), &rows)?;
+    run(&rt, alloc, &mut store, &Protected::new(), &REPLACES)?;
     for file in [&first, &second] {
         holds(&rt, alloc, &store, file, &[1; 120], 0x1e1e_1e1e)?;
     }
