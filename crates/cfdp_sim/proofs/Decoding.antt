@@ -22,7 +22,7 @@ octets_before-before : (a b : List ℕ) (more : Option (List ℕ))
 octets_before-before a b None = refl
 octets_before-before a b (Some more) = ap Some (sym (append_assoc a b more))
 
-octets_before-nothing : (more : Option (List ℕ)) → octets_before (Ok []) more ≡ more
+pub octets_before-nothing : (more : Option (List ℕ)) → octets_before (Ok []) more ≡ more
 octets_before-nothing None = refl
 octets_before-nothing (Some more) = refl
 

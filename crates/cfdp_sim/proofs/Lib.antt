@@ -1,7 +1,11 @@
+pub mod Answering
 pub mod Decoding
 pub mod Feeding
+pub mod Fitting
 pub mod LineLemmas
 pub mod Moving
 pub mod Running
 pub mod Statuses
+pub mod Steps
 pub mod Streaming
+pub mod Words

@@ -1,12 +1,17 @@
 pub mod Adapters
+pub mod Commands
 pub mod Ends
+pub mod Fitting
 pub mod Hexadecimal
 pub mod Lines
 pub mod Outcome
 pub mod Places
 pub mod Plain
+pub mod Replay
+pub mod Replies
 pub mod Report
 pub mod RequestLines
 pub mod Session
 pub mod Answers
+pub mod Stages
 pub mod Streams

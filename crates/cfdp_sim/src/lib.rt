@@ -7,25 +7,33 @@
 //! Input and output go through two small traits, so that a theorem can name their octets.
 #![tactic(auto)]
 
+mod commands;
 mod dropped;
+mod entity;
 mod faults;
 mod from_read;
 mod from_slice;
 mod hexadecimal;
 mod input;
+mod listing;
 mod output;
 mod plain_scripts;
+mod replay_scripts;
+mod replies;
 mod request_lines;
 mod requests;
 mod run;
 mod script;
 mod session;
+mod stage;
 mod streams;
 mod to_write;
+mod transfers;
 
 pub use faults::{ProgramEnd, RunFault};
 pub use from_read::FromRead;
 pub use plain_scripts::{plain, plain_text};
+pub use replay_scripts::{replay, replay_text};
 pub use streams::{Failed, ScriptIn, ScriptOut};
 pub use to_write::ToWrite;
 

@@ -3,10 +3,14 @@ mod ends;
 mod examples;
 mod failing;
 mod fakes;
+mod fault_scripts;
 mod limits;
 mod long_inputs;
+mod replays;
+mod request_scripts;
 mod rows;
 mod runs;
+mod transfer_scripts;
 
 /// Three lists of requests in which each of the nine actions succeeds at least once; rename moves a file.
 const SCRIPT: &str = "0003500164\n00050003642f78\n0003600164\n\n\
@@ -18,3 +22,14 @@ const REPORT: &str = "010450016400\n01060003642f7800\n010462016400\n\
     01082003642f78016200\n0106420162016300\n\
     010460016400\n010480016400\n0106300162016200\n010400016100\n0106400162016100\n010410016100\n\
     010470016200\n";
+
+/// A transfer of which each line is answered by a line, also one of several requests.
+const REPLAY_SCRIPT: &str = "\
+    pdu 24001700010c02 0740 00000000 0000 0003000161 0003000162 0003000163\n\
+    pdu 24000a00010c02 0400 00000000 00000000\n\
+    step 1 12\ncancel 1 12\nstep 1 12\ncheck 1 12\ntake 1 12\ntake 1 12\n";
+
+/// What is written for it.
+const REPLAY_REPORT: &str = "\
+    1/12 admitted blocks 3 steps 6\n1/12 complete\n1/12 performed 00\n1/12 cancelled\n1/12 idle\n1/12 idle\n\
+    1/12 finished 2c001700010c0205f301040001610001040f01620001040f016300060102\n1/12 unknown\n";

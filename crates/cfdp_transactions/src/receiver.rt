@@ -151,9 +151,10 @@ impl<S: Filestore> Core<S> {
         self.books.quota.spare()
     }
 
-    /// The store.
+    /// The store. It has as many blocks as the configuration says.
     pub fn store(&self) -> &S
-        ensures { (S.state result.now).filestore ≡ self.now.world.filestore }
+        ensures filestore { (S.state result.now).filestore ≡ self.now.world.filestore }
+        ensures capacity { (S.state result.now).capacity ≡ self.now.world.config.blocks }
     {
         &self.store
     }

@@ -1,6 +1,6 @@
 //! What the program ends with: its status, and its line on standard error.
 use super::fakes::{Reader, Writer};
-use super::runs::run;
+use super::runs::{Kind, run};
 use crate::{ProgramEnd, RunFault};
 use std::alloc::Global;
 use std::fmt::Display;
@@ -54,7 +54,7 @@ fn ends_of_runs(rt: HostRuntime) -> Result<(), Fail> {
         (bad, None, None, 3, "cfdpsim: line 3"),
     ];
     for (script, read, write, status, line) in cases {
-        let ran = run(&rt, rt.alloc(), "010400016100\n", || {
+        let ran = run(&rt, rt.alloc(), Kind::Plain, "010400016100\n", || {
             let reader = Reader::new(script.as_bytes(), 100, read);
             (reader, Writer::new(rt.alloc(), 100, write))
         });

@@ -1,8 +1,29 @@
 //! Reads and writes that fail in mid-stream, and std's streams that are interrupted.
 use super::fakes::{Call, Reader, Scripted, Writer};
-use super::runs::run;
-use super::{REPORT, SCRIPT};
+use super::runs::{Kind, run};
+use super::{REPLAY_REPORT, REPLAY_SCRIPT, REPORT, SCRIPT};
 use crate::{Failed, FromRead, RunFault, ScriptIn, ScriptOut, ToWrite};
+use std::process::Abort;
+
+/// A script of either kind, each line of which that is not empty is answered by a line.
+struct Example {
+    kind: Kind,
+    script: &'static str,
+    report: &'static str,
+}
+
+static EXAMPLES: [Example; 2] = [
+    Example {
+        kind: Kind::Plain,
+        script: SCRIPT,
+        report: REPORT,
+    },
+    Example {
+        kind: Kind::Replay,
+        script: REPLAY_SCRIPT,
+        report: REPLAY_REPORT,
+    },
+];
 
 /// How many lines of a script that begins with a request are requests.
 fn requests(octets: &[u8]) -> usize {
@@ -13,20 +34,16 @@ fn requests(octets: &[u8]) -> usize {
 }
 
 /// The kth read fails, of one octet each: the lines that were read before are answered, and no other.
-#[test]
-fn reads(rt: HostRuntime) {
-    let script = SCRIPT.as_bytes();
+fn fail_reads<R: AllocGlobal + Abort + Print>(rt: &R, example: &Example) {
+    let script = example.script.as_bytes();
     for k in 0..script.len() + 2 {
-        let ran = run(&rt, rt.alloc(), REPORT, || {
+        let ran = run(rt, rt.alloc(), example.kind, example.report, || {
             let reader = Reader::new(script, 1, Some(k));
             (reader, Writer::new(rt.alloc(), 100, None))
         });
         let fails = k <= script.len();
-        assert_eq!(rt;
-            ran.end,
-            if fails { Err(RunFault::Read) } else { Ok(()) },
-            "the read {k}"
-        );
+        let end = if fails { Err(RunFault::Read) } else { Ok(()) };
+        assert_eq!(rt; ran.end, end, "the read {k}");
         assert_eq!(rt; ran.reader.has_failed(), fails);
         assert!(rt; !ran.writer.has_failed());
         let read = script.get(..k).unwrap_or(script);
@@ -35,47 +52,53 @@ fn reads(rt: HostRuntime) {
             requests(read),
             "the text before the read {k}"
         );
-        assert!(rt;
-            REPORT.as_bytes().starts_with(&ran.writer.text),
-            "the text before the read {k}"
-        );
+        assert!(rt; example.report.as_bytes().starts_with(&ran.writer.text));
     }
 }
 
 /// The kth write fails, of one octet each: the octets before it are a beginning of the report.
-#[test]
-fn writes(rt: HostRuntime) {
-    let script = SCRIPT.as_bytes();
-    for k in 0..REPORT.len() + 1 {
-        let ran = run(&rt, rt.alloc(), REPORT, || {
+fn fail_writes<R: AllocGlobal + Abort + Print>(rt: &R, example: &Example) {
+    let script = example.script.as_bytes();
+    for k in 0..example.report.len() + 1 {
+        let ran = run(rt, rt.alloc(), example.kind, example.report, || {
             let reader = Reader::new(script, 100, None);
             (reader, Writer::new(rt.alloc(), 1, Some(k)))
         });
-        let fails = k < REPORT.len();
-        assert_eq!(rt;
-            ran.end,
-            if fails { Err(RunFault::Write) } else { Ok(()) },
-            "the write {k}"
-        );
+        let fails = k < example.report.len();
+        let end = if fails { Err(RunFault::Write) } else { Ok(()) };
+        assert_eq!(rt; ran.end, end, "the write {k}");
         assert_eq!(rt; ran.writer.has_failed(), fails);
         assert!(rt; !ran.reader.has_failed());
         assert_eq!(rt; ran.writer.text.len(), k, "the text before the write {k}");
-        assert!(rt;
-            REPORT.as_bytes().starts_with(&ran.writer.text),
-            "the text before the write {k}"
-        );
+        assert!(rt; example.report.as_bytes().starts_with(&ran.writer.text));
+    }
+}
+
+#[test]
+fn reads(rt: HostRuntime) {
+    for example in &EXAMPLES {
+        fail_reads(&rt, example);
+    }
+}
+
+#[test]
+fn writes(rt: HostRuntime) {
+    for example in &EXAMPLES {
+        fail_writes(&rt, example);
     }
 }
 
 /// Where memory is refused, it is told, and what was written is a beginning of the report; run once more, all is written.
 #[test]
 fn memory(rt: HostRuntime) {
-    let ran = run(&rt, rt.alloc(), REPORT, || {
-        let reader = Reader::new(SCRIPT.as_bytes(), 100, None);
-        (reader, Writer::new(rt.alloc(), 100, None))
-    });
-    assert_eq!(rt; ran.end, Ok(()));
-    assert_eq!(rt; ran.writer.text.as_slice(), REPORT.as_bytes());
+    for example in &EXAMPLES {
+        let ran = run(&rt, rt.alloc(), example.kind, example.report, || {
+            let reader = Reader::new(example.script.as_bytes(), 100, None);
+            (reader, Writer::new(rt.alloc(), 100, None))
+        });
+        assert_eq!(rt; ran.end, Ok(()));
+        assert_eq!(rt; ran.writer.text.as_slice(), example.report.as_bytes());
+    }
 }
 
 /// A write that takes nothing has failed; an interrupted call is made again.

@@ -1,6 +1,6 @@
 //! The longest line, the longest input and the longest request.
 use super::fakes::Writer;
-use super::runs::text_of;
+use super::runs::{Kind, text_of};
 use crate::{Failed, RunFault, ScriptIn, plain};
 use std::alloc::{AllocError, Global};
 use std::test::Fail;
@@ -16,12 +16,14 @@ fn lines(rt: HostRuntime) -> Result<(), Fail> {
     for octet in [b' ', b'#'] {
         let mut script = repeated(rt.alloc(), octet, 200_000)?;
         script.extend_from_slice(b"\n0003000161")?;
-        let text = text_of(&rt, rt.alloc(), &script).map_err(|_| "a line of 200,000 octets")?;
+        let text = text_of(&rt, rt.alloc(), Kind::Plain, &script).map_err(
+            |_| "a line of 200,000 octets",
+        )?;
         assert_eq!(rt; text.as_slice(), b"010400016100\n".as_slice());
 
         let mut script = repeated(rt.alloc(), b'\n', 1)?;
         script.extend_from_slice(&repeated(rt.alloc(), octet, 200_001)?)?;
-        let end = text_of(&rt, rt.alloc(), &script).map(|_| ());
+        let end = text_of(&rt, rt.alloc(), Kind::Plain, &script).map(|_| ());
         assert_eq!(rt; end, Err(RunFault::BadLine(2)));
     }
     Ok(())
@@ -74,7 +76,7 @@ fn values(rt: HostRuntime) -> Result<(), Fail> {
     let first = hex_name(alloc, 126)?;
     let second = hex_name(alloc, 125)?;
     let script = format!(in alloc; "00fe307e{first}7d{second}\n00ff307e{first}7e{first}\n")?;
-    let text = text_of(&rt, alloc, script.as_bytes()).map_err(|_| "a long request")?;
+    let text = text_of(&rt, alloc, Kind::Plain, script.as_bytes()).map_err(|_| "a long request")?;
     let report = format!(in alloc; "01ff337e{first}7d{second}00\ndropped request-too-long\n")?;
     assert_eq!(rt; text.as_slice(), report.as_bytes());
     Ok(())

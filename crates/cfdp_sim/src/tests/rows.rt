@@ -1,6 +1,6 @@
 //! Worked scripts of `plain`, and what they write.
 use super::fakes::{Reader, Writer};
-use super::runs::{run, text_of};
+use super::runs::{Kind, run, text_of};
 use super::{REPORT, SCRIPT};
 use crate::RunFault;
 use std::alloc::Global;
@@ -16,14 +16,14 @@ fn expect<R: Abort + Print>(
     end: Result<(), RunFault>,
 ) -> Result<(), Fail> {
     let script = script.as_bytes();
-    match text_of(rt, alloc, script) {
+    match text_of(rt, alloc, Kind::Plain, script) {
         Ok(text) => {
             assert_eq!(rt; end, Ok(()));
             assert_eq!(rt; text.as_slice(), report.as_bytes());
         }
         Err(fault) => assert_eq!(rt; end, Err(fault)),
     }
-    let ran = run(rt, alloc, report, || {
+    let ran = run(rt, alloc, Kind::Plain, report, || {
         (Reader::new(script, 1, None), Writer::new(alloc, 1, None))
     });
     assert_eq!(rt; ran.end, end);

@@ -1,0 +1,98 @@
+//! The scripts of `replay`: PDUs and local events, a line each, of one receiving entity.
+ghost use Rattle.std.specs.Prelude.{◌≡◌, ◌≢◌, ℕ, ◌+◌, ◌<◌, ◌≤◌, ◌⊎◌, true, length, None, Some, IfOk, OnOk, Err};
+ghost use Rattle.std.specs.Io.KnownBytes.{IsAtEnd};
+ghost use Rattle.cfdp_sim.specs.Lines.{input_limit};
+ghost use Rattle.cfdp_sim.specs.Outcome.{WholeRun, BadRun, LongRun, PartRun, LostRun};
+ghost use Rattle.cfdp_sim.specs.Replay.{replay_answer, at_first, replay_report};
+ghost use Rattle.cfdp_sim.specs.Report.{limited_report};
+ghost use Rattle.cfdp_sim.specs.declared.faults.RunFault.TheVariants.{Read, Write, Memory, BadLine};
+
+use crate::faults::RunFault;
+use crate::from_slice::FromSlice;
+use crate::run::run;
+use crate::streams::{ScriptIn, ScriptOut};
+use crate::to_write::ToWrite;
+use crate::transfers::Transfers;
+use std::alloc::Global;
+
+/// Runs a script of PDUs and local events of one receiving entity (CCSDS 727.0-B-5 §4.6).
+///
+/// Words stand between spaces. `config E B C K J` gives this entity's ID, the blocks of its filestore, the octets that a
+/// file of unbounded size may have, the check limit and the journal's entries; without it they are 2, 64, 2400, 2 and 1000.
+/// `protect HEX` protects what stands at or below a path. `pdu HEX` is a PDU that came; `step S N`, `cancel S N`,
+/// `check S N` and `take S N` perform the next item of the transaction with source entity S and sequence number N, cancel
+/// it, expire its check timer and hand its outcome out; `run` performs items until there are none, 4,224 at most; `list`
+/// writes what stands in the filestore. Each reply is a line that begins with its transaction's name. A line that begins
+/// with `#`, and one without words, is passed over. Lines end with a newline, and a last one without it counts.
+///
+/// # Errors
+///
+/// [`RunFault::BadLine`] for the first line that has more than 200,000 octets, even if it begins with `#`, or says none of
+/// these: another word, a word too many or too few, numbers that are no decimal digits or at least 2^64, no hexadecimal, no
+/// pair of digits, no path, a ninth path, numbers outside the configuration's limits, `config` that is not the first,
+/// `protect` behind any line but these two; [`RunFault::Read`] where the reader failed, or gave more than 268,435,456
+/// octets, unless a line is bad that ends within those or is too long within them; [`RunFault::Write`] where the writer
+/// failed; [`RunFault::Memory`] where memory was refused.
+///
+/// Memory: the receiving entity, one line and what it wrote. Cost: one pass over the octets, and that of the events.
+pub fn replay<R: ScriptIn, W: ScriptOut>(
+    alloc: Global,
+    reader: &mut R,
+    writer: &mut W,
+) -> Result<(), RunFault>
+    // The whole report was written, of a script within the input limit that has no bad line.
+    ensures ok { OnOk result
+        (WholeRun replay_answer at_first (R.remaining reader.old) (W.contents writer.old) (W.contents writer.new)) }
+    // Nothing is left unread.
+    ensures all { OnOk result (IsAtEnd (R.remaining reader.new)) }
+
+    // The report up to the first bad line was written, and this is its number. As many octets as the input limit
+    // show that it is bad, and no more were read.
+    ensures bad_line { (number : ℕ) → result ≡ Err (BadLine number) → BadRun replay_answer at_first number
+        (R.remaining reader.old) (R.remaining reader.new) (W.contents writer.old) (W.contents writer.new) }
+
+    // What was written is a beginning of the report of what was read: at most the limit, and one octet more where
+    // that is the fault.
+    ensures begun { result ≡ Err Read → PartRun replay_answer at_first (input_limit + 1)
+        (R.remaining reader.old) (R.remaining reader.new) (W.contents writer.old) (W.contents writer.new) }
+    ensures begun_memory { result ≡ Err Memory → PartRun replay_answer at_first input_limit
+        (R.remaining reader.old) (R.remaining reader.new) (W.contents writer.old) (W.contents writer.new) }
+    ensures begun_or_lost { result ≡ Err Write → LostRun replay_answer at_first input_limit
+        (R.remaining reader.old) (R.remaining reader.new) (W.contents writer.old) (W.contents writer.new) }
+
+    // The reader is to blame, or an input longer than the limit, within which no line is bad; or the writer is.
+    // Otherwise neither has failed.
+    ensures read { result ≡ Err Read → (R.failed reader.new ≡ true)
+        ⊎ LongRun replay_answer at_first (R.remaining reader.old) (W.contents writer.old) (W.contents writer.new) }
+    ensures write { result ≡ Err Write → W.failed writer.new ≡ true }
+    ensures well_read { result ≢ Err Read → R.failed reader.new ≡ R.failed reader.old }
+    ensures well_written { result ≢ Err Write → W.failed writer.new ≡ W.failed writer.old }
+{
+    run(alloc, Transfers::new(alloc), reader, writer)
+}
+
+/// What [`replay`] writes for a script in memory.
+///
+/// # Errors
+///
+/// [`RunFault::BadLine`] for the first bad line; [`RunFault::Read`] for a script of more than 268,435,456 octets;
+/// [`RunFault::Memory`], also for the text.
+///
+/// Memory: what [`replay`] takes, and the text. Cost: that of [`replay`].
+pub fn replay_text(alloc: Global, script: &[u8]) -> Result<Vec<u8>, RunFault>
+    ensures text { IfOk result (λ text. text.items ≡ (replay_report script.now).text) }
+    ensures fine { OnOk result ((replay_report script.now).bad_line ≡ None) }
+    ensures short { OnOk result (length script.now ≤ input_limit) }
+    ensures bad_line { (number : ℕ) → result ≡ Err (BadLine number) → (replay_report script.now).bad_line ≡ Some number }
+    ensures within { (number : ℕ) → result ≡ Err (BadLine number)
+        → (limited_report replay_answer at_first script.now).bad_line ≡ Some number }
+    ensures read { result ≡ Err Read → input_limit < length script.now }
+    ensures written { result ≢ Err Write }
+{
+    let mut writer = ToWrite::new(Vec::new(alloc));
+    match replay(alloc, &mut FromSlice::new(script), &mut writer) {
+        Ok(()) => Ok(writer.into_inner()),
+        Err(RunFault::Write) => Err(RunFault::Memory),
+        Err(fault) => Err(fault),
+    }
+}
