@@ -19,7 +19,7 @@ const EOF: Given = Given::Pdu("24000a00010a020400181c20150000000f");
 const NO_PATH: Given = Given::Pdu("24000b00010a0207400000000f0173022e2e");
 
 /// One event of each kind.
-const EVENTS: [Given; 7] = [
+static EVENTS: [Given; 7] = [
     METADATA,
     LAST,
     EOF,
@@ -32,7 +32,7 @@ const EVENTS: [Given; 7] = [
 /// What comes before, and the replies to one event of each kind, each handed in right behind that.
 type Phase = (&'static [Given], [Told; 7]);
 
-const PHASES: [Phase; 7] = [
+static PHASES: [Phase; 7] = [
     // Not known.
     (
         &[],
@@ -148,10 +148,10 @@ fn try_event(
 
 #[test]
 fn each_event_in_each_phase(rt: HostRuntime) -> Result<(), Memory> {
-    for (before, replies) in PHASES {
+    for (before, replies) in &PHASES {
         for (event, told) in EVENTS.iter().zip(replies) {
-            if try_event(&rt, rt.alloc(), before, *event, told).is_err() {
-                try_event(&rt, rt.alloc(), before, *event, told)?;
+            if try_event(&rt, rt.alloc(), before, *event, *told).is_err() {
+                try_event(&rt, rt.alloc(), before, *event, *told)?;
             }
         }
     }
