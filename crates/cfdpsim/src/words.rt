@@ -77,25 +77,27 @@ fn parse_command<S: AsStr>(alloc: Global, words: &[S]) -> Result<Asked, Error>
 mod tests {
     use super::*;
 
-    /// `plain` alone is a command; help, a version, and words too few or too many are not.
+    /// What is no command: help, a version, and words too few or too many.
+    static NO_COMMANDS: [&[&str]; 11] = [
+        &["cfdpsim"],
+        &["cfdpsim", "plane"],
+        &["cfdpsim", "Plain"],
+        &["cfdpsim", "plain", "x"],
+        &["cfdpsim", "plain", "--help"],
+        &["cfdpsim", "plain", "plain"],
+        &["cfdpsim", "-h"],
+        &["cfdpsim", "--help"],
+        &["cfdpsim", "help"],
+        &["cfdpsim", "help", "plain"],
+        &["cfdpsim", "--version"],
+    ];
+
+    /// `plain` alone is a command.
     #[test]
     fn words(rt: HostRuntime) {
         let asked = parse_words(rt.alloc(), &["cfdpsim", "plain"]);
         assert_eq!(rt; asked, Ok(Asked::Plain));
-        let cases: [&[&str]; 11] = [
-            &["cfdpsim"],
-            &["cfdpsim", "plane"],
-            &["cfdpsim", "Plain"],
-            &["cfdpsim", "plain", "x"],
-            &["cfdpsim", "plain", "--help"],
-            &["cfdpsim", "plain", "plain"],
-            &["cfdpsim", "-h"],
-            &["cfdpsim", "--help"],
-            &["cfdpsim", "help"],
-            &["cfdpsim", "help", "plain"],
-            &["cfdpsim", "--version"],
-        ];
-        for words in cases {
+        for words in &NO_COMMANDS {
             assert_eq!(rt;
                 parse_words(rt.alloc(), words),
                 Err(ProgramEnd::Usage),
