@@ -109,14 +109,11 @@ fn moves_octets(rt: HostRuntime) -> Result<(), Fail> {
     Ok(holds_all(&rt, alloc, &store)?)
 }
 
-/// Files, and how many octets they then have.
-static HELD: [(&[u8], usize); 3] = [(b"d/8", 242), (b"c/1", 0), (b"e/1", 0)];
-
 /// The octets stand in one file; the directory of it has one name more below it.
 fn holds_all(rt: &impl Abort, alloc: Global, store: &ListStore) -> Result<(), Fail> {
-    for (path, octets) in &HELD {
+    for (path, octets) in [(b"d/8", 242), (b"c/1", 0), (b"e/1", 0)] {
         let file = Path::parse(alloc, path)?;
-        let expected = vec![in alloc; 7; *octets]?;
+        let expected = vec![in alloc; 7; octets]?;
         assert_eq!(rt; contents(store, alloc, &file)?, Some(expected));
     }
     let directory = Path::parse(alloc, b"d")?;
