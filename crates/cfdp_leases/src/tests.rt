@@ -113,48 +113,46 @@ fn check(rt: &impl Abort, alloc: Global, events: &[Event]) -> Result<(), Memory>
     }
 }
 
+/// What [`a_directory_is_shared_and_not_removed`] goes through.
+static SHARED: [Event; 6] = [
+    Event::Granted(22, (Action::CreateFile, b"d/x", b"")),
+    Event::Asked((Action::CreateFile, b"d/y", b""), None),
+    Event::Asked((Action::RemoveDirectory, b"d", b""), Some(22)),
+    Event::Asked((Action::RenameFile, b"d", b"e"), Some(22)),
+    Event::Asked((Action::AppendFile, b"z", b"d/x"), Some(22)),
+    Event::Asked((Action::AppendFile, b"d/z", b"y"), None),
+];
+
 #[test]
 fn a_directory_is_shared_and_not_removed(rt: HostRuntime) -> Result<(), Memory> {
-    check(
-        &rt,
-        rt.alloc(),
-        &[
-            Event::Granted(22, (Action::CreateFile, b"d/x", b"")),
-            Event::Asked((Action::CreateFile, b"d/y", b""), None),
-            Event::Asked((Action::RemoveDirectory, b"d", b""), Some(22)),
-            Event::Asked((Action::RenameFile, b"d", b"e"), Some(22)),
-            Event::Asked((Action::AppendFile, b"z", b"d/x"), Some(22)),
-            Event::Asked((Action::AppendFile, b"d/z", b"y"), None),
-        ],
-    )
+    check(&rt, rt.alloc(), &SHARED)
 }
 
 /// Removes the directory in which transactions create a file each.
 const REMOVE: Named = (Action::RemoveDirectory, b"d", b"");
 
+/// What [`the_first_admitted_is_named`] goes through.
+static THREE_USERS: [Event; 11] = [
+    Event::Granted(31, (Action::CreateFile, b"d/p", b"")),
+    Event::Granted(32, (Action::CreateFile, b"d/q", b"")),
+    Event::Granted(33, (Action::CreateFile, b"d/r", b"")),
+    Event::Asked(REMOVE, Some(31)),
+    Event::Released(31),
+    Event::Asked(REMOVE, Some(32)),
+    Event::Released(33),
+    Event::Released(31),
+    Event::Asked(REMOVE, Some(32)),
+    Event::Released(32),
+    Event::Asked(REMOVE, None),
+];
+
 #[test]
 fn the_first_admitted_is_named(rt: HostRuntime) -> Result<(), Memory> {
-    check(
-        &rt,
-        rt.alloc(),
-        &[
-            Event::Granted(31, (Action::CreateFile, b"d/p", b"")),
-            Event::Granted(32, (Action::CreateFile, b"d/q", b"")),
-            Event::Granted(33, (Action::CreateFile, b"d/r", b"")),
-            Event::Asked(REMOVE, Some(31)),
-            Event::Released(31),
-            Event::Asked(REMOVE, Some(32)),
-            Event::Released(33),
-            Event::Released(31),
-            Event::Asked(REMOVE, Some(32)),
-            Event::Released(32),
-            Event::Asked(REMOVE, None),
-        ],
-    )
+    check(&rt, rt.alloc(), &THREE_USERS)
 }
 
 /// How the footprint of an append of `c/d/e` to `a/b`, of a rename of `old` to `new` and of a file `in/file` holds paths.
-const COVERED: &[(&[u8], Option<Lease>)] = &[
+static COVERED: [(&[u8], Option<Lease>); 12] = [
     (b"in/file", Some(Lease::Exclusive)),
     (b"in", Some(Lease::Shared)),
     (b"a/b", Some(Lease::Exclusive)),
@@ -176,7 +174,7 @@ fn try_covers(rt: &impl Abort, alloc: Global) -> Result<(), Memory> {
     ];
     let destination = path_of(rt, alloc, b"in/file")?;
     let held = footprint(alloc, &requests, Some(&destination))?;
-    for (name, lease) in COVERED {
+    for (name, lease) in &COVERED {
         let path = path_of(rt, alloc, name)?;
         assert_eq!(rt; covers(&held, &path), *lease, "on {name:?}");
     }
@@ -204,18 +202,20 @@ fn answers(
     (conflicts, leased, held)
 }
 
-/// The footprints of five creates, of `a` to `e` in one directory.
+/// Creates of `a` to `e` in one directory.
+static FIVE: [Named; 5] = [
+    (Action::CreateFile, b"d/a", b""),
+    (Action::CreateFile, b"d/b", b""),
+    (Action::CreateFile, b"d/c", b""),
+    (Action::CreateFile, b"d/d", b""),
+    (Action::CreateFile, b"d/e", b""),
+];
+
+/// Their footprints.
 fn five(rt: &impl Abort, alloc: Global) -> Result<Vec<Footprint>, Memory> {
-    let creates: [Named; 5] = [
-        (Action::CreateFile, b"d/a", b""),
-        (Action::CreateFile, b"d/b", b""),
-        (Action::CreateFile, b"d/c", b""),
-        (Action::CreateFile, b"d/d", b""),
-        (Action::CreateFile, b"d/e", b""),
-    ];
-    let mut footprints = Vec::with_capacity(alloc, 5)?;
-    for named in creates {
-        footprints.push(footprint_of(rt, alloc, named)?)?;
+    let mut footprints = Vec::with_capacity(alloc, FIVE.len())?;
+    for named in &FIVE {
+        footprints.push(footprint_of(rt, alloc, *named)?)?;
     }
     Ok(footprints)
 }

@@ -3,7 +3,7 @@ use std::test::Fail;
 
 // The table of the format, a row for each action: its code, whether it has a second name, and the octets of successful,
 // not allowed and not performed.
-const COMMON: [(u8, bool, u8, u8, u8); 9] = [
+static COMMON: [(u8, bool, u8, u8, u8); 9] = [
     (0, false, 0x00, 0x01, 0x0f),
     (1, false, 0x10, 0x12, 0x1f),
     (2, true, 0x20, 0x23, 0x2f),
@@ -16,7 +16,7 @@ const COMMON: [(u8, bool, u8, u8, u8); 9] = [
 ];
 
 // What else the table has: an octet, its status and the code of its action.
-const OTHERS: [(u8, Status, u8); 8] = [
+static OTHERS: [(u8, Status, u8); 8] = [
     (0x11, Status::DeleteAbsent, 1),
     (0x21, Status::RenameOldAbsent, 2),
     (0x22, Status::RenameNewPresent, 2),
@@ -40,16 +40,16 @@ fn row_of(action: Action) -> (u8, bool, u8, u8, u8) {
 
 #[test]
 fn actions(rt: HostRuntime) {
-    for row in COMMON {
-        assert_eq!(rt; Action::of_code(row.0).map(row_of), Some(row));
+    for row in &COMMON {
+        assert_eq!(rt; Action::of_code(row.0).map(row_of), Some(*row));
     }
 }
 
 #[test]
 fn other_statuses(rt: HostRuntime) {
-    for (octet, status, action) in OTHERS {
-        let found = Status::of_octet(octet) == Some(status) && status.octet() == octet;
-        let action_found = status.action().code() == action && !status.is_successful();
+    for (octet, status, action) in &OTHERS {
+        let found = Status::of_octet(*octet) == Some(*status) && status.octet() == *octet;
+        let action_found = status.action().code() == *action && !status.is_successful();
         assert!(rt; found && action_found, "{octet}");
     }
 }

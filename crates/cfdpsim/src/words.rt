@@ -89,39 +89,41 @@ fn parse_command<'a, S: AsStr>(alloc: Global, words: &'a [S]) -> Result<Asked<'a
 mod tests {
     use super::*;
 
-    /// `plain` alone is a command, and so is `replay`, with a file or none; help, a version, and words too few or too many
-    /// are not.
+    /// What is a command, and what it asks for.
+    static COMMANDS: [(&[&str], Asked<'static>); 3] = [
+        (&["cfdpsim", "plain"], Asked::Plain),
+        (&["cfdpsim", "replay"], Asked::Replay(None)),
+        (
+            &["cfdpsim", "replay", "a.replay"],
+            Asked::Replay(Some("a.replay")),
+        ),
+    ];
+
+    /// What is none: help, a version, and words too few or too many.
+    static NO_COMMANDS: [&[&str]; 15] = [
+        &["cfdpsim"],
+        &["cfdpsim", "plane"],
+        &["cfdpsim", "Plain"],
+        &["cfdpsim", "plain", "x"],
+        &["cfdpsim", "plain", "--help"],
+        &["cfdpsim", "plain", "plain"],
+        &["cfdpsim", "replay", "x", "y"],
+        &["cfdpsim", "replay", "-x"],
+        &["cfdpsim", "replay", "--help"],
+        &["cfdpsim", "Replay"],
+        &["cfdpsim", "-h"],
+        &["cfdpsim", "--help"],
+        &["cfdpsim", "help"],
+        &["cfdpsim", "help", "plain"],
+        &["cfdpsim", "--version"],
+    ];
+
     #[test]
     fn words(rt: HostRuntime) {
-        let commands: [(&[&str], Asked<'static>); 3] = [
-            (&["cfdpsim", "plain"], Asked::Plain),
-            (&["cfdpsim", "replay"], Asked::Replay(None)),
-            (
-                &["cfdpsim", "replay", "a.replay"],
-                Asked::Replay(Some("a.replay")),
-            ),
-        ];
-        for (words, asked) in commands {
-            assert_eq!(rt; parse(rt.alloc(), words), Ok(asked), "{words:?}");
+        for (words, asked) in &COMMANDS {
+            assert_eq!(rt; parse(rt.alloc(), words), Ok(*asked), "{words:?}");
         }
-        let cases: [&[&str]; 15] = [
-            &["cfdpsim"],
-            &["cfdpsim", "plane"],
-            &["cfdpsim", "Plain"],
-            &["cfdpsim", "plain", "x"],
-            &["cfdpsim", "plain", "--help"],
-            &["cfdpsim", "plain", "plain"],
-            &["cfdpsim", "replay", "x", "y"],
-            &["cfdpsim", "replay", "-x"],
-            &["cfdpsim", "replay", "--help"],
-            &["cfdpsim", "Replay"],
-            &["cfdpsim", "-h"],
-            &["cfdpsim", "--help"],
-            &["cfdpsim", "help"],
-            &["cfdpsim", "help", "plain"],
-            &["cfdpsim", "--version"],
-        ];
-        for words in cases {
+        for words in &NO_COMMANDS {
             assert_eq!(rt;
                 parse(rt.alloc(), words),
                 Err(ProgramEnd::Usage),

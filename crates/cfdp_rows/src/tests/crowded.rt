@@ -30,7 +30,8 @@ fn compare(
     told: Told,
 ) -> Result<(), Memory> {
     let reply = hand_in(rt, core, event, true);
-    assert!(rt; is_told(rt, alloc, &reply, told)?, "{told:?} on {event:?}");
+    let same = is_told(rt, alloc, &reply, told)?;
+    assert!(rt; same, "{told:?} on {event:?}");
     Ok(())
 }
 

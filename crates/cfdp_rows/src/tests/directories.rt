@@ -1,7 +1,19 @@
 //! Lists that remove, deny and move directories.
 
-use super::scene::{Before, Told, check};
+use super::scene::{Before, Row, Told, check};
 use cfdp_paths::Memory;
+
+static A_DIRECTORY_WITH_A_FILE: [Before; 2] = [
+    Before::Performed(b"\x00\x03\x50\x01d"),
+    Before::Performed(b"\x00\x05\x00\x03d/x"),
+];
+
+static A_DIRECTORY_WITH_ENTRIES_STAYS: [Row; 4] = [
+    (None, &[b"\x00\x03\x80\x01d"], Told::WouldFail(0, 0x82)),
+    (None, &[b"\x00\x03\x60\x01d"], Told::WouldFail(0, 0x62)),
+    (Some((b"d", 0)), &[], Told::DestinationNotAllowed),
+    (Some((b"d/x/y", 0)), &[], Told::DestinationNotAllowed),
+];
 
 #[test]
 fn a_directory_with_entries_stays(rt: HostRuntime) -> Result<(), Memory> {
@@ -9,18 +21,35 @@ fn a_directory_with_entries_stays(rt: HostRuntime) -> Result<(), Memory> {
         &rt,
         rt.alloc(),
         64,
-        &[
-            Before::Performed(b"\x00\x03\x50\x01d"),
-            Before::Performed(b"\x00\x05\x00\x03d/x"),
-        ],
-        &[
-            (None, &[b"\x00\x03\x80\x01d"], Told::WouldFail(0, 0x82)),
-            (None, &[b"\x00\x03\x60\x01d"], Told::WouldFail(0, 0x62)),
-            (Some((b"d", 0)), &[], Told::DestinationNotAllowed),
-            (Some((b"d/x/y", 0)), &[], Told::DestinationNotAllowed),
-        ],
+        &A_DIRECTORY_WITH_A_FILE,
+        &A_DIRECTORY_WITH_ENTRIES_STAYS,
     )
 }
+
+static A_DIRECTORY_MOVES_WITH_WHAT_IS_IN_IT: [Row; 2] = [
+    (
+        None,
+        &[
+            b"\x00\x03\x50\x01d",
+            b"\x00\x05\x00\x03d/x",
+            b"\x00\x05\x20\x01d\x01e",
+            b"\x00\x05\x10\x03e/x",
+        ],
+        Told::Granted(2, 7),
+    ),
+    // And not below itself.
+    (
+        None,
+        &[
+            b"\x00\x03\x50\x01d",
+            b"\x00\x05\x00\x03d/x",
+            b"\x00\x05\x20\x01d\x01e",
+            b"\x00\x05\x10\x03e/x",
+            b"\x00\x07\x20\x01e\x03e/f",
+        ],
+        Told::WouldFail(4, 0x23),
+    ),
+];
 
 #[test]
 fn a_directory_moves_with_what_is_in_it(rt: HostRuntime) -> Result<(), Memory> {
@@ -29,32 +58,30 @@ fn a_directory_moves_with_what_is_in_it(rt: HostRuntime) -> Result<(), Memory> {
         rt.alloc(),
         64,
         &[],
-        &[
-            (
-                None,
-                &[
-                    b"\x00\x03\x50\x01d",
-                    b"\x00\x05\x00\x03d/x",
-                    b"\x00\x05\x20\x01d\x01e",
-                    b"\x00\x05\x10\x03e/x",
-                ],
-                Told::Granted(2, 7),
-            ),
-            // And not below itself.
-            (
-                None,
-                &[
-                    b"\x00\x03\x50\x01d",
-                    b"\x00\x05\x00\x03d/x",
-                    b"\x00\x05\x20\x01d\x01e",
-                    b"\x00\x05\x10\x03e/x",
-                    b"\x00\x07\x20\x01e\x03e/f",
-                ],
-                Told::WouldFail(4, 0x23),
-            ),
-        ],
+        &A_DIRECTORY_MOVES_WITH_WHAT_IS_IN_IT,
     )
 }
+
+static EIGHT_NAMES_DEEP: [Before; 9] = [
+    Before::Performed(b"\x00\x03\x50\x01e"),
+    Before::Performed(b"\x00\x03\x50\x01a"),
+    Before::Performed(b"\x00\x05\x50\x03a/b"),
+    Before::Performed(b"\x00\x07\x50\x05a/b/c"),
+    Before::Performed(b"\x00\x09\x50\x07a/b/c/d"),
+    Before::Performed(b"\x00\x0b\x50\x09a/b/c/d/e"),
+    Before::Performed(b"\x00\x0d\x50\x0ba/b/c/d/e/f"),
+    Before::Performed(b"\x00\x0f\x50\x0da/b/c/d/e/f/g"),
+    Before::Performed(b"\x00\x11\x50\x0fa/b/c/d/e/f/g/h"),
+];
+
+static A_DEEP_DIRECTORY_MOVES_NO_DEEPER: [Row; 2] = [
+    (
+        None,
+        &[b"\x00\x07\x20\x01a\x03e/a"],
+        Told::WouldFail(0, 0x23),
+    ),
+    (None, &[b"\x00\x05\x20\x01a\x01z"], Told::Granted(0, 1)),
+];
 
 /// With a directory of eight names below it, a directory cannot move one name deeper.
 #[test]
@@ -63,24 +90,7 @@ fn a_deep_directory_moves_no_deeper(rt: HostRuntime) -> Result<(), Memory> {
         &rt,
         rt.alloc(),
         64,
-        &[
-            Before::Performed(b"\x00\x03\x50\x01e"),
-            Before::Performed(b"\x00\x03\x50\x01a"),
-            Before::Performed(b"\x00\x05\x50\x03a/b"),
-            Before::Performed(b"\x00\x07\x50\x05a/b/c"),
-            Before::Performed(b"\x00\x09\x50\x07a/b/c/d"),
-            Before::Performed(b"\x00\x0b\x50\x09a/b/c/d/e"),
-            Before::Performed(b"\x00\x0d\x50\x0ba/b/c/d/e/f"),
-            Before::Performed(b"\x00\x0f\x50\x0da/b/c/d/e/f/g"),
-            Before::Performed(b"\x00\x11\x50\x0fa/b/c/d/e/f/g/h"),
-        ],
-        &[
-            (
-                None,
-                &[b"\x00\x07\x20\x01a\x03e/a"],
-                Told::WouldFail(0, 0x23),
-            ),
-            (None, &[b"\x00\x05\x20\x01a\x01z"], Told::Granted(0, 1)),
-        ],
+        &EIGHT_NAMES_DEEP,
+        &A_DEEP_DIRECTORY_MOVES_NO_DEEPER,
     )
 }

@@ -10,12 +10,12 @@ use std::alloc::Global;
 use std::process::Abort;
 
 /// A file that a live transaction is about to create.
-const BEFORE: &[Before] = &[Before::Admitted(22, &[b"\x00\x03\x00\x01x"], 1, 2)];
+static BEFORE: [Before; 1] = [Before::Admitted(22, &[b"\x00\x03\x00\x01x"], 1, 2)];
 
 /// The verdict on a list with a file. Where memory is refused instead, store, leases and reserves are as before, and
 /// the next answer is the verdict.
 fn ask_again(rt: &impl Abort, alloc: Global, tlvs: &[&[u8]], told: Told) -> Result<(), Memory> {
-    let scene = Scene::new(rt, alloc, 64, BEFORE)?;
+    let scene = Scene::new(rt, alloc, 64, &BEFORE)?;
     let mut requests = Vec::new(alloc);
     for tlv in tlvs {
         requests.push(read(rt, alloc, tlv)?)?;

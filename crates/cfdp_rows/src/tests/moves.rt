@@ -14,13 +14,13 @@ use std::process::Abort;
 const MANY: usize = 4_096;
 
 /// Two directories.
-const BEFORE: &[Before] = &[
+static BEFORE: [Before; 2] = [
     Before::Performed(b"\x00\x07\x50\x05moves"),
     Before::Performed(b"\x00\x07\x50\x05stays"),
 ];
 
 /// One moves there and back, and the other is leased too.
-const MOVES: &[Item] = &[
+static MOVES: [Item; 3] = [
     (Action::RenameFile, b"moves", b"moved", 0x20),
     (Action::RenameFile, b"moved", b"moves", 0x20),
     (Action::RemoveDirectory, b"stays", b"", 0x62),
@@ -39,14 +39,14 @@ fn fill(rt: &impl Abort, alloc: Global, scene: &mut Scene, directory: &str) -> R
 #[test]
 fn many_entries_move_often(rt: HostRuntime) -> Result<(), Memory> {
     let alloc = rt.alloc();
-    let mut scene = Scene::new(&rt, alloc, 16_384, BEFORE)?;
+    let mut scene = Scene::new(&rt, alloc, 16_384, &BEFORE)?;
     fill(&rt, alloc, &mut scene, "moves")?;
     fill(&rt, alloc, &mut scene, "stays")?;
-    let requests = requests(&rt, alloc, MOVES)?;
+    let requests = requests(&rt, alloc, &MOVES)?;
     let leased = footprint(alloc, &requests, None)?;
     let mut view = View::of(alloc, &scene.store, &scene.protected, &leased)?;
     for _ in 0..32 {
-        for (request, (_, _, _, status)) in requests.iter().zip(MOVES) {
+        for (request, (_, _, _, status)) in requests.iter().zip(&MOVES) {
             assert_eq!(rt; view.apply(request)?.octet(), *status, "on {request:?}");
         }
     }

@@ -1,7 +1,7 @@
 //! A view of a store that tells of one tree alone.
 
 use super::scene::{Before, Scene, path_of};
-use super::views::{Item, requests, run};
+use super::views::{Item, Row, requests, run};
 use cfdp_actions::{Entry, Filestore, Kind, Standing};
 use cfdp_leases::footprint;
 use cfdp_paths::{Memory, Path};
@@ -114,7 +114,7 @@ impl<S: Filestore> Filestore for OneTree<S> {
 }
 
 /// A tree, and what stands beside it.
-const BEFORE: &[Before] = &[
+static BEFORE: [Before; 4] = [
     Before::Delivered(b"src", 600),
     Before::Delivered(b"other", 240),
     Before::Performed(b"\x00\x03\x50\x01d"),
@@ -122,25 +122,30 @@ const BEFORE: &[Before] = &[
 ];
 
 /// What is exclusive stands in the tree, and no more than kind and size is asked of what is shared.
-const IN_TREE: &[Item] = &[
-    (Action::AppendFile, b"d/log", b"src", 0x30),
-    (Action::RemoveDirectory, b"d", b"", 0x62),
-];
+static IN_TREE: Row = (
+    None,
+    &[
+        (Action::AppendFile, b"d/log", b"src", 0x30),
+        (Action::RemoveDirectory, b"d", b"", 0x62),
+    ],
+    5,
+    13,
+);
 
 /// The store does not tell of this one.
-const OUTSIDE: &[Item] = &[(Action::DeleteFile, b"other", b"", 0x10)];
+static OUTSIDE: [Item; 1] = [(Action::DeleteFile, b"other", b"", 0x10)];
 
 fn look(rt: &impl Abort, alloc: Global) -> Result<(), Memory> {
     let Scene {
         store,
         protected,
         ..
-    } = Scene::new(rt, alloc, 64, BEFORE)?;
+    } = Scene::new(rt, alloc, 64, &BEFORE)?;
     let root = path_of(rt, alloc, b"d")?;
     let store = OneTree { inner: store, root };
     assert!(rt; store.listing(alloc).is_err());
-    run(rt, alloc, &store, &protected, &(None, IN_TREE, 5, 13))?;
-    let leased = footprint(alloc, &requests(rt, alloc, OUTSIDE)?, None)?;
+    run(rt, alloc, &store, &protected, &IN_TREE)?;
+    let leased = footprint(alloc, &requests(rt, alloc, &OUTSIDE)?, None)?;
     assert!(rt; View::of(alloc, &store, &protected, &leased).is_err());
     Ok(())
 }

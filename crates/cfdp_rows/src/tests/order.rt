@@ -1,10 +1,10 @@
 //! Lists that two tests refuse: the one that comes first is answered.
 
-use super::scene::{Before, Told, check};
+use super::scene::{Before, Row, Told, check};
 use cfdp_paths::Memory;
 
 /// A directory in which a live transaction is about to create a file, and a file of one block.
-const BEFORE: &[Before] = &[
+static BEFORE: [Before; 3] = [
     Before::Delivered(b"a", 120),
     Before::Performed(b"\x00\x03\x50\x01d"),
     Before::Admitted(22, &[b"\x00\x05\x00\x03d/x"], 1, 2),
@@ -22,39 +22,50 @@ const DOUBLE: &[u8] = b"\x00\x05\x30\x01a\x01a";
 /// Creates a file whose name is no path.
 const CREATE: &[u8] = b"\x00\x06\x00\x04a//b";
 
+static FROM_THE_NUMBER_OF_REQUESTS_TO_A_CONFLICT: [Row; 2] = [
+    (None, &[CREATE; 65], Told::TooManyRequests),
+    (None, &[REMOVE, CREATE], Told::BadName(1)),
+];
+
 #[test]
 fn from_the_number_of_requests_to_a_conflict(rt: HostRuntime) -> Result<(), Memory> {
     check(
         &rt,
         rt.alloc(),
         64,
-        BEFORE,
-        &[
-            (None, &[CREATE; 65], Told::TooManyRequests),
-            (None, &[REMOVE, CREATE], Told::BadName(1)),
-        ],
+        &BEFORE,
+        &FROM_THE_NUMBER_OF_REQUESTS_TO_A_CONFLICT,
     )
 }
 
+static FROM_A_CONFLICT_TO_A_FAILURE: [Row; 4] = [
+    (Some((b"d", 0)), &[], Told::Conflict(22)),
+    (None, &[DELETE, REMOVE], Told::Conflict(22)),
+    (Some((b"e/f", 0)), &[DELETE], Told::DestinationNotAllowed),
+    (
+        Some((b"e/f", u64::MAX)),
+        &[DOUBLE; 15],
+        Told::DestinationNotAllowed,
+    ),
+];
+
 #[test]
 fn from_a_conflict_to_a_failure(rt: HostRuntime) -> Result<(), Memory> {
-    check(
-        &rt,
-        rt.alloc(),
-        64,
-        BEFORE,
-        &[
-            (Some((b"d", 0)), &[], Told::Conflict(22)),
-            (None, &[DELETE, REMOVE], Told::Conflict(22)),
-            (Some((b"e/f", 0)), &[DELETE], Told::DestinationNotAllowed),
-            (
-                Some((b"e/f", u64::MAX)),
-                &[DOUBLE; 15],
-                Told::DestinationNotAllowed,
-            ),
-        ],
-    )
+    check(&rt, rt.alloc(), 64, &BEFORE, &FROM_A_CONFLICT_TO_A_FAILURE)
 }
+
+static FROM_A_FAILURE_TO_WANT_OF_ROOM: [Row; 3] = [
+    (Some((b"f", u64::MAX)), &[DELETE], Told::WouldFail(0, 0x11)),
+    (
+        None,
+        &[
+            DOUBLE, DOUBLE, DOUBLE, DOUBLE, DOUBLE, DOUBLE, DOUBLE, DOUBLE, DOUBLE, DOUBLE, DOUBLE,
+            DOUBLE, DOUBLE, DOUBLE, DOUBLE, DELETE,
+        ],
+        Told::WouldFail(15, 0x11),
+    ),
+    (None, &[DOUBLE; 15], Told::TooLong(65_549)),
+];
 
 #[test]
 fn from_a_failure_to_want_of_room(rt: HostRuntime) -> Result<(), Memory> {
@@ -62,18 +73,7 @@ fn from_a_failure_to_want_of_room(rt: HostRuntime) -> Result<(), Memory> {
         &rt,
         rt.alloc(),
         64,
-        BEFORE,
-        &[
-            (Some((b"f", u64::MAX)), &[DELETE], Told::WouldFail(0, 0x11)),
-            (
-                None,
-                &[
-                    DOUBLE, DOUBLE, DOUBLE, DOUBLE, DOUBLE, DOUBLE, DOUBLE, DOUBLE, DOUBLE, DOUBLE,
-                    DOUBLE, DOUBLE, DOUBLE, DOUBLE, DOUBLE, DELETE,
-                ],
-                Told::WouldFail(15, 0x11),
-            ),
-            (None, &[DOUBLE; 15], Told::TooLong(65_549)),
-        ],
+        &BEFORE,
+        &FROM_A_FAILURE_TO_WANT_OF_ROOM,
     )
 }

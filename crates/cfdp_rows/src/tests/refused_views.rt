@@ -11,13 +11,13 @@ use std::alloc::Global;
 use std::process::Abort;
 
 /// A directory with a file.
-const BEFORE: &[Before] = &[
+static BEFORE: [Before; 2] = [
     Before::Performed(b"\x00\x03\x50\x01d"),
     Before::Performed(b"\x00\x05\x00\x03d/a"),
 ];
 
 /// After the install of `x`, a file of one block.
-const ITEMS: &[Item] = &[
+static ITEMS: [Item; 4] = [
     (Action::CreateFile, b"d/b", b"", 0x00),
     (Action::RenameFile, b"d", b"e", 0x20),
     (Action::AppendFile, b"e/a", b"x", 0x30),
@@ -66,8 +66,8 @@ fn apply(
 /// All else that takes memory comes before the install and the requests, so that only one of these can be refused from
 /// then on: that changes no answer, and the same is done when it is asked for again.
 fn run(rt: &impl Abort, alloc: Global) -> Result<(), Memory> {
-    let scene = Scene::new(rt, alloc, 8, BEFORE)?;
-    let requests = requests(rt, alloc, ITEMS)?;
+    let scene = Scene::new(rt, alloc, 8, &BEFORE)?;
+    let requests = requests(rt, alloc, &ITEMS)?;
     let paths = [
         path_of(rt, alloc, b"x")?,
         path_of(rt, alloc, b"d/a")?,
@@ -77,7 +77,7 @@ fn run(rt: &impl Abort, alloc: Global) -> Result<(), Memory> {
     let mut view = View::of(alloc, &scene.store, &scene.protected, &leased)?;
     assert_eq!(rt; answers(&view, &paths), (0, 0, [None, Some(0), None]));
     assert_eq!(rt; install(rt, &mut view, &paths), Ok(true));
-    for (request, (_, _, _, status)) in requests.iter().zip(ITEMS) {
+    for (request, (_, _, _, status)) in requests.iter().zip(&ITEMS) {
         let told = apply(rt, &mut view, &paths, request);
         assert_eq!(rt;
             told.map(Status::octet),

@@ -10,7 +10,7 @@ use std::process::Abort;
 /// The blocks, the cap, the check limit and the journal; the fault, where they have one.
 type Row = (u32, u64, u32, u32, Option<ConfigFault>);
 
-const ROWS: [Row; 12] = [
+static ROWS: [Row; 12] = [
     (16, 0, 1, 16, None),
     (65_536, 7_864_320, 1_000, 1_000_000, None),
     (15, 0, 1, 16, Some(ConfigFault::BadBlocks)),
@@ -28,9 +28,9 @@ const ROWS: [Row; 12] = [
 
 #[test]
 fn each_limit_at_its_edge(rt: HostRuntime) -> Result<(), Memory> {
-    for (blocks, cap, checks, journal, fault) in ROWS {
-        let told = Config::new(2, blocks, cap, checks, journal, Protected::new());
-        assert_eq!(rt; told.err(), fault);
+    for (blocks, cap, checks, journal, fault) in &ROWS {
+        let told = Config::new(2, *blocks, *cap, *checks, *journal, Protected::new());
+        assert_eq!(rt; told.err(), *fault);
     }
     Ok(())
 }

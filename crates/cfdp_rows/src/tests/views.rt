@@ -124,6 +124,12 @@ const GONE: &[Item] = &[
     (Action::DeleteFile, b"a", b"", 0x11),
 ];
 
+static EACH_REQUEST_STANDS_ON_THOSE_BEFORE: [Row; 3] = [
+    (None, TWO_SPELLINGS, 1, 4),
+    (None, MOVED, 2, 7),
+    (None, GONE, 1, 5),
+];
+
 #[test]
 fn each_request_stands_on_those_before(rt: HostRuntime) -> Result<(), Memory> {
     check(
@@ -131,31 +137,33 @@ fn each_request_stands_on_those_before(rt: HostRuntime) -> Result<(), Memory> {
         rt.alloc(),
         64,
         &[],
-        &[
-            (None, TWO_SPELLINGS, 1, 4),
-            (None, MOVED, 2, 7),
-            (None, GONE, 1, 5),
-        ],
+        &EACH_REQUEST_STANDS_ON_THOSE_BEFORE,
     )
 }
 
 const DOUBLED: &[Item] = &[(Action::AppendFile, b"a", b"a", 0x30)];
 
+static A_DELIVERED_FILE_IS_DOUBLED: [Row; 3] = [
+    (Some((b"a", 120)), DOUBLED, 3, 5),
+    (Some((b"a", 119)), DOUBLED, 3, 5),
+    // Sizes and counts stop at the greatest numbers.
+    (Some((b"a", u64::MAX)), DOUBLED, u32::MAX, u32::MAX),
+];
+
 #[test]
 fn a_delivered_file_is_doubled(rt: HostRuntime) -> Result<(), Memory> {
-    check(
-        &rt,
-        rt.alloc(),
-        64,
-        &[],
-        &[
-            (Some((b"a", 120)), DOUBLED, 3, 5),
-            (Some((b"a", 119)), DOUBLED, 3, 5),
-            // Sizes and counts stop at the greatest numbers.
-            (Some((b"a", u64::MAX)), DOUBLED, u32::MAX, u32::MAX),
-        ],
-    )
+    check(&rt, rt.alloc(), 64, &[], &A_DELIVERED_FILE_IS_DOUBLED)
 }
+
+static TWO_FILES: [Before; 2] = [
+    Before::Delivered(b"a", 120),
+    Before::Performed(b"\x00\x03\x00\x01b"),
+];
+
+static A_FILE_REPLACES_ITSELF_AND_ANOTHER: [Row; 2] = [
+    (None, &[(Action::ReplaceFile, b"a", b"a", 0x40)], 0, 1),
+    (None, &[(Action::ReplaceFile, b"b", b"a", 0x40)], 1, 3),
+];
 
 #[test]
 fn a_file_replaces_itself_and_another(rt: HostRuntime) -> Result<(), Memory> {
@@ -163,14 +171,8 @@ fn a_file_replaces_itself_and_another(rt: HostRuntime) -> Result<(), Memory> {
         &rt,
         rt.alloc(),
         16,
-        &[
-            Before::Delivered(b"a", 120),
-            Before::Performed(b"\x00\x03\x00\x01b"),
-        ],
-        &[
-            (None, &[(Action::ReplaceFile, b"a", b"a", 0x40)], 0, 1),
-            (None, &[(Action::ReplaceFile, b"b", b"a", 0x40)], 1, 3),
-        ],
+        &TWO_FILES,
+        &A_FILE_REPLACES_ITSELF_AND_ANOTHER,
     )
 }
 
@@ -184,23 +186,30 @@ const FREED_LAST: &[Item] = &[
     (Action::DenyFile, b"old", b"", 0x70),
 ];
 
+static TWO_FULL_FILES_AND_AN_EMPTY_ONE: [Before; 3] = [
+    Before::Delivered(b"src", 600),
+    Before::Delivered(b"old", 600),
+    Before::Performed(b"\x00\x05\x00\x03log"),
+];
+
+static WHAT_IS_GIVEN_BACK_FIRST_IS_NOT_NEEDED: [Row; 2] = [
+    (None, FREED_FIRST, 0, 18),
+    (None, FREED_LAST, 5, 18),
+];
+
 #[test]
 fn what_is_given_back_first_is_not_needed(rt: HostRuntime) -> Result<(), Memory> {
     check(
         &rt,
         rt.alloc(),
         16,
-        &[
-            Before::Delivered(b"src", 600),
-            Before::Delivered(b"old", 600),
-            Before::Performed(b"\x00\x05\x00\x03log"),
-        ],
-        &[(None, FREED_FIRST, 0, 18), (None, FREED_LAST, 5, 18)],
+        &TWO_FULL_FILES_AND_AN_EMPTY_ONE,
+        &WHAT_IS_GIVEN_BACK_FIRST_IS_NOT_NEEDED,
     )
 }
 
 /// A file below a protected directory.
-const PROTECTED: &[Before] = &[
+static PROTECTED: [Before; 3] = [
     Before::Protected(b"sys"),
     Before::Performed(b"\x00\x05\x50\x03sys"),
     Before::Performed(b"\x00\x07\x00\x05sys/a"),
@@ -213,23 +222,19 @@ const KEPT: &[Item] = &[
     (Action::RenameFile, b"sys", b"s", 0x23),
 ];
 
+static WHAT_IS_PROTECTED_STAYS: [Row; 3] = [
+    (None, KEPT, 0, 4),
+    (Some((b"sys/b", 15)), &[], 2, 2),
+    (Some((b"sys/b", 15)), KEPT, 2, 6),
+];
+
 #[test]
 fn what_is_protected_stays(rt: HostRuntime) -> Result<(), Memory> {
-    check(
-        &rt,
-        rt.alloc(),
-        64,
-        PROTECTED,
-        &[
-            (None, KEPT, 0, 4),
-            (Some((b"sys/b", 15)), &[], 2, 2),
-            (Some((b"sys/b", 15)), KEPT, 2, 6),
-        ],
-    )
+    check(&rt, rt.alloc(), 64, &PROTECTED, &WHAT_IS_PROTECTED_STAYS)
 }
 
 fn install_refused(rt: &impl Abort, alloc: Global) -> Result<(), Memory> {
-    let scene = Scene::new(rt, alloc, 64, PROTECTED)?;
+    let scene = Scene::new(rt, alloc, 64, &PROTECTED)?;
     let kept = requests(rt, alloc, KEPT)?;
     let allowed = path_of(rt, alloc, b"sys/b")?;
     for name in [b"sys/a".as_slice(), b"sys", b"x/y"] {
@@ -257,7 +262,7 @@ fn an_install_that_is_not_allowed_changes_nothing(rt: HostRuntime) -> Result<(),
 }
 
 /// A directory with a file.
-const DIRECTORY: &[Before] = &[
+static DIRECTORY: [Before; 2] = [
     Before::Performed(b"\x00\x03\x50\x01d"),
     Before::Performed(b"\x00\x05\x00\x03d/x"),
 ];
@@ -277,7 +282,7 @@ fn bounds(
 }
 
 fn see(rt: &impl Abort, alloc: Global) -> Result<(), Memory> {
-    let scene = Scene::new(rt, alloc, 64, DIRECTORY)?;
+    let scene = Scene::new(rt, alloc, 64, &DIRECTORY)?;
     let beside = (Action::CreateFile, b"d/y".as_slice(), b"".as_slice(), 0x00);
     assert_eq!(rt; bounds(rt, alloc, &scene, beside)?, [None, None]);
     let whole = (

@@ -21,48 +21,56 @@ fn expect<R: Abort>(
     Ok(())
 }
 
-/// The status and the line of each end.
+/// Each end, its status and its line.
+static ENDS: [(ProgramEnd, u8, &str); 6] = [
+    (ProgramEnd::Fine, 0, ""),
+    (ProgramEnd::Usage, 2, "cfdpsim: usage"),
+    (ProgramEnd::Run(RunFault::Read), 1, "cfdpsim: read failed"),
+    (ProgramEnd::Run(RunFault::Write), 1, "cfdpsim: write failed"),
+    (
+        ProgramEnd::Run(RunFault::Memory),
+        1,
+        "cfdpsim: out of memory",
+    ),
+    (ProgramEnd::Run(RunFault::BadLine(7)), 3, "cfdpsim: line 7"),
+];
+
 #[test]
 fn ends(rt: HostRuntime) -> Result<(), Fail> {
-    let cases = [
-        (ProgramEnd::Fine, 0, ""),
-        (ProgramEnd::Usage, 2, "cfdpsim: usage"),
-        (ProgramEnd::Run(RunFault::Read), 1, "cfdpsim: read failed"),
-        (ProgramEnd::Run(RunFault::Write), 1, "cfdpsim: write failed"),
-        (
-            ProgramEnd::Run(RunFault::Memory),
-            1,
-            "cfdpsim: out of memory",
-        ),
-        (ProgramEnd::Run(RunFault::BadLine(7)), 3, "cfdpsim: line 7"),
-    ];
-    for (end, status, line) in cases {
-        expect(&rt, rt.alloc(), end, status, line)?;
+    for (end, status, line) in &ENDS {
+        expect(&rt, rt.alloc(), *end, *status, line)?;
     }
     Ok(())
 }
 
-/// The ends that runs of `plain` come to, by the read or the write that fails, if one does.
+/// Creates a file.
+const CREATE: &str = "0003000161\n";
+
+/// The same before a line that is bad.
+const BAD: &str = "0003000161\n\n00 0\n";
+
+/// A script, the read and the write that fails, if one does, and the status and the line of the end that its run comes to.
+type Run = (&'static str, Option<usize>, Option<usize>, u8, &'static str);
+
+static RUNS: [Run; 4] = [
+    (CREATE, None, None, 0, ""),
+    (CREATE, Some(1), None, 1, "cfdpsim: read failed"),
+    (CREATE, None, Some(0), 1, "cfdpsim: write failed"),
+    (BAD, None, None, 3, "cfdpsim: line 3"),
+];
+
 #[test]
 fn ends_of_runs(rt: HostRuntime) -> Result<(), Fail> {
-    let create = "0003000161\n";
-    let bad = "0003000161\n\n00 0\n";
-    let cases = [
-        (create, None, None, 0, ""),
-        (create, Some(1), None, 1, "cfdpsim: read failed"),
-        (create, None, Some(0), 1, "cfdpsim: write failed"),
-        (bad, None, None, 3, "cfdpsim: line 3"),
-    ];
-    for (script, read, write, status, line) in cases {
+    for (script, read, write, status, line) in &RUNS {
         let ran = run(&rt, rt.alloc(), Kind::Plain, "010400016100\n", || {
-            let reader = Reader::new(script.as_bytes(), 100, read);
-            (reader, Writer::new(rt.alloc(), 100, write))
+            let reader = Reader::new(script.as_bytes(), 100, *read);
+            (reader, Writer::new(rt.alloc(), 100, *write))
         });
         let end = match ran.end {
             Ok(()) => ProgramEnd::Fine,
             Err(fault) => ProgramEnd::Run(fault),
         };
-        expect(&rt, rt.alloc(), end, status, line)?;
+        expect(&rt, rt.alloc(), end, *status, line)?;
     }
     Ok(())
 }

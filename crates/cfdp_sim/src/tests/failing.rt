@@ -101,37 +101,48 @@ fn memory(rt: HostRuntime) {
     }
 }
 
+/// What calls of std's stream answer, and what the first read and the first write over it then answer.
+type Stream = (
+    &'static [Call],
+    Result<usize, Failed>,
+    Result<usize, Failed>,
+);
+
 /// A write that takes nothing has failed; an interrupted call is made again.
+static STREAMS: [Stream; 5] = [
+    (&[Call::Moves, Call::Moves], Ok(1), Ok(1)),
+    (&[Call::Nothing, Call::Moves], Ok(0), Err(Failed)),
+    (&[Call::Interrupted, Call::Moves], Ok(1), Ok(1)),
+    (&[Call::Interrupted, Call::Broken], Err(Failed), Err(Failed)),
+    (&[Call::Broken, Call::Moves], Err(Failed), Err(Failed)),
+];
+
 #[test]
 fn std_streams(rt: HostRuntime) {
-    let cases = [
-        ([Call::Moves, Call::Moves], Ok(1), Ok(1)),
-        ([Call::Nothing, Call::Moves], Ok(0), Err(Failed)),
-        ([Call::Interrupted, Call::Moves], Ok(1), Ok(1)),
-        ([Call::Interrupted, Call::Broken], Err(Failed), Err(Failed)),
-        ([Call::Broken, Call::Moves], Err(Failed), Err(Failed)),
-    ];
-    for (calls, read, written) in cases {
-        let mut reader = FromRead::new(Scripted { calls: &calls });
+    for (calls, read, written) in &STREAMS {
+        let mut reader = FromRead::new(Scripted { calls });
         assert!(rt; !reader.has_failed());
-        assert_eq!(rt; reader.read(&mut [0; 4]), read, "a read of {calls:?}");
+        assert_eq!(rt; reader.read(&mut [0; 4]), *read, "a read of {calls:?}");
         assert_eq!(rt; reader.has_failed(), read.is_err());
-        let mut writer = ToWrite::new(Scripted { calls: &calls });
+        let mut writer = ToWrite::new(Scripted { calls });
         assert!(rt; !writer.has_failed());
-        assert_eq!(rt; writer.write(b"abc"), written, "a write of {calls:?}");
+        assert_eq!(rt; writer.write(b"abc"), *written, "a write of {calls:?}");
         assert_eq!(rt; writer.has_failed(), written.is_err());
     }
 }
 
+/// A stream that fails once.
+static BROKEN_ONCE: [Call; 2] = [Call::Broken, Call::Moves];
+
 /// Once a stream has failed, it has failed from then on.
 #[test]
 fn from_then_on(rt: HostRuntime) {
-    let calls = [Call::Broken, Call::Moves];
-    let mut writer = ToWrite::new(Scripted { calls: &calls });
+    let calls = &BROKEN_ONCE;
+    let mut writer = ToWrite::new(Scripted { calls });
     assert_eq!(rt; writer.write(b"abc"), Err(Failed));
     assert_eq!(rt; writer.write(b"abc"), Ok(1));
     assert!(rt; writer.has_failed());
-    let mut reader = FromRead::new(Scripted { calls: &calls });
+    let mut reader = FromRead::new(Scripted { calls });
     assert_eq!(rt; reader.read(&mut [0; 4]), Err(Failed));
     assert_eq!(rt; reader.read(&mut [0; 4]), Ok(1));
     assert!(rt; reader.has_failed());

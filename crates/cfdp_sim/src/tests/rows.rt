@@ -32,20 +32,21 @@ fn expect<R: Abort + Print>(
 }
 
 /// One create; what is left of a list after a request that was not successful; the next list.
+static LISTS: [(&str, &str); 3] = [
+    ("0003000161\n", "010400016100\n"),
+    (
+        "0003000161\n0003000161\n0003100161\n\n0003100161\n",
+        "010400016100\n010401016100\n01041f016100\n010410016100\n",
+    ),
+    (
+        "0003100161\n \n0003000161\n  \n\n0003000161\n0003000162",
+        "010411016100\n010400016100\n010401016100\n01040f016200\n",
+    ),
+];
+
 #[test]
 fn lists(rt: HostRuntime) -> Result<(), Fail> {
-    let cases = [
-        ("0003000161\n", "010400016100\n"),
-        (
-            "0003000161\n0003000161\n0003100161\n\n0003100161\n",
-            "010400016100\n010401016100\n01041f016100\n010410016100\n",
-        ),
-        (
-            "0003100161\n \n0003000161\n  \n\n0003000161\n0003000162",
-            "010411016100\n010400016100\n010401016100\n01040f016200\n",
-        ),
-    ];
-    for (script, report) in cases {
+    for (script, report) in &LISTS {
         expect(&rt, rt.alloc(), script, report, Ok(()))?;
     }
     Ok(())
@@ -94,20 +95,23 @@ fn spellings(rt: HostRuntime) -> Result<(), Fail> {
     expect(&rt, rt.alloc(), "\n\n# a\n", "", Ok(()))
 }
 
-/// Lines that are no hexadecimal, and what is written before them.
+/// Lines that are no hexadecimal.
+static BAD_LINES: [&str; 9] = [
+    "0",
+    "00 0",
+    "0 0",
+    "000",
+    "0g",
+    "0003000161\r",
+    " # a",
+    "\t00",
+    "pdu 00",
+];
+
+/// What is written before them.
 #[test]
 fn bad_lines(rt: HostRuntime) -> Result<(), Fail> {
-    for line in [
-        "0",
-        "00 0",
-        "0 0",
-        "000",
-        "0g",
-        "0003000161\r",
-        " # a",
-        "\t00",
-        "pdu 00",
-    ] {
+    for line in &BAD_LINES {
         let script = format!(in rt.alloc(); "0003000161\n# a\n{line}\n0003000162\n")?;
         expect(
             &rt,
