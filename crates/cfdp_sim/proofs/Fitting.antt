@@ -1,5 +1,5 @@
 -- Outcomes that a script can always write.
-use Rattle.std.proofs.Common.{◌≡◌, [], ◌∷◌, ap, sym, subst}
+use Rattle.std.proofs.Common.{[], ◌∷◌, ap, sym, subst}
 use Rattle.cfdp_transactions.specs.declared.event.Event.{Event}
 use Rattle.cfdp_transactions.specs.declared.reply.Reply.{Reply}
 use Rattle.cfdp_transactions.specs.declared.reply.Reply.TheVariants as replied

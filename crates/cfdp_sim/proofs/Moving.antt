@@ -1,13 +1,13 @@
 -- How a run moves on, stops and breaks off.
-use Rattle.std.proofs.Common.{◌≡◌, ℕ, suc, ◌+◌, ◌<◌, Bool, true, false, List, [], ◌∷◌, ◌++◌, Option, Some, None, length, refl, sym, ap, ◌∙◌, append_assoc, arith, length-append, rules, take, drop, get_or}
-use Rattle.std.proofs.lemmas.List.{append-nil, take_more, take-append-drop}
+use Rattle.std.proofs.Common.{◌≡◌, ℕ, ◌+◌, ◌<◌, Bool, true, false, List, [], ◌∷◌, ◌++◌, Option, Some, None, length, refl, sym, ap, ◌∙◌, append_assoc, arith, length-append, rules}
+use Rattle.std.proofs.lemmas.List.{append-nil}
 use Rattle.std.proofs.lemmas.List.Elements.{All-append}
 use Rattle.cfdp_sim.specs.Lines.{is_newline, is_overlong, line_limit, lines_of, IsOneLine}
 use Rattle.cfdp_sim.specs.Report.{Report, report, and_then, wrote, stopped_at, finished, line_answer}
-use Rattle.cfdp_sim.specs.Session.{Place, place, lines_by, report_at, Moves, StopsBad, Breaks, Runs, RunsBad, RunsPart, RunsLost, Finishes, FinishesBad, FinishesLost}
+use Rattle.cfdp_sim.specs.Session.{Place, place, lines_by, report_at, Moves, StopsBad, Breaks, Runs, RunsBad, Finishes, FinishesBad, FinishesLost}
 use Rattle.std.specs.Io.KnownBytes.{Appends, Keeps}
-use Rattle.cfdp_sim.specs.Streams.{Begins, LostWithin}
-use Rattle.cfdp_sim.proofs.Streaming.{Appends-none, Appends-kept, Appends-more, Appends-more_or_lost}
+use Rattle.cfdp_sim.specs.Streams.{LostWithin}
+use Rattle.cfdp_sim.proofs.Streaming.{Appends-none, Appends-more}
 use Rattle.cfdp_sim.proofs.LineLemmas.{lines_by-newline, lines_of-last, lines_by-begun}
 
 wrote-wrote : (a b : List ℕ) (r : Report) → wrote a (wrote b r) ≡ wrote (a ++ b) r

@@ -8,7 +8,7 @@ use Rattle.std.specs.Str.{all_ascii_digits}
 use Rattle.std.specs.Str.Parse.{digits_value, ParsesUnsigned}
 use Rattle.std.proofs.lemmas.Fmt.{IsAscii-from_digits}
 use Rattle.std.proofs.lemmas.Str.{IsUtf8-from_ascii}
-use Rattle.std.proofs.lemmas.Str.Parse.{IsNumeralModel, numerals_by_value, parse_digits, tells_all_ascii_digits}
+use Rattle.std.proofs.lemmas.Str.Parse.{numerals_by_value, parse_digits, tells_all_ascii_digits}
 use Rattle.std.proofs.lemmas.List.Splits.{slice_split_at, slice_split_none, slice_split-cons_yes}
 use Rattle.cfdp_sim.specs.Commands.{is_word, is_numeral, number_before, number_of, numbers_of, words_of}
 use Rattle.cfdp_sim.specs.Hexadecimal.{is_space, hex_octets, octets_of_words, octets_before}

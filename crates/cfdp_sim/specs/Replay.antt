@@ -14,7 +14,7 @@
 --   obeyed            what a command does, by the words behind it; nothing where the line is bad
 --   replay_answer     what a line does; one without words does nothing
 --   replay_report     what a whole script writes, and the bad line that ends it, if one does
-use Rattle.std.specs.Prelude.{ℕ, zero, suc, ◌==◌, nat_lt, Bool, true, false, if◌then◌else◌, List, [], ◌∷◌, ◌++◌, length, Option, Some, None, Result, Ok, Err}
+use Rattle.std.specs.Prelude.{ℕ, zero, suc, nat_lt, Bool, true, false, if◌then◌else◌, List, [], ◌∷◌, ◌++◌, length, Option, Some, None, Result, Ok, Err}
 use Rattle.cfdp_status.specs.declared.transaction.TransactionId.{TransactionId}
 use Rattle.cfdp_paths.specs.Paths.{Path, path_of}
 use Rattle.cfdp_pdus.specs.First.{pdu_at}

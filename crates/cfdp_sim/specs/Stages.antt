@@ -1,7 +1,6 @@
 -- What the state of `replay` between two lines is seen as.
 --
 --   stage_of     the stage, by what its parts are seen as
-use Rattle.cfdp_transactions.specs.Config.{Config}
 use Rattle.cfdp_sim.specs.Replay as spec
 use Rattle.cfdp_sim.specs.declared.stage.Stage.{Stage}
 use Rattle.cfdp_sim.specs.declared.stage.Stage.TheVariants.{Preparing, Running}

@@ -2,8 +2,9 @@
 //!
 //! A script is a stream of octets in lines, and each line is answered by itself, in order. Octets are read some ten
 //! thousand at a time. Answers are held back: they are written when 64 KiB of them are full, before each read of input,
-//! and at the end. `plain` is the one kind of script there is so far: filestore requests as hexadecimal TLVs (CCSDS 727.0-B-5 §5.4), performed on one
-//! filestore (§4.9).
+//! and at the end. There are two kinds of script: of `plain`, filestore requests as hexadecimal TLVs (CCSDS 727.0-B-5
+//! §5.4), performed on one filestore (§4.9); and of `replay`, PDUs (§5.1 to §5.3) and local events of one receiving entity
+//! (§4.6).
 //! Input and output go through two small traits, so that a theorem can name their octets.
 #![tactic(auto)]
 

@@ -6,6 +6,7 @@ mod fakes;
 mod fault_scripts;
 mod limits;
 mod long_inputs;
+mod replay_examples;
 mod replays;
 mod request_scripts;
 mod rows;

@@ -1,5 +1,6 @@
 //! Worked scripts of `replay`: PDUs that are none, the table of transactions, protected paths, bad lines.
 use super::replays::{Script, expect_all};
+use super::runs::{Kind, expect_text};
 use crate::RunFault;
 use std::test::Fail;
 
@@ -296,4 +297,95 @@ static SCRIPTS: [Script; 7] = [
 #[test]
 fn faults(rt: HostRuntime) -> Result<(), Fail> {
     expect_all(&rt, rt.alloc(), &SCRIPTS)
+}
+
+/// Lines that are bad behind an event.
+static BAD_LINES: [&str; 27] = [
+    "step",
+    "step 1",
+    "step 1 2 3",
+    "step x 1",
+    "step 1 +2",
+    "step 1 -2",
+    "step 1 2.",
+    "step 18446744073709551616 1",
+    "steps 1 2",
+    "Step 1 2",
+    "take 1",
+    "cancel 1 2 x",
+    "check",
+    "pdu",
+    "pdu 0",
+    "pdu 0g",
+    "pdu 00 0",
+    "pdus 00",
+    "run 1",
+    "list 1",
+    "config 2 64 2400 2 1000",
+    "protect 61",
+    "\tstep 1 1",
+    "step\t1 1",
+    " # a",
+    "step 1 1\r",
+    "00",
+];
+
+#[test]
+fn bad_lines_of_replay(rt: HostRuntime) -> Result<(), Fail> {
+    for line in &BAD_LINES {
+        let script = format!(in rt.alloc(); "# a\nstep 1 1\n{line}\nstep 1 1\n")?;
+        let end = Err(RunFault::BadLine(3));
+        expect_text(&rt, rt.alloc(), Kind::Replay, &script, "1/1 unknown\n", end)?;
+    }
+    Ok(())
+}
+
+/// First lines that are bad: configurations outside their limits, and what is no path.
+static BAD_FIRST_LINES: [&str; 14] = [
+    "config",
+    "config 2 64 2400 2",
+    "config 2 64 2400 2 1000 1",
+    "config 2 15 2400 2 1000",
+    "config 2 65537 2400 2 1000",
+    "config 2 4294967360 2400 2 1000",
+    "config 2 64 7864321 2 1000",
+    "config 2 64 2400 0 1000",
+    "config 2 64 2400 1001 1000",
+    "config 2 64 2400 2 15",
+    "config 2 64 2400 2 1000001",
+    "protect",
+    "protect 612f",
+    "protect 2e",
+];
+
+#[test]
+fn bad_first_lines(rt: HostRuntime) -> Result<(), Fail> {
+    for line in &BAD_FIRST_LINES {
+        let script = format!(in rt.alloc(); "{line}\nstep 1 1\n")?;
+        let end = Err(RunFault::BadLine(1));
+        expect_text(&rt, rt.alloc(), Kind::Replay, &script, "", end)?;
+    }
+    Ok(())
+}
+
+/// Spaces before, between and behind words, lines without words, numbers with zeros before them and the greatest.
+static GOOD: [Script; 1] = [Script {
+    lines: "\
+            \n\
+            # a comment stands before the configuration\n\
+            config  2 16  0 1000 1000000 \n\
+            protect 73 79 73\n\
+            \n\
+            protect 61\n\
+            \x20 step  18446744073709551615 0001\n\
+            list",
+    report: "\
+            18446744073709551615/1 unknown\n\
+            store used 0 free 16 spare 16\n",
+    end: Ok(()),
+}];
+
+#[test]
+fn good_lines(rt: HostRuntime) -> Result<(), Fail> {
+    expect_all(&rt, rt.alloc(), &GOOD)
 }

@@ -10,21 +10,28 @@ fn repeated(alloc: Global, octet: u8, count: usize) -> Result<Vec<u8>, AllocErro
     vec![in alloc; octet; count]
 }
 
+/// A kind of script, a line of it, and what that line writes.
+static LINES: [(Kind, &str, &str); 2] = [
+    (Kind::Plain, "0003000161", "010400016100\n"),
+    (Kind::Replay, "step 1 1", "1/1 unknown\n"),
+];
+
 /// A line has at most 200,000 octets, be it a comment or not.
 #[test]
 fn lines(rt: HostRuntime) -> Result<(), Fail> {
     for octet in [b' ', b'#'] {
-        let mut script = repeated(rt.alloc(), octet, 200_000)?;
-        script.extend_from_slice(b"\n0003000161")?;
-        let text = text_of(&rt, rt.alloc(), Kind::Plain, &script).map_err(
-            |_| "a line of 200,000 octets",
-        )?;
-        assert_eq!(rt; text.as_slice(), b"010400016100\n".as_slice());
+        for (kind, line, report) in &LINES {
+            let mut script = repeated(rt.alloc(), octet, 200_000)?;
+            script.push(b'\n')?;
+            script.extend_from_slice(line.as_bytes())?;
+            let text = text_of(&rt, rt.alloc(), *kind, &script).map_err(|_| "200,000 octets")?;
+            assert_eq!(rt; text.as_slice(), report.as_bytes());
 
-        let mut script = repeated(rt.alloc(), b'\n', 1)?;
-        script.extend_from_slice(&repeated(rt.alloc(), octet, 200_001)?)?;
-        let end = text_of(&rt, rt.alloc(), Kind::Plain, &script).map(|_| ());
-        assert_eq!(rt; end, Err(RunFault::BadLine(2)));
+            let mut script = repeated(rt.alloc(), b'\n', 1)?;
+            script.extend_from_slice(&repeated(rt.alloc(), octet, 200_001)?)?;
+            let end = text_of(&rt, rt.alloc(), *kind, &script).map(|_| ());
+            assert_eq!(rt; end, Err(RunFault::BadLine(2)));
+        }
     }
     Ok(())
 }

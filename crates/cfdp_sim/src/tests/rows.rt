@@ -1,13 +1,12 @@
 //! Worked scripts of `plain`, and what they write.
-use super::fakes::{Reader, Writer};
-use super::runs::{Kind, run, text_of};
+use super::runs::{Kind, expect_text};
 use super::{REPORT, SCRIPT};
 use crate::RunFault;
 use std::alloc::Global;
 use std::process::Abort;
 use std::test::Fail;
 
-/// Runs a script in memory, and once more octet by octet, and compares what is written.
+/// Runs a script of `plain`, and compares what is written.
 fn expect<R: Abort + Print>(
     rt: &R,
     alloc: Global,
@@ -15,20 +14,7 @@ fn expect<R: Abort + Print>(
     report: &str,
     end: Result<(), RunFault>,
 ) -> Result<(), Fail> {
-    let script = script.as_bytes();
-    match text_of(rt, alloc, Kind::Plain, script) {
-        Ok(text) => {
-            assert_eq!(rt; end, Ok(()));
-            assert_eq!(rt; text.as_slice(), report.as_bytes());
-        }
-        Err(fault) => assert_eq!(rt; end, Err(fault)),
-    }
-    let ran = run(rt, alloc, Kind::Plain, report, || {
-        (Reader::new(script, 1, None), Writer::new(alloc, 1, None))
-    });
-    assert_eq!(rt; ran.end, end);
-    assert_eq!(rt; ran.writer.text.as_slice(), report.as_bytes());
-    Ok(())
+    expect_text(rt, alloc, Kind::Plain, script, report, end)
 }
 
 /// One create; what is left of a list after a request that was not successful; the next list.

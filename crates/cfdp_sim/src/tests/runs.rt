@@ -4,6 +4,7 @@ use super::fakes::{Reader, Writer};
 use crate::{RunFault, ScriptIn, ScriptOut, plain, plain_text, replay, replay_text};
 use std::alloc::Global;
 use std::process::Abort;
+use std::test::Fail;
 
 /// What runs a script.
 #[derive(Clone, Copy, Debug, PartialEq, Eq)]
@@ -85,4 +86,29 @@ pub(super) fn text_of<R: Abort + Print>(
         }
         answer => answer,
     }
+}
+
+/// Runs a script in memory, and once more octet by octet, and compares what is written.
+pub(super) fn expect_text<R: Abort + Print>(
+    rt: &R,
+    alloc: Global,
+    kind: Kind,
+    script: &str,
+    report: &str,
+    end: Result<(), RunFault>,
+) -> Result<(), Fail> {
+    let script = script.as_bytes();
+    match text_of(rt, alloc, kind, script) {
+        Ok(text) => {
+            assert_eq!(rt; end, Ok(()));
+            assert_eq!(rt; text.as_slice(), report.as_bytes());
+        }
+        Err(fault) => assert_eq!(rt; end, Err(fault)),
+    }
+    let ran = run(rt, alloc, kind, report, || {
+        (Reader::new(script, 1, None), Writer::new(alloc, 1, None))
+    });
+    assert_eq!(rt; ran.end, end);
+    assert_eq!(rt; ran.writer.text.as_slice(), report.as_bytes());
+    Ok(())
 }

@@ -1,4 +1,4 @@
-use Rattle.std.proofs.Common.{inl, sym, ap, ◌∙◌, arith, rules, ◌≡◌, ◌++◌, ◌∷◌, []}
+use Rattle.std.proofs.Common.{inl, sym, ap, ◌∙◌, rules, ◌≡◌, ◌++◌, ◌∷◌, []}
 use Rattle.cfdp_sim.specs.Commands.{number_before, numbers_of, words_of}
 use Rattle.cfdp_sim.proofs.Words.{numbers_after, numbers_after-snoc, numbers_after-none, numbers_after-all}
 use Rattle.cfdp_sim.proofs.commands.numbers_of.Goals as goal

@@ -1,4 +1,3 @@
-use Rattle.std.proofs.Common.{rules}
 use Rattle.cfdp_sim.proofs.Words.{words_spell}
 use Rattle.cfdp_sim.proofs.transfers.decode_words.Goals as goal
 

@@ -1,4 +1,4 @@
-use Rattle.std.proofs.Common.{◌≡◌, ◌+◌, ◌-◌, ◌<◌, suc, inl, inr, None, Some, sym, subst, ◌∙◌, arith, rules}
+use Rattle.std.proofs.Common.{◌≡◌, ◌+◌, ◌-◌, suc, inl, inr, None, Some, subst, rules}
 use Rattle.cfdp_transactions.specs.World.{next_runnable}
 use Rattle.cfdp_sim.specs.Replay.{most_runs}
 use Rattle.cfdp_sim.proofs.Steps.{Steps, steps_next, steps_end}

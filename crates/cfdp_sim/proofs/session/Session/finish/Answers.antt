@@ -1,6 +1,5 @@
-use Rattle.std.proofs.Common.{◌≡◌, ◌<◌, ◌++◌, Err, List, [], length, rules, sym, ap, ◌∙◌}
+use Rattle.std.proofs.Common.{◌≡◌, ◌<◌, ◌++◌, Err, List, length, rules, ap, ◌∙◌}
 use Rattle.std.proofs.lemmas.Result.{on_ok_weaker}
-use Rattle.cfdp_sim.specs.Answers.{Answers}
 use Rattle.cfdp_sim.proofs.Moving.{Finishes-last, FinishesBad-last, FinishesLost-last}
 use Rattle.cfdp_sim.proofs.Streaming.{Keeps-same}
 use Rattle.cfdp_sim.proofs.session.Session.finish.Goals as goal

@@ -1,4 +1,4 @@
-use Rattle.std.proofs.Common.{◌≡◌, ℕ, ◌+◌, ◌<◌, ◌≤◌, true, Err, ◌++◌, rules, length, take, get_or, arith, sym, ap, ◌∙◌}
+use Rattle.std.proofs.Common.{◌≡◌, true, Err, ◌++◌, take, get_or, arith}
 use Rattle.std.proofs.lemmas.Result.{err_from_is_err_and}
 use Rattle.cfdp_sim.specs.declared.script.LineFault.TheVariants.{Bad}
 use Rattle.cfdp_sim.specs.Lines.{is_newline, IsOneLine}
