@@ -1,0 +1,5 @@
+pub mod Keeping
+pub mod Histories
+pub mod Accepting
+pub mod Faults
+pub mod Serving

@@ -1,0 +1,4 @@
+pub mod Journal
+pub mod Seats
+pub mod Sharing
+pub mod Working

@@ -1,0 +1,124 @@
+//! The core with its journal.
+
+ghost use Rattle.std.specs.Prelude.{◌≡◌, ◌↔◌, [], IfOk, IsTrue, IsFalse, length};
+ghost use Rattle.std.specs.Arc.{arc_value};
+ghost use Rattle.cfdp_transactions.specs.World.{start};
+ghost use Rattle.cfdp_transactions.specs.Sound.{Sound};
+ghost use Rattle.cfdp_transactions.specs.Needs.{Follows, may_want_memory};
+ghost use Rattle.cfdp_transactions.specs.Books.{IsAnswered};
+ghost use Rattle.cfdp_engine.specs.Journal.{IsHistory, entered, is_full};
+
+use crate::entry::Entry;
+use crate::event::SharedEvent;
+use cfdp_actions::Filestore;
+use cfdp_paths::Memory;
+use cfdp_transactions::{Core, Event, Reply};
+use std::alloc::Global;
+use std::marker::Model;
+use std::sync::Arc;
+
+/// The core of a receiving entity, and the journal of all that it did.
+///
+/// Contracts see it as both. At all times the journal is a history: its events, run from the start of the configuration by one
+/// thread, give each entry's reply, and the world after them is the core's; and it has no more entries than the configuration says.
+#[derive(Drop)]
+pub struct Journaled<S: Filestore> {
+    core: Core<S>,
+    entries: Vec<Entry>,
+}
+
+impl<S: Filestore> Model for Journaled<S> {
+    ghost use Rattle.std.specs.Coded.{codes};
+    ghost use Rattle.std.specs.Vec.{vec_capacity};
+    ghost use Rattle.cfdp_transactions.specs.Engine.{nodes_code};
+    ghost use Rattle.cfdp_engine.specs.Journal as words;
+
+    ghost Value = { words.Recorded };
+
+    ghost coded = { Prim.hlevel (codes, nodes_code) };
+
+    ghost view = { λ j. record { core = j.core; journal = j.entries.items } };
+
+    ghost invariant = { λ j. words.IsWhole (vec_capacity j.entries) (record { core = j.core; journal = j.entries.items }) };
+}
+
+impl<S: Filestore> Journaled<S> {
+    /// A core that has just begun, with an empty journal. The room of the whole journal is taken now, and no more later.
+    ///
+    /// # Errors
+    ///
+    /// Want of memory: the core is dropped. Cost: one allocation.
+    pub fn new(alloc: Global, core: Core<S>) -> Result<Journaled<S>, Memory>
+        requires { core.world ≡ start core.world.config }
+        ensures core { IfOk result (λ journaled. journaled.core ≡ core) }
+        ensures journal { IfOk result (λ journaled. journaled.journal ≡ []) }
+    {
+        let limit = core.config().journal() as usize;
+        let entries = Vec::with_capacity(alloc, limit)?;
+        Ok(Journaled { core, entries })
+    }
+
+    /// What is true at all times: the journal is a history, and the core's world is sound. Does nothing.
+    pub fn history(&self)
+        ensures history { IsHistory self.now.journal self.now.core.world }
+        ensures sound { Sound self.now.core.world }
+    {
+        self.core.sound();
+    }
+
+    /// The core.
+    pub fn core(&self) -> &Core<S>
+        ensures { result.now ≡ self.now.core }
+    {
+        &self.core
+    }
+
+    /// The journal, in the order in which the events were taken.
+    pub fn journal(&self) -> &[Entry]
+        ensures { result.now ≡ self.now.journal }
+    {
+        &self.entries
+    }
+
+    /// Takes an event that a seat hands in: the reply and the world after it are those of [`Core::apply`], and the event is
+    /// journaled exactly where the reply is not [`Reply::Memory`]. Where the journal is full the reply is [`Reply::JournalFull`]
+    /// to every event, and to none elsewhere; then, as with Memory, nothing changes, and the event is dropped.
+    ///
+    /// Memory is asked for by [`Core::apply_both`] alone. Cost: that of `apply_both`.
+    pub fn accept(&mut self, seat: u8, event: Arc<Event, Global>) -> Reply
+        ensures full { (result ≡ Reply.JournalFull) ↔ IsTrue (is_full self.old) }
+        ensures unchanged { IsTrue (is_full self.old) → self.new ≡ self.old }
+        ensures follows { IsFalse (is_full self.old) → Follows self.old.core.world (arc_value event) result self.new.core.world }
+        ensures journal { self.new.journal ≡ entered self.old.journal seat (arc_value event) result }
+        ensures answered { IsFalse (may_want_memory self.old.core.takes_no_memory (arc_value event)) → IsAnswered result }
+        ensures steady { self.new.core.takes_no_memory ≡ self.old.core.takes_no_memory }
+    {
+        if self.entries.len() >= self.core.config().journal() as usize {
+            return Reply::JournalFull;
+        }
+        let event = SharedEvent::new(event);
+        let (reply, journaled) = self.core.apply_both(event.event());
+        match journaled {
+            Reply::Memory => {}
+            reply => self.entries.push_reserved(Entry { seat, event, reply }),
+        }
+        reply
+    }
+
+    /// The number that the next entry gets: how many there are.
+    pub(crate) fn next_place(&self) -> u32
+        ensures { result ≡ length self.now.journal }
+    {
+        let _limit = self.core.config().journal();
+        self.entries.len() as u32
+    }
+
+    /// Both apart.
+    pub(crate) fn into_parts(self) -> (Core<S>, Vec<Entry>)
+        ensures core { result.0 ≡ self.core }
+        ensures journal { result.1.items ≡ self.journal }
+    {
+        let Journaled { core, entries } = self;
+        (core, entries)
+    }
+}

@@ -1,0 +1,35 @@
+//! The engine round the core of a CFDP receiving entity (CCSDS 727.0-B-5): a journal of all that the core did, seats with the
+//! receipts of what they handed in, one lock, and workers.
+//!
+//! The definitions stand in `specs/`: `Journal.antt` says what a journal is, `Seats.antt` when receipts are the journal,
+//! `Sharing.antt` what a seat learns of an event that it handed in, and `Working.antt` which events a worker's messages bring.
+#![tactic(auto)]
+
+mod closing;
+mod entry;
+mod event;
+mod fault;
+mod gate;
+mod journaled;
+mod message;
+mod receipt;
+mod seat;
+mod shared;
+mod stop;
+mod working;
+
+pub use closing::{Closed, NotClosed, close};
+pub use entry::Entry;
+pub use event::SharedEvent;
+pub use fault::Fault;
+pub use gate::Gate;
+pub use journaled::Journaled;
+pub use message::Message;
+pub use receipt::Receipt;
+pub use seat::Seat;
+pub use shared::Shared;
+pub use stop::Stop;
+pub use working::{Worked, work};
+
+#[cfg(test)]
+mod tests;

@@ -1,0 +1,91 @@
+//! The engine that several threads share.
+
+ghost use Rattle.std.specs.Prelude.{◌≡◌, IfOk, OnErr};
+ghost use Rattle.std.specs.Arc.{arc_value};
+ghost use Rattle.cfdp_transactions.specs.Sound.{Sound};
+ghost use Rattle.cfdp_engine.specs.Journal.{IsHistory};
+ghost use Rattle.cfdp_engine.specs.Sharing.{IsReceived};
+
+use crate::event::SharedEvent;
+use crate::journaled::Journaled;
+use crate::receipt::Receipt;
+use crate::seat::Seat;
+use crate::stop::Stop;
+use cfdp_actions::Filestore;
+use cfdp_status::TransactionId;
+use cfdp_transactions::{Event, Reply};
+use std::alloc::Global;
+use std::sync::{Arc, Mutex, Wait};
+
+/// A core with its journal, behind one lock: the one step that threads take together is one event. Whenever the lock is got and
+/// whenever it is given back, the journal is a history that one thread could have made, and the core is sound.
+#[derive(Drop)]
+pub struct Shared<S: Filestore> {
+    inner: Mutex<Journaled<S>>,
+}
+
+impl<S: Filestore> Shared<S> {
+    /// Shares a core with its journal.
+    pub fn new(journaled: Journaled<S>) -> Shared<S> {
+        Shared {
+            inner: Mutex::new(journaled),
+        }
+    }
+
+    /// Takes an event that a seat hands in, and tells where it stands in the journal; the receipt is then the seat's last. It may
+    /// wait for others who hand in events. The receipt's room and its handle of the event are made before.
+    ///
+    /// # Errors
+    ///
+    /// [`Stop::Memory`] where memory was refused, for the receipt or to the core, and [`Stop::JournalFull`] where the journal is
+    /// full. Nothing changes, and the event is dropped.
+    pub fn accept<R: Wait>(
+        &self,
+        rt: &R,
+        seat: &mut Seat,
+        event: Arc<Event, Global>,
+    ) -> Result<u32, Stop>
+        ensures ok { IfOk result (λ place. IsReceived seat.old seat.new place (arc_value event)) }
+        ensures err { OnErr result (seat.new ≡ seat.old) }
+    {
+        seat.receipts.reserve(1)?;
+        let kept = SharedEvent::share(&event)?;
+        let (place, reply) = self.take(rt, seat.number, event);
+        match reply {
+            Reply::Memory => Err(Stop::Memory),
+            Reply::JournalFull => Err(Stop::JournalFull),
+            reply => {
+                seat.receipts.push_reserved(Receipt {
+                    place,
+                    event: kept,
+                    reply,
+                });
+                Ok(place)
+            }
+        }
+    }
+
+    /// Takes an event under the lock: the place of its entry, where it is journaled, and the reply.
+    fn take<R: Wait>(&self, rt: &R, seat: u8, event: Arc<Event, Global>) -> (u32, Reply) {
+        let mut journaled = self.inner.lock(rt);
+        let place = journaled.next_place();
+        let reply = journaled.accept(seat, event);
+        (place, reply)
+    }
+
+    /// The first transaction, in order of admission, whose items are being performed. It may wait for others who hand in events.
+    pub fn next_runnable<R: Wait>(&self, rt: &R) -> Option<TransactionId> {
+        self.inner.lock(rt).core().next_runnable()
+    }
+
+    /// The core with its journal, once it is shared no more: a history of one thread.
+    pub fn into_journaled(self) -> Journaled<S>
+        ensures history { IsHistory result.journal result.core.world }
+        ensures sound { Sound result.core.world }
+    {
+        let Shared { inner } = self;
+        let journaled = inner.into_inner();
+        journaled.history();
+        journaled
+    }
+}

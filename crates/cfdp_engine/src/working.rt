@@ -1,0 +1,173 @@
+//! Workers.
+
+ghost use Rattle.std.specs.Prelude.{◌≡◌, [], IfOk, OnErr, OnOk, min};
+ghost use Rattle.cfdp_engine.specs.Sharing.{Adds, IsReceived};
+ghost use Rattle.cfdp_engine.specs.Working.{AreSteps, BeginAll, BeginsOne, BringAll, Brings, event_in, is_passed_over, passed_over};
+
+use crate::gate::Gate;
+use crate::message::Message;
+use crate::seat::Seat;
+use crate::shared::Shared;
+use crate::stop::Stop;
+use cfdp_actions::Filestore;
+use cfdp_pdus::{PduFault, read_pdu};
+use cfdp_transactions::{Event, event_of};
+use crossbeam_channel::Receiver;
+use std::alloc::Global;
+use std::sync::{Arc, Wait};
+
+/// How often a worker steps for one message: each of 64 transactions has 64 requests and an install at most.
+const MOST_STEPS: u32 = 4_224;
+
+/// What a worker leaves.
+#[derive(Drop)]
+pub struct Worked {
+    /// Its seat, with the receipts of what it handed in behind those that it had.
+    pub seat: Seat,
+    /// The messages that it took, in order.
+    pub taken: Vec<Message>,
+    /// How many of them were PDUs without an event; after 2⁶⁴ - 1 that number stays.
+    pub dropped: u64,
+    /// Why it stopped before its inbox was closed.
+    pub stopped: Option<Stop>,
+}
+
+/// The event of a PDU's octets. `None` where they spell no PDU, or one that is no event of a receiving entity.
+fn read_event(alloc: Global, octets: &[u8]) -> Result<Option<Event>, Stop>
+    ensures { IfOk result (λ event. event ≡ event_in octets.now) }
+{
+    match read_pdu(alloc, octets) {
+        Ok(pdu) => Ok(event_of(pdu).ok()),
+        Err(PduFault::Memory) => Err(Stop::Memory),
+        Err(_) => Ok(None),
+    }
+}
+
+/// Hands in an event of the worker's own: the place of its entry.
+fn hand_in<S: Filestore, R: Wait>(
+    rt: &R,
+    alloc: Global,
+    shared: &Shared<S>,
+    seat: &mut Seat,
+    event: Event,
+) -> Result<u32, Stop>
+    ensures ok { IfOk result (λ place. IsReceived seat.old seat.new place event) }
+    ensures err { OnErr result (seat.new ≡ seat.old) }
+{
+    match Arc::new(alloc, event) {
+        Ok(event) => shared.accept(rt, seat, event),
+        Err(_) => Err(Stop::Memory),
+    }
+}
+
+/// Steps what can be stepped.
+fn run<S: Filestore, R: Wait>(
+    rt: &R,
+    alloc: Global,
+    shared: &Shared<S>,
+    seat: &mut Seat,
+) -> Result<(), Stop>
+    ensures { Adds (AreSteps MOST_STEPS) seat.old seat.new }
+{
+    for _ in 0..MOST_STEPS {
+        let Some(id) = shared.next_runnable(rt) else {
+            break;
+        };
+        hand_in(rt, alloc, shared, seat, Event::Step(id))?;
+    }
+    Ok(())
+}
+
+/// Hands in what a message brings, and answers whether that is nothing for ever.
+fn serve<S: Filestore, R: Wait>(
+    rt: &R,
+    alloc: Global,
+    shared: &Shared<S>,
+    seat: &mut Seat,
+    message: &Message,
+) -> Result<bool, Stop>
+    ensures brings { OnOk result (Adds (Brings message.now) seat.old seat.new) }
+    ensures passed_over { IfOk result (λ dropped. dropped ≡ is_passed_over message.now) }
+    ensures stopped { OnErr result (Adds (BeginsOne message.now) seat.old seat.new) }
+{
+    match message {
+        Message::Run => run(rt, alloc, shared, seat)?,
+        Message::Event(event) => {
+            let event = Arc::try_clone(event)?;
+            shared.accept(rt, seat, event)?;
+        }
+        Message::Pdu(octets) => {
+            let Some(event) = read_event(alloc, octets)? else {
+                return Ok(true);
+            };
+            hand_in(rt, alloc, shared, seat, event)?;
+        }
+    }
+    Ok(false)
+}
+
+/// Takes messages until the inbox is closed, and notes in `worked` what becomes of them.
+fn serve_all<S: Filestore, R: Wait, G: Gate>(
+    rt: &R,
+    alloc: Global,
+    shared: &Shared<S>,
+    inbox: &Receiver<Message, Global>,
+    gate: &G,
+    worked: &mut Worked,
+) -> Result<(), Stop>
+    requires taken { worked.old.taken.items ≡ [] }
+    requires dropped { worked.old.dropped ≡ 0 }
+    ensures finished { OnOk result (Adds (BringAll worked.new.taken.items) worked.old.seat worked.new.seat) }
+    ensures dropped { OnOk result (worked.new.dropped ≡ min (passed_over worked.new.taken.items) u64.MAX) }
+    ensures stopped { OnErr result (Adds (BeginAll worked.new.taken.items) worked.old.seat worked.new.seat) }
+    ensures running { worked.new.stopped ≡ worked.old.stopped }
+{
+    let mut turn = 0u64;
+    for _ in rt.forever() {
+        worked.taken.reserve(1)?;
+        let Ok(message) = inbox.recv(rt) else {
+            break;
+        };
+        gate.pass(rt, worked.seat.number(), turn);
+        turn = turn.saturating_add(1);
+        let served = serve(rt, alloc, shared, &mut worked.seat, &message);
+        worked.taken.push_reserved(message);
+        if served? {
+            worked.dropped = worked.dropped.saturating_add(1);
+        }
+    }
+    Ok(())
+}
+
+/// Hands in what the inbox brings, in order, until it is closed: each PDU's event and each event, and for each
+/// [`Message::Run`] steps, as long as a transaction can be stepped and at most 4,224 times. With each message it passes the gate
+/// first. The inbox is closed with it: it is given up where the worker stops.
+///
+/// A PDU that is refused for another cause than memory, or is no event of a receiving entity, is passed over and counted. No
+/// lock is held while it waits for a message, is at the gate or reads a PDU. The room of a message in what it took is made before it
+/// is received. Cost: for each message that of [`Shared::accept`], and of reading a PDU.
+///
+/// It stops where memory is refused, or the journal is full.
+pub fn work<S: Filestore, R: Wait, G: Gate>(
+    rt: &R,
+    alloc: Global,
+    shared: &Shared<S>,
+    seat: Seat,
+    inbox: Receiver<Message, Global>,
+    gate: &G,
+) -> Worked
+    ensures finished { result.stopped ≡ None → Adds (BringAll result.taken.items) seat result.seat }
+    ensures dropped { result.stopped ≡ None → result.dropped ≡ min (passed_over result.taken.items) u64.MAX }
+    ensures stopped { Adds (BeginAll result.taken.items) seat result.seat }
+{
+    let mut worked = Worked {
+        seat,
+        taken: Vec::new(alloc),
+        dropped: 0,
+        stopped: None,
+    };
+    if let Err(stop) = serve_all(rt, alloc, shared, &inbox, gate, &mut worked) {
+        worked.stopped = Some(stop);
+    }
+    worked
+}
