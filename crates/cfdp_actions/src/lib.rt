@@ -28,6 +28,3 @@ pub use list_store::ListStore;
 pub use performed::{Performed, perform};
 pub use protected::Protected;
 pub use request::Request;
-
-#[cfg(test)]
-mod tests;

@@ -5,7 +5,5 @@
 
 mod checksum;
 pub mod laws;
-#[cfg(test)]
-mod tests;
 
 pub use checksum::modular_checksum;

@@ -30,6 +30,3 @@ pub use seat::Seat;
 pub use shared::Shared;
 pub use stop::Stop;
 pub use working::{Worked, work};
-
-#[cfg(test)]
-mod tests;

@@ -11,8 +11,6 @@ pub mod laws;
 mod lease;
 mod leased_paths;
 mod leases;
-#[cfg(test)]
-mod tests;
 
 pub use footprints::{Footprint, covers};
 pub use gathering::footprint;

@@ -11,8 +11,6 @@ mod parsing;
 mod path_map;
 mod paths;
 mod relocating;
-#[cfg(test)]
-mod tests;
 
 pub use fault::PathFault;
 pub use path_map::PathMap;

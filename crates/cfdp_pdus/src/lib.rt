@@ -30,6 +30,3 @@ pub use header::Header;
 pub use metadata::{Metadata, write_metadata};
 pub use pdu::Pdu;
 pub use read::read_pdu;
-
-#[cfg(test)]
-mod tests;

@@ -8,8 +8,6 @@
 
 mod meter;
 mod quota;
-#[cfg(test)]
-mod tests;
 
 pub use meter::Meter;
 pub use quota::{Quota, SLOTS};

@@ -3,8 +3,10 @@
 
 mod crowded;
 mod directories;
+mod engine;
 mod entity;
 mod guide;
+mod leases;
 mod limits;
 mod lists;
 mod live;

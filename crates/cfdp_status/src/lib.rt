@@ -14,6 +14,3 @@ mod transaction;
 pub use action::Action;
 pub use status::Status;
 pub use transaction::TransactionId;
-
-#[cfg(test)]
-mod tests;

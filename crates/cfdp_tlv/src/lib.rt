@@ -25,6 +25,3 @@ pub use response::{
     FilestoreResponse, ResponseParts, read_response, response_parts, write_response,
 };
 pub use room::push_lv;
-
-#[cfg(test)]
-mod tests;

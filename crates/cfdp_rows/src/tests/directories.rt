@@ -1,32 +1,21 @@
 //! Lists that remove, deny and move directories.
 
-use super::scene::{Before, Row, Told, check};
+use super::scene::{Before, Case, Row, Told, check_all};
 use cfdp_paths::Memory;
 
-static A_DIRECTORY_WITH_A_FILE: [Before; 2] = [
+const A_DIRECTORY_WITH_A_FILE: &[Before] = &[
     Before::Performed(b"\x00\x03\x50\x01d"),
     Before::Performed(b"\x00\x05\x00\x03d/x"),
 ];
 
-static A_DIRECTORY_WITH_ENTRIES_STAYS: [Row; 4] = [
+const A_DIRECTORY_WITH_ENTRIES_STAYS: &[Row] = &[
     (None, &[b"\x00\x03\x80\x01d"], Told::WouldFail(0, 0x82)),
     (None, &[b"\x00\x03\x60\x01d"], Told::WouldFail(0, 0x62)),
     (Some((b"d", 0)), &[], Told::DestinationNotAllowed),
     (Some((b"d/x/y", 0)), &[], Told::DestinationNotAllowed),
 ];
 
-#[test]
-fn a_directory_with_entries_stays(rt: HostRuntime) -> Result<(), Memory> {
-    check(
-        &rt,
-        rt.alloc(),
-        64,
-        &A_DIRECTORY_WITH_A_FILE,
-        &A_DIRECTORY_WITH_ENTRIES_STAYS,
-    )
-}
-
-static A_DIRECTORY_MOVES_WITH_WHAT_IS_IN_IT: [Row; 2] = [
+const A_DIRECTORY_MOVES_WITH_WHAT_IS_IN_IT: &[Row] = &[
     (
         None,
         &[
@@ -51,18 +40,7 @@ static A_DIRECTORY_MOVES_WITH_WHAT_IS_IN_IT: [Row; 2] = [
     ),
 ];
 
-#[test]
-fn a_directory_moves_with_what_is_in_it(rt: HostRuntime) -> Result<(), Memory> {
-    check(
-        &rt,
-        rt.alloc(),
-        64,
-        &[],
-        &A_DIRECTORY_MOVES_WITH_WHAT_IS_IN_IT,
-    )
-}
-
-static EIGHT_NAMES_DEEP: [Before; 9] = [
+const EIGHT_NAMES_DEEP: &[Before] = &[
     Before::Performed(b"\x00\x03\x50\x01e"),
     Before::Performed(b"\x00\x03\x50\x01a"),
     Before::Performed(b"\x00\x05\x50\x03a/b"),
@@ -74,7 +52,8 @@ static EIGHT_NAMES_DEEP: [Before; 9] = [
     Before::Performed(b"\x00\x11\x50\x0fa/b/c/d/e/f/g/h"),
 ];
 
-static A_DEEP_DIRECTORY_MOVES_NO_DEEPER: [Row; 2] = [
+/// With a directory of eight names below it, a directory cannot move one name deeper.
+const A_DEEP_DIRECTORY_MOVES_NO_DEEPER: &[Row] = &[
     (
         None,
         &[b"\x00\x07\x20\x01a\x03e/a"],
@@ -83,14 +62,13 @@ static A_DEEP_DIRECTORY_MOVES_NO_DEEPER: [Row; 2] = [
     (None, &[b"\x00\x05\x20\x01a\x01z"], Told::Granted(0, 1)),
 ];
 
-/// With a directory of eight names below it, a directory cannot move one name deeper.
+static CASES: [Case; 3] = [
+    (64, A_DIRECTORY_WITH_A_FILE, A_DIRECTORY_WITH_ENTRIES_STAYS),
+    (64, &[], A_DIRECTORY_MOVES_WITH_WHAT_IS_IN_IT),
+    (64, EIGHT_NAMES_DEEP, A_DEEP_DIRECTORY_MOVES_NO_DEEPER),
+];
+
 #[test]
-fn a_deep_directory_moves_no_deeper(rt: HostRuntime) -> Result<(), Memory> {
-    check(
-        &rt,
-        rt.alloc(),
-        64,
-        &EIGHT_NAMES_DEEP,
-        &A_DEEP_DIRECTORY_MOVES_NO_DEEPER,
-    )
+fn each_case(rt: HostRuntime) -> Result<(), Memory> {
+    check_all(&rt, rt.alloc(), &CASES)
 }

@@ -94,6 +94,9 @@ pub const DEFAULT: Limits = Limits {
     protected: &[],
 };
 
+/// The configuration of an entity, and its rows.
+pub type Case = (Limits, &'static [Row]);
+
 /// The header of a PDU of entity 1 to entity 2, in unacknowledged mode.
 pub fn header(number: u8) -> Header {
     Header {
@@ -324,36 +327,37 @@ fn is_standing(
     Ok(told == expected.1 && entry.path == path_of(rt, alloc, expected.0)?)
 }
 
-/// Compares what stands with what is expected, in path order.
-fn compare_standing(
+/// Whether what stands is what is expected, in path order.
+fn stands(
     rt: &impl Abort,
     alloc: Global,
     store: &ListStore,
     expected: &[Standing],
-) -> Result<(), Memory> {
+) -> Result<bool, Memory> {
     let listing = store.listing(alloc)?;
-    assert!(rt; listing.len() == expected.len(), "{listing:?}");
-    for (entry, row) in listing.iter().zip(expected) {
-        let same = is_standing(rt, alloc, entry, *row)?;
-        assert!(rt; same, "{row:?}");
+    if listing.len() != expected.len() {
+        return Ok(false);
     }
-    Ok(())
+    for (entry, row) in listing.iter().zip(expected) {
+        if !is_standing(rt, alloc, entry, *row)? {
+            return Ok(false);
+        }
+    }
+    Ok(true)
 }
 
-/// Compares the reply to an event.
-fn compare_reply(
+/// Whether the reply to an event is the one that is told.
+fn replies(
     rt: &impl Abort,
     alloc: Global,
     core: &mut Core<ListStore>,
     given: Given,
     told: Told,
     twice: bool,
-) -> Result<(), Memory> {
+) -> Result<bool, Memory> {
     let event = given.event(rt, alloc)?;
     let reply = hand_in(rt, core, &event, twice);
-    let same = is_told(rt, alloc, &reply, told)?;
-    assert!(rt; same, "{told:?} on {given:?}");
-    Ok(())
+    is_told(rt, alloc, &reply, told)
 }
 
 /// Whether so many blocks are free, and so many of them were granted to nobody.
@@ -386,45 +390,40 @@ fn holds(core: &Core<ListStore>, row: Row) -> bool {
     }
 }
 
-/// Compares one row.
-fn compare(
+/// Whether a row holds.
+fn is_met(
     rt: &impl Abort,
     alloc: Global,
     core: &mut Core<ListStore>,
     row: Row,
     twice: bool,
-) -> Result<(), Memory> {
+) -> Result<bool, Memory> {
     if let Row::On(given, told) = row {
-        return compare_reply(rt, alloc, core, given, told, twice);
+        return replies(rt, alloc, core, given, told, twice);
     }
     if let Row::Standing(expected) = row {
-        return compare_standing(rt, alloc, core.store(), expected);
+        return stands(rt, alloc, core.store(), expected);
     }
-    let same = holds(core, row);
-    assert!(rt; same, "at {row:?}");
-    Ok(())
+    Ok(holds(core, row))
 }
 
-fn try_rows(
-    rt: &impl Abort,
-    alloc: Global,
-    limits: Limits,
-    rows: &[Row],
-    twice: bool,
-) -> Result<(), Memory> {
-    let mut core = entity_of(rt, alloc, limits)?;
-    for row in rows {
-        compare(rt, alloc, &mut core, *row, twice)?;
+fn try_case(rt: &impl Abort, alloc: Global, case: &Case, twice: bool) -> Result<(), Memory> {
+    let mut core = entity_of(rt, alloc, case.0)?;
+    for (place, row) in case.1.iter().enumerate() {
+        let met = is_met(rt, alloc, &mut core, *row, twice)?;
+        assert!(rt; met, "at row {place}, which is {row:?}");
     }
     Ok(())
 }
 
-/// Hands the rows to an entity that has just begun, and to another one whose replies are given twice. Where memory is
-/// refused beside the events all is tried once more: `rt try --test --fail-alloc N` refuses one growth.
-pub fn check(rt: &impl Abort, alloc: Global, limits: Limits, rows: &[Row]) -> Result<(), Memory> {
-    for twice in [false, true] {
-        if try_rows(rt, alloc, limits, rows, twice).is_err() {
-            try_rows(rt, alloc, limits, rows, twice)?;
+/// Hands the rows of each case to an entity that has just begun, and to another one whose replies are given twice. Where
+/// memory is refused beside the events all is tried once more: `rt try --test --fail-alloc N` refuses one growth.
+pub fn check_all(rt: &impl Abort, alloc: Global, cases: &[Case]) -> Result<(), Memory> {
+    for case in cases {
+        for twice in [false, true] {
+            if try_case(rt, alloc, case, twice).is_err() {
+                try_case(rt, alloc, case, twice)?;
+            }
         }
     }
     Ok(())

@@ -26,11 +26,8 @@ const DENY: &[u8] = b"\x00\x03\x70\x01\x7a";
 /// Appends `img` to itself.
 const APPEND: &[u8] = b"\x00\x09\x30\x03\x69\x6d\x67\x03\x69\x6d\x67";
 
-fn check_on(rt: &impl Abort, alloc: Global, rows: &[Row]) -> Result<(), Memory> {
-    check(rt, alloc, 32, &BEFORE, rows)
-}
-
-static AN_UPDATE_IS_GRANTED: [Row; 2] = [
+static LISTS: [Row; 17] = [
+    // An update is granted.
     (
         Some((b"d/new", 480)),
         &[
@@ -50,38 +47,17 @@ static AN_UPDATE_IS_GRANTED: [Row; 2] = [
         ],
         Told::Granted(6, 16),
     ),
-];
-
-#[test]
-fn an_update_is_granted(rt: HostRuntime) -> Result<(), Memory> {
-    check_on(&rt, rt.alloc(), &AN_UPDATE_IS_GRANTED)
-}
-
-static A_DIRECTORY_HAS_TWO_USERS: [Row; 2] = [
+    // A directory has two users.
     (
         None,
         &[b"\x00\x05\x00\x03\x64\x2f\x79"],
         Told::Granted(1, 2),
     ),
     (None, &[b"\x00\x03\x60\x01\x64"], Told::Conflict(22)),
-];
-
-#[test]
-fn a_directory_has_two_users(rt: HostRuntime) -> Result<(), Memory> {
-    check_on(&rt, rt.alloc(), &A_DIRECTORY_HAS_TWO_USERS)
-}
-
-static SIXTY_FIVE_DENIALS: [Row; 2] = [
+    // Sixty five denials.
     (None, &[DENY; 65], Told::TooManyRequests),
     (None, &[DENY; 64], Told::Granted(0, 64)),
-];
-
-#[test]
-fn sixty_five_denials(rt: HostRuntime) -> Result<(), Memory> {
-    check_on(&rt, rt.alloc(), &SIXTY_FIVE_DENIALS)
-}
-
-static NAMES_THAT_ARE_NO_PATHS: [Row; 2] = [
+    // Names that are no paths.
     (
         None,
         &[b"\x00\x06\x00\x04\x64\x2f\x2f\x79"],
@@ -92,26 +68,12 @@ static NAMES_THAT_ARE_NO_PATHS: [Row; 2] = [
         &[b"\x00\x06\x00\x04\x64\x2f\x2f\x79"],
         Told::BadDestination,
     ),
-];
-
-#[test]
-fn names_that_are_no_paths(rt: HostRuntime) -> Result<(), Memory> {
-    check_on(&rt, rt.alloc(), &NAMES_THAT_ARE_NO_PATHS)
-}
-
-static FILES_THAT_CANNOT_BE_INSTALLED: [Row; 4] = [
+    // Files that cannot be installed.
     (Some((b"e/new", 15)), &[], Told::DestinationNotAllowed),
     (Some((b"sys", 15)), &[], Told::DestinationNotAllowed),
     (Some((b"sys/boot", 15)), &[], Told::DestinationNotAllowed),
     (Some((b"sys/next", 15)), &[], Told::Granted(2, 2)),
-];
-
-#[test]
-fn files_that_cannot_be_installed(rt: HostRuntime) -> Result<(), Memory> {
-    check_on(&rt, rt.alloc(), &FILES_THAT_CANNOT_BE_INSTALLED)
-}
-
-static REQUESTS_THAT_WOULD_FAIL: [Row; 2] = [
+    // Requests that would fail.
     (
         None,
         &[
@@ -126,28 +88,16 @@ static REQUESTS_THAT_WOULD_FAIL: [Row; 2] = [
         &[b"\x00\x0a\x10\x08\x73\x79\x73\x2f\x62\x6f\x6f\x74"],
         Told::WouldFail(0, 0x12),
     ),
-];
-
-#[test]
-fn requests_that_would_fail(rt: HostRuntime) -> Result<(), Memory> {
-    check_on(&rt, rt.alloc(), &REQUESTS_THAT_WOULD_FAIL)
-}
-
-static LISTS_THAT_ARE_TOO_LONG_OR_HAVE_NO_ROOM: [Row; 2] = [
+    // Lists that are too long or have no room.
     (None, &[APPEND; 13], Told::TooLong(81_923)),
     (None, &[APPEND; 12], Told::NoRoom(20_475, 18)),
+    // A file without room.
+    (Some((b"big", 2400)), &[], Told::NoRoom(21, 18)),
 ];
 
 #[test]
-fn lists_that_are_too_long_or_have_no_room(rt: HostRuntime) -> Result<(), Memory> {
-    check_on(&rt, rt.alloc(), &LISTS_THAT_ARE_TOO_LONG_OR_HAVE_NO_ROOM)
-}
-
-static A_FILE_WITHOUT_ROOM: [Row; 1] = [(Some((b"big", 2400)), &[], Told::NoRoom(21, 18))];
-
-#[test]
-fn a_file_without_room(rt: HostRuntime) -> Result<(), Memory> {
-    check_on(&rt, rt.alloc(), &A_FILE_WITHOUT_ROOM)
+fn each_list(rt: HostRuntime) -> Result<(), Memory> {
+    check(&rt, rt.alloc(), 32, &BEFORE, &LISTS)
 }
 
 /// The call as the guide shows it.

@@ -1,6 +1,6 @@
 //! The longest lists, the most steps, the greatest needs, and the longest request.
 
-use super::scene::{Before, Row, Scene, Told, check, check_list};
+use super::scene::{Before, Case, Row, Scene, Told, check_all, check_list};
 use cfdp_paths::Memory;
 use cfdp_quota::Quota;
 use cfdp_verifier::{Proposal, verify};
@@ -30,33 +30,25 @@ const APPEND: &[u8] = b"\x00\x05\x30\x01b\x01a";
 
 const DENY: &[u8] = b"\x00\x03\x70\x01z";
 
-static ONE_BLOCK: [Before; 1] = [Before::Delivered(b"a", 120)];
+const ONE_BLOCK: &[Before] = &[Before::Delivered(b"a", 120)];
 
-static LENGTH_COMES_BEFORE_ROOM: [Row; 2] = [
+/// A file of one block that is appended to itself again and again.
+const LENGTH_COMES_BEFORE_ROOM: &[Row] = &[
     (None, &[DOUBLE; 15], Told::TooLong(65_549)),
     (None, &[DOUBLE; 14], Told::NoRoom(16_383, 62)),
 ];
 
-/// A file of one block that is appended to itself again and again.
-#[test]
-fn length_comes_before_room(rt: HostRuntime) -> Result<(), Memory> {
-    check(&rt, rt.alloc(), 64, &ONE_BLOCK, &LENGTH_COMES_BEFORE_ROOM)
-}
-
 /// What fills a store of one block.
-static ALL_BLOCKS: [Before; 1] = [Before::Performed(b"\x00\x03\x00\x01a")];
+const ALL_BLOCKS: &[Before] = &[Before::Performed(b"\x00\x03\x00\x01a")];
 
-static NO_BLOCK_TO_SPARE: [Row; 2] = [
+const NO_BLOCK_TO_SPARE: &[Row] = &[
     (None, &[CREATE], Told::NoRoom(1, 0)),
     (None, &[DENY], Told::Granted(0, 1)),
 ];
 
-#[test]
-fn no_block_to_spare(rt: HostRuntime) -> Result<(), Memory> {
-    check(&rt, rt.alloc(), 1, &ALL_BLOCKS, &NO_BLOCK_TO_SPARE)
-}
-
-static EXACTLY_THE_MOST_STEPS: [Row; 2] = [
+/// A file of 8,191 blocks that is appended four times to a new one: 2 steps for its install, 2 for the new file, and
+/// 1 + 2 * 8,191 for each append.
+const EXACTLY_THE_MOST_STEPS: &[Row] = &[
     (
         Some((b"a", 982_920)),
         &[CREATE, APPEND, APPEND, APPEND, APPEND],
@@ -68,13 +60,6 @@ static EXACTLY_THE_MOST_STEPS: [Row; 2] = [
         Told::TooLong(65_537),
     ),
 ];
-
-/// A file of 8,191 blocks that is appended four times to a new one: 2 steps for its install, 2 for the new file, and
-/// 1 + 2 * 8,191 for each append.
-#[test]
-fn exactly_the_most_steps(rt: HostRuntime) -> Result<(), Memory> {
-    check(&rt, rt.alloc(), 65_536, &[], &EXACTLY_THE_MOST_STEPS)
-}
 
 /// How many octets a file has at most, how many blocks are to spare, and the verdict on it alone. A file of 4,294,967,294
 /// blocks of 120 octets needs one more for its name.
@@ -144,4 +129,15 @@ fn a_rename_between_long_names(rt: HostRuntime) -> Result<(), Memory> {
     tlv.extend_from_slice(&[b'r'; 29])?;
     assert_eq!(rt; tlv.len(), 2 + 254);
     check_list(&rt, rt.alloc(), 64, &[&tlv], Told::WouldFail(0, 0x21))
+}
+
+static CASES: [Case; 3] = [
+    (64, ONE_BLOCK, LENGTH_COMES_BEFORE_ROOM),
+    (1, ALL_BLOCKS, NO_BLOCK_TO_SPARE),
+    (65_536, &[], EXACTLY_THE_MOST_STEPS),
+];
+
+#[test]
+fn each_case(rt: HostRuntime) -> Result<(), Memory> {
+    check_all(&rt, rt.alloc(), &CASES)
 }

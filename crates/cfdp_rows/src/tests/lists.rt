@@ -1,9 +1,9 @@
 //! Lists on a store on which no transaction is live.
 
-use super::scene::{Before, Row, Told, check};
+use super::scene::{Before, Case, Row, Told, check_all};
 use cfdp_paths::Memory;
 
-static EACH_REQUEST_STANDS_ON_THOSE_BEFORE: [Row; 3] = [
+const EACH_REQUEST_STANDS_ON_THOSE_BEFORE: &[Row] = &[
     (None, &[b"\x00\x03\x00\x01a"], Told::Granted(1, 2)),
     (None, &[], Told::Granted(0, 0)),
     // The file that is renamed is no longer there.
@@ -18,29 +18,13 @@ static EACH_REQUEST_STANDS_ON_THOSE_BEFORE: [Row; 3] = [
     ),
 ];
 
-#[test]
-fn each_request_stands_on_those_before(rt: HostRuntime) -> Result<(), Memory> {
-    check(
-        &rt,
-        rt.alloc(),
-        64,
-        &[],
-        &EACH_REQUEST_STANDS_ON_THOSE_BEFORE,
-    )
-}
-
-static TWO_SPELLINGS_OF_ONE_PATH: [Row; 1] = [(
+const TWO_SPELLINGS_OF_ONE_PATH: &[Row] = &[(
     None,
     &[b"\x00\x04\x00\x02/a", b"\x00\x03\x10\x01a"],
     Told::Granted(1, 4),
 )];
 
-#[test]
-fn two_spellings_of_one_path(rt: HostRuntime) -> Result<(), Memory> {
-    check(&rt, rt.alloc(), 64, &[], &TWO_SPELLINGS_OF_ONE_PATH)
-}
-
-static THREE_CREATES: [Row; 1] = [(
+const THREE_CREATES: &[Row] = &[(
     None,
     &[
         b"\x00\x03\x00\x01a",
@@ -50,17 +34,11 @@ static THREE_CREATES: [Row; 1] = [(
     Told::Granted(3, 6),
 )];
 
-static ONE_CREATED: [Before; 1] = [Before::Performed(b"\x00\x03\x00\x01a")];
+const ONE_CREATED: &[Before] = &[Before::Performed(b"\x00\x03\x00\x01a")];
 
-static A_DELETE: [Row; 1] = [(None, &[b"\x00\x03\x10\x01a"], Told::Granted(0, 2))];
+const A_DELETE: &[Row] = &[(None, &[b"\x00\x03\x10\x01a"], Told::Granted(0, 2))];
 
-#[test]
-fn three_creates_and_a_delete(rt: HostRuntime) -> Result<(), Memory> {
-    check(&rt, rt.alloc(), 64, &[], &THREE_CREATES)?;
-    check(&rt, rt.alloc(), 64, &ONE_CREATED, &A_DELETE)
-}
-
-static A_DELIVERED_FILE_IS_DOUBLED: [Row; 2] = [
+const A_DELIVERED_FILE_IS_DOUBLED: &[Row] = &[
     (
         Some((b"a", 120)),
         &[b"\x00\x05\x30\x01a\x01a"],
@@ -73,12 +51,7 @@ static A_DELIVERED_FILE_IS_DOUBLED: [Row; 2] = [
     ),
 ];
 
-#[test]
-fn a_delivered_file_is_doubled(rt: HostRuntime) -> Result<(), Memory> {
-    check(&rt, rt.alloc(), 64, &[], &A_DELIVERED_FILE_IS_DOUBLED)
-}
-
-static A_FILE_ALONE: [Row; 4] = [
+const A_FILE_ALONE: &[Row] = &[
     (Some((b"f", 15)), &[], Told::Granted(2, 2)),
     (Some((b"f", 240)), &[], Told::Granted(3, 2)),
     (Some((b"f", 2400)), &[], Told::Granted(21, 2)),
@@ -86,56 +59,31 @@ static A_FILE_ALONE: [Row; 4] = [
     (Some((b"f", u64::MAX)), &[], Told::NoRoom(4_294_967_295, 64)),
 ];
 
-#[test]
-fn a_file_alone(rt: HostRuntime) -> Result<(), Memory> {
-    check(&rt, rt.alloc(), 64, &[], &A_FILE_ALONE)
-}
-
-static ONE_FILE: [Before; 1] = [Before::Delivered(b"a", 120)];
-
-static A_FILE_IN_PLACE_OF_ANOTHER: [Row; 1] = [(Some((b"a", 240)), &[], Told::Granted(2, 3))];
+const ONE_FILE: &[Before] = &[Before::Delivered(b"a", 120)];
 
 /// While a file is staged, the one in whose place it is installed is still there.
-#[test]
-fn a_file_in_place_of_another(rt: HostRuntime) -> Result<(), Memory> {
-    check(&rt, rt.alloc(), 64, &ONE_FILE, &A_FILE_IN_PLACE_OF_ANOTHER)
-}
+const A_FILE_IN_PLACE_OF_ANOTHER: &[Row] = &[(Some((b"a", 240)), &[], Told::Granted(2, 3))];
 
-static A_FILE_REPLACES_ITSELF: [Row; 1] = [(
-    None,
-    &[b"\x00\x05\x40\x01a\x01a"],
-    Told::Granted(0, 1),
-)];
+const A_FILE_REPLACES_ITSELF: &[Row] = &[(None, &[b"\x00\x05\x40\x01a\x01a"], Told::Granted(0, 1))];
 
-static TWO_FILES: [Before; 2] = [
+const TWO_FILES: &[Before] = &[
     Before::Delivered(b"a", 120),
     Before::Performed(b"\x00\x03\x00\x01b"),
 ];
 
-static A_FILE_REPLACES_ANOTHER: [Row; 1] = [(
+const A_FILE_REPLACES_ANOTHER: &[Row] = &[(
     None,
     &[b"\x00\x05\x40\x01b\x01a"],
     Told::Granted(1, 3),
 )];
 
-#[test]
-fn a_file_replaces_itself_and_another(rt: HostRuntime) -> Result<(), Memory> {
-    check(&rt, rt.alloc(), 64, &ONE_FILE, &A_FILE_REPLACES_ITSELF)?;
-    check(&rt, rt.alloc(), 64, &TWO_FILES, &A_FILE_REPLACES_ANOTHER)
-}
-
-static WHAT_IS_ABSENT_IS_DENIED_ALREADY: [Row; 1] = [(
+const WHAT_IS_ABSENT_IS_DENIED_ALREADY: &[Row] = &[(
     None,
     &[b"\x00\x03\x70\x01z", b"\x00\x05\x80\x03y/z"],
     Told::Granted(0, 2),
 )];
 
-#[test]
-fn what_is_absent_is_denied_already(rt: HostRuntime) -> Result<(), Memory> {
-    check(&rt, rt.alloc(), 64, &[], &WHAT_IS_ABSENT_IS_DENIED_ALREADY)
-}
-
-static NAMES_THAT_ARE_NO_PATHS: [Row; 4] = [
+const NAMES_THAT_ARE_NO_PATHS: &[Row] = &[
     (None, &[b"\x00\x06\x00\x04a//b"], Told::BadName(0)),
     (Some((b"..", 2400)), &[], Told::BadDestination),
     // The destination's name comes before those of the requests, and a second name counts with its request.
@@ -151,7 +99,21 @@ static NAMES_THAT_ARE_NO_PATHS: [Row; 4] = [
     ),
 ];
 
+static CASES: [Case; 11] = [
+    (64, &[], EACH_REQUEST_STANDS_ON_THOSE_BEFORE),
+    (64, &[], TWO_SPELLINGS_OF_ONE_PATH),
+    (64, &[], THREE_CREATES),
+    (64, ONE_CREATED, A_DELETE),
+    (64, &[], A_DELIVERED_FILE_IS_DOUBLED),
+    (64, &[], A_FILE_ALONE),
+    (64, ONE_FILE, A_FILE_IN_PLACE_OF_ANOTHER),
+    (64, ONE_FILE, A_FILE_REPLACES_ITSELF),
+    (64, TWO_FILES, A_FILE_REPLACES_ANOTHER),
+    (64, &[], WHAT_IS_ABSENT_IS_DENIED_ALREADY),
+    (64, &[], NAMES_THAT_ARE_NO_PATHS),
+];
+
 #[test]
-fn names_that_are_no_paths(rt: HostRuntime) -> Result<(), Memory> {
-    check(&rt, rt.alloc(), 64, &[], &NAMES_THAT_ARE_NO_PATHS)
+fn each_case(rt: HostRuntime) -> Result<(), Memory> {
+    check_all(&rt, rt.alloc(), &CASES)
 }

@@ -1,10 +1,10 @@
 //! Lists that two tests refuse: the one that comes first is answered.
 
-use super::scene::{Before, Row, Told, check};
+use super::scene::{Before, Case, Row, Told, check_all};
 use cfdp_paths::Memory;
 
 /// A directory in which a live transaction is about to create a file, and a file of one block.
-static BEFORE: [Before; 3] = [
+const BEFORE: &[Before] = &[
     Before::Delivered(b"a", 120),
     Before::Performed(b"\x00\x03\x50\x01d"),
     Before::Admitted(22, &[b"\x00\x05\x00\x03d/x"], 1, 2),
@@ -22,23 +22,12 @@ const DOUBLE: &[u8] = b"\x00\x05\x30\x01a\x01a";
 /// Creates a file whose name is no path.
 const CREATE: &[u8] = b"\x00\x06\x00\x04a//b";
 
-static FROM_THE_NUMBER_OF_REQUESTS_TO_A_CONFLICT: [Row; 2] = [
+const FROM_THE_NUMBER_OF_REQUESTS_TO_A_CONFLICT: &[Row] = &[
     (None, &[CREATE; 65], Told::TooManyRequests),
     (None, &[REMOVE, CREATE], Told::BadName(1)),
 ];
 
-#[test]
-fn from_the_number_of_requests_to_a_conflict(rt: HostRuntime) -> Result<(), Memory> {
-    check(
-        &rt,
-        rt.alloc(),
-        64,
-        &BEFORE,
-        &FROM_THE_NUMBER_OF_REQUESTS_TO_A_CONFLICT,
-    )
-}
-
-static FROM_A_CONFLICT_TO_A_FAILURE: [Row; 4] = [
+const FROM_A_CONFLICT_TO_A_FAILURE: &[Row] = &[
     (Some((b"d", 0)), &[], Told::Conflict(22)),
     (None, &[DELETE, REMOVE], Told::Conflict(22)),
     (Some((b"e/f", 0)), &[DELETE], Told::DestinationNotAllowed),
@@ -49,12 +38,7 @@ static FROM_A_CONFLICT_TO_A_FAILURE: [Row; 4] = [
     ),
 ];
 
-#[test]
-fn from_a_conflict_to_a_failure(rt: HostRuntime) -> Result<(), Memory> {
-    check(&rt, rt.alloc(), 64, &BEFORE, &FROM_A_CONFLICT_TO_A_FAILURE)
-}
-
-static FROM_A_FAILURE_TO_WANT_OF_ROOM: [Row; 3] = [
+const FROM_A_FAILURE_TO_WANT_OF_ROOM: &[Row] = &[
     (Some((b"f", u64::MAX)), &[DELETE], Told::WouldFail(0, 0x11)),
     (
         None,
@@ -67,13 +51,13 @@ static FROM_A_FAILURE_TO_WANT_OF_ROOM: [Row; 3] = [
     (None, &[DOUBLE; 15], Told::TooLong(65_549)),
 ];
 
+static CASES: [Case; 3] = [
+    (64, BEFORE, FROM_THE_NUMBER_OF_REQUESTS_TO_A_CONFLICT),
+    (64, BEFORE, FROM_A_CONFLICT_TO_A_FAILURE),
+    (64, BEFORE, FROM_A_FAILURE_TO_WANT_OF_ROOM),
+];
+
 #[test]
-fn from_a_failure_to_want_of_room(rt: HostRuntime) -> Result<(), Memory> {
-    check(
-        &rt,
-        rt.alloc(),
-        64,
-        &BEFORE,
-        &FROM_A_FAILURE_TO_WANT_OF_ROOM,
-    )
+fn each_case(rt: HostRuntime) -> Result<(), Memory> {
+    check_all(&rt, rt.alloc(), &CASES)
 }

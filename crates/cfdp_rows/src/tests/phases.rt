@@ -1,6 +1,6 @@
 //! Each event in each phase, and PDUs of another entity.
 
-use super::entity::{DEFAULT, Given, Row, Told, check, entity_of, hand_in, is_told};
+use super::entity::{Case, DEFAULT, Given, Row, Told, check_all, entity_of, hand_in, is_told};
 use cfdp_paths::Memory;
 use std::alloc::Global;
 use std::process::Abort;
@@ -169,7 +169,7 @@ fn each_event_in_each_phase(rt: HostRuntime) -> Result<(), Memory> {
     Ok(())
 }
 
-static PDUS_OF_ANOTHER_ENTITY: [Row; 8] = [
+const PDUS_OF_ANOTHER_ENTITY: &[Row] = &[
     Row::On(
         Given::Pdu("24000a00010a0307400000000f01730166"),
         Told::NotForUs,
@@ -195,12 +195,9 @@ static PDUS_OF_ANOTHER_ENTITY: [Row; 8] = [
     Row::Store(64, 62),
 ];
 
-#[test]
-fn pdus_of_another_entity(rt: HostRuntime) -> Result<(), Memory> {
-    check(&rt, rt.alloc(), DEFAULT, &PDUS_OF_ANOTHER_ENTITY)
-}
-
-static OCTETS_AT_THEIR_LIMITS: [Row; 17] = [
+/// File data that has no octets, comes twice with others, ends past the size that was declared, or past that of the EOF
+/// PDU.
+const OCTETS_AT_THEIR_LIMITS: &[Row] = &[
     Row::On(METADATA, Told::Admitted(2, 2)),
     Row::On(Given::Octets(10, u64::MAX, 0, 0), Told::Stored),
     Row::On(Given::Octets(10, 0, 15, 1), Told::Stored),
@@ -226,8 +223,12 @@ static OCTETS_AT_THEIR_LIMITS: [Row; 17] = [
     Row::Store(64, 64),
 ];
 
-/// File data that has no octets, comes twice with others, ends past the size that was declared, or past that of the EOF PDU.
+static CASES: [Case; 2] = [
+    (DEFAULT, PDUS_OF_ANOTHER_ENTITY),
+    (DEFAULT, OCTETS_AT_THEIR_LIMITS),
+];
+
 #[test]
-fn octets_at_their_limits(rt: HostRuntime) -> Result<(), Memory> {
-    check(&rt, rt.alloc(), DEFAULT, &OCTETS_AT_THEIR_LIMITS)
+fn each_case(rt: HostRuntime) -> Result<(), Memory> {
+    check_all(&rt, rt.alloc(), &CASES)
 }

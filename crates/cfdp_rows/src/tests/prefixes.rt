@@ -1,9 +1,9 @@
 //! Transactions over protected prefixes, and directories that move.
 
-use super::entity::{DEFAULT, Given, Limits, Row, Told, check};
+use super::entity::{Case, DEFAULT, Given, Limits, Row, Told, check_all};
 use cfdp_paths::Memory;
 
-static A_PROTECTED_DIRECTORY: [Row; 8] = [
+const A_PROTECTED_DIRECTORY: &[Row] = &[
     Row::On(
         Given::Pdu("24001800012802074000000000000000055003737973000700057379732f61"),
         Told::Admitted(2, 4),
@@ -32,20 +32,7 @@ static A_PROTECTED_DIRECTORY: [Row; 8] = [
     ),
 ];
 
-#[test]
-fn a_protected_directory(rt: HostRuntime) -> Result<(), Memory> {
-    check(
-        &rt,
-        rt.alloc(),
-        Limits {
-            protected: &[b"sys"],
-            ..DEFAULT
-        },
-        &A_PROTECTED_DIRECTORY,
-    )
-}
-
-static WHAT_STANDS_ABOVE_A_PREFIX: [Row; 8] = [
+const WHAT_STANDS_ABOVE_A_PREFIX: &[Row] = &[
     Row::On(
         Given::Pdu("24000f00014902074000000000000000055003737973"),
         Told::Admitted(1, 2),
@@ -74,20 +61,7 @@ static WHAT_STANDS_ABOVE_A_PREFIX: [Row; 8] = [
     Row::On(Given::Step(75), Told::Performed(0x60)),
 ];
 
-#[test]
-fn what_stands_above_a_prefix(rt: HostRuntime) -> Result<(), Memory> {
-    check(
-        &rt,
-        rt.alloc(),
-        Limits {
-            protected: &[b"sys/boot"],
-            ..DEFAULT
-        },
-        &WHAT_STANDS_ABOVE_A_PREFIX,
-    )
-}
-
-static A_DIRECTORY_MOVES: [Row; 7] = [
+const A_DIRECTORY_MOVES: &[Row] = &[
     Row::On(
         Given::Pdu("24000d0001150207400000000000000003500164"),
         Told::Admitted(1, 2),
@@ -115,12 +89,7 @@ static A_DIRECTORY_MOVES: [Row; 7] = [
     ),
 ];
 
-#[test]
-fn a_directory_moves(rt: HostRuntime) -> Result<(), Memory> {
-    check(&rt, rt.alloc(), DEFAULT, &A_DIRECTORY_MOVES)
-}
-
-static THE_LONGEST_LIST: [Row; 4] = [
+const THE_LONGEST_LIST: &[Row] = &[
     Row::On(
         Given::Pdu(
             "24014800014c0207400000000000000003000130000300013100030001320003000133000300013400030001350003000136000300013700030001380003000139000300013a000300013b000300013c000300013d000300013e000300013f0003000140000300014100030001420003000143000300014400030001450003000146000300014700030001480003000149000300014a000300014b000300014c000300014d000300014e000300014f0003000150000300015100030001520003000153000300015400030001550003000156000300015700030001580003000159000300015a000300015b000300015c000300015d000300015e000300015f0003000160000300016100030001620003000163000300016400030001650003000166000300016700030001680003000169000300016a000300016b000300016c000300016d000300016e000300016f",
@@ -137,7 +106,26 @@ static THE_LONGEST_LIST: [Row; 4] = [
     Row::On(Given::Take(77), Told::Unknown),
 ];
 
+static CASES: [Case; 4] = [
+    (
+        Limits {
+            protected: &[b"sys"],
+            ..DEFAULT
+        },
+        A_PROTECTED_DIRECTORY,
+    ),
+    (
+        Limits {
+            protected: &[b"sys/boot"],
+            ..DEFAULT
+        },
+        WHAT_STANDS_ABOVE_A_PREFIX,
+    ),
+    (DEFAULT, A_DIRECTORY_MOVES),
+    (DEFAULT, THE_LONGEST_LIST),
+];
+
 #[test]
-fn the_longest_list(rt: HostRuntime) -> Result<(), Memory> {
-    check(&rt, rt.alloc(), DEFAULT, &THE_LONGEST_LIST)
+fn each_case(rt: HostRuntime) -> Result<(), Memory> {
+    check_all(&rt, rt.alloc(), &CASES)
 }

@@ -1,9 +1,9 @@
 //! Transactions that have requests alone.
 
-use super::entity::{DEFAULT, Given, Limits, Row, Told, check};
+use super::entity::{Case, DEFAULT, Given, Limits, Row, Told, check_all};
 use cfdp_paths::Memory;
 
-static ONE_CREATE: [Row; 4] = [
+const ONE_CREATE: &[Row] = &[
     Row::On(
         Given::Pdu("24000d0001050207400000000000000003000161"),
         Told::Admitted(1, 2),
@@ -19,12 +19,7 @@ static ONE_CREATE: [Row; 4] = [
     ),
 ];
 
-#[test]
-fn one_create(rt: HostRuntime) -> Result<(), Memory> {
-    check(&rt, rt.alloc(), DEFAULT, &ONE_CREATE)
-}
-
-static THE_SAME_METADATA_TWICE: [Row; 2] = [
+const THE_SAME_METADATA_TWICE: &[Row] = &[
     Row::On(
         Given::Pdu("24000d0001050207400000000000000003000161"),
         Told::Admitted(1, 2),
@@ -35,12 +30,7 @@ static THE_SAME_METADATA_TWICE: [Row; 2] = [
     ),
 ];
 
-#[test]
-fn the_same_metadata_twice(rt: HostRuntime) -> Result<(), Memory> {
-    check(&rt, rt.alloc(), DEFAULT, &THE_SAME_METADATA_TWICE)
-}
-
-static NOTHING_TO_DO: [Row; 4] = [
+const NOTHING_TO_DO: &[Row] = &[
     Row::On(
         Given::Pdu("240008000106020740000000000000"),
         Told::Admitted(0, 0),
@@ -50,12 +40,7 @@ static NOTHING_TO_DO: [Row; 4] = [
     Row::On(Given::Take(6), Told::Finished("2c0002000106020503")),
 ];
 
-#[test]
-fn nothing_to_do(rt: HostRuntime) -> Result<(), Memory> {
-    check(&rt, rt.alloc(), DEFAULT, &NOTHING_TO_DO)
-}
-
-static A_LIST_THAT_WOULD_FAIL: [Row; 2] = [
+const A_LIST_THAT_WOULD_FAIL: &[Row] = &[
     Row::On(
         Given::Pdu("2400190001070207400000000000000003000161000520016101620003100161"),
         Told::WouldFail(2, 0x11),
@@ -66,12 +51,7 @@ static A_LIST_THAT_WOULD_FAIL: [Row; 2] = [
     ),
 ];
 
-#[test]
-fn a_list_that_would_fail(rt: HostRuntime) -> Result<(), Memory> {
-    check(&rt, rt.alloc(), DEFAULT, &A_LIST_THAT_WOULD_FAIL)
-}
-
-static TWO_SPELLINGS: [Row; 5] = [
+const TWO_SPELLINGS: &[Row] = &[
     Row::On(
         Given::Pdu("240013000108020740000000000000000400022f610003100161"),
         Told::Admitted(1, 4),
@@ -88,12 +68,7 @@ static TWO_SPELLINGS: [Row; 5] = [
     ),
 ];
 
-#[test]
-fn two_spellings(rt: HostRuntime) -> Result<(), Memory> {
-    check(&rt, rt.alloc(), DEFAULT, &TWO_SPELLINGS)
-}
-
-static THE_LONGEST_REQUESTS: [Row; 2] = [
+const THE_LONGEST_REQUESTS: &[Row] = &[
     Row::On(
         Given::Pdu(
             "24010800013702074000000000000000fe207d7070707070707070707070707070707070707070707070707070707070707070707070707070707070707070707070707070707070707070707070707070707070707070707070707070707070707070707070707070707070707070707070702f717171717171717171717171717171717171717171717171717171717e7070707070707070707070707070707070707070707070707070707070707070707070707070707070707070707070707070707070707070707070707070707070707070707070707070707070707070707070707070707070707070707070702f7272727272727272727272727272727272727272727272727272727272",
@@ -108,12 +83,7 @@ static THE_LONGEST_REQUESTS: [Row; 2] = [
     ),
 ];
 
-#[test]
-fn the_longest_requests(rt: HostRuntime) -> Result<(), Memory> {
-    check(&rt, rt.alloc(), DEFAULT, &THE_LONGEST_REQUESTS)
-}
-
-static NAMES_THAT_ARE_NO_PATHS: [Row; 2] = [
+const NAMES_THAT_ARE_NO_PATHS: &[Row] = &[
     Row::On(
         Given::Pdu("24001000011302074000000000000000060004612f2f62"),
         Told::BadName(0),
@@ -124,12 +94,7 @@ static NAMES_THAT_ARE_NO_PATHS: [Row; 2] = [
     ),
 ];
 
-#[test]
-fn names_that_are_no_paths(rt: HostRuntime) -> Result<(), Memory> {
-    check(&rt, rt.alloc(), DEFAULT, &NAMES_THAT_ARE_NO_PATHS)
-}
-
-static TWO_MAY_SHARE_A_DIRECTORY: [Row; 7] = [
+const TWO_MAY_SHARE_A_DIRECTORY: &[Row] = &[
     Row::On(
         Given::Pdu("24000d0001150207400000000000000003500164"),
         Told::Admitted(1, 2),
@@ -157,12 +122,7 @@ static TWO_MAY_SHARE_A_DIRECTORY: [Row; 7] = [
     ),
 ];
 
-#[test]
-fn two_may_share_a_directory(rt: HostRuntime) -> Result<(), Memory> {
-    check(&rt, rt.alloc(), DEFAULT, &TWO_MAY_SHARE_A_DIRECTORY)
-}
-
-static WHAT_IS_GIVEN_BACK_STAYS_WITH_ITS_TRANSACTION: [Row; 25] = [
+const WHAT_IS_GIVEN_BACK_STAYS_WITH_ITS_TRANSACTION: &[Row] = &[
     Row::On(
         Given::Pdu("24000c00013c02074000000258017303737263"),
         Told::Admitted(6, 2),
@@ -232,21 +192,7 @@ static WHAT_IS_GIVEN_BACK_STAYS_WITH_ITS_TRANSACTION: [Row; 25] = [
     ]),
 ];
 
-#[test]
-fn what_is_given_back_stays_with_its_transaction(rt: HostRuntime) -> Result<(), Memory> {
-    check(
-        &rt,
-        rt.alloc(),
-        Limits {
-            blocks: 16,
-            cap: 600,
-            ..DEFAULT
-        },
-        &WHAT_IS_GIVEN_BACK_STAYS_WITH_ITS_TRANSACTION,
-    )
-}
-
-static A_CANCELLED_LIST: [Row; 6] = [
+const A_CANCELLED_LIST: &[Row] = &[
     Row::On(
         Given::Pdu("24001700010c020740000000000000000300016100030001620003000163"),
         Told::Admitted(3, 6),
@@ -267,12 +213,7 @@ static A_CANCELLED_LIST: [Row; 6] = [
     ),
 ];
 
-#[test]
-fn a_cancelled_list(rt: HostRuntime) -> Result<(), Memory> {
-    check(&rt, rt.alloc(), DEFAULT, &A_CANCELLED_LIST)
-}
-
-static DENIED_ALREADY: [Row; 11] = [
+const DENIED_ALREADY: &[Row] = &[
     Row::On(
         Given::Pdu("24001400010e020740000000000000000370017a00058003792f7a"),
         Told::Admitted(0, 2),
@@ -307,12 +248,7 @@ static DENIED_ALREADY: [Row; 11] = [
     ),
 ];
 
-#[test]
-fn denied_already(rt: HostRuntime) -> Result<(), Memory> {
-    check(&rt, rt.alloc(), DEFAULT, &DENIED_ALREADY)
-}
-
-static NO_ROOM_FOR_AN_UNBOUNDED_FILE: [Row; 2] = [
+const NO_ROOM_FOR_AN_UNBOUNDED_FILE: &[Row] = &[
     Row::On(
         Given::Pdu("25000e00010f020740ffffffffffffffff01730166"),
         Told::NoRoom(4294967295, 64),
@@ -320,12 +256,7 @@ static NO_ROOM_FOR_AN_UNBOUNDED_FILE: [Row; 2] = [
     Row::On(Given::Take(15), Told::Finished("2d000500010f020545060102")),
 ];
 
-#[test]
-fn no_room_for_an_unbounded_file(rt: HostRuntime) -> Result<(), Memory> {
-    check(&rt, rt.alloc(), DEFAULT, &NO_ROOM_FOR_AN_UNBOUNDED_FILE)
-}
-
-static ACKNOWLEDGED_MODE: [Row; 3] = [
+const ACKNOWLEDGED_MODE: &[Row] = &[
     Row::On(
         Given::Pdu("200008000110020700000000000000"),
         Told::Admitted(0, 0),
@@ -334,12 +265,7 @@ static ACKNOWLEDGED_MODE: [Row; 3] = [
     Row::On(Given::Take(16), Told::Finished("280002000110020503")),
 ];
 
-#[test]
-fn acknowledged_mode(rt: HostRuntime) -> Result<(), Memory> {
-    check(&rt, rt.alloc(), DEFAULT, &ACKNOWLEDGED_MODE)
-}
-
-static NO_CLOSURE: [Row; 3] = [
+const NO_CLOSURE: &[Row] = &[
     Row::On(
         Given::Pdu("240008000111020700000000000000"),
         Told::Admitted(0, 0),
@@ -348,12 +274,7 @@ static NO_CLOSURE: [Row; 3] = [
     Row::On(Given::Take(17), Told::Ended(0)),
 ];
 
-#[test]
-fn no_closure(rt: HostRuntime) -> Result<(), Memory> {
-    check(&rt, rt.alloc(), DEFAULT, &NO_CLOSURE)
-}
-
-static TOO_MANY_STEPS: [Row; 7] = [
+const TOO_MANY_STEPS: &[Row] = &[
     Row::On(
         Given::Pdu("24000a0001410207400000007801730161"),
         Told::Admitted(2, 2),
@@ -379,12 +300,7 @@ static TOO_MANY_STEPS: [Row; 7] = [
     ),
 ];
 
-#[test]
-fn too_many_steps(rt: HostRuntime) -> Result<(), Memory> {
-    check(&rt, rt.alloc(), DEFAULT, &TOO_MANY_STEPS)
-}
-
-static AN_EOF_WITH_AN_ERROR: [Row; 3] = [
+const AN_EOF_WITH_AN_ERROR: &[Row] = &[
     Row::On(
         Given::Pdu("24000d00011a0207400000000000000003000161"),
         Told::Admitted(1, 2),
@@ -399,12 +315,7 @@ static AN_EOF_WITH_AN_ERROR: [Row; 3] = [
     ),
 ];
 
-#[test]
-fn an_eof_with_an_error(rt: HostRuntime) -> Result<(), Memory> {
-    check(&rt, rt.alloc(), DEFAULT, &AN_EOF_WITH_AN_ERROR)
-}
-
-static LEASES_OF_THOSE_THAT_ARE_OVER: [Row; 7] = [
+const LEASES_OF_THOSE_THAT_ARE_OVER: &[Row] = &[
     Row::On(
         Given::Pdu("24000d0001150207400000000000000003500164"),
         Told::Admitted(1, 2),
@@ -432,7 +343,34 @@ static LEASES_OF_THOSE_THAT_ARE_OVER: [Row; 7] = [
     ),
 ];
 
+static CASES: [Case; 17] = [
+    (DEFAULT, ONE_CREATE),
+    (DEFAULT, THE_SAME_METADATA_TWICE),
+    (DEFAULT, NOTHING_TO_DO),
+    (DEFAULT, A_LIST_THAT_WOULD_FAIL),
+    (DEFAULT, TWO_SPELLINGS),
+    (DEFAULT, THE_LONGEST_REQUESTS),
+    (DEFAULT, NAMES_THAT_ARE_NO_PATHS),
+    (DEFAULT, TWO_MAY_SHARE_A_DIRECTORY),
+    (
+        Limits {
+            blocks: 16,
+            cap: 600,
+            ..DEFAULT
+        },
+        WHAT_IS_GIVEN_BACK_STAYS_WITH_ITS_TRANSACTION,
+    ),
+    (DEFAULT, A_CANCELLED_LIST),
+    (DEFAULT, DENIED_ALREADY),
+    (DEFAULT, NO_ROOM_FOR_AN_UNBOUNDED_FILE),
+    (DEFAULT, ACKNOWLEDGED_MODE),
+    (DEFAULT, NO_CLOSURE),
+    (DEFAULT, TOO_MANY_STEPS),
+    (DEFAULT, AN_EOF_WITH_AN_ERROR),
+    (DEFAULT, LEASES_OF_THOSE_THAT_ARE_OVER),
+];
+
 #[test]
-fn leases_of_those_that_are_over(rt: HostRuntime) -> Result<(), Memory> {
-    check(&rt, rt.alloc(), DEFAULT, &LEASES_OF_THOSE_THAT_ARE_OVER)
+fn each_case(rt: HostRuntime) -> Result<(), Memory> {
+    check_all(&rt, rt.alloc(), &CASES)
 }

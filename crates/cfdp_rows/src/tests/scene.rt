@@ -71,6 +71,9 @@ impl Told {
 /// The destination and the bound of a file, where there is one; the requests' TLVs; and the verdict.
 pub type Row = (Option<(&'static [u8], u64)>, &'static [&'static [u8]], Told);
 
+/// The blocks of the store, what happens before, and the rows.
+pub type Case = (u32, &'static [Before], &'static [Row]);
+
 /// What a list is judged on.
 #[derive(Drop)]
 pub struct Scene {
@@ -356,6 +359,14 @@ pub fn check(
         Ok(()) => Ok(()),
         Err(_) => try_rows(rt, alloc, blocks, before, rows),
     }
+}
+
+/// Compares the verdicts of each case.
+pub fn check_all(rt: &impl Abort, alloc: Global, cases: &[Case]) -> Result<(), Memory> {
+    for (blocks, before, rows) in cases {
+        check(rt, alloc, *blocks, before, rows)?;
+    }
+    Ok(())
 }
 
 fn try_list(

@@ -1,10 +1,10 @@
 //! Transactions with a file, from their Metadata to their outcome.
 
-use super::entity::{DEFAULT, Given, Limits, Row, Told, check};
+use super::entity::{Case, DEFAULT, Given, Limits, Row, Told, check_all};
 use cfdp_paths::Memory;
 use cfdp_transactions::Phase;
 
-static A_FILE_IN_TWO_PIECES: [Row; 17] = [
+const A_FILE_IN_TWO_PIECES: &[Row] = &[
     Row::On(
         Given::Pdu("24000a00010a0207400000000f01730166"),
         Told::Admitted(2, 2),
@@ -36,12 +36,7 @@ static A_FILE_IN_TWO_PIECES: [Row; 17] = [
     Row::Standing(&[(b"f", Some((15, 0x181c2015)))]),
 ];
 
-#[test]
-fn a_file_in_two_pieces(rt: HostRuntime) -> Result<(), Memory> {
-    check(&rt, rt.alloc(), DEFAULT, &A_FILE_IN_TWO_PIECES)
-}
-
-static A_WRONG_CHECKSUM: [Row; 4] = [
+const A_WRONG_CHECKSUM: &[Row] = &[
     Row::On(
         Given::Pdu("24000a00010a0207400000000f01730166"),
         Told::Admitted(2, 2),
@@ -60,12 +55,7 @@ static A_WRONG_CHECKSUM: [Row; 4] = [
     ),
 ];
 
-#[test]
-fn a_wrong_checksum(rt: HostRuntime) -> Result<(), Memory> {
-    check(&rt, rt.alloc(), DEFAULT, &A_WRONG_CHECKSUM)
-}
-
-static CHECKS_UP_TO_THE_LIMIT: [Row; 8] = [
+const CHECKS_UP_TO_THE_LIMIT: &[Row] = &[
     Row::On(
         Given::Pdu("24000a00010b0207400000000f01730166"),
         Told::Admitted(2, 2),
@@ -82,12 +72,7 @@ static CHECKS_UP_TO_THE_LIMIT: [Row; 8] = [
     Row::On(Given::Take(11), Told::Finished("2c000500010b0205a4060102")),
 ];
 
-#[test]
-fn checks_up_to_the_limit(rt: HostRuntime) -> Result<(), Memory> {
-    check(&rt, rt.alloc(), DEFAULT, &CHECKS_UP_TO_THE_LIMIT)
-}
-
-static OCTETS_BEHIND_THE_EOF: [Row; 7] = [
+const OCTETS_BEHIND_THE_EOF: &[Row] = &[
     Row::On(
         Given::Pdu("24000a00010b0207400000000f01730166"),
         Told::Admitted(2, 2),
@@ -112,12 +97,7 @@ static OCTETS_BEHIND_THE_EOF: [Row; 7] = [
     Row::On(Given::Check(11), Told::Idle),
 ];
 
-#[test]
-fn octets_behind_the_eof(rt: HostRuntime) -> Result<(), Memory> {
-    check(&rt, rt.alloc(), DEFAULT, &OCTETS_BEHIND_THE_EOF)
-}
-
-static AN_OCTET_PAST_THE_CAP: [Row; 8] = [
+const AN_OCTET_PAST_THE_CAP: &[Row] = &[
     Row::On(
         Given::Pdu("24000a0001090207400000000001730166"),
         Told::Admitted(3, 2),
@@ -131,21 +111,7 @@ static AN_OCTET_PAST_THE_CAP: [Row; 8] = [
     Row::On(Given::Take(9), Told::Finished("2c0005000109020564060102")),
 ];
 
-#[test]
-fn an_octet_past_the_cap(rt: HostRuntime) -> Result<(), Memory> {
-    check(
-        &rt,
-        rt.alloc(),
-        Limits {
-            blocks: 64,
-            cap: 240,
-            ..DEFAULT
-        },
-        &AN_OCTET_PAST_THE_CAP,
-    )
-}
-
-static A_FILE_OF_THE_CAP: [Row; 5] = [
+const A_FILE_OF_THE_CAP: &[Row] = &[
     Row::On(
         Given::Pdu("24000a0001090207400000000001730166"),
         Told::Admitted(3, 2),
@@ -159,21 +125,7 @@ static A_FILE_OF_THE_CAP: [Row; 5] = [
     ),
 ];
 
-#[test]
-fn a_file_of_the_cap(rt: HostRuntime) -> Result<(), Memory> {
-    check(
-        &rt,
-        rt.alloc(),
-        Limits {
-            blocks: 64,
-            cap: 240,
-            ..DEFAULT
-        },
-        &A_FILE_OF_THE_CAP,
-    )
-}
-
-static A_FILE_APPENDED_TO_ITSELF: [Row; 8] = [
+const A_FILE_APPENDED_TO_ITSELF: &[Row] = &[
     Row::On(
         Given::Pdu("240011000132020740000000780173016100053001610161"),
         Told::Admitted(3, 5),
@@ -190,12 +142,7 @@ static A_FILE_APPENDED_TO_ITSELF: [Row; 8] = [
     Row::Standing(&[(b"a", Some((240, 0x3c3c3c3c)))]),
 ];
 
-#[test]
-fn a_file_appended_to_itself(rt: HostRuntime) -> Result<(), Memory> {
-    check(&rt, rt.alloc(), DEFAULT, &A_FILE_APPENDED_TO_ITSELF)
-}
-
-static A_FILE_OF_119_OCTETS_APPENDED_TO_ITSELF: [Row; 7] = [
+const A_FILE_OF_119_OCTETS_APPENDED_TO_ITSELF: &[Row] = &[
     Row::On(
         Given::Pdu("240011000132020740000000770173016100053001610161"),
         Told::Admitted(3, 5),
@@ -211,17 +158,7 @@ static A_FILE_OF_119_OCTETS_APPENDED_TO_ITSELF: [Row; 7] = [
     Row::Standing(&[(b"a", Some((238, 0x3c3c3b3b)))]),
 ];
 
-#[test]
-fn a_file_of_119_octets_appended_to_itself(rt: HostRuntime) -> Result<(), Memory> {
-    check(
-        &rt,
-        rt.alloc(),
-        DEFAULT,
-        &A_FILE_OF_119_OCTETS_APPENDED_TO_ITSELF,
-    )
-}
-
-static A_FILE_REPLACED: [Row; 21] = [
+const A_FILE_REPLACED: &[Row] = &[
     Row::On(
         Given::Pdu("24000a0001330207400000007801730161"),
         Told::Admitted(2, 2),
@@ -275,12 +212,7 @@ static A_FILE_REPLACED: [Row; 21] = [
     ]),
 ];
 
-#[test]
-fn a_file_replaced(rt: HostRuntime) -> Result<(), Memory> {
-    check(&rt, rt.alloc(), DEFAULT, &A_FILE_REPLACED)
-}
-
-static AN_UNKNOWN_CHECKSUM_TYPE: [Row; 2] = [
+const AN_UNKNOWN_CHECKSUM_TYPE: &[Row] = &[
     Row::On(
         Given::Pdu("24000a00011b0207420000000f01730166"),
         Told::Faulted(11),
@@ -288,12 +220,7 @@ static AN_UNKNOWN_CHECKSUM_TYPE: [Row; 2] = [
     Row::On(Given::Take(27), Told::Finished("2c000200011b0205b4")),
 ];
 
-#[test]
-fn an_unknown_checksum_type(rt: HostRuntime) -> Result<(), Memory> {
-    check(&rt, rt.alloc(), DEFAULT, &AN_UNKNOWN_CHECKSUM_TYPE)
-}
-
-static SEGMENT_METADATA: [Row; 7] = [
+const SEGMENT_METADATA: &[Row] = &[
     Row::On(Given::Pdu("34000708010a0281ff0000000041"), Told::Unknown),
     Row::On(
         Given::Pdu("24000a00010a0207400000000101730166"),
@@ -309,12 +236,7 @@ static SEGMENT_METADATA: [Row; 7] = [
     Row::Standing(&[(b"f", Some((1, 0x41000000)))]),
 ];
 
-#[test]
-fn segment_metadata(rt: HostRuntime) -> Result<(), Memory> {
-    check(&rt, rt.alloc(), DEFAULT, &SEGMENT_METADATA)
-}
-
-static AN_EMPTY_FILE: [Row; 11] = [
+const AN_EMPTY_FILE: &[Row] = &[
     Row::On(
         Given::Pdu("24000d000147020740000000000173046e6f6e65"),
         Told::Admitted(21, 2),
@@ -346,7 +268,36 @@ static AN_EMPTY_FILE: [Row; 11] = [
     ]),
 ];
 
+static CASES: [Case; 12] = [
+    (DEFAULT, A_FILE_IN_TWO_PIECES),
+    (DEFAULT, A_WRONG_CHECKSUM),
+    (DEFAULT, CHECKS_UP_TO_THE_LIMIT),
+    (DEFAULT, OCTETS_BEHIND_THE_EOF),
+    (
+        Limits {
+            blocks: 64,
+            cap: 240,
+            ..DEFAULT
+        },
+        AN_OCTET_PAST_THE_CAP,
+    ),
+    (
+        Limits {
+            blocks: 64,
+            cap: 240,
+            ..DEFAULT
+        },
+        A_FILE_OF_THE_CAP,
+    ),
+    (DEFAULT, A_FILE_APPENDED_TO_ITSELF),
+    (DEFAULT, A_FILE_OF_119_OCTETS_APPENDED_TO_ITSELF),
+    (DEFAULT, A_FILE_REPLACED),
+    (DEFAULT, AN_UNKNOWN_CHECKSUM_TYPE),
+    (DEFAULT, SEGMENT_METADATA),
+    (DEFAULT, AN_EMPTY_FILE),
+];
+
 #[test]
-fn an_empty_file(rt: HostRuntime) -> Result<(), Memory> {
-    check(&rt, rt.alloc(), DEFAULT, &AN_EMPTY_FILE)
+fn each_case(rt: HostRuntime) -> Result<(), Memory> {
+    check_all(&rt, rt.alloc(), &CASES)
 }

@@ -15,6 +15,9 @@ pub type Item = (Action, &'static [u8], &'static [u8], u8);
 /// The destination and the bound of a file, where there is one; the requests; the need and the steps.
 pub type Row = (Option<(&'static [u8], u64)>, &'static [Item], u32, u32);
 
+/// The blocks of the store, what happens before, and the rows.
+type Case = (u32, &'static [Before], &'static [Row]);
+
 /// The requests of a row.
 pub fn requests(rt: &impl Abort, alloc: Global, items: &[Item]) -> Result<Vec<Request>, Memory> {
     let mut requests = Vec::new(alloc);
@@ -106,6 +109,14 @@ fn check(
     }
 }
 
+/// Runs the rows of each case.
+fn check_all(rt: &impl Abort, alloc: Global, cases: &[Case]) -> Result<(), Memory> {
+    for (blocks, before, rows) in cases {
+        check(rt, alloc, *blocks, before, rows)?;
+    }
+    Ok(())
+}
+
 const TWO_SPELLINGS: &[Item] = &[
     (Action::CreateFile, b"a", b"", 0x00),
     (Action::DeleteFile, b"/a", b"", 0x10),
@@ -124,57 +135,30 @@ const GONE: &[Item] = &[
     (Action::DeleteFile, b"a", b"", 0x11),
 ];
 
-static EACH_REQUEST_STANDS_ON_THOSE_BEFORE: [Row; 3] = [
+const EACH_REQUEST_STANDS_ON_THOSE_BEFORE: &[Row] = &[
     (None, TWO_SPELLINGS, 1, 4),
     (None, MOVED, 2, 7),
     (None, GONE, 1, 5),
 ];
 
-#[test]
-fn each_request_stands_on_those_before(rt: HostRuntime) -> Result<(), Memory> {
-    check(
-        &rt,
-        rt.alloc(),
-        64,
-        &[],
-        &EACH_REQUEST_STANDS_ON_THOSE_BEFORE,
-    )
-}
-
 const DOUBLED: &[Item] = &[(Action::AppendFile, b"a", b"a", 0x30)];
 
-static A_DELIVERED_FILE_IS_DOUBLED: [Row; 3] = [
+const A_DELIVERED_FILE_IS_DOUBLED: &[Row] = &[
     (Some((b"a", 120)), DOUBLED, 3, 5),
     (Some((b"a", 119)), DOUBLED, 3, 5),
     // Sizes and counts stop at the greatest numbers.
     (Some((b"a", u64::MAX)), DOUBLED, u32::MAX, u32::MAX),
 ];
 
-#[test]
-fn a_delivered_file_is_doubled(rt: HostRuntime) -> Result<(), Memory> {
-    check(&rt, rt.alloc(), 64, &[], &A_DELIVERED_FILE_IS_DOUBLED)
-}
-
-static TWO_FILES: [Before; 2] = [
+const TWO_FILES: &[Before] = &[
     Before::Delivered(b"a", 120),
     Before::Performed(b"\x00\x03\x00\x01b"),
 ];
 
-static A_FILE_REPLACES_ITSELF_AND_ANOTHER: [Row; 2] = [
+const A_FILE_REPLACES_ITSELF_AND_ANOTHER: &[Row] = &[
     (None, &[(Action::ReplaceFile, b"a", b"a", 0x40)], 0, 1),
     (None, &[(Action::ReplaceFile, b"b", b"a", 0x40)], 1, 3),
 ];
-
-#[test]
-fn a_file_replaces_itself_and_another(rt: HostRuntime) -> Result<(), Memory> {
-    check(
-        &rt,
-        rt.alloc(),
-        16,
-        &TWO_FILES,
-        &A_FILE_REPLACES_ITSELF_AND_ANOTHER,
-    )
-}
 
 const FREED_FIRST: &[Item] = &[
     (Action::DeleteFile, b"old", b"", 0x10),
@@ -186,30 +170,19 @@ const FREED_LAST: &[Item] = &[
     (Action::DenyFile, b"old", b"", 0x70),
 ];
 
-static TWO_FULL_FILES_AND_AN_EMPTY_ONE: [Before; 3] = [
+const TWO_FULL_FILES_AND_AN_EMPTY_ONE: &[Before] = &[
     Before::Delivered(b"src", 600),
     Before::Delivered(b"old", 600),
     Before::Performed(b"\x00\x05\x00\x03log"),
 ];
 
-static WHAT_IS_GIVEN_BACK_FIRST_IS_NOT_NEEDED: [Row; 2] = [
+const WHAT_IS_GIVEN_BACK_FIRST_IS_NOT_NEEDED: &[Row] = &[
     (None, FREED_FIRST, 0, 18),
     (None, FREED_LAST, 5, 18),
 ];
 
-#[test]
-fn what_is_given_back_first_is_not_needed(rt: HostRuntime) -> Result<(), Memory> {
-    check(
-        &rt,
-        rt.alloc(),
-        16,
-        &TWO_FULL_FILES_AND_AN_EMPTY_ONE,
-        &WHAT_IS_GIVEN_BACK_FIRST_IS_NOT_NEEDED,
-    )
-}
-
 /// A file below a protected directory.
-static PROTECTED: [Before; 3] = [
+const PROTECTED: &[Before] = &[
     Before::Protected(b"sys"),
     Before::Performed(b"\x00\x05\x50\x03sys"),
     Before::Performed(b"\x00\x07\x00\x05sys/a"),
@@ -222,19 +195,31 @@ const KEPT: &[Item] = &[
     (Action::RenameFile, b"sys", b"s", 0x23),
 ];
 
-static WHAT_IS_PROTECTED_STAYS: [Row; 3] = [
+const WHAT_IS_PROTECTED_STAYS: &[Row] = &[
     (None, KEPT, 0, 4),
     (Some((b"sys/b", 15)), &[], 2, 2),
     (Some((b"sys/b", 15)), KEPT, 2, 6),
 ];
 
+static CASES: [Case; 5] = [
+    (64, &[], EACH_REQUEST_STANDS_ON_THOSE_BEFORE),
+    (64, &[], A_DELIVERED_FILE_IS_DOUBLED),
+    (16, TWO_FILES, A_FILE_REPLACES_ITSELF_AND_ANOTHER),
+    (
+        16,
+        TWO_FULL_FILES_AND_AN_EMPTY_ONE,
+        WHAT_IS_GIVEN_BACK_FIRST_IS_NOT_NEEDED,
+    ),
+    (64, PROTECTED, WHAT_IS_PROTECTED_STAYS),
+];
+
 #[test]
-fn what_is_protected_stays(rt: HostRuntime) -> Result<(), Memory> {
-    check(&rt, rt.alloc(), 64, &PROTECTED, &WHAT_IS_PROTECTED_STAYS)
+fn each_case(rt: HostRuntime) -> Result<(), Memory> {
+    check_all(&rt, rt.alloc(), &CASES)
 }
 
 fn install_refused(rt: &impl Abort, alloc: Global) -> Result<(), Memory> {
-    let scene = Scene::new(rt, alloc, 64, &PROTECTED)?;
+    let scene = Scene::new(rt, alloc, 64, PROTECTED)?;
     let kept = requests(rt, alloc, KEPT)?;
     let allowed = path_of(rt, alloc, b"sys/b")?;
     for name in [b"sys/a".as_slice(), b"sys", b"x/y"] {

@@ -1,0 +1,252 @@
+//! The worked examples of the format, the faults, and a slow reader beside the real one.
+
+mod limits;
+mod meanings;
+mod slow;
+mod writing;
+
+use cfdp_pdus::*;
+use std::alloc::{AllocError, Global};
+use std::process::Abort;
+use std::test::Fail;
+
+// PDUs as they stand in worked examples, as a writer writes them: Metadata, File Data, EOF and Finished.
+static WRITTEN: [&str; 38] = [
+    "24000d00010502 0740 00000000 0000 0003000161",
+    "24000a00010502 0400 00000000 00000000",
+    "2c0008000105020503010400016100",
+    "24000800010602 0740 00000000 0000",
+    "2c0002000106020503",
+    "24001900010702 0740 00000000 0000 0003000161 00052001610162 0003100161",
+    "2c0019000107020547 01040f016100 01062f0161016200 01041f016100 060102",
+    "24001300010802 0740 00000000 0000 000400022f61 0003100161",
+    "2c000f00010802 0503 010500022f6100 010410016100",
+    "24000a00010902 0740 00000000 0173 0166",
+    "2c0005000109020564060102",
+    "24000a00010a02 0740 0000000f 0173 0166",
+    "34000b00010a02 00000008 08090a0b0c0d0e",
+    "34000e00010a02 00000000 00010203040506070809",
+    "24000a00010a02 0400 181c2015 0000000f",
+    "2c000200010a020502",
+    "24000a00010b02 0740 0000000f 0173 0166",
+    "2c000500010b0205a4060102",
+    "24001700010c02 0740 00000000 0000 0003000161 0003000162 0003000163",
+    "2c001700010c02 05f3 010400016100 01040f016200 01040f016300 060102",
+    "24001400010e02 0740 00000000 0000 000370017a 00058003792f7a",
+    "2c001000010e02 0503 010470017a00 01068003792f7a00",
+    "25000e00010f02 0740 ffffffffffffffff 0173 0166",
+    "2d000500010f020545060102",
+    "20000800011002 0700 00000000 0000",
+    "28000200011002 0503",
+    "24000800011102 0700 00000000 0000",
+    "24000a00011202 0740 00000000 0173 0166",
+    "24001000011302 0740 00000000 0000 00060004612f2f62",
+    "24000b00011402 0740 00000000 0173 022e2e",
+    "24000d00011a02 04f0 00000000 00000000 060101",
+    "2c000b00011a02 05f7 01040f016100 060101",
+    "24000a00011b02 0742 0000000f 0173 0166",
+    "2c000200011b0205b4",
+    "24001100010602 0740 00000078 0173 0161 00053001610161",
+    "24001100010602 0740 00000077 0173 0161 00053001610161",
+    "24000a00010602 0400 1e1e1e1e 00000078",
+    "24000a00010602 0400 1e1e1e1d 00000077",
+];
+
+// Others: four that are not ours, segment metadata, and two fault locations.
+static OTHERS: [&str; 6] = [
+    "24000300010502 065000",
+    "34000708010a0281ff0000000041",
+    "2c001200010502 0503 020161 060102 010400016100 06020103",
+    "24000100010502 08",
+    "24000100010502 09",
+    "24000100010502 0c",
+];
+
+// The value of a hexadecimal digit.
+fn digit(octet: u8) -> u8 {
+    match octet {
+        b'0'..=b'9' => octet - b'0',
+        b'a'..=b'f' => octet - b'a' + 10,
+        _ => 0,
+    }
+}
+
+// The octets that hexadecimal digits say, spaces apart.
+fn octets(alloc: Global, text: &str) -> Result<Vec<u8>, AllocError> {
+    let mut out = Vec::new(alloc);
+    let mut high = None;
+    for octet in text.as_bytes() {
+        if *octet == b' ' {
+            continue;
+        }
+        match high {
+            None => high = Some(digit(*octet)),
+            Some(first) => {
+                out.push(first.wrapping_mul(16).wrapping_add(digit(*octet)))?;
+                high = None;
+            }
+        }
+    }
+    Ok(out)
+}
+
+// The two readers agree.
+fn agree(rt: &impl Abort, alloc: Global, pdu: &[u8]) {
+    let read = read_pdu(alloc, pdu);
+    let slowly = slow::read(alloc, pdu);
+    assert!(rt; read == slowly, "{pdu:?}");
+}
+
+// They agree on each beginning.
+fn agree_on_cuts(rt: &impl Abort, alloc: Global, pdu: &[u8]) {
+    for len in 0..pdu.len() {
+        agree(rt, alloc, &pdu[..len]);
+    }
+}
+
+// They agree where one bit is another.
+fn agree_on_changes(rt: &impl Abort, alloc: Global, pdu: &mut [u8]) {
+    for place in 0..pdu.len() {
+        for bit in 0..8u32 {
+            pdu[place] ^= 1 << bit;
+            agree(rt, alloc, pdu);
+            pdu[place] ^= 1 << bit;
+        }
+    }
+}
+
+// They agree on a PDU, each of its beginnings, and on it with one bit changed.
+fn agree_around(rt: &impl Abort, alloc: Global, pdu: &mut [u8]) {
+    assert!(rt; read_pdu(alloc, pdu).is_ok(), "{pdu:?}");
+    agree(rt, alloc, pdu);
+    agree_on_cuts(rt, alloc, pdu);
+    agree_on_changes(rt, alloc, pdu);
+}
+
+fn agree_around_each(rt: &impl Abort, alloc: Global, examples: &[&str]) -> Result<(), Fail> {
+    for example in examples {
+        agree_around(rt, alloc, &mut octets(alloc, example)?);
+    }
+    Ok(())
+}
+
+#[test]
+fn as_the_slow_reader(rt: HostRuntime) -> Result<(), Fail> {
+    agree_around_each(&rt, rt.alloc(), &WRITTEN)?;
+    agree_around_each(&rt, rt.alloc(), &OTHERS)
+}
+
+// A header and an offset, and so many octets 01 behind them.
+fn data(alloc: Global, before: &str, len: usize) -> Result<Vec<u8>, AllocError> {
+    let mut pdu = octets(alloc, before)?;
+    pdu.extend_from_slice(&vec![in alloc; 1; len]?)?;
+    Ok(pdu)
+}
+
+#[test]
+fn data_as_the_slow_reader(rt: HostRuntime) -> Result<(), Fail> {
+    let alloc = rt.alloc();
+    agree_around(
+        &rt,
+        alloc,
+        &mut data(alloc, "34007c00010602 00000000", 120)?,
+    );
+    agree_around(
+        &rt,
+        alloc,
+        &mut data(alloc, "34007b00010602 00000000", 119)?,
+    );
+    Ok(())
+}
+
+// What is no PDU, and its fault.
+static FAULTS: [(&str, PduFault); 23] = [
+    ("", PduFault::Truncated),
+    (
+        "04000d00010502 0740 00000000 0000 0003000161",
+        PduFault::BadVersion,
+    ),
+    (
+        "26000d00010502 0740 00000000 0000 0003000161",
+        PduFault::CrcNotSupported,
+    ),
+    ("06", PduFault::BadVersion),
+    ("26", PduFault::CrcNotSupported),
+    ("240001", PduFault::Truncated),
+    ("2400010001", PduFault::Truncated),
+    ("24000200010502 07", PduFault::Truncated),
+    (
+        "24000d00010502 0740 00000000 0000 0003000161 00",
+        PduFault::LengthMismatch,
+    ),
+    (
+        "24000d00010502 0740 00000000 0000 0003900161",
+        PduFault::BadTlv,
+    ),
+    (
+        "24000d00010502 0a40 00000000 0000 0003000161",
+        PduFault::BadDirective,
+    ),
+    ("24000000010502", PduFault::LengthMismatch),
+    ("24000100010502 07", PduFault::LengthMismatch),
+    ("24000100010502 0a", PduFault::BadDirective),
+    ("24000700010502 0740 00000000 05", PduFault::LengthMismatch),
+    ("34000108010a02 81", PduFault::LengthMismatch),
+    ("34000300010a02 000000", PduFault::LengthMismatch),
+    (
+        "24000800010502 0400 00000000 0000",
+        PduFault::LengthMismatch,
+    ),
+    ("24000b00010502 0400 00000000 00000000 06", PduFault::BadTlv),
+    ("2c000400010502 0503 0600", PduFault::BadTlv),
+    (
+        "2c000d00010502 0503 0609 000000000000000001",
+        PduFault::BadTlv,
+    ),
+    ("2c000800010502 0503 0104 02016100", PduFault::BadTlv),
+    ("2c000300010502 0503 01", PduFault::BadTlv),
+];
+
+// The fault of the octets that hexadecimal digits say.
+fn fault_of(alloc: Global, text: &str) -> Result<Option<PduFault>, AllocError> {
+    Ok(read_pdu(alloc, &octets(alloc, text)?).err())
+}
+
+#[test]
+fn faults(rt: HostRuntime) {
+    for (text, fault) in &FAULTS {
+        assert!(rt; fault_of(rt.alloc(), text) == Ok(Some(*fault)), "{text}");
+    }
+}
+
+// A field that is wrong behind one that is right.
+static WRONG_BEHIND_RIGHT: [&[u8]; 4] = [
+    // a request, and one with no action
+    b"\x24\x00\x12\x00\x01\x05\x02\x07\x40\x00\x00\x00\x00\x00\x00\x00\x03\x00\x01a\x00\x03\x90\x01a",
+    // a request, and a field that is cut
+    b"\x24\x00\x0f\x00\x01\x05\x02\x07\x40\x00\x00\x00\x00\x00\x00\x00\x03\x00\x01a\x00\x03",
+    // a response, and one with no status
+    b"\x2c\x00\x0e\x00\x01\x05\x02\x05\x03\x01\x04\x00\x01a\x00\x01\x04\x02\x01a\x00",
+    // a response, and an entity ID of no octet
+    b"\x2c\x00\x0a\x00\x01\x05\x02\x05\x03\x01\x04\x00\x01a\x00\x06\x00",
+];
+
+// It is found before memory is asked for, so each allocation may be refused.
+#[test]
+fn faults_before_memory(rt: HostRuntime) {
+    for pdu in &WRONG_BEHIND_RIGHT {
+        let fault = read_pdu(rt.alloc(), pdu).err();
+        assert!(rt; fault == Some(PduFault::BadTlv), "{pdu:?}");
+    }
+}
+
+// A PDU of 20 octets that is cut anywhere is truncated.
+#[test]
+fn cuts(rt: HostRuntime) -> Result<(), Fail> {
+    let pdu = octets(rt.alloc(), WRITTEN[0])?;
+    for len in 0..pdu.len() {
+        let fault = read_pdu(rt.alloc(), &pdu[..len]).err();
+        assert!(rt; fault == Some(PduFault::Truncated), "{len}");
+    }
+    Ok(())
+}

@@ -1,0 +1,121 @@
+//! An engine, and what it is handed. Where there is no memory a test ends, and fails.
+
+use cfdp_actions::{ListStore, Protected};
+use cfdp_engine::{Journaled, Message, Shared};
+use cfdp_paths::Memory;
+use cfdp_pdus::read_pdu;
+use cfdp_status::TransactionId;
+use cfdp_transactions::{Config, Core, Event, event_of};
+use crossbeam_channel::{Receiver, bounded};
+use std::alloc::{AllocError, Global};
+use std::process::Abort;
+use std::sync::{Arc, Wait};
+
+/// What is handed in: a PDU of a transaction of entity 1, or something of the entity's own.
+#[derive(Clone, Copy)]
+pub enum Given {
+    /// The Metadata PDU of 1/5: no file, and one request, to create `a`.
+    Create,
+    /// The Metadata PDU of a transaction with neither a file nor a request, closure requested.
+    Bare(u8),
+    /// The EOF PDU of a transaction without a file.
+    End(u8),
+    /// The first three octets of a PDU.
+    Cut,
+    /// An ACK PDU, which no receiving entity takes.
+    Ack,
+    /// Steps, until there is nothing to step.
+    Run,
+    Cancel(u8),
+    Take(u8),
+}
+
+/// The octets of a PDU.
+fn octets(alloc: Global, given: Given) -> Result<Vec<u8>, Memory> {
+    match given {
+        Given::Create => Vec::from_slice(
+            alloc,
+            b"\x24\x00\x0d\x00\x01\x05\x02\x07\x40\0\0\0\0\0\0\0\x03\0\x01a",
+        ),
+        Given::Bare(number) => Vec::from_slice(
+            alloc,
+            &[0x24, 0, 8, 0, 1, number, 2, 7, 0x40, 0, 0, 0, 0, 0, 0],
+        ),
+        Given::End(number) => Vec::from_slice(
+            alloc,
+            &[0x24, 0, 10, 0, 1, number, 2, 4, 0, 0, 0, 0, 0, 0, 0, 0, 0],
+        ),
+        Given::Cut => Vec::from_slice(alloc, b"\x24\x00\x0d"),
+        Given::Ack => Vec::from_slice(alloc, b"\x24\x00\x03\x00\x01\x05\x02\x06\x50\x00"),
+        Given::Run | Given::Cancel(_) | Given::Take(_) => Ok(Vec::new(alloc)),
+    }
+}
+
+/// The transaction of entity 1 with this number.
+pub fn id(number: u8) -> TransactionId {
+    TransactionId {
+        source: 1,
+        number: u64::from(number),
+    }
+}
+
+/// The event of a PDU.
+fn event_in(alloc: Global, given: Given) -> Result<Event, Memory> {
+    let octets = octets(alloc, given)?;
+    match read_pdu(alloc, &octets) {
+        Ok(pdu) => event_of(pdu).map_err(|_| AllocError),
+        Err(_) => Err(AllocError),
+    }
+}
+
+/// What is handed in as an event.
+pub fn event(rt: &impl Abort, alloc: Global, given: Given) -> Arc<Event, Global> {
+    let event = match given {
+        Given::Cancel(number) => Event::Cancel(id(number)),
+        Given::Take(number) => Event::Take(id(number)),
+        _ => event_in(alloc, given).expect(rt, "an event"),
+    };
+    Arc::new(alloc, event).expect(rt, "memory")
+}
+
+/// What is handed in as a message to a worker: PDUs by their octets.
+pub fn message(rt: &impl Abort, alloc: Global, given: Given) -> Message {
+    match given {
+        Given::Run => Message::Run,
+        Given::Cancel(_) | Given::Take(_) => Message::Event(event(rt, alloc, given)),
+        _ => Message::Pdu(octets(alloc, given).expect(rt, "memory")),
+    }
+}
+
+/// A closed inbox of at most 16 messages.
+pub fn inbox(
+    rt: &(impl Abort + Wait),
+    alloc: Global,
+    given: &[Given],
+) -> Receiver<Message, Global> {
+    let (to, inbox) = bounded(alloc, 16).expect(rt, "memory");
+    for given in given {
+        let sent = to.send(rt, message(rt, alloc, *given)).is_ok();
+        assert!(rt; sent);
+    }
+    inbox
+}
+
+/// Entity 2 that has just begun, of 64 blocks, with room for so many entries in its journal.
+fn make(alloc: Global, entries: u32) -> Result<Journaled<ListStore>, Memory> {
+    let Ok(config) = Config::new(2, 64, 2400, 2, entries, Protected::new()) else {
+        return Err(AllocError);
+    };
+    let store = ListStore::new(alloc, 64)?;
+    let core = Core::new(alloc, config, store)?;
+    Journaled::new(alloc, core)
+}
+
+pub fn journaled(rt: &impl Abort, alloc: Global, entries: u32) -> Journaled<ListStore> {
+    make(alloc, entries).expect(rt, "memory")
+}
+
+/// The same, to be shared.
+pub fn shared(rt: &impl Abort, alloc: Global, entries: u32) -> Shared<ListStore> {
+    Shared::new(journaled(rt, alloc, entries))
+}

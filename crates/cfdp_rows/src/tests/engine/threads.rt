@@ -1,0 +1,211 @@
+//! Several workers at once.
+
+use super::scene::{Given, inbox, message, shared};
+use super::workers::{Open, is_closed};
+use cfdp_actions::ListStore;
+use cfdp_engine::{Gate, Message, Seat, Shared, Worked, close, work};
+use cfdp_transactions::Reply;
+use crossbeam_channel::{Receiver, Sender, bounded};
+use std::alloc::Global;
+use std::process::Abort;
+use std::sync::Wait;
+use std::sync::atomic::{AtomicBool, Ordering};
+use std::thread;
+use std::thread::Threads;
+use std::time::{Clock, Duration};
+
+/// A gate that holds seat 1 at turn 0 until seat 0 has come to turn 0, and seat 0 there until seat 1 has come to turn 1. It
+/// gives up after 10,000 looks, with about a millisecond between two.
+#[derive(Drop)]
+struct Crossing<C: Clock + Drop> {
+    clock: C,
+    zero_came: AtomicBool,
+    one_came_again: AtomicBool,
+    gave_up: AtomicBool,
+}
+
+impl<C: Clock + Drop> Crossing<C> {
+    fn new(clock: C) -> Crossing<C> {
+        Crossing {
+            clock,
+            zero_came: AtomicBool::new(false),
+            one_came_again: AtomicBool::new(false),
+            gave_up: AtomicBool::new(false),
+        }
+    }
+
+    fn hold(&self, until: &AtomicBool) {
+        for _ in 0..10_000 {
+            if until.load(Ordering::SeqCst) {
+                return;
+            }
+            thread::sleep(&self.clock, Duration::from_millis(1));
+        }
+        self.gave_up.store(true, Ordering::SeqCst);
+    }
+}
+
+impl<C: Clock + Drop> Gate for Crossing<C> {
+    fn pass<R: Wait>(&self, _rt: &R, seat: u8, turn: u64) {
+        match (seat, turn) {
+            (0, 0) => {
+                self.zero_came.store(true, Ordering::SeqCst);
+                self.hold(&self.one_came_again);
+            }
+            (1, 0) => self.hold(&self.zero_came),
+            (1, 1) => self.one_came_again.store(true, Ordering::SeqCst),
+            _ => {}
+        }
+    }
+}
+
+/// Two workers at once, with these numbers and inboxes.
+fn two<R: Threads + Wait + Sync, G: Gate + Sync>(
+    rt: &R,
+    alloc: Global,
+    shared: &Shared<ListStore>,
+    gate: &G,
+    (one, ones): (u8, Receiver<Message, Global>),
+    (other, others): (u8, Receiver<Message, Global>),
+) -> (Worked, Worked) {
+    thread::join(
+        rt,
+        || work(rt, alloc, shared, Seat::new(alloc, one), ones, gate),
+        || work(rt, alloc, shared, Seat::new(alloc, other), others, gate),
+    )
+}
+
+/// Whether the engine closes with two seats, and begins with an event of this one that was admitted.
+fn begins_with(
+    rt: &impl Abort,
+    alloc: Global,
+    engine: Shared<ListStore>,
+    one: Seat,
+    two: Seat,
+    seat: u8,
+) -> bool {
+    let mut seats = Vec::with_capacity(alloc, 2).expect(rt, "memory");
+    seats.push_reserved(one);
+    seats.push_reserved(two);
+    match close(engine.into_journaled(), seats) {
+        Ok(closed) => match closed.journal.first() {
+            Some(entry) => entry.seat == seat && entry.reply.same(&Reply::Admitted(0, 0)),
+            None => false,
+        },
+        Err(_) => false,
+    }
+}
+
+#[test]
+fn two_workers_are_at_work_at_once(rt: HostRuntime) {
+    let alloc = rt.alloc();
+    let engine = shared(&rt, alloc, 1000);
+    let crossing = Crossing::new(rt);
+    let zero = inbox(&rt, alloc, &[Given::Create]);
+    let one = inbox(&rt, alloc, &[Given::Bare(6), Given::End(6)]);
+    let (zero, one) = two(&rt, alloc, &engine, &crossing, (0, zero), (1, one));
+    assert!(rt; !crossing.gave_up.load(Ordering::SeqCst));
+    assert_eq!(rt; (zero.stopped, one.stopped), (None, None));
+    assert_eq!(rt;
+        (zero.seat.receipts().len(), one.seat.receipts().len()),
+        (1, 2)
+    );
+    assert!(rt; begins_with(&rt, alloc, engine, zero.seat, one.seat, 1));
+}
+
+/// How many messages each of four workers gets.
+const EACH: u32 = 1_000;
+
+/// The message with this number: the worker's transaction begins, ends and is taken, over and over.
+fn in_turn(worker: u8, number: u32) -> Given {
+    match number % 3 {
+        0 => Given::Bare(worker),
+        1 => Given::End(worker),
+        _ => Given::Take(worker),
+    }
+}
+
+/// Sends workers their messages, one to each in turn.
+fn feed(rt: &(impl Wait + Abort), alloc: Global, workers: Vec<Sender<Message, Global>>) {
+    for number in 0..EACH {
+        for (worker, to) in (0..4u8).zip(workers.iter()) {
+            let message = message(rt, alloc, in_turn(worker, number));
+            let sent = to.send(rt, message).is_ok();
+            assert!(rt; sent);
+        }
+    }
+}
+
+/// Whether the replies of a worker are those to its messages.
+fn are_in_turn(seat: &Seat) -> bool {
+    for (number, receipt) in seat.receipts().iter().enumerate() {
+        match (number % 3, &receipt.reply) {
+            (0, Reply::Admitted(0, 0)) | (1, Reply::Done) | (2, Reply::Taken(_)) => {}
+            _ => return false,
+        }
+    }
+    true
+}
+
+/// The worker's seat, where it took all its messages.
+fn seat_of(rt: &impl Abort, worked: Worked) -> Seat {
+    let Worked {
+        seat,
+        taken,
+        dropped,
+        stopped,
+    } = worked;
+    assert_eq!(rt; stopped, None);
+    assert_eq!(rt;
+        (taken.len(), dropped, seat.receipts().len()),
+        (1_000, 0, 1_000)
+    );
+    assert!(rt; are_in_turn(&seat));
+    seat
+}
+
+/// Both ends of an inbox of 16.
+fn ends(
+    rt: &impl Abort,
+    alloc: Global,
+    senders: &mut Vec<Sender<Message, Global>>,
+) -> Receiver<Message, Global> {
+    let (to, inbox) = bounded(alloc, 16).expect(rt, "memory");
+    let kept = senders.push(to).is_ok();
+    assert!(rt; kept);
+    inbox
+}
+
+/// Four workers while they are fed.
+fn four<R: Threads + Wait + Abort + Sync>(
+    rt: &R,
+    alloc: Global,
+    shared: &Shared<ListStore>,
+) -> ((Worked, Worked), (Worked, Worked)) {
+    let mut senders = Vec::new(alloc);
+    let zero = ends(rt, alloc, &mut senders);
+    let one = ends(rt, alloc, &mut senders);
+    let second = ends(rt, alloc, &mut senders);
+    let third = ends(rt, alloc, &mut senders);
+    let low = || two(rt, alloc, shared, &Open, (0, zero), (1, one));
+    let high = || two(rt, alloc, shared, &Open, (2, second), (3, third));
+    thread::join(
+        rt,
+        || feed(rt, alloc, senders),
+        || thread::join(rt, low, high),
+    )
+    .1
+}
+
+#[test]
+fn four_workers_take_a_thousand_events_each(rt: HostRuntime) {
+    let alloc = rt.alloc();
+    let engine = shared(&rt, alloc, 4 * EACH);
+    let ((zero, one), (second, third)) = four(&rt, alloc, &engine);
+    let mut seats = Vec::with_capacity(alloc, 4).expect(&rt, "memory");
+    seats.push_reserved(seat_of(&rt, zero));
+    seats.push_reserved(seat_of(&rt, one));
+    seats.push_reserved(seat_of(&rt, second));
+    seats.push_reserved(seat_of(&rt, third));
+    assert!(rt; is_closed(engine, seats));
+}

@@ -1,0 +1,117 @@
+//! Calls of a store that ask first whether what they need holds.
+
+ghost use Rattle.std.specs.Prelude.{◌<◌};
+
+use cfdp_actions::{BLOCK_OCTETS, Filestore, Kind, Request, entry_checksum};
+use cfdp_paths::{Memory, Path};
+use cfdp_status::Action;
+use std::alloc::Global;
+use std::test::Fail;
+
+/// The request for an action at its names. No second name: empty.
+pub fn request(
+    alloc: Global,
+    action: Action,
+    first: &[u8],
+    second: &[u8],
+) -> Result<Request, Fail> {
+    let first = Path::parse(alloc, first)?;
+    let second = if second.is_empty() {
+        None
+    } else {
+        Some(Path::parse(alloc, second)?)
+    };
+    Ok(Request::new(action, first, second).ok_or("a name too few or too many")?)
+}
+
+/// Stages the octets and installs them at a path at which a file or nothing stands. The ticks of both; `None` where
+/// it does not fit or may not be.
+pub fn deliver<S: Filestore>(
+    store: &mut S,
+    path: &Path,
+    octets: &[u8],
+) -> Result<Option<(u32, u32)>, Memory> {
+    let size = octets.len() as u64;
+    if store.staged_size(0) > 0 {
+        return Ok(None);
+    }
+    let Some(staged) = extend(store, 0, size)? else {
+        return Ok(None);
+    };
+    if store.staged_size(0) != size {
+        return Ok(None);
+    }
+    store.stage_put(0, 0, octets);
+    match install(store, 0, path)? {
+        Some(installed) => Ok(Some((staged, installed))),
+        None => Ok(None),
+    }
+}
+
+/// Installs what is staged in the slot; `None` where it may not be.
+pub fn install<S: Filestore>(store: &mut S, slot: u8, path: &Path) -> Result<Option<u32>, Memory>
+    requires { slot < 64 }
+{
+    if !store.parent_is_good(path) || store.free() == 0 {
+        return Ok(None);
+    }
+    match store.kind(path) {
+        Some(Kind::Directory) => Ok(None),
+        Some(Kind::File) | None => Ok(Some(store.install(slot, path)?)),
+    }
+}
+
+/// The octets of the file at the path, if a file stands there.
+pub fn contents<S: Filestore>(
+    store: &S,
+    alloc: Global,
+    path: &Path,
+) -> Result<Option<Vec<u8>>, Memory> {
+    match store.kind(path) {
+        Some(Kind::File) => {
+            let mut octets = vec![in alloc; 0; store.size(path) as usize]?;
+            store.read(path, 0, octets.as_mut_slice());
+            Ok(Some(octets))
+        }
+        Some(Kind::Directory) | None => Ok(None),
+    }
+}
+
+/// Extends what is staged in the slot; `None` where that does not fit into the free blocks.
+#[tactic(auto, unfolding(cfdp_actions::specs::Filestore::blocks_of))]
+pub fn extend<S: Filestore>(store: &mut S, slot: u8, size: u64) -> Result<Option<u32>, Memory>
+    requires { slot < 64 }
+{
+    if size > 7864320
+        || store.staged_size(slot) > size
+        || (size + (BLOCK_OCTETS - 1)) / BLOCK_OCTETS > u64::from(store.free())
+    {
+        return Ok(None);
+    }
+    Ok(Some(store.stage_extend(slot, size)?))
+}
+
+/// What is staged in the slot.
+pub fn staged<S: Filestore>(store: &S, alloc: Global, slot: u8) -> Result<Vec<u8>, Memory>
+    requires { slot < 64 }
+{
+    let mut octets = vec![in alloc; 0; store.staged_size(slot) as usize]?;
+    store.read_staged(slot, 0, octets.as_mut_slice());
+    Ok(octets)
+}
+
+/// The names of the longest path at or below the path, if anything stands there.
+pub fn deepest<S: Filestore>(store: &S, path: &Path) -> Option<u8> {
+    match store.kind(path) {
+        Some(_) => Some(store.deepest(path)),
+        None => None,
+    }
+}
+
+/// The checksum of the file at the path, if a file stands there.
+pub fn checksum<S: Filestore>(store: &S, path: &Path) -> Option<u32> {
+    match store.kind(path) {
+        Some(Kind::File) => Some(entry_checksum(store, path)),
+        Some(Kind::Directory) | None => None,
+    }
+}
