@@ -1,0 +1,119 @@
+-- A run that is held, while the arena changes.
+--     others_keep, held_others, octets_others, nth_others     the run of another owner
+--     others_then                                 the others stay twice
+--     others_grown, was_free                      and so does what was free
+--     octets_are                                  the octets of a live block
+--     held_part                                   a block of a run is live, and a part of it
+--     released_live, released_rest, released_others      its blocks are given back from the first on
+--     put_held, put_nth, put_others, put_octets   one of its payloads is written
+use Rattle.std.proofs.Common.{◌≡◌, ◌≢◌, ℕ, suc, ◌+◌, ◌-◌, ◌*◌, ◌<◌, ◌≤◌, List, length, Option, Some, None, refl, sym, ap, ◌∙◌, subst, inl, inr, arith}
+use Rattle.std.proofs.lemmas.List.{get_or-set_other}
+use Rattle.std.proofs.lemmas.Bool.{cases_eq}
+use Rattle.std.specs.Prelude.{IsSome}
+use Rattle.cfdp_arena.specs.Arena.{Blocks, octets_at, IsLive, with_block, without_block}
+use Rattle.cfdp_actions.specs.Store.{overwritten}
+use Rattle.cfdp_tree.specs.declared.runs.Run.{Run}
+use Rattle.cfdp_tree.specs.Block.{header_of, payload}
+use Rattle.cfdp_tree.specs.Runs.{octets, header_in, next_in, IsPart, IsRun, nth, run_octets, IsHeld, octets_in, IsOf, OthersStay}
+use Rattle.cfdp_tree.proofs.RunLaws.{nth_part, KeepsFrom, beyond_keeps, kept_run, kept_octets, kept_nth, written_run, written_nth, written_octets}
+
+-- twice
+pub others_then : (first second third : Blocks) (run : Run) → OthersStay first second run → OthersStay second third run → OthersStay first third run
+others_then first second third run stay still b live not_of =
+    let was : octets_at second b ≡ octets_at first b = stay b live not_of in
+    still b (subst IsSome (sym was) live) (λ of. not_of (subst (IsOf run) was of)) ∙ was
+
+-- the second time by a run with one block more
+pub others_grown : (first second third : Blocks) (run after : Run) → OthersStay first second run → OthersStay second third run → 0 < after.count → (0 < run.count → after.first ≡ run.first) → OthersStay first third after
+others_grown first second third run after stay still some same b live not_of =
+    others_then first second third run stay still b live (λ of. not_of (some, of.1 ∙ sym (same of.0)))
+
+-- what is free is no block that stayed
+pub was_free : (entry later : Option (List ℕ)) → (IsSome entry → later ≡ entry) → later ≡ None → entry ≡ None
+was_free None later stays free = refl
+was_free (Some o) later stays free = sym (stays refl) ∙ free
+
+-- what `bytes` shows
+pub octets_are : (arena : Blocks) (block : ℕ) (shown : List ℕ) → octets_at arena block ≡ Some shown → shown ≡ octets (octets_at arena block)
+octets_are arena block shown e = sym (ap octets e)
+
+-- another run, where it has another first block
+module _ (old new : Blocks) (run other : Run) (stay : OthersStay old new run) (differ : 0 < run.count → 0 < other.count → other.first ≢ run.first) (held : IsHeld old other) where
+  others_keep : 0 < other.count → KeepsFrom other.first 0 old new
+  others_keep some block r le part = stay block part.live (λ h. differ h.0 some (sym part.owner_is ∙ h.1))
+
+  held_keeps : KeepsFrom other.first 0 old new → IsHeld new other
+  held_keeps keeps = record {
+    parts = kept_run old new other.first 0 other.count other.first keeps held.parts;
+    last = (λ some. held.last some ∙ sym (kept_nth old new other.first 0 other.count other.first (other.count - 1) keeps held.parts (omega arith)));
+  }
+
+  pub held_others : IsHeld new other
+  held_others = elim (cases_eq other.count 0) [
+    | inl none ↦ record { parts = subst (λ n. IsRun new other.first 0 n other.first) (sym none) tt; last = (λ some. absurd (omega arith)) }
+    | inr some ↦ held_keeps (others_keep (omega arith))
+  ]
+
+  pub octets_others : octets_in new other ≡ octets_in old other
+  octets_others = elim (cases_eq other.count 0) [
+    | inl none ↦ ap (λ n. run_octets new n other.first) none ∙ sym (ap (λ n. run_octets old n other.first) none)
+    | inr some ↦ kept_octets old new other.first 0 other.count other.first (others_keep (omega arith)) held.parts
+  ]
+
+  pub nth_others : (k : ℕ) → k ≤ other.count → nth new other.first k ≡ nth old other.first k
+  nth_others k within = elim (cases_eq other.count 0) [
+    | inl none ↦ (let start : k ≡ 0 = omega arith in ap (nth new other.first) start ∙ sym (ap (nth old other.first) start))
+    | inr some ↦ kept_nth old new other.first 0 other.count other.first k (others_keep (omega arith)) held.parts within
+  ]
+
+-- a block of a run
+module _ (arena : Blocks) (run : Run) (held : IsHeld arena run) (k : ℕ) (within : k < run.count) (block : ℕ) (block_is : block ≡ nth arena run.first k) where
+  pub held_part : IsPart run.first k (octets_at arena block)
+  held_part = subst (λ b. IsPart run.first k (octets_at arena b)) (sym block_is) (nth_part arena run.first 0 run.count run.first k k held.parts within (omega arith))
+
+  module _ (new : List ℕ) (whole : length new ≡ 128) (same : header_of new ≡ header_in (octets_at arena block)) where
+    same_there : header_of new ≡ header_in (octets_at arena (nth arena run.first k))
+    same_there = same ∙ ap (λ b. header_in (octets_at arena b)) block_is
+
+    pub put_nth : (j : ℕ) → j ≤ run.count → nth (with_block arena block new) run.first j ≡ nth arena run.first j
+    put_nth j reach = ap (λ b. nth (with_block arena b new) run.first j) block_is ∙ written_nth arena run.first new whole 0 run.count run.first k j held.parts within reach same_there
+
+    pub put_held : IsHeld (with_block arena block new) run
+    put_held = record {
+      parts = subst (λ b. IsRun (with_block arena b new) run.first 0 run.count run.first) (sym block_is) (written_run arena run.first new whole 0 run.count run.first k held.parts within same_there);
+      last = (λ some. held.last some ∙ sym (put_nth (run.count - 1) (omega arith)));
+    }
+
+    pub put_others : OthersStay arena (with_block arena block new) run
+    put_others b live not_of =
+        get_or-set_other arena block b (Some new) None (λ e. not_of (omega arith, ap (λ x. (header_in (octets_at arena x)).owner) e ∙ held_part.owner_is))
+
+    pub put_octets : (place : ℕ) (part : List ℕ) → place + length part ≤ 120 → payload new ≡ overwritten (payload (octets (octets_at arena block))) place part
+        → octets_in (with_block arena block new) run ≡ overwritten (octets_in arena run) (120 * k + place) part
+    put_octets place part inside written =
+        ap (λ b. run_octets (with_block arena b new) run.count run.first) block_is
+        ∙ written_octets arena run.first new whole place part inside 0 run.count run.first k (120 * k + place) held.parts within same_there
+        (written ∙ ap (λ b. overwritten (payload (octets (octets_at arena b))) place part) block_is) refl
+
+-- i blocks of the run are given back, and the next one is
+module _ (start now : Blocks) (run : Run) (i block : ℕ) (within : i < run.count) (parts : IsRun now run.first i (run.count - i) block) where
+  these : IsRun now run.first i (suc (run.count - (i + 1))) block
+  these = let more : run.count - i ≡ suc (run.count - (i + 1)) = omega arith in subst (λ n. IsRun now run.first i n block) more parts
+
+  pub released_live : IsLive now block
+  released_live = these.0.live
+
+  pub released_rest : IsRun (without_block now block) run.first (i + 1) (run.count - (i + 1)) (next_in (octets_at now block))
+  released_rest =
+      let rank : suc i ≡ i + 1 = omega arith in
+      let next = next_in (octets_at now block) in
+      let n = run.count - (i + 1) in
+      subst (λ r. IsRun (without_block now block) run.first r n next) rank
+      (kept_run now (without_block now block) run.first (suc i) n next (beyond_keeps now run.first i block None these.0) these.1)
+
+  pub released_others : OthersStay start now run → OthersStay start (without_block now block) run
+  released_others stay b live not_of =
+      let was : octets_at now b ≡ octets_at start b = stay b live not_of in
+      get_or-set_other now block b None None
+      (λ e. not_of (omega arith, ap (λ entry. (header_in entry).owner) (sym was) ∙ ap (λ x. (header_in (octets_at now x)).owner) e ∙ these.0.owner_is))
+      ∙ was

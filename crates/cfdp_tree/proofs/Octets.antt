@@ -1,0 +1,128 @@
+-- Octets put in the place of others, in a list that is two lists joined.
+--     overwritten-left, overwritten-right     in the first of them, in the second
+--     overwritten-join, overwritten-none      one part after another, and no octets
+--     take_parts, slice_is, slice_join        the first octets in two parts;  a slice, and two of them joined
+--     reached, step_write, step_read, step_copy   how far a walk by blocks has come, and what one block more adds
+--     slice-left, slice-right                 a slice of two lists joined
+use Rattle.std.proofs.Common.{◌≡◌, ℕ, suc, zero, ◌+◌, ◌-◌, ◌*◌, ◌<◌, ◌≤◌, min, max, List, [], ◌∷◌, ◌++◌, length, take, drop, sym, ap, ◌∙◌, arith, append_assoc, append-nil, length-append, length-drop}
+use Rattle.std.proofs.lemmas.List.{take-append-le, drop-append-le, length-take-le, take_at, drop-drop, take-append-drop, take-take}
+use Rattle.std.proofs.lemmas.Slice.{between_is, take-put_mid}
+use borrow.Rule.Slice.PartMut.{put_mid}
+use Rattle.std.specs.Prelude.{slice_range}
+use Rattle.cfdp_actions.specs.Store.{overwritten}
+
+pub take-right : (xs ys : List ℕ) (at j : ℕ) → j ≡ length xs + at → take j (xs ++ ys) ≡ xs ++ take at ys
+take-right [] ys at j e = let same : j ≡ at = omega arith in ap (λ n. take n ys) same
+take-right (x ∷ xs) ys at zero e = absurd (omega arith)
+take-right (x ∷ xs) ys at (suc j) e = ap (λ rest. x ∷ rest) (take-right xs ys at j (omega arith))
+
+pub drop-right : (xs ys : List ℕ) (at j : ℕ) → j ≡ length xs + at → drop j (xs ++ ys) ≡ drop at ys
+drop-right [] ys at j e = let same : j ≡ at = omega arith in ap (λ n. drop n ys) same
+drop-right (x ∷ xs) ys at zero e = absurd (omega arith)
+drop-right (x ∷ xs) ys at (suc j) e = drop-right xs ys at j (omega arith)
+
+pub overwritten-left : (xs ys : List ℕ) (at : ℕ) (part : List ℕ) → at + length part ≤ length xs → overwritten (xs ++ ys) at part ≡ overwritten xs at part ++ ys
+overwritten-left xs ys at part within =
+    (λ k. take-append-le at xs ys (omega arith) k ++ part ++ drop-append-le (at + length part) xs ys within k)
+    ∙ sym (append_assoc (take at xs ++ part) (drop (at + length part) xs) ys)
+
+pub overwritten-right : (xs ys : List ℕ) (at j : ℕ) (part : List ℕ) → j ≡ length xs + at → overwritten (xs ++ ys) j part ≡ xs ++ overwritten ys at part
+overwritten-right xs ys at j part e =
+    (λ k. take-right xs ys at j e k ++ part ++ drop-right xs ys (at + length part) (j + length part) (omega arith) k)
+    ∙ ap (λ front. front ++ drop (at + length part) ys) (append_assoc xs (take at ys) part)
+    ∙ append_assoc xs (take at ys ++ part) (drop (at + length part) ys)
+
+-- one part after the other
+pub overwritten-join : (xs part more : List ℕ) (at j : ℕ) → at ≤ length xs → j ≡ at + length part → overwritten (overwritten xs at part) j more ≡ overwritten xs at (part ++ more)
+overwritten-join xs part more at j within e =
+    let front = take at xs ++ part in
+    let back = drop (at + length part) xs in
+    let long : length front ≡ j = omega (arith, length-append (take at xs) part, length-take-le at xs within) in
+    let end : at + length part + length more ≡ at + length (part ++ more) = omega (arith, length-append part more) in
+    (λ k. take_at front back j long k ++ more ++ drop-right front back (length more) (j + length more) (omega arith) k)
+    ∙ (λ k. append_assoc (take at xs) part more k ++ drop-drop (length more) (at + length part) xs k)
+    ∙ ap (λ n. take at xs ++ (part ++ more) ++ drop n xs) end
+
+pub overwritten-none : (xs : List ℕ) (at : ℕ) → overwritten xs at [] ≡ xs
+overwritten-none xs at =
+    let none : at + 0 ≡ at = omega arith in
+    (λ k. append-nil (take at xs) k ++ drop (none k) xs) ∙ take-append-drop at xs
+
+-- the first n octets are the first m, and those from there on
+pub take_parts : (xs : List ℕ) (m n : ℕ) → m ≤ n → take n xs ≡ take m xs ++ slice_range xs m n
+take_parts xs m n le = sym (take-append-drop m (take n xs)) ∙ (λ k. take-take m n xs le k ++ sym (between_is xs m n) k)
+
+-- a slice of the first list, and of the second
+pub slice-left : (xs ys : List ℕ) (at count : ℕ) → at + count ≤ length xs → take count (drop at (xs ++ ys)) ≡ take count (drop at xs)
+slice-left xs ys at count within =
+    ap (λ zs. take count zs) (drop-append-le at xs ys (omega arith)) ∙ take-append-le count (drop at xs) ys (omega (arith, length-drop at xs))
+
+pub slice-right : (xs ys : List ℕ) (at j count : ℕ) → j ≡ length xs + at → take count (drop j (xs ++ ys)) ≡ take count (drop at ys)
+slice-right xs ys at j count e = ap (λ zs. take count zs) (drop-right xs ys at j e)
+
+pub slice_is : (xs : List ℕ) (at end count : ℕ) → end ≡ at + count → slice_range xs at end ≡ take count (drop at xs)
+slice_is xs at end count e = let same : end - at ≡ count = omega arith in ap (λ n. take n (drop at xs)) same
+
+-- a part of the list, and the part behind it
+pub slice_join : (xs : List ℕ) (a b c : ℕ) → a ≤ b → b ≤ c → slice_range xs a b ++ slice_range xs b c ≡ slice_range xs a c
+slice_join xs a b c ab bc =
+    let m = b - a in
+    let there : a + m ≡ b = omega arith in
+    let behind : drop m (drop a xs) ≡ drop b xs = drop-drop m a xs ∙ ap (λ n. drop n xs) there in
+    let fewer : c - a - m ≡ c - b = omega arith in
+    sym (take_parts (drop a xs) m (c - a) (omega arith)
+    ∙ (λ k. take m (drop a xs) ++ take (fewer k) (behind k)))
+
+-- how many octets of those from at to end lie before a block
+abbrev pub reached : ℕ → ℕ → ℕ → ℕ
+reached at end index = max at (min end (120 * index)) - at
+
+-- one block more
+module _ (at end index start stop : ℕ) (start_is : start ≡ max at (120 * index)) (stop_is : stop ≡ min end (120 * index + 120)) (at_end : at ≤ end) (before : 120 * index < end) (behind : at < 120 * index + 120) where
+  reached_now : reached at end index ≡ start - at
+  reached_now = omega arith
+
+  reached_next : reached at end (index + 1) ≡ stop - at
+  reached_next = omega arith
+
+  -- written
+  pub step_write : (old octets : List ℕ) (j : ℕ) → at ≤ length old → end ≡ at + length octets → j ≡ start
+      → overwritten (overwritten old at (take (reached at end index) octets)) j (slice_range octets (start - at) (stop - at)) ≡ overwritten old at (take (reached at end (index + 1)) octets)
+  step_write old octets j within long j_is =
+      let m = start - at in
+      let part = slice_range octets m (stop - at) in
+      ap (λ n. overwritten (overwritten old at (take n octets)) j part) reached_now
+      ∙ overwritten-join old (take m octets) part at j within (omega (arith, length-take-le m octets (omega arith)))
+      ∙ ap (λ xs. overwritten old at xs) (sym (take_parts octets m (stop - at) (omega arith)))
+      ∙ ap (λ n. overwritten old at (take n octets)) (sym reached_next)
+
+  -- read
+  pub step_read : (all buffer piece : List ℕ) → take (reached at end index) buffer ≡ take (reached at end index) (drop at all) → piece ≡ take (stop - start) (drop start all) → length piece ≡ stop - start → end ≡ at + length buffer
+      → take (reached at end (index + 1)) (put_mid (start - at) (stop - at - (start - at)) buffer piece) ≡ take (reached at end (index + 1)) (drop at all)
+  step_read all buffer piece so_far piece_is whole long =
+      let m = start - at in
+      let n = stop - at in
+      let there : at + m ≡ start = omega arith in
+      let rest : n - m ≡ stop - start = omega arith in
+      let full : n ≡ m + length piece = omega arith in
+      ap (λ i. take i (put_mid m (n - m) buffer piece)) reached_next
+      ∙ take-put_mid m (n - m) buffer piece n full (omega arith)
+      ∙ (λ k. take (sym reached_now k) buffer ++ piece)
+      ∙ (λ k. so_far k ++ piece_is k)
+      ∙ (λ k. take (reached_now k) (drop at all) ++ take (sym rest k) (drop (sym there k) all))
+      ∙ (λ k. take m (drop at all) ++ take (n - m) (sym (drop-drop m at all) k))
+      ∙ sym (take_parts (drop at all) m n (omega arith))
+      ∙ ap (λ i. take i (drop at all)) (sym reached_next)
+
+-- one block more is copied
+pub step_copy : (old source : List ℕ) (at count index n j : ℕ) → at ≤ length old → count ≤ length source → 120 * index < count → n ≡ min 120 (count - index * 120) → j ≡ at + 120 * index
+    → overwritten (overwritten old at (take (min count (120 * index)) source)) j (slice_range source (120 * index) (120 * index + n)) ≡ overwritten old at (take (min count (120 * (index + 1))) source)
+step_copy old source at count index n j within long before n_is j_is =
+    let m = 120 * index in
+    let now : min count (120 * index) ≡ m = omega arith in
+    let next : m + n ≡ min count (120 * (index + 1)) = omega arith in
+    let part = slice_range source m (m + n) in
+    ap (λ i. overwritten (overwritten old at (take i source)) j part) now
+    ∙ overwritten-join old (take m source) part at j within (omega (arith, length-take-le m source (omega arith)))
+    ∙ ap (overwritten old at) (sym (take_parts source m (m + n) (omega arith)))
+    ∙ ap (λ i. overwritten old at (take i source)) next

@@ -1,0 +1,46 @@
+use Rattle.std.proofs.Common.{◌-◌, ◌*◌, take, drop, replicate, sym, ap, ◌∙◌, arith}
+use Rattle.cfdp_tree.specs.Runs.{octets_in}
+use Rattle.cfdp_tree.proofs.RunLaws.{length-run}
+use Rattle.cfdp_tree.proofs.Filling.{extended_octets, extended_zeros, blocks_of-fits, blocks_of-le, blocks_of-most, blocks_of-some, blocks_of-none}
+use Rattle.cfdp_tree.proofs.contents.Contents.extend.Goals as goal
+
+pub grow_to-requires-clause-more : goal.grow_to-requires-clause-more
+grow_to-requires-clause-more c =
+    omega (arith, c.requires.filled.blocks, c.blocks_of.ensures, blocks_of-le c.args.self.now.size c.args.size c.requires.longer)
+
+pub grow_to-requires-clause-few : goal.grow_to-requires-clause-few
+grow_to-requires-clause-few c = omega (arith, c.blocks_of.ensures, blocks_of-most c.args.size c.requires.most)
+
+pub returns-clause-filled : goal.returns-clause-filled
+returns-clause-filled c =
+    let f = c.requires.filled in let old = c.args.self.now in let run = old.run in let size = c.args.size in let n = c.blocks_of.result in let g = c.grow_to.ensures in
+    let xs = octets_in c.args.arena.now run in
+    let long = length-run c.args.arena.now run.first 0 run.count run.first f.held.parts in
+    let least = blocks_of-fits old.size in
+    let fits = blocks_of-fits size in
+    let more = blocks_of-le old.size size c.requires.longer in
+    record {
+      held = g.held;
+      blocks = g.count ∙ c.blocks_of.ensures;
+      zeros = ap (drop size) g.octets
+          ∙ extended_zeros xs old.size run.count long (omega (arith, f.blocks, least)) f.zeros size n c.requires.longer (omega (arith, c.blocks_of.ensures, fits)) (omega (arith, f.blocks, c.blocks_of.ensures, more))
+          ∙ ap (λ k. replicate (120 * k - size) 0) (sym g.count);
+    }
+
+pub returns-clause-octets : goal.returns-clause-octets
+returns-clause-octets c =
+    let f = c.requires.filled in let old = c.args.self.now in let run = old.run in let size = c.args.size in let n = c.blocks_of.result in let g = c.grow_to.ensures in
+    let xs = octets_in c.args.arena.now run in
+    let long = length-run c.args.arena.now run.first 0 run.count run.first f.held.parts in
+    let least = blocks_of-fits old.size in
+    let fits = blocks_of-fits size in
+    let more = blocks_of-le old.size size c.requires.longer in
+    ap (take size) g.octets
+    ∙ extended_octets xs old.size run.count long (omega (arith, f.blocks, least)) f.zeros size n c.requires.longer (omega (arith, c.blocks_of.ensures, fits)) (omega (arith, f.blocks, c.blocks_of.ensures, more))
+
+pub returns-clause-first : goal.returns-clause-first
+returns-clause-first c = (λ some. c.grow_to.ensures.first (omega (arith, c.requires.filled.blocks, blocks_of-some c.args.self.now.size some)))
+
+pub returns-clause-fresh : goal.returns-clause-fresh
+returns-clause-fresh c =
+    (λ none some. c.grow_to.ensures.fresh (c.requires.filled.blocks ∙ blocks_of-none c.args.self.now.size none) (omega (arith, c.blocks_of.ensures, blocks_of-some c.args.size some)))

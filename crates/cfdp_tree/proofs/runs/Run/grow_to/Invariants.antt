@@ -1,0 +1,18 @@
+use Rattle.std.proofs.Common.{◌≡◌, ◌+◌, ◌-◌, ◌*◌, ◌<◌, ◌≤◌, ◌++◌, length, replicate, None}
+use Rattle.cfdp_arena.specs.Arena.{free_count, octets_at}
+use Rattle.cfdp_tree.specs.Runs.{IsHeld, OthersStay, octets_in}
+use Rattle.cfdp_tree.proofs.runs.Run.grow_to.Given as goal
+
+abbrev pub invariant-loop-block : goal.invariant-loop-block
+invariant-loop-block l = record {
+  held : IsHeld l.arena l.self;
+  count : l.self.count ≡ l._block;
+  more : l.fn.self.count ≤ l._block;
+  most : l._block ≤ l.count;
+  octets : octets_in l.arena l.self ≡ octets_in l.fn.arena l.fn.self ++ replicate (120 * (l._block - l.fn.self.count)) 0;
+  taken : free_count l.arena + l._block ≡ free_count l.fn.arena + l.fn.self.count;
+  size : length l.arena ≡ length l.fn.arena;
+  others : OthersStay l.fn.arena l.arena l.self;
+  first : 0 < l.fn.self.count → l.self.first ≡ l.fn.self.first;
+  fresh : l.fn.self.count ≡ 0 → 0 < l._block → octets_at l.fn.arena l.self.first ≡ None;
+}

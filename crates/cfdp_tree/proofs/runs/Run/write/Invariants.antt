@@ -1,0 +1,18 @@
+use Rattle.std.proofs.Common.{◌≡◌, take, length}
+use Rattle.cfdp_arena.specs.Arena.{free_count}
+use Rattle.cfdp_actions.specs.Store.{overwritten}
+use Rattle.cfdp_tree.specs.Runs.{IsHeld, IsAt, OthersStay, octets_in}
+use Rattle.cfdp_tree.proofs.Octets.{reached}
+use Rattle.cfdp_tree.proofs.runs.Run.write.Given as goal
+
+abbrev pub invariant-loop-index : goal.invariant-loop-index
+invariant-loop-index l = record {
+  held : IsHeld l.arena l.self;
+  octets : octets_in l.arena l.self ≡ overwritten (octets_in l.fn.arena l.self) l.at (take (reached l.at l.end l.index) l.octets);
+  place : IsAt l.arena l.self l.cursor;
+  index : l.cursor.index ≡ l.index;
+  last : IsAt l.arena l.self l.last;
+  free : free_count l.arena ≡ free_count l.fn.arena;
+  size : length l.arena ≡ length l.fn.arena;
+  others : OthersStay l.fn.arena l.arena l.self;
+}

@@ -1,0 +1,12 @@
+use Rattle.std.proofs.Common.{ap, ◌∙◌, ◌+◌}
+use Rattle.cfdp_arena.specs.Arena.{free_count}
+use Rattle.cfdp_arena.specs.Blocks.{blank_block}
+use Rattle.cfdp_tree.proofs.Counts.{free_count-taken}
+use Rattle.cfdp_tree.proofs.GrowLaws.{taken_written}
+use Rattle.cfdp_tree.proofs.runs.begin.Goals as goal
+
+pub returns-clause-taken : goal.returns-clause-taken
+returns-clause-taken c =
+    let a = c.args.arena.now in let t = c.take_block-block in
+    ap (λ x. free_count x + 1) (taken_written a t.new.arena t.result blank_block c.set_tag.new.block t.ensures.zeros)
+    ∙ free_count-taken a t.result c.set_tag.new.block t.ensures.was_free t.ensures.within

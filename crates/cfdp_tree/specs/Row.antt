@@ -1,0 +1,45 @@
+-- A node's block: what stands at one path of the tree, and its links. Its payload begins with 24 octets of numbers, the
+-- low octet first, and its name stands in the last 96 octets of the block. A link of a node to its own number stands for
+-- none.
+--     octets 8 and 9      the parent: the directory's number, its own where the root is the parent
+--     octets 10 and 11    of a file the first block of its octets, of a directory its first entry
+--     octets 12 and 13    of a file the last block of its octets
+--     octets 14 to 17     of a file how many octets it has, of a directory how many entries
+--     octet 18            0 for a directory, 1 for a file
+--     octet 19            how many octets the name has
+--     octets 20 and 21    the next node of the same index head
+--     octets 22 and 23    the next entry of the parent
+--     octets 24 and 25    the entry of the parent before it
+--     octets 26 to 31     nothing
+--     octets 32 to 127    the name, and zeros
+--     Row, row_of         what a node's block says
+--     name_of             its name
+use Rattle.std.specs.Prelude.{ℕ, ◌+◌, ◌*◌, List, slice_index_or, take, drop}
+use Rattle.cfdp_tree.specs.Block.{number_at}
+
+pub record Row : Type 0 where
+  pub parent : ℕ
+  pub first : ℕ
+  pub last : ℕ
+  pub size : ℕ
+  pub kind : ℕ
+  pub name_length : ℕ
+  pub same_head : ℕ
+  pub next_entry : ℕ
+  pub previous_entry : ℕ
+
+abbrev pub row_of : List ℕ → Row
+row_of block = record {
+  parent = number_at block 8;
+  first = number_at block 10;
+  last = number_at block 12;
+  size = number_at block 14 + 65536 * number_at block 16;
+  kind = slice_index_or block 18 0;
+  name_length = slice_index_or block 19 0;
+  same_head = number_at block 20;
+  next_entry = number_at block 22;
+  previous_entry = number_at block 24;
+}
+
+abbrev pub name_of : List ℕ → List ℕ
+name_of block = take (row_of block).name_length (drop 32 block)

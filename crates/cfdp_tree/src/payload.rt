@@ -1,0 +1,25 @@
+//! The payload of a block: the octets after its header.
+ghost use Rattle.std.specs.Prelude.{◌≡◌, ◌+◌, ◌≤◌, length, slice_range};
+ghost use Rattle.cfdp_arena.specs.Blocks.{with_part};
+ghost use Rattle.cfdp_tree.specs.Block.{payload};
+
+use crate::header::HEADER_OCTETS;
+use cfdp_arena::Block;
+
+/// Puts octets into a block's payload from the place `at` in it on. The rest of the block stays.
+pub(crate) fn put_part(block: &mut Block, at: usize, part: &[u8])
+    requires within { at + length part.now ≤ 120 }
+    ensures { block.new ≡ with_part block.old at part.now }
+{
+    let start = HEADER_OCTETS + at;
+    block[start..start + part.len()].copy_from_slice(part);
+}
+
+/// Fills the buffer with octets of a block's payload from the place `at` in it on.
+pub(crate) fn get_part(block: &Block, at: usize, buffer: &mut [u8])
+    requires within { at + length buffer.old ≤ 120 }
+    ensures { buffer.new ≡ slice_range (payload block.now) at (at + length buffer.old) }
+{
+    let start = HEADER_OCTETS + at;
+    buffer.copy_from_slice(&block[start..start + buffer.len()]);
+}

@@ -1,0 +1,150 @@
+//! A run of blocks: a chain of blocks that one owner holds.
+ghost use Rattle.std.specs.Prelude.{◌≡◌, ◌+◌, ◌-◌, ◌*◌, ◌<◌, ◌≤◌, ◌++◌, length, replicate, None};
+ghost use Rattle.cfdp_arena.specs.Arena.{octets_at, free_count, with_block};
+ghost use Rattle.cfdp_arena.specs.Blocks.{blank_block};
+ghost use Rattle.cfdp_tree.specs.Block.{payload};
+ghost use Rattle.cfdp_tree.specs.Runs.{IsHeld, OthersStay, octets_in};
+
+use crate::header::{BlockKind, next_of, set_next, set_tag};
+use cfdp_arena::{Arena, BlockId};
+
+/// A run of blocks in an arena: its first block, its last block and how many there are. Where there are none, the two
+/// blocks mean nothing.
+#[derive(Clone, Copy, Debug)]
+pub(crate) struct Run {
+    pub(crate) first: BlockId,
+    pub(crate) last: BlockId,
+    pub(crate) count: u32,
+}
+
+impl Run {
+    /// A run of no blocks.
+    pub(crate) fn empty() -> Run
+        ensures { result.count ≡ 0 }
+    {
+        let none = BlockId::of_number(0);
+        Run {
+            first: none,
+            last: none,
+            count: 0,
+        }
+    }
+
+    /// Takes one more block, of zeros, to the end of the run. In constant time.
+    pub(crate) fn grow(&mut self, arena: &mut Arena)
+        requires held { IsHeld arena.old self.old }
+        requires few { self.old.count < 65536 }
+        requires room { 0 < free_count arena.old }
+        ensures held { IsHeld arena.new self.new }
+        ensures count { self.new.count ≡ self.old.count + 1 }
+        ensures octets { octets_in arena.new self.new ≡ octets_in arena.old self.old ++ payload blank_block }
+        ensures taken { free_count arena.new + 1 ≡ free_count arena.old }
+        ensures size { length arena.new ≡ length arena.old }
+        ensures others { OthersStay arena.old arena.new self.old }
+        ensures first { 0 < self.old.count → self.new.first ≡ self.old.first }
+        ensures fresh { self.old.count ≡ 0 → octets_at arena.old self.new.first ≡ None }
+    {
+        if self.count == 0 {
+            *self = begin(arena);
+        } else {
+            self.lengthen(arena);
+        }
+    }
+
+    /// Takes one more block to the end of a run that has one.
+    fn lengthen(&mut self, arena: &mut Arena)
+        requires held { IsHeld arena.old self.old }
+        requires some { 0 < self.old.count }
+        requires few { self.old.count < 65536 }
+        requires room { 0 < free_count arena.old }
+        ensures held { IsHeld arena.new self.new }
+        ensures count { self.new.count ≡ self.old.count + 1 }
+        ensures octets { octets_in arena.new self.new ≡ octets_in arena.old self.old ++ payload blank_block }
+        ensures taken { free_count arena.new + 1 ≡ free_count arena.old }
+        ensures size { length arena.new ≡ length arena.old }
+        ensures others { OthersStay arena.old arena.new self.old }
+        ensures first { self.new.first ≡ self.old.first }
+    {
+        let block = take_block(arena);
+        set_tag(
+            arena.bytes_mut(block),
+            self.first,
+            self.count,
+            BlockKind::Content,
+        );
+        set_next(arena.bytes_mut(self.last), block);
+        self.last = block;
+        self.count += 1;
+    }
+
+    /// Takes blocks of zeros to the end of the run, up to so many blocks. In time linear in the blocks that are taken.
+    pub(crate) fn grow_to(&mut self, arena: &mut Arena, count: u32)
+        requires held { IsHeld arena.old self.old }
+        requires more { self.old.count ≤ count }
+        requires few { count ≤ 65536 }
+        requires room { count ≤ free_count arena.old + self.old.count }
+        ensures held { IsHeld arena.new self.new }
+        ensures count { self.new.count ≡ count }
+        ensures octets { octets_in arena.new self.new
+            ≡ octets_in arena.old self.old ++ replicate (120 * (count - self.old.count)) 0 }
+        ensures taken { free_count arena.new + count ≡ free_count arena.old + self.old.count }
+        ensures size { length arena.new ≡ length arena.old }
+        ensures others { OthersStay arena.old arena.new self.new }
+        ensures first { 0 < self.old.count → self.new.first ≡ self.old.first }
+        ensures fresh { self.old.count ≡ 0 → 0 < count → octets_at arena.old self.new.first ≡ None }
+    {
+        for _block in self.count..count {
+            self.grow(arena);
+        }
+    }
+
+    /// Gives all blocks of the run back. In time linear in their number.
+    pub(crate) fn release(self, arena: &mut Arena)
+        requires held { IsHeld arena.old self }
+        ensures freed { free_count arena.new ≡ free_count arena.old + self.count }
+        ensures size { length arena.new ≡ length arena.old }
+        ensures others { OthersStay arena.old arena.new self }
+    {
+        let mut block = self.first;
+        for _step in 0..self.count {
+            let next = next_of(arena.bytes(block));
+            arena.give(block);
+            block = next;
+        }
+    }
+}
+
+/// Takes a block of zeros, which makes a run of one block.
+fn begin(arena: &mut Arena) -> Run
+    requires room { 0 < free_count arena.old }
+    ensures held { IsHeld arena.new result }
+    ensures count { result.count ≡ 1 }
+    ensures octets { octets_in arena.new result ≡ payload blank_block }
+    ensures taken { free_count arena.new + 1 ≡ free_count arena.old }
+    ensures size { length arena.new ≡ length arena.old }
+    ensures others { OthersStay arena.old arena.new record { first = 0; last = 0; count = 0 } }
+    ensures fresh { octets_at arena.old result.first ≡ None }
+{
+    let block = take_block(arena);
+    set_tag(arena.bytes_mut(block), block, 0, BlockKind::Content);
+    Run {
+        first: block,
+        last: block,
+        count: 1,
+    }
+}
+
+/// Takes a block where one is free.
+fn take_block(arena: &mut Arena) -> BlockId
+    requires room { 0 < free_count arena.old }
+    ensures was_free { octets_at arena.old result ≡ None }
+    ensures within { result < length arena.old }
+    ensures capacity { length arena.old ≤ 65536 }
+    ensures zeros { arena.new ≡ with_block arena.old result blank_block }
+{
+    let _free = arena.free();
+    let Some(block) = arena.take() else {
+        unreachable!();
+    };
+    block
+}

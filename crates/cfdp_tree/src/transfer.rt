@@ -1,0 +1,99 @@
+//! Octets into a run and out of it, by slices of a block.
+ghost use Rattle.std.specs.Prelude.{◌≡◌, ℕ, ◌+◌, ◌*◌, ◌<◌, ◌≤◌, length, slice_range};
+ghost use Rattle.cfdp_arena.specs.Arena.{free_count};
+ghost use Rattle.cfdp_actions.specs.Store.{overwritten};
+ghost use Rattle.cfdp_tree.specs.Runs.{IsHeld, IsAt, OthersStay, octets_in, nth};
+
+use crate::cursor::Cursor;
+use crate::header::PAYLOAD_OCTETS;
+use crate::payload::{get_part, put_part};
+use crate::runs::Run;
+use cfdp_arena::Arena;
+
+impl Run {
+    /// Puts octets into the payload of one block, from the place `at` in it on. In time linear in the octets.
+    pub(crate) fn put_in(&self, arena: &mut Arena, cursor: &Cursor, at: usize, part: &[u8])
+        requires held { IsHeld arena.old self.now }
+        requires place { IsAt arena.old self.now cursor.now }
+        requires within { cursor.now.index < self.now.count }
+        requires fits { at + length part.now ≤ 120 }
+        ensures held { IsHeld arena.new self.now }
+        ensures octets { octets_in arena.new self.now
+            ≡ overwritten (octets_in arena.old self.now) (120 * cursor.now.index + at) part.now }
+        ensures places { (k : ℕ) → k ≤ self.now.count → nth arena.new self.now.first k ≡ nth arena.old self.now.first k }
+        ensures free { free_count arena.new ≡ free_count arena.old }
+        ensures size { length arena.new ≡ length arena.old }
+        ensures others { OthersStay arena.old arena.new self.now }
+    {
+        put_part(arena.bytes_mut(cursor.block), at, part);
+    }
+
+    /// Fills the buffer with octets of the payload of one block, from the place `at` in it on. In time linear in the
+    /// octets.
+    pub(crate) fn get_in(&self, arena: &Arena, cursor: &Cursor, at: usize, buffer: &mut [u8])
+        requires held { IsHeld arena.now self.now }
+        requires place { IsAt arena.now self.now cursor.now }
+        requires within { cursor.now.index < self.now.count }
+        requires fits { at + length buffer.old ≤ 120 }
+        ensures { buffer.new
+            ≡ slice_range (octets_in arena.now self.now) (120 * cursor.now.index + at) (120 * cursor.now.index + at + length buffer.old) }
+    {
+        get_part(arena.bytes(cursor.block), at, buffer);
+    }
+
+    /// Puts octets in the place of those of the run from the place `at` on, and answers the place of the last block that
+    /// was written, from which the octets behind them are found at once. In time linear in the octets, and in the steps
+    /// from the place that is handed in to the first block that is written.
+    pub(crate) fn write(&self, arena: &mut Arena, from: Cursor, at: usize, octets: &[u8]) -> Cursor
+        requires held { IsHeld arena.old self.now }
+        requires from { IsAt arena.old self.now from }
+        requires range { at + length octets.now ≤ 120 * self.now.count }
+        ensures held { IsHeld arena.new self.now }
+        ensures octets { octets_in arena.new self.now ≡ overwritten (octets_in arena.old self.now) at octets.now }
+        ensures place { IsAt arena.new self.now result }
+        ensures free { free_count arena.new ≡ free_count arena.old }
+        ensures size { length arena.new ≡ length arena.old }
+        ensures others { OthersStay arena.old arena.new self.now }
+    {
+        let end = at + octets.len();
+        let begin = at / PAYLOAD_OCTETS;
+        let mut cursor = self.seek(arena, from, begin as u32);
+        let mut last = cursor;
+        for index in begin..(end + PAYLOAD_OCTETS - 1) / PAYLOAD_OCTETS {
+            let block_start = index * PAYLOAD_OCTETS;
+            let start = at.max(block_start);
+            let stop = end.min(block_start + PAYLOAD_OCTETS);
+            let part = &octets[start - at..stop - at];
+            self.put_in(arena, &cursor, start - block_start, part);
+            last = cursor;
+            cursor = self.after(arena, &cursor);
+        }
+        last
+    }
+
+    /// Fills the buffer with the octets of the run from the place `at` on, and answers the place of the last block that
+    /// was read. In time linear in the octets, and in the steps from the place that is handed in to the first block that
+    /// is read.
+    pub(crate) fn read(&self, arena: &Arena, from: Cursor, at: usize, buffer: &mut [u8]) -> Cursor
+        requires held { IsHeld arena.now self.now }
+        requires from { IsAt arena.now self.now from }
+        requires range { at + length buffer.old ≤ 120 * self.now.count }
+        ensures octets { buffer.new ≡ slice_range (octets_in arena.now self.now) at (at + length buffer.old) }
+        ensures place { IsAt arena.now self.now result }
+    {
+        let end = at + buffer.len();
+        let begin = at / PAYLOAD_OCTETS;
+        let mut cursor = self.seek(arena, from, begin as u32);
+        let mut last = cursor;
+        for index in begin..(end + PAYLOAD_OCTETS - 1) / PAYLOAD_OCTETS {
+            let block_start = index * PAYLOAD_OCTETS;
+            let start = at.max(block_start);
+            let stop = end.min(block_start + PAYLOAD_OCTETS);
+            let part = &mut buffer[start - at..stop - at];
+            self.get_in(arena, &cursor, start - block_start, part);
+            last = cursor;
+            cursor = self.after(arena, &cursor);
+        }
+        last
+    }
+}
