@@ -1,10 +1,7 @@
 -- Which numbers a command takes.
 use Rattle.std.proofs.Common.{◌≡◌, ◌⊎◌, inl, inr, ℕ, ◌<◌, ◌≤◌, true, false, List, [], ◌∷◌, length, Option, Some, None, refl, arith}
-use Rattle.cfdp_status.specs.declared.transaction.TransactionId.{TransactionId}
-use Rattle.cfdp_transactions.specs.declared.event.Event.{Event}
-use Rattle.cfdp_transactions.specs.World.{World}
-use Rattle.cfdp_sim.specs.Commands.{numbers_of}
-use Rattle.cfdp_sim.specs.Replay.{Stage, Preparing, Running, config_by, configured, local_by}
+use Rattle.cfdp_sim.specs.Commands.{id_by, numbers_of}
+use Rattle.cfdp_sim.specs.Replay.{Stage, Preparing, Running, config_by, configured}
 use Rattle.cfdp_sim.proofs.Words.{numbers_of-length}
 
 -- no numbers, or more than five
@@ -19,12 +16,12 @@ too_few : {X : Type 0} (some : List ℕ) → length some ≤ 5 → NotFew (Some 
 too_few some le (inl e) = cc e
 too_few some le (inr h) = absurd (omega (arith, h some refl))
 
-pub local_by-none : (W : World) (event : TransactionId → Event) (numbers : Option (List ℕ)) → NotFew numbers → local_by W event numbers ≡ None
-local_by-none W event None h = refl
-local_by-none W event (Some []) h = refl
-local_by-none W event (Some (source ∷ [])) h = refl
-local_by-none W event (Some (source ∷ number ∷ [])) h = too_few (source ∷ number ∷ []) (omega arith) h
-local_by-none W event (Some (source ∷ number ∷ more ∷ numbers)) h = refl
+pub id_by-none : (numbers : Option (List ℕ)) → NotFew numbers → id_by numbers ≡ None
+id_by-none None h = refl
+id_by-none (Some []) h = refl
+id_by-none (Some (source ∷ [])) h = refl
+id_by-none (Some (source ∷ number ∷ [])) h = too_few (source ∷ number ∷ []) (omega arith) h
+id_by-none (Some (source ∷ number ∷ more ∷ numbers)) h = refl
 
 config_by-none : (numbers : Option (List ℕ)) → NotFew numbers → config_by numbers ≡ None
 config_by-none None h = refl

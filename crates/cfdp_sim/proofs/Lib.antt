@@ -2,6 +2,7 @@ pub mod Answering
 pub mod Decoding
 pub mod Feeding
 pub mod Fitting
+pub mod Hearing
 pub mod LineLemmas
 pub mod Moving
 pub mod Running

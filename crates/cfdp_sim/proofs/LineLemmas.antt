@@ -1,6 +1,7 @@
 -- Where a script is cut into lines.
-use Rattle.std.proofs.Common.{◌≡◌, ℕ, ◌<◌, ◌≤◌, ◌==◌, Bool, true, false, List, [], ◌∷◌, ◌++◌, length, refl, ap, ◌∙◌, arith, length-append, rules}
+use Rattle.std.proofs.Common.{◌≡◌, ℕ, ◌+◌, ◌<◌, ◌≤◌, ◌==◌, Bool, true, false, List, [], ◌∷◌, ◌++◌, length, take, drop, get_or, refl, sym, ap, ◌∙◌, arith, length-append, rules}
 use Rattle.std.specs.List.{slice_split, onto_first}
+use Rattle.std.proofs.lemmas.List.{drop_more, take-append-drop}
 use Rattle.std.proofs.lemmas.List.Splits.{slice_split_at, slice_split_none, slice_split-cons_no, slice_split-cons_yes}
 use Rattle.std.proofs.lemmas.List.Elements.{All-head, All-tail, All-nil}
 use Rattle.cfdp_sim.specs.Lines.{is_newline, is_overlong, line_limit, without_empty_last, lines_of, without_open_last, settled_lines, IsOneLine}
@@ -102,3 +103,10 @@ lines_by-begun false line rest h n =
       are = ap without_open_last parts.are
           ∙ without_open_last-first (line ++ parts.more) parts.others (omega (arith, length-append line parts.more));
     }
+
+-- the first line of some octets ends at their first newline
+pub lines_of-first : (octets : List ℕ) (at : ℕ) → IsOneLine (take at octets) → at < length octets → is_newline (get_or octets at 0) ≡ true
+    → lines_of octets ≡ take at octets ∷ lines_of (drop (at + 1) octets)
+lines_of-first octets at h within e =
+    ap lines_of (sym (ap (λ (rest : List ℕ). take at octets ++ rest) (sym (drop_more octets at 0 within)) ∙ take-append-drop at octets))
+    ∙ lines_by-newline true (take at octets) (drop (at + 1) octets) (get_or octets at 0) h e

@@ -4,6 +4,7 @@
 --   is_numeral     a word of decimal digits
 --   number_of      the number that such a word writes, if it is below 2^64
 --   numbers_of     the numbers of some words, if each writes one
+--   id_by          the transaction that two numbers name: its source entity ID, and its sequence number
 --   keyword_of     what a word says, if it says something
 --   local_event    the event of a transaction
 use Rattle.std.specs.Prelude.{ℕ, ◌^◌, ◌==◌, Bool, not, ◌&&◌, nat_lt, if◌then◌else◌, List, [], ◌∷◌, length, Option, Some, None, codes, bytes_eq}
@@ -42,6 +43,10 @@ number_before None others = None
 abbrev pub numbers_of : List (List ℕ) → Option (List ℕ)
 numbers_of [] = Some []
 numbers_of (word ∷ words) = number_before (number_of word) (numbers_of words)
+
+abbrev pub id_by : Option (List ℕ) → Option TransactionId
+id_by (Some (source ∷ number ∷ [])) = Some (record { source = source; number = number })
+id_by numbers = None
 
 abbrev pub keyword_of : List ℕ → Option Keyword
 keyword_of word =

@@ -3,7 +3,10 @@ pub mod Commands
 pub mod Ends
 pub mod Fitting
 pub mod Hexadecimal
+pub mod JournalTexts
 pub mod Lines
+pub mod Linked
+pub mod Links
 pub mod Outcome
 pub mod Places
 pub mod Plain

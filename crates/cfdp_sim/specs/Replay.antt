@@ -27,7 +27,7 @@ use Rattle.cfdp_transactions.specs.declared.event.Event.{Event}
 use Rattle.cfdp_transactions.specs.declared.event.Event.TheVariants as events
 use Rattle.cfdp_transactions.specs.Next.{next, run, replies}
 use Rattle.cfdp_transactions.specs.World.{World, start, next_runnable}
-use Rattle.cfdp_sim.specs.Commands.{words_of, numbers_of, keyword_of, local_event}
+use Rattle.cfdp_sim.specs.Commands.{words_of, numbers_of, id_by, keyword_of, local_event}
 use Rattle.cfdp_sim.specs.declared.commands.Keyword.{Keyword}
 use Rattle.cfdp_sim.specs.declared.commands.Keyword.TheVariants as keyword
 use Rattle.cfdp_sim.specs.Hexadecimal.{octets_of_words}
@@ -89,12 +89,12 @@ world_of (Running W) = W
 abbrev pub told : World → List Event → Stage × List ℕ
 told W events = (Running (run W events), told_lines events (replies W events))
 
-abbrev pub local_by : World → (TransactionId → Event) → Option (List ℕ) → Option (Stage × List ℕ)
-local_by W event (Some (source ∷ number ∷ [])) = Some (told W (event (record { source = source; number = number }) ∷ []))
-local_by W event numbers = None
+abbrev pub local_by : World → (TransactionId → Event) → Option TransactionId → Option (Stage × List ℕ)
+local_by W event None = None
+local_by W event (Some id) = Some (told W (event id ∷ []))
 
 abbrev pub local : Stage → (TransactionId → Event) → List (List ℕ) → Option (Stage × List ℕ)
-local stage event words = local_by (world_of stage) event (numbers_of words)
+local stage event words = local_by (world_of stage) event (id_by (numbers_of words))
 
 -- the first step, and those behind it
 abbrev pub steps_by : Option TransactionId → (TransactionId → List Event) → List Event
@@ -123,7 +123,7 @@ pdu_told W (Some (octet ∷ octets)) = Some (read_told W (pdu_at (octet ∷ octe
 -- ---- lines
 
 -- nothing stands behind the command
-abbrev pub alone : List (List ℕ) → Stage × List ℕ → Option (Stage × List ℕ)
+abbrev pub alone : {A : Type 0} → List (List ℕ) → A → Option A
 alone [] answer = Some answer
 alone (word ∷ words) answer = None
 

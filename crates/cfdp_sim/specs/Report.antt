@@ -31,7 +31,7 @@ abbrev pub wrote : List ℕ → Report → Report
 wrote text later = record { text = text ++ later.text; bad_line = later.bad_line }
 
 -- an overlong line is bad, even a comment; another comment is passed over
-abbrev pub line_answer : {State : Type 0} → (State → List ℕ → Option (State × List ℕ)) → State → List ℕ → Option (State × List ℕ)
+abbrev pub line_answer : {State X : Type 0} → (State → List ℕ → Option (State × List X)) → State → List ℕ → Option (State × List X)
 line_answer answer state line =
     if is_overlong line then None
     else if is_comment line then Some (state, [])

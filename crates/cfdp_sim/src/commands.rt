@@ -1,12 +1,10 @@
 //! The words of a line of `replay`.
 ghost use Rattle.std.specs.Prelude.{◌≡◌, ◌≢◌, ℕ, ◌<◌, List, ◌∷◌, [], length, get_or, Some, None, IfSome, IsTrue, IsFalse, ◌⊎◌};
-ghost use Rattle.cfdp_status.specs.declared.transaction.TransactionId.{TransactionId as Id};
-ghost use Rattle.cfdp_transactions.specs.World.{World};
-ghost use Rattle.cfdp_transactions.specs.declared.event.Event.{Event as EventOf};
-ghost use Rattle.cfdp_sim.specs.Replay.{Stage as StageOf, alone, local_by};
+ghost use Rattle.cfdp_sim.specs.Links.{Said};
+ghost use Rattle.cfdp_sim.specs.Replay.{Stage as StageOf, alone};
 ghost use Rattle.std.specs.Char.{is_ascii_digit};
 ghost use Rattle.std.specs.List.{list_all};
-ghost use Rattle.cfdp_sim.specs.Commands.{is_numeral, keyword_of, local_event, number_of, numbers_of, words_of};
+ghost use Rattle.cfdp_sim.specs.Commands.{id_by, is_numeral, keyword_of, local_event, number_of, numbers_of, words_of};
 
 use arrayvec::ArrayVec;
 use cfdp_status::TransactionId;
@@ -175,8 +173,7 @@ pub(crate) fn numbers_of(line: &[u8]) -> Option<ArrayVec<u64, MOST_NUMBERS>>
 
 /// The transaction that the words of a line name, if they are two numbers: its source entity ID, and its sequence number.
 pub(crate) fn id_in(line: &[u8]) -> Option<TransactionId>
-    ensures some { IfSome result (λ id. numbers_of (words_of line.now) ≡ Some (id.source ∷ id.number ∷ [])) }
-    ensures none { (W : World) (event : Id → EventOf) → result ≡ None → local_by W event (numbers_of (words_of line.now)) ≡ None }
+    ensures { result ≡ id_by (numbers_of (words_of line.now)) }
 {
     let Some(numbers) = numbers_of(line) else {
         return None;
@@ -194,6 +191,7 @@ pub(crate) fn id_in(line: &[u8]) -> Option<TransactionId>
 pub(crate) fn is_end(line: &[u8]) -> bool
     ensures end { IsTrue result → words_of line.now ≡ [] }
     ensures more { (answer : StageOf × List ℕ) → IsFalse result → alone (words_of line.now) answer ≡ None }
+    ensures more_said { (answer : StageOf × List Said) → IsFalse result → alone (words_of line.now) answer ≡ None }
 {
     let mut rest = line;
     next_word(&mut rest).is_none()

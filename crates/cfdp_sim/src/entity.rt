@@ -14,7 +14,7 @@ ghost use Rattle.cfdp_sim.specs.Replies.{listing_text, reply_line, told_lines};
 use crate::listing::write_listing;
 use crate::replies::{fault_line, write_reply};
 use cfdp_actions::Filestore;
-use cfdp_pdus::{Header, Pdu, PduFault, read_pdu};
+use cfdp_pdus::{Header, PduFault, read_pdu};
 use cfdp_status::TransactionId;
 use cfdp_transactions::{Config, Core, Event, Reply, event_of, laws};
 use std::alloc::{AllocError, Global};
@@ -36,7 +36,7 @@ fn id_of(header: &Header) -> TransactionId
 }
 
 /// The transaction that an event is about.
-fn about(event: &Event) -> TransactionId
+pub(crate) fn about(event: &Event) -> TransactionId
     ensures { result ≡ about event.now }
 {
     match event {

@@ -22,9 +22,9 @@ pub(crate) const LINE_LIMIT: usize = 200_000;
 /// How much text is held back at most before it is written, in octets, the answer to the last line apart.
 const FULL: usize = 65_536;
 
-const NEWLINE: u8 = b'\n';
+pub(crate) const NEWLINE: u8 = b'\n';
 
-const COMMENT: u8 = b'#';
+pub(crate) const COMMENT: u8 = b'#';
 
 /// A script that is being run: what it does, what has come of the line that is being read, and the text that is not
 /// written yet.

@@ -1,6 +1,7 @@
 //! How far a script of `replay` is.
 ghost use Rattle.std.specs.Prelude.{◌≡◌, ◌++◌, ℕ, List, [], ◌∷◌, None, Some, OnOk, OnErr, IfOk, IsSome, Err};
 ghost use Rattle.cfdp_transactions.specs.Config.{first_fault};
+ghost use Rattle.cfdp_transactions.specs.World.{start};
 ghost use Rattle.cfdp_transactions.specs.Writable.{IsReadable};
 ghost use Rattle.cfdp_pdus.specs.First.{pdu_at};
 ghost use Rattle.cfdp_sim.specs.Replay.{Running as IsRunning, at_first, configured, default_config, most_runs, protected, read_told, steps_from, told, world_of};
@@ -12,7 +13,7 @@ use crate::entity::Entity;
 use crate::script::LineFault;
 use cfdp_actions::{ListStore, Protected};
 use cfdp_paths::{Path, PathFault};
-use cfdp_transactions::{Config, Event};
+use cfdp_transactions::{Config, Core, Event};
 use std::alloc::{AllocError, Global};
 use std::mem;
 
@@ -24,7 +25,7 @@ fn default_config() -> Config
 }
 
 /// The configuration with these prefixes protected in the place of its own.
-fn with_prefixes(config: &Config, protected: Protected) -> Config
+pub(crate) fn with_prefixes(config: &Config, protected: Protected) -> Config
     ensures { result ≡ record config.now { prefixes = protected } }
 {
     Config::new(
@@ -59,6 +60,14 @@ fn config_of(
         return Err(LineFault::Bad);
     };
     Config::new(entity, blocks, cap, checks, journal, Protected::new()).map_err(|_| LineFault::Bad)
+}
+
+/// The entity of this configuration, over an empty store.
+fn entity_of(alloc: Global, config: Config) -> Result<Entity<ListStore>, AllocError>
+    ensures { IfOk result (λ entity. entity.core.world ≡ start config) }
+{
+    let store = ListStore::new(alloc, config.blocks())?;
+    Entity::new(alloc, config, store)
 }
 
 /// How far a script is.
@@ -116,16 +125,27 @@ impl Stage {
     }
 
     /// The receiving entity begins here, where no event came before.
-    fn begin(&mut self, alloc: Global) -> Result<(), AllocError>
+    pub(crate) fn begin(&mut self, alloc: Global) -> Result<(), AllocError>
         ensures { OnOk result (stage_of self.new ≡ IsRunning (world_of (stage_of self.old))) }
     {
         let Stage::Preparing(_, config, protected) = self else {
             return Ok(());
         };
-        let store = ListStore::new(alloc, config.blocks())?;
         let config = with_prefixes(config, mem::replace(protected, Protected::new()));
-        *self = Stage::Running(Entity::new(alloc, config, store)?);
+        *self = Stage::Running(entity_of(alloc, config)?);
         Ok(())
+    }
+
+    /// The core of the entity, which begins here where no event came before.
+    pub(crate) fn into_core(self, alloc: Global) -> Result<Core<ListStore>, AllocError>
+        ensures { IfOk result (λ core. core.world ≡ world_of (stage_of self)) }
+    {
+        match self {
+            Stage::Preparing(_, config, protected) => {
+                Ok(entity_of(alloc, with_prefixes(&config, protected))?.core)
+            }
+            Stage::Running(entity) => Ok(entity.core),
+        }
     }
 
     /// Takes an event, and appends the line of its reply.

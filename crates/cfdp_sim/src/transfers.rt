@@ -14,7 +14,7 @@ use crate::stage::Stage;
 use std::alloc::Global;
 
 /// Puts the octets that the words of a line spell in the place of `octets`.
-fn decode_words(line: &[u8], octets: &mut Vec<u8>) -> Result<(), LineFault>
+pub(crate) fn decode_words(line: &[u8], octets: &mut Vec<u8>) -> Result<(), LineFault>
     ensures octets { OnOk result (octets_of_words (words_of line.now) ≡ Some octets.new.items) }
     ensures bad { result ≡ Err Bad → octets_of_words (words_of line.now) ≡ None }
 {

@@ -7,7 +7,7 @@ use Rattle.cfdp_sim.proofs.transfers.Transfers.tell.Goals as goal
 pub returns-clause-ok : goal.returns-clause-ok
 returns-clause-ok c =
     let told_so = c.in_ok-tell.ensures in
-    ap (local_by (world_of (stage_of c.args.self.now.stage)) (local_event c.args.which)) c.in-Some.ensures.some
+    ap (local_by (world_of (stage_of c.args.self.now.stage)) (local_event c.args.which)) (sym c.id_in.ensures ∙ c.in-Some.is)
     ∙ ap Some
     (ap (λ event. told (world_of (stage_of c.args.self.now.stage)) (event ∷ [])) (sym c.event.ensures)
     ∙ told_so.1

@@ -1,0 +1,45 @@
+//! Messages to workers, copied and compared.
+ghost use Rattle.std.specs.Prelude.{◌≡◌, map, IfOk, IsTrue};
+ghost use Rattle.cfdp_sim.specs.Links.{said_of};
+
+use cfdp_engine::Message;
+use std::alloc::{AllocError, Global};
+use std::sync::Arc;
+
+/// One more message that says the same.
+pub(crate) fn copy_of(alloc: Global, message: &Message) -> Result<Message, AllocError>
+    ensures { IfOk result (λ copy. said_of copy ≡ said_of message.now) }
+{
+    match message {
+        Message::Pdu(octets) => Ok(Message::Pdu(Vec::from_slice(alloc, octets)?)),
+        Message::Event(event) => Ok(Message::Event(Arc::try_clone(event)?)),
+        Message::Run => Ok(Message::Run),
+    }
+}
+
+/// Whether two messages say the same.
+fn is_same(taken: &Message, due: &Message) -> bool
+    ensures { IsTrue result → said_of taken.now ≡ said_of due.now }
+{
+    match (taken, due) {
+        (Message::Pdu(octets), Message::Pdu(others)) => octets.as_slice() == others.as_slice(),
+        (Message::Event(event), Message::Event(other)) => event.same(other),
+        (Message::Run, Message::Run) => true,
+        _ => false,
+    }
+}
+
+/// Whether messages say the same, one after the other.
+pub(crate) fn are_same(taken: &[Message], due: &[Message]) -> bool
+    ensures { IsTrue result → map said_of taken.now ≡ map said_of due.now }
+{
+    if taken.len() != due.len() {
+        return false;
+    }
+    for (place, message) in taken.iter().enumerate() {
+        if !is_same(message, &due[place]) {
+            return false;
+        }
+    }
+    true
+}
