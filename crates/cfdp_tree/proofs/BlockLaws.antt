@@ -1,4 +1,5 @@
 -- A block with a part of its payload replaced.
+--     octet-part                                 its octets before the part
 --     header-part, payload-part, whole-part      its header, its payload and its length
 use Rattle.std.proofs.Common.{◌≡◌, ℕ, ◌+◌, ◌*◌, ◌<◌, ◌≤◌, List, ◌++◌, length, take, drop, get_or, sym, ap, ◌∙◌, arith, length-append, length-take, length-drop}
 use Rattle.std.proofs.lemmas.List.{get_or_append_left, get_or-take, length-take-le, take-append-drop, drop_at}
@@ -8,8 +9,8 @@ use Rattle.cfdp_tree.specs.Block.{header_of, payload}
 use Rattle.cfdp_tree.proofs.Octets.{overwritten-right}
 
 module _ (block : List ℕ) (at : ℕ) (part : List ℕ) (whole : length block ≡ 128) where
-  octet-part : (i : ℕ) → i < 8 → get_or (with_part block at part) i 0 ≡ get_or block i 0
-  octet-part i small =
+  pub octet-part : (i : ℕ) → i < 8 + at → i < 128 → get_or (with_part block at part) i 0 ≡ get_or block i 0
+  octet-part i before small =
       let front = take (8 + at) block in
       let back = drop (8 + at + length part) block in
       let long = length-take (8 + at) block in
@@ -19,13 +20,13 @@ module _ (block : List ℕ) (at : ℕ) (part : List ℕ) (whole : length block �
 
   pub header-part : header_of (with_part block at part) ≡ header_of block
   header-part =
-      let a = octet-part 0 (omega arith) in
-      let b = octet-part 1 (omega arith) in
-      let c = octet-part 2 (omega arith) in
-      let d = octet-part 3 (omega arith) in
-      let e = octet-part 4 (omega arith) in
-      let f = octet-part 5 (omega arith) in
-      let g = octet-part 6 (omega arith) in
+      let a = octet-part 0 (omega arith) (omega arith) in
+      let b = octet-part 1 (omega arith) (omega arith) in
+      let c = octet-part 2 (omega arith) (omega arith) in
+      let d = octet-part 3 (omega arith) (omega arith) in
+      let e = octet-part 4 (omega arith) (omega arith) in
+      let f = octet-part 5 (omega arith) (omega arith) in
+      let g = octet-part 6 (omega arith) (omega arith) in
       (λ k. record { next = a k + 256 * b k; owner = c k + 256 * d k; rank = e k + 256 * f k; kind = g k })
 
   pub payload-part : payload (with_part block at part) ≡ overwritten (payload block) at part

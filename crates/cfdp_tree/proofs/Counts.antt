@@ -1,9 +1,10 @@
 -- How many blocks are free once one of them has changed.
+--     live_count-within, live_count-written      how many are live
 --     free_count-taken, free_count-written, free_count-given     a free block made live, a live one written, one made free
 use Rattle.std.proofs.Common.{◌≡◌, ℕ, suc, zero, ◌+◌, ◌<◌, ◌≤◌, List, [], ◌∷◌, length, Some, None, refl, arith, length-set}
 use Rattle.cfdp_arena.specs.Arena.{Blocks, live_count, octets_at, IsLive, free_count, with_block, without_block}
 
-live_count-within : (arena : Blocks) → live_count arena ≤ length arena
+pub live_count-within : (arena : Blocks) → live_count arena ≤ length arena
 live_count-within [] = omega arith
 live_count-within (Some o ∷ rest) = omega (arith, live_count-within rest)
 live_count-within (None ∷ rest) = omega (arith, live_count-within rest)
@@ -15,7 +16,7 @@ live_count-taken (None ∷ rest) zero o free within = refl
 live_count-taken (Some x ∷ rest) (suc block) o free within = omega (arith, live_count-taken rest block o free (omega arith))
 live_count-taken (None ∷ rest) (suc block) o free within = live_count-taken rest block o free (omega arith)
 
-live_count-written : (arena : Blocks) (block : ℕ) (o : List ℕ) → IsLive arena block → live_count (with_block arena block o) ≡ live_count arena
+pub live_count-written : (arena : Blocks) (block : ℕ) (o : List ℕ) → IsLive arena block → live_count (with_block arena block o) ≡ live_count arena
 live_count-written [] block o live = cc
 live_count-written (Some x ∷ rest) zero o live = refl
 live_count-written (None ∷ rest) zero o live = cc

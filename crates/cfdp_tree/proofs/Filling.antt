@@ -3,7 +3,7 @@
 --     extended_octets, extended_zeros        the run is longer, and the octets are
 --     front_written, rest_written            octets are written among the first ones
 --     front_read                             and are read
---     blocks_of-fits, blocks_of-le, blocks_of-most, blocks_of-some, blocks_of-none     the blocks of a number of octets
+--     blocks_of-fits, blocks_of-within, blocks_of-le, blocks_of-most, blocks_of-some, blocks_of-none     the blocks of a number of octets
 use Rattle.std.proofs.Common.{◌≡◌, ℕ, ◌+◌, ◌-◌, ◌*◌, ◌<◌, ◌≤◌, List, ◌++◌, length, take, drop, replicate, refl, sym, ap, ◌∙◌, arith, append_assoc, length-append}
 use Rattle.std.proofs.lemmas.List.{drop-replicate, take-replicate, replicate-append-replicate, take-append-drop, length-take-le, take_at, drop_at, length-drop}
 use Rattle.std.specs.Prelude.{slice_range}
@@ -126,3 +126,7 @@ module _ (n : ℕ) where
   pub blocks_of-le : (m : ℕ) → n ≤ m → blocks_of n ≤ blocks_of m
   unfolding blocks_of
   blocks_of-le m le = omega arith
+
+  pub blocks_of-within : (i : ℕ) → i < blocks_of n → 120 * i < n
+  unfolding blocks_of
+  blocks_of-within i within = omega arith

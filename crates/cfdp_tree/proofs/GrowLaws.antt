@@ -1,6 +1,7 @@
 -- A run with one more block.
---     begun_held, begun_octets, begun_others         the first block
---     grown_held, grown_octets, grown_others, grown_free     one more after the last
+--     begun_held, begun_octets, begun_stay, begun_nodes      the first block
+--     grown_held, grown_octets, grown_others, grown_free, grown_size, grown_places, grown_nodes     one more after the last
+--     no_live                                                what is free is not live
 --     taken_octets, taken_written                            the octets of a block that was just taken
 use Rattle.std.proofs.Common.{◌≡◌, ◌≢◌, ℕ, suc, ◌+◌, ◌-◌, ◌<◌, List, ◌++◌, length, Option, Some, None, refl, sym, ap, ◌∙◌, subst, arith, append-nil, length-set}
 use Rattle.std.proofs.lemmas.List.{get_or-set_same, get_or-set_other, set-set}
@@ -11,10 +12,12 @@ use Rattle.cfdp_tree.specs.declared.header.BlockKind.TheVariants as kind
 use Rattle.cfdp_tree.specs.declared.runs.Run.{Run}
 use Rattle.cfdp_tree.specs.Block.{Header, header_of, payload, tagged, linked}
 use Rattle.cfdp_tree.specs.Runs.{octets, header_in, IsPart, IsRun, nth, run_octets, IsHeld, octets_in, OthersStay}
+use Rattle.cfdp_tree.specs.Nodes.{only_node, nodes_in}
 use Rattle.cfdp_tree.proofs.Counts.{free_count-taken, free_count-written}
-use Rattle.cfdp_tree.proofs.RunLaws.{KeepsFrom, nth_part, kept_run, kept_octets, kept_nth, linked_run, linked_nth, linked_octets}
+use Rattle.cfdp_tree.proofs.NodeLaws.{content_only, nodes-kept, nodes-written}
+use Rattle.cfdp_tree.proofs.RunLaws.{KeepsFrom, nth_part, kept_run, kept_octets, kept_nth, linked_run, linked_nth, linked_before, linked_octets}
 
-no_live : (entry : Option (List ℕ)) → entry ≡ None → IsSome entry → ⊥
+pub no_live : (entry : Option (List ℕ)) → entry ≡ None → IsSome entry → ⊥
 no_live (Some x) e s = cc
 no_live None e s = cc
 
@@ -37,11 +40,13 @@ module _ (arena begun : Blocks) (block : ℕ) (free : octets_at arena block ≡ 
     kind_is = ap (λ (h : Header). h.kind) tag;
   })
 
-  begun_stay : (b : ℕ) → IsLive arena b → octets_at begun b ≡ octets_at arena b
-  begun_stay b live = ap (λ a. octets_at a b) begun_is ∙ get_or-set_other arena block b (Some fresh) None (other_block b live)
+  pub begun_nodes : nodes_in begun ≡ nodes_in arena
+  begun_nodes =
+      ap nodes_in begun_is
+      ∙ nodes-kept arena block (Some fresh) (ap only_node (sym fresh_at) ∙ content_only owner rank (octets_at begun block) fresh_part) (ap only_node free)
 
-  pub begun_others : (run : Run) → OthersStay arena begun run
-  begun_others run b live not_of = begun_stay b live
+  pub begun_stay : (b : ℕ) → IsLive arena b → octets_at begun b ≡ octets_at arena b
+  begun_stay b live = ap (λ a. octets_at a b) begun_is ∙ get_or-set_other arena block b (Some fresh) None (other_block b live)
 
   pub begun_held : (run : Run) → run.first ≡ block → run.last ≡ block → run.count ≡ 1 → owner ≡ block → rank ≡ 0 → IsHeld begun run
   begun_held run first_is last_is count_is owner_is rank_is =
@@ -128,6 +133,18 @@ module _ (arena begun : Blocks) (block : ℕ) (free : octets_at arena block ≡ 
           get_or-set_other begun run.last b (Some new) None
           (λ e. not_of (some, ap (λ entry. (header_in entry).owner) (sym was) ∙ ap (λ x. (header_in (octets_at begun x)).owner) e ∙ last_part.owner_is))
           ∙ was
+
+      pub grown_places : (after : Run) → after.first ≡ run.first → (k : ℕ) → k < run.count → nth grown after.first k ≡ nth arena run.first k
+      grown_places after first_is k within =
+          ap (λ b. nth grown b k) first_is
+          ∙ ap (λ b. nth (with_block begun b new) run.first k) last_is
+          ∙ linked_before begun run.first block new new_whole 0 n run.first k parts (omega (arith, all))
+          ∙ kept_nth arena begun run.first 0 run.count run.first k keeps held.parts (omega arith)
+
+      pub grown_nodes : nodes_in grown ≡ nodes_in arena
+      grown_nodes =
+          let last_part : IsPart run.first n (octets_at begun run.last) = subst (λ x. IsPart run.first n (octets_at begun x)) (sym last_is) (nth_part begun run.first 0 (suc n) run.first n n parts (omega arith) (omega arith)) in
+          nodes-written begun run.last run.first n new last_part (ap (λ (h : Header). h.kind) link) ∙ begun_nodes
 
       pub grown_free : free_count grown + 1 ≡ free_count arena
       grown_free = omega (arith, free_count-written begun run.last new grown_last_live, begun_free)

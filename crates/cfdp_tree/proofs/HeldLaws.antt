@@ -4,8 +4,8 @@
 --     others_grown, was_free                      and so does what was free
 --     octets_are                                  the octets of a live block
 --     held_part                                   a block of a run is live, and a part of it
---     released_live, released_rest, released_others      its blocks are given back from the first on
---     put_held, put_nth, put_others, put_octets   one of its payloads is written
+--     released_live, released_no_node, released_rest, released_others      its blocks are given back from the first on
+--     put_held, put_nth, put_others, put_octets, put_nodes   one of its payloads is written
 use Rattle.std.proofs.Common.{◌≡◌, ◌≢◌, ℕ, suc, ◌+◌, ◌-◌, ◌*◌, ◌<◌, ◌≤◌, List, length, Option, Some, None, refl, sym, ap, ◌∙◌, subst, inl, inr, arith}
 use Rattle.std.proofs.lemmas.List.{get_or-set_other}
 use Rattle.std.proofs.lemmas.Bool.{cases_eq}
@@ -13,8 +13,10 @@ use Rattle.std.specs.Prelude.{IsSome}
 use Rattle.cfdp_arena.specs.Arena.{Blocks, octets_at, IsLive, with_block, without_block}
 use Rattle.cfdp_actions.specs.Store.{overwritten}
 use Rattle.cfdp_tree.specs.declared.runs.Run.{Run}
-use Rattle.cfdp_tree.specs.Block.{header_of, payload}
+use Rattle.cfdp_tree.specs.Block.{Header, header_of, payload}
+use Rattle.cfdp_tree.specs.Nodes.{only_node, nodes_in}
 use Rattle.cfdp_tree.specs.Runs.{octets, header_in, next_in, IsPart, IsRun, nth, run_octets, IsHeld, octets_in, IsOf, OthersStay}
+use Rattle.cfdp_tree.proofs.NodeLaws.{content_only, nodes-written}
 use Rattle.cfdp_tree.proofs.RunLaws.{nth_part, KeepsFrom, beyond_keeps, kept_run, kept_octets, kept_nth, written_run, written_nth, written_octets}
 
 -- twice
@@ -88,6 +90,9 @@ module _ (arena : Blocks) (run : Run) (held : IsHeld arena run) (k : ℕ) (withi
     put_others b live not_of =
         get_or-set_other arena block b (Some new) None (λ e. not_of (omega arith, ap (λ x. (header_in (octets_at arena x)).owner) e ∙ held_part.owner_is))
 
+    pub put_nodes : nodes_in (with_block arena block new) ≡ nodes_in arena
+    put_nodes = nodes-written arena block run.first k new held_part (ap (λ (h : Header). h.kind) same)
+
     pub put_octets : (place : ℕ) (part : List ℕ) → place + length part ≤ 120 → payload new ≡ overwritten (payload (octets (octets_at arena block))) place part
         → octets_in (with_block arena block new) run ≡ overwritten (octets_in arena run) (120 * k + place) part
     put_octets place part inside written =
@@ -102,6 +107,9 @@ module _ (start now : Blocks) (run : Run) (i block : ℕ) (within : i < run.coun
 
   pub released_live : IsLive now block
   released_live = these.0.live
+
+  pub released_no_node : only_node (octets_at now block) ≡ None
+  released_no_node = content_only run.first i (octets_at now block) these.0
 
   pub released_rest : IsRun (without_block now block) run.first (i + 1) (run.count - (i + 1)) (next_in (octets_at now block))
   released_rest =

@@ -3,6 +3,15 @@ pub mod Counts
 pub mod BlockLaws
 pub mod RunLaws
 pub mod HeldLaws
+pub mod NodeLaws
 pub mod GrowLaws
+pub mod SpareLaws
 pub mod Filling
+pub mod ContentsLaws
 pub mod RowLaws
+pub mod TreeLaws
+pub mod IndexLaws
+pub mod ShowLaws
+pub mod PlaceLaws
+pub mod StoredLaws
+pub mod InsertLaws

@@ -1,15 +1,17 @@
 -- Octets put in the place of others, in a list that is two lists joined.
 --     overwritten-left, overwritten-right     in the first of them, in the second
 --     overwritten-join, overwritten-none      one part after another, and no octets
+--     overwritten-extended                    octets put behind a list that was lengthened by zeros
+--     slice-front                             a slice before the part
 --     take_parts, slice_is, slice_join        the first octets in two parts;  a slice, and two of them joined
 --     reached, step_write, step_read, step_copy   how far a walk by blocks has come, and what one block more adds
---     slice-left, slice-right                 a slice of two lists joined
-use Rattle.std.proofs.Common.{◌≡◌, ℕ, suc, zero, ◌+◌, ◌-◌, ◌*◌, ◌<◌, ◌≤◌, min, max, List, [], ◌∷◌, ◌++◌, length, take, drop, sym, ap, ◌∙◌, arith, append_assoc, append-nil, length-append, length-drop}
-use Rattle.std.proofs.lemmas.List.{take-append-le, drop-append-le, length-take-le, take_at, drop-drop, take-append-drop, take-take}
+--     slice-left, slice-right, slice-before   a slice of two lists joined
+use Rattle.std.proofs.Common.{◌≡◌, ℕ, suc, zero, ◌+◌, ◌-◌, ◌*◌, ◌<◌, ◌≤◌, min, max, List, [], ◌∷◌, ◌++◌, length, take, drop, replicate, sym, ap, ◌∙◌, arith, append_assoc, append-nil, length-append, length-drop}
+use Rattle.std.proofs.lemmas.List.{take-append-le, drop-append-le, length-take-le, take_at, drop-drop, drop-replicate, take-append-drop, take-take}
 use Rattle.std.proofs.lemmas.Slice.{between_is, take-put_mid}
 use borrow.Rule.Slice.PartMut.{put_mid}
 use Rattle.std.specs.Prelude.{slice_range}
-use Rattle.cfdp_actions.specs.Store.{overwritten}
+use Rattle.cfdp_actions.specs.Store.{extended, overwritten}
 
 pub take-right : (xs ys : List ℕ) (at j : ℕ) → j ≡ length xs + at → take j (xs ++ ys) ≡ xs ++ take at ys
 take-right [] ys at j e = let same : j ≡ at = omega arith in ap (λ n. take n ys) same
@@ -48,6 +50,19 @@ overwritten-none xs at =
     let none : at + 0 ≡ at = omega arith in
     (λ k. append-nil (take at xs) k ++ drop (none k) xs) ∙ take-append-drop at xs
 
+pub overwritten-extended : (xs ys : List ℕ) (n j : ℕ) → length xs ≡ n → j ≡ n + length ys → overwritten (extended xs j) n ys ≡ xs ++ ys
+overwritten-extended xs ys n j long e =
+    let count : j - length xs ≡ length ys = omega arith in
+    let same : n ≡ length xs + 0 = omega arith in
+    let none : 0 + length ys ≡ length ys = omega arith in
+    overwritten-right xs (replicate (j - length xs) 0) 0 n ys same
+    ∙ (λ k. xs ++ (ys ++ drop (none k) (replicate (count k) 0)))
+    ∙ ap (λ rest. xs ++ (ys ++ rest)) (drop-replicate (length ys) (length ys) 0 ∙ ap (λ m. replicate m 0) nothing)
+    ∙ ap (λ rest. xs ++ rest) (append-nil ys)
+  where
+    nothing : length ys - length ys ≡ 0
+    nothing = omega arith
+
 -- the first n octets are the first m, and those from there on
 pub take_parts : (xs : List ℕ) (m n : ℕ) → m ≤ n → take n xs ≡ take m xs ++ slice_range xs m n
 take_parts xs m n le = sym (take-append-drop m (take n xs)) ∙ (λ k. take-take m n xs le k ++ sym (between_is xs m n) k)
@@ -63,6 +78,11 @@ slice-right xs ys at j count e = ap (λ zs. take count zs) (drop-right xs ys at 
 pub slice_is : (xs : List ℕ) (at end count : ℕ) → end ≡ at + count → slice_range xs at end ≡ take count (drop at xs)
 slice_is xs at end count e = let same : end - at ≡ count = omega arith in ap (λ n. take n (drop at xs)) same
 
+pub slice-before : (xs ys : List ℕ) (a b : ℕ) → a ≤ b → b ≤ length xs → slice_range (xs ++ ys) a b ≡ slice_range xs a b
+slice-before xs ys a b order within =
+    let end : b ≡ a + (b - a) = omega arith in
+    slice_is (xs ++ ys) a b (b - a) end ∙ slice-left xs ys a (b - a) (omega arith) ∙ sym (slice_is xs a b (b - a) end)
+
 -- a part of the list, and the part behind it
 pub slice_join : (xs : List ℕ) (a b c : ℕ) → a ≤ b → b ≤ c → slice_range xs a b ++ slice_range xs b c ≡ slice_range xs a c
 slice_join xs a b c ab bc =
@@ -72,6 +92,14 @@ slice_join xs a b c ab bc =
     let fewer : c - a - m ≡ c - b = omega arith in
     sym (take_parts (drop a xs) m (c - a) (omega arith)
     ∙ (λ k. take m (drop a xs) ++ take (fewer k) (behind k)))
+
+-- a slice that ends before the part
+pub slice-front : (xs part : List ℕ) (at a b : ℕ) → b ≤ at → at ≤ length xs → slice_range (overwritten xs at part) a b ≡ slice_range xs a b
+slice-front xs part at a b before within =
+    let front : length (take at xs) ≡ at = length-take-le at xs within in
+    between_is (overwritten xs at part) a b
+    ∙ ap (drop a) (ap (take b) (append_assoc (take at xs) part (drop (at + length part) xs)) ∙ take-append-le b (take at xs) (part ++ drop (at + length part) xs) (omega arith) ∙ take-take b at xs before)
+    ∙ sym (between_is xs a b)
 
 -- how many octets of those from at to end lie before a block
 abbrev pub reached : ℕ → ℕ → ℕ → ℕ

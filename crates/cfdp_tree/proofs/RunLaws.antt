@@ -5,7 +5,7 @@
 --     KeepsFrom, kept_run, kept_octets, kept_nth     the parts from a rank on hold what they held, so the run is as it was
 --     others_keep                            the run of another owner, where the others stay
 --     written_run, written_octets, written_nth       the payload of one part is written
---     linked_run, linked_octets, linked_nth          one more part after the last one
+--     linked_run, linked_octets, linked_nth, linked_before    one more part after the last one
 use Rattle.std.proofs.Common.{◌≡◌, ◌≢◌, ℕ, suc, zero, ◌+◌, ◌*◌, ◌<◌, ◌≤◌, List, [], ◌++◌, length, take, drop, set, Option, Some, None, refl, sym, ap, ◌∙◌, subst, arith, length-append, length-drop}
 use Rattle.std.proofs.lemmas.List.{get_or-set_same, get_or-set_other, append-nil, append_assoc}
 use Rattle.cfdp_arena.specs.Arena.{Blocks, octets_at, with_block}
@@ -202,6 +202,17 @@ module _ (arena : Blocks) (owner fresh : ℕ) (new : List ℕ) (whole : length n
       let there : IsPart owner (suc rank + n) (octets_at arena target) = nth_part arena owner (suc rank) (suc n) next n (suc rank + n) run.1 (omega arith) refl in
       let kept : octets_at after block ≡ octets_at arena block = get_or-set_other arena target block (Some new) None (apart arena owner block target rank (suc rank + n) run.0 there (omega arith)) in
       ap (λ entry. nth after (next_in entry) (suc n)) kept ∙ linked_nth (suc rank) n next run.1 same
+
+  pub linked_before : (rank n block k : ℕ) → IsRun arena owner rank (suc n) block → k ≤ n → nth (with_block arena (nth arena block n) new) block k ≡ nth arena block k
+  linked_before rank n block zero run within = refl
+  linked_before rank zero block (suc k) run within = absurd (omega arith)
+  linked_before rank (suc n) block (suc k) run within =
+      let next = next_in (octets_at arena block) in
+      let target = nth arena next n in
+      let after = with_block arena target new in
+      let there : IsPart owner (suc rank + n) (octets_at arena target) = nth_part arena owner (suc rank) (suc n) next n (suc rank + n) run.1 (omega arith) refl in
+      let kept : octets_at after block ≡ octets_at arena block = get_or-set_other arena target block (Some new) None (apart arena owner block target rank (suc rank + n) run.0 there (omega arith)) in
+      ap (λ entry. nth after (next_in entry) k) kept ∙ linked_before (suc rank) n next k run.1 (omega arith)
 
   pub linked_octets : (rank n block j : ℕ) → IsRun arena owner rank (suc n) block → IsPart owner j (octets_at arena fresh) → j ≡ suc rank + n
       → header_of new ≡ linked (header_in (octets_at arena (nth arena block n))) fresh → payload new ≡ payload (octets (octets_at arena (nth arena block n)))

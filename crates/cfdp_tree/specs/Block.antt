@@ -5,17 +5,20 @@
 --     octets 4 and 5    the rank: how many blocks of the run come before this one, for a node 0
 --     octet 6           the kind: what the block is for
 --     octet 7           nothing
---     number_at octets place    a number in the header
+--     number_at octets place    a number in the block;  with_number: the block with another one there
 --     kind_octet                the octet of a kind
 --     Header, header_of         what a header says
 --     payload                   the octets after the header
 --     tagged, linked            a header that is given an owner, a rank and a kind;  a next block
-use Rattle.std.specs.Prelude.{ℕ, ◌+◌, ◌*◌, List, slice_index_or, drop}
+use Rattle.std.specs.Prelude.{ℕ, ◌+◌, ◌*◌, ◌/◌, ◌%◌, List, slice_index_or, slice_set, drop}
 use Rattle.cfdp_tree.specs.declared.header.BlockKind.{BlockKind}
 use Rattle.cfdp_tree.specs.declared.header.BlockKind.TheVariants.{Content, Node}
 
 abbrev pub number_at : List ℕ → ℕ → ℕ
 number_at octets place = slice_index_or octets place 0 + 256 * slice_index_or octets (place + 1) 0
+
+abbrev pub with_number : List ℕ → ℕ → ℕ → List ℕ
+with_number octets place number = slice_set (slice_set octets place (number % 256)) (place + 1) (number / 256)
 
 abbrev pub kind_octet : BlockKind → ℕ
 kind_octet Content = 1

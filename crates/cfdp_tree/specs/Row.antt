@@ -1,6 +1,6 @@
 -- A node's block: what stands at one path of the tree, and its links. Its payload begins with 24 octets of numbers, the
--- low octet first, and its name stands in the last 96 octets of the block. A link of a node to its own number stands for
--- none.
+-- low octet first, and its name stands in the last 96 octets of the block. How many nodes an index head has, and how many
+-- entries a directory, is counted where their links begin: so the link of the last of them means nothing.
 --     octets 8 and 9      the parent: the directory's number, its own where the root is the parent
 --     octets 10 and 11    of a file the first block of its octets, of a directory its first entry
 --     octets 12 and 13    of a file the last block of its octets
@@ -14,7 +14,11 @@
 --     octets 32 to 127    the name, and zeros
 --     Row, row_of         what a node's block says
 --     name_of             its name
-use Rattle.std.specs.Prelude.{ℕ, ◌+◌, ◌*◌, List, slice_index_or, take, drop}
+--     standing_octet, kind_told   the octet for a file or a directory, and which of them an octet stands for
+--     plain_row           what the block of a node says that has no octets, no entries and no links
+use Rattle.std.specs.Prelude.{ℕ, ◌+◌, ◌*◌, suc, zero, List, slice_index_or, length, take, drop}
+use Rattle.cfdp_actions.specs.declared.kind.Kind.{Kind}
+use Rattle.cfdp_actions.specs.declared.kind.Kind.TheVariants as kind
 use Rattle.cfdp_tree.specs.Block.{number_at}
 
 pub record Row : Type 0 where
@@ -43,3 +47,24 @@ row_of block = record {
 
 abbrev pub name_of : List ℕ → List ℕ
 name_of block = take (row_of block).name_length (drop 32 block)
+
+abbrev pub standing_octet : Kind → ℕ
+standing_octet kind.Directory = 0
+standing_octet kind.File = 1
+
+abbrev pub kind_told : ℕ → Kind
+kind_told zero = kind.Directory
+kind_told (suc octet) = kind.File
+
+abbrev pub plain_row : ℕ → Kind → List ℕ → Row
+plain_row parent kind name = record {
+  parent = parent;
+  first = 0;
+  last = 0;
+  size = 0;
+  kind = standing_octet kind;
+  name_length = length name;
+  same_head = 0;
+  next_entry = 0;
+  previous_entry = 0;
+}

@@ -8,9 +8,15 @@
 --     IsHeld arena run                the run's blocks are there, and its last block is the one that it names
 --     octets_in                       the octets of all blocks of a run
 --     IsOf run entry                  the block names the run's first block as its owner
+--     AllStay old new                 each live block holds what it held
 --     OthersStay old new run          each live block that is not of the run holds what it held
+--     Apart run other                the two have not the same blocks, where both have some
+--     Stays old new run              the run is held still, its octets are what they were, and its places where they were
+--     RunsStay old new               each run that was held stays
+--     Spares old new before after    each run that was held and had no block of the one before stays, and has no block of the
+--                                    one after
 --     IsAt arena run cursor           the cursor's block is the one at its index, which is no more than the run's blocks
-use Rattle.std.specs.Prelude.{◌≡◌, ℕ, suc, zero, ◌-◌, ◌<◌, ◌≤◌, List, [], ◌++◌, length, Option, IsSome, unwrap_or}
+use Rattle.std.specs.Prelude.{◌≡◌, ◌≢◌, ℕ, suc, zero, ◌-◌, ◌<◌, ◌≤◌, List, [], ◌++◌, length, Option, IsSome, unwrap_or}
 use Rattle.cfdp_arena.specs.Arena.{Blocks, octets_at, IsLive}
 use Rattle.cfdp_tree.specs.Block.{Header, header_of, payload, kind_octet}
 use Rattle.cfdp_tree.specs.declared.header.BlockKind.TheVariants as kind
@@ -55,8 +61,25 @@ octets_in arena run = run_octets arena run.count run.first
 abbrev pub IsOf : Run → Option (List ℕ) → Type 0
 IsOf run entry = (0 < run.count) × ((header_in entry).owner ≡ run.first)
 
+abbrev pub AllStay : Blocks → Blocks → Type 0
+AllStay old new = (block : ℕ) → IsLive old block → octets_at new block ≡ octets_at old block
+
 abbrev pub OthersStay : Blocks → Blocks → Run → Type 0
 OthersStay old new run = (block : ℕ) → IsLive old block → (IsOf run (octets_at old block) → ⊥) → octets_at new block ≡ octets_at old block
+
+abbrev pub Apart : Run → Run → Type 0
+Apart run other = 0 < run.count → 0 < other.count → other.first ≢ run.first
+
+pub record Stays (old new : Blocks) (run : Run) : Type 0 where
+  pub held : IsHeld new run
+  pub octets : octets_in new run ≡ octets_in old run
+  pub places : (k : ℕ) → k ≤ run.count → nth new run.first k ≡ nth old run.first k
+
+abbrev pub RunsStay : Blocks → Blocks → Type 0
+RunsStay old new = (run : Run) → IsHeld old run → Stays old new run
+
+abbrev pub Spares : Blocks → Blocks → Run → Run → Type 0
+Spares old new before after = (other : Run) → IsHeld old other → Apart before other → Stays old new other × Apart after other
 
 abbrev pub IsAt : Blocks → Run → Cursor → Type 0
 IsAt arena run cursor = (cursor.index ≤ run.count) × (cursor.block ≡ nth arena run.first cursor.index)

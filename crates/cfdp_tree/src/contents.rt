@@ -1,12 +1,14 @@
 //! The octets of a file or of a staged list.
-ghost use Rattle.std.specs.Prelude.{◌≡◌, ◌+◌, ◌<◌, ◌≤◌, None, length, slice_range};
-ghost use Rattle.cfdp_arena.specs.Arena.{free_count, octets_at};
+ghost use Rattle.std.specs.Prelude.{◌≡◌, ℕ, ◌+◌, ◌*◌, ◌<◌, ◌≤◌, ◌++◌, length, slice_range};
+ghost use Rattle.cfdp_arena.specs.Arena.{free_count};
 ghost use Rattle.cfdp_actions.specs.Filestore.{blocks_of};
 ghost use Rattle.cfdp_actions.specs.Store.{extended, overwritten};
-ghost use Rattle.cfdp_tree.specs.Runs.{IsAt, OthersStay};
+ghost use Rattle.cfdp_tree.specs.Nodes.{nodes_in};
+ghost use Rattle.cfdp_tree.specs.Runs.{IsAt, Apart, Spares, nth};
 ghost use Rattle.cfdp_tree.specs.Contents.{IsFilled, contents_in};
 
 use crate::cursor::Cursor;
+use crate::header::PAYLOAD_OCTETS;
 use crate::runs::Run;
 use cfdp_arena::Arena;
 
@@ -22,7 +24,7 @@ fn blocks_of(octets: u32) -> u32
     requires { octets ≤ 7864320 }
     ensures { result ≡ blocks_of octets }
 {
-    (octets + 119) / 120
+    octets.div_ceil(PAYLOAD_OCTETS as u32)
 }
 
 impl Contents {
@@ -49,9 +51,10 @@ impl Contents {
         ensures octets { contents_in arena.new self.new ≡ extended (contents_in arena.old self.old) size }
         ensures taken { free_count arena.new + blocks_of size ≡ free_count arena.old + blocks_of self.old.size }
         ensures capacity { length arena.new ≡ length arena.old }
-        ensures others { OthersStay arena.old arena.new self.new.run }
-        ensures first { 0 < self.old.size → self.new.run.first ≡ self.old.run.first }
-        ensures fresh { self.old.size ≡ 0 → 0 < size → octets_at arena.old self.new.run.first ≡ None }
+        ensures spares { Spares arena.old arena.new self.old.run self.new.run }
+        ensures places { (k : ℕ) → k < self.old.run.count →
+            nth arena.new self.new.run.first k ≡ nth arena.old self.old.run.first k }
+        ensures nodes { nodes_in arena.new ≡ nodes_in arena.old }
     {
         let mut run = self.run;
         run.grow_to(arena, blocks_of(size));
@@ -70,7 +73,10 @@ impl Contents {
         ensures place { IsAt arena.new self.now.run result }
         ensures free { free_count arena.new ≡ free_count arena.old }
         ensures capacity { length arena.new ≡ length arena.old }
-        ensures others { OthersStay arena.old arena.new self.now.run }
+        ensures spares { Spares arena.old arena.new self.now.run self.now.run }
+        ensures places { (k : ℕ) → k ≤ self.now.run.count →
+            nth arena.new self.now.run.first k ≡ nth arena.old self.now.run.first k }
+        ensures nodes { nodes_in arena.new ≡ nodes_in arena.old }
     {
         self.run.write(arena, from, at as usize, octets)
     }
@@ -87,12 +93,108 @@ impl Contents {
         self.run.read(arena, from, at as usize, buffer)
     }
 
+    /// Adds so many zeros at the end, and answers the place of the last block before them, from which they are found at
+    /// once. In time linear in the blocks that are taken.
+    fn make_room(&mut self, arena: &mut Arena, more: u32) -> Cursor
+        requires filled { IsFilled arena.old self.old }
+        requires most { self.old.size + more ≤ 7864320 }
+        requires room { blocks_of (self.old.size + more) ≤ free_count arena.old + blocks_of self.old.size }
+        ensures filled { IsFilled arena.new self.new }
+        ensures size { self.new.size ≡ self.old.size + more }
+        ensures octets { contents_in arena.new self.new ≡ extended (contents_in arena.old self.old) (self.old.size + more) }
+        ensures place { IsAt arena.new self.new.run result }
+        ensures taken { free_count arena.new + blocks_of (self.old.size + more)
+            ≡ free_count arena.old + blocks_of self.old.size }
+        ensures capacity { length arena.new ≡ length arena.old }
+        ensures spares { Spares arena.old arena.new self.old.run self.new.run }
+        ensures nodes { nodes_in arena.new ≡ nodes_in arena.old }
+    {
+        let tail = self.run.tail();
+        let none = self.run.count == 0;
+        self.extend(arena, self.size + more);
+        if none { self.run.start() } else { tail }
+    }
+
+    /// Puts the octets of another list behind these, from block to block. In time linear in them.
+    pub(crate) fn append(&mut self, arena: &mut Arena, source: &Contents)
+        requires filled { IsFilled arena.old self.old }
+        requires source { IsFilled arena.old source.now }
+        requires apart { Apart self.old.run source.now.run }
+        requires most { self.old.size + source.now.size ≤ 7864320 }
+        requires room { blocks_of (self.old.size + source.now.size) ≤ free_count arena.old + blocks_of self.old.size }
+        ensures filled { IsFilled arena.new self.new }
+        ensures size { self.new.size ≡ self.old.size + source.now.size }
+        ensures octets { contents_in arena.new self.new ≡ contents_in arena.old self.old ++ contents_in arena.old source.now }
+        ensures taken { free_count arena.new + blocks_of (self.old.size + source.now.size)
+            ≡ free_count arena.old + blocks_of self.old.size }
+        ensures capacity { length arena.new ≡ length arena.old }
+        ensures spares { Spares arena.old arena.new self.old.run self.new.run }
+        ensures nodes { nodes_in arena.new ≡ nodes_in arena.old }
+    {
+        if source.size == 0 {
+            return;
+        }
+        let size = self.size as usize;
+        let to = self.make_room(arena, source.size);
+        self.run
+            .copy(arena, to, size, &source.run, source.size as usize);
+    }
+
+    /// Puts the octets behind themselves, block by block. In time linear in them.
+    pub(crate) fn append_self(&mut self, arena: &mut Arena)
+        requires filled { IsFilled arena.old self.old }
+        requires most { 2 * self.old.size ≤ 7864320 }
+        requires room { blocks_of (2 * self.old.size) ≤ free_count arena.old + blocks_of self.old.size }
+        ensures filled { IsFilled arena.new self.new }
+        ensures size { self.new.size ≡ 2 * self.old.size }
+        ensures octets { contents_in arena.new self.new ≡ contents_in arena.old self.old ++ contents_in arena.old self.old }
+        ensures taken { free_count arena.new + blocks_of (2 * self.old.size)
+            ≡ free_count arena.old + blocks_of self.old.size }
+        ensures capacity { length arena.new ≡ length arena.old }
+        ensures spares { Spares arena.old arena.new self.old.run self.new.run }
+        ensures nodes { nodes_in arena.new ≡ nodes_in arena.old }
+    {
+        let size = self.size;
+        let mut to = self.make_room(arena, size);
+        let mut from = self.run.start();
+        let mut piece = [0; PAYLOAD_OCTETS];
+        for index in 0..blocks_of(size) {
+            let at = index * PAYLOAD_OCTETS as u32;
+            let count = (size - at).min(PAYLOAD_OCTETS as u32);
+            let part = &mut piece[..count as usize];
+            from = self.get(arena, from, at, part);
+            to = self.put(arena, to, size + at, part);
+        }
+    }
+
+    /// Puts the octets of another list in the place of these, whose blocks go back first. In time linear in both.
+    pub(crate) fn replace(&mut self, arena: &mut Arena, source: &Contents)
+        requires filled { IsFilled arena.old self.old }
+        requires source { IsFilled arena.old source.now }
+        requires apart { Apart self.old.run source.now.run }
+        requires most { source.now.size ≤ 7864320 }
+        requires room { blocks_of source.now.size ≤ free_count arena.old + blocks_of self.old.size }
+        ensures filled { IsFilled arena.new self.new }
+        ensures size { self.new.size ≡ source.now.size }
+        ensures octets { contents_in arena.new self.new ≡ contents_in arena.old source.now }
+        ensures taken { free_count arena.new + blocks_of source.now.size
+            ≡ free_count arena.old + blocks_of self.old.size }
+        ensures capacity { length arena.new ≡ length arena.old }
+        ensures spares { Spares arena.old arena.new self.old.run self.new.run }
+        ensures nodes { nodes_in arena.new ≡ nodes_in arena.old }
+    {
+        self.release(arena);
+        *self = Contents::empty();
+        self.append(arena, source);
+    }
+
     /// Gives the blocks back. In time linear in their number.
     pub(crate) fn release(self, arena: &mut Arena)
         requires filled { IsFilled arena.old self }
         ensures freed { free_count arena.new ≡ free_count arena.old + blocks_of self.size }
         ensures capacity { length arena.new ≡ length arena.old }
-        ensures others { OthersStay arena.old arena.new self.run }
+        ensures spares { Spares arena.old arena.new self.run self.run }
+        ensures nodes { nodes_in arena.new ≡ nodes_in arena.old }
     {
         self.run.release(arena);
     }

@@ -2,6 +2,7 @@
 ghost use Rattle.std.specs.Prelude.{◌≡◌, ◌≢◌, ℕ, ◌+◌, ◌*◌, ◌<◌, ◌≤◌, length, take, slice_range};
 ghost use Rattle.cfdp_arena.specs.Arena.{free_count};
 ghost use Rattle.cfdp_actions.specs.Store.{overwritten};
+ghost use Rattle.cfdp_tree.specs.Nodes.{nodes_in};
 ghost use Rattle.cfdp_tree.specs.Runs.{IsHeld, IsAt, OthersStay, octets_in, nth};
 
 use crate::cursor::Cursor;
@@ -36,6 +37,7 @@ impl Run {
         ensures free { free_count arena.new ≡ free_count arena.old }
         ensures size { length arena.new ≡ length arena.old }
         ensures others { OthersStay arena.old arena.new self.now }
+        ensures nodes { nodes_in arena.new ≡ nodes_in arena.old }
     {
         arena.copy_payload(from.cursor.block, from.at, to.cursor.block, to.at, len);
     }
@@ -61,6 +63,7 @@ impl Run {
         ensures free { free_count arena.new ≡ free_count arena.old }
         ensures size { length arena.new ≡ length arena.old }
         ensures others { OthersStay arena.old arena.new self.now }
+        ensures nodes { nodes_in arena.new ≡ nodes_in arena.old }
     {
         let room = PAYLOAD_OCTETS - to.at;
         let whole = Spot {
@@ -98,6 +101,7 @@ impl Run {
         ensures free { free_count arena.new ≡ free_count arena.old }
         ensures size { length arena.new ≡ length arena.old }
         ensures others { OthersStay arena.old arena.new self.now }
+        ensures nodes { nodes_in arena.new ≡ nodes_in arena.old }
     {
         let mut target = self.seek(arena, to, (at / PAYLOAD_OCTETS) as u32);
         let mut from = source.start();

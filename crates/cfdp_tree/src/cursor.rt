@@ -1,5 +1,5 @@
 //! A place in a run.
-ghost use Rattle.std.specs.Prelude.{◌≡◌, ◌+◌, ◌<◌, ◌≤◌};
+ghost use Rattle.std.specs.Prelude.{◌≡◌, ◌+◌, ◌-◌, ◌<◌, ◌≤◌};
 ghost use Rattle.cfdp_tree.specs.Runs.{IsHeld, IsAt};
 
 use crate::header::next_of;
@@ -23,6 +23,17 @@ impl Run {
         Cursor {
             block: self.first,
             index: 0,
+        }
+    }
+
+    /// The place of the last block, where there is one.
+    pub(crate) fn tail(&self) -> Cursor
+        ensures block { result.block ≡ self.now.last }
+        ensures index { result.index ≡ self.now.count - 1 }
+    {
+        Cursor {
+            block: self.last,
+            index: self.count.saturating_sub(1),
         }
     }
 

@@ -1,6 +1,6 @@
 //! The header of a block: the octets before its payload.
-ghost use Rattle.std.specs.Prelude.{◌≡◌, ◌<◌, length};
-ghost use Rattle.cfdp_tree.specs.Block.{header_of, payload, tagged, linked, kind_octet};
+ghost use Rattle.std.specs.Prelude.{◌≡◌, ◌+◌, ◌<◌, length};
+ghost use Rattle.cfdp_tree.specs.Block.{number_at, with_number, header_of, payload, tagged, linked, kind_octet};
 
 use cfdp_arena::{Block, BlockId};
 
@@ -31,12 +31,33 @@ impl BlockKind {
     }
 }
 
+/// The number that stands in two octets of a block, the low one first.
+pub(crate) fn number_in(block: &Block, place: usize) -> u32
+    requires inside { place < 127 }
+    ensures value { result ≡ number_at block.now place }
+    ensures small { result < 65536 }
+{
+    u32::from(u16::from_le_bytes([block[place], block[place + 1]]))
+}
+
+/// Puts a number into two octets of a block, the low one first.
+pub(crate) fn set_number(block: &mut Block, place: usize, number: u32)
+    requires inside { place < 127 }
+    requires small { number < 65536 }
+    ensures number { block.new ≡ with_number block.old place number }
+    ensures whole { length block.new ≡ 128 }
+{
+    let [low, high] = (number as u16).to_le_bytes();
+    block[place] = low;
+    block[place + 1] = high;
+}
+
 /// The block that a block names as the next one of its run.
 pub(crate) fn next_of(block: &Block) -> BlockId
     ensures value { result ≡ (header_of block.now).next }
     ensures small { result < 65536 }
 {
-    BlockId::of_number(u32::from(u16::from_le_bytes([block[0], block[1]])))
+    BlockId::of_number(number_in(block, 0))
 }
 
 /// Names the next block. The rest of the block stays.
@@ -46,9 +67,7 @@ pub(crate) fn set_next(block: &mut Block, next: BlockId)
     ensures payload { payload block.new ≡ payload block.old }
     ensures whole { length block.new ≡ 128 }
 {
-    let [low, high] = (next.number() as u16).to_le_bytes();
-    block[0] = low;
-    block[1] = high;
+    set_number(block, 0, next.number());
 }
 
 /// Says whose the block is: its owner, how many blocks of the owner's run come before it, and what it is for. The next
@@ -60,11 +79,7 @@ pub(crate) fn set_tag(block: &mut Block, owner: BlockId, rank: u32, kind: BlockK
     ensures payload { payload block.new ≡ payload block.old }
     ensures whole { length block.new ≡ 128 }
 {
-    let [owner_low, owner_high] = (owner.number() as u16).to_le_bytes();
-    let [rank_low, rank_high] = (rank as u16).to_le_bytes();
-    block[2] = owner_low;
-    block[3] = owner_high;
-    block[4] = rank_low;
-    block[5] = rank_high;
+    set_number(block, 2, owner.number());
+    set_number(block, 4, rank);
     block[6] = kind.octet();
 }

@@ -1,16 +1,104 @@
 //! A node's block: what stands at one path of the tree, and its links.
-ghost use Rattle.std.specs.Prelude.{◌≡◌, ◌<◌, drop, length};
-ghost use Rattle.cfdp_tree.specs.Block.{header_of};
-ghost use Rattle.cfdp_tree.specs.Row.{row_of};
+ghost use Rattle.std.specs.Prelude.{◌≡◌, ◌<◌, ◌≤◌, ◌↔◌, IsTrue, drop, length};
+ghost use Rattle.cfdp_arena.specs.Blocks.{blank_block};
+ghost use Rattle.cfdp_tree.specs.Block.{header_of, tagged};
+ghost use Rattle.cfdp_tree.specs.Tree.{home_in};
+ghost use Rattle.cfdp_tree.specs.Row.{row_of, name_of, standing_octet, kind_told, plain_row};
 
+use crate::header::{BlockKind, HEADER_OCTETS, number_in, set_number, set_tag};
+use crate::payload::put_part;
+use cfdp_actions::Kind;
 use cfdp_arena::{Block, BlockId};
+
+/// Where a node's kind stands in its block.
+const KIND_AT: usize = 18;
+
+/// Where the number of its name's octets stands.
+const NAME_LENGTH_AT: usize = 19;
+
+/// Where its name begins.
+const NAME_AT: usize = 32;
+
+/// Makes a blank block a node of this number, without octets or entries, that is linked to no other node.
+pub(crate) fn write_node(block: &mut Block, own: BlockId, parent: BlockId, kind: Kind, name: &[u8])
+    requires blank { block.old ≡ blank_block }
+    requires own { own < 65536 }
+    requires parent { parent < 65536 }
+    requires short { length name.now ≤ 96 }
+    ensures header { header_of block.new ≡ tagged (header_of block.old) own 0 BlockKind.Node }
+    ensures row { row_of block.new ≡ plain_row parent kind name.now }
+    ensures name { name_of block.new ≡ name.now }
+    ensures whole { length block.new ≡ 128 }
+{
+    set_tag(block, own, 0, BlockKind::Node);
+    set_parent(block, parent);
+    set_kind(block, kind);
+    set_name(block, name);
+}
+
+/// Whether the node has this name.
+pub(crate) fn name_is(block: &Block, name: &[u8]) -> bool
+    requires fits { (row_of block.now).name_length ≤ 96 }
+    requires short { length name.now ≤ 96 }
+    ensures { IsTrue result ↔ (name_of block.now ≡ name.now) }
+{
+    usize::from(block[NAME_LENGTH_AT]) == name.len()
+        && &block[NAME_AT..NAME_AT + name.len()] == name
+}
+
+/// Whether the node of this number stands in this directory, `None` for the root.
+pub(crate) fn home_is(block: &Block, own: &BlockId, directory: &Option<BlockId>) -> bool
+    ensures { IsTrue result ↔ (home_in own.now block.now ≡ directory.now) }
+{
+    let parent = parent_of(block);
+    match directory {
+        Some(directory) => parent != *own && parent == *directory,
+        None => parent == *own,
+    }
+}
+
+/// Gives the node a name of at most 96 octets. The rest of the block stays.
+pub(crate) fn set_name(block: &mut Block, name: &[u8])
+    requires short { length name.now ≤ 96 }
+    ensures row { row_of block.new ≡ record (row_of block.old) { name_length = length name.now } }
+    ensures header { header_of block.new ≡ header_of block.old }
+    ensures name { name_of block.new ≡ name.now }
+    ensures whole { length block.new ≡ 128 }
+{
+    block[NAME_LENGTH_AT] = name.len() as u8;
+    put_part(block, NAME_AT - HEADER_OCTETS, name);
+}
+
+/// Whether the node is a file or a directory.
+pub(crate) fn kind_of(block: &Block) -> Kind
+    ensures { result ≡ kind_told (row_of block.now).kind }
+{
+    if block[KIND_AT] == 0 {
+        Kind::Directory
+    } else {
+        Kind::File
+    }
+}
+
+/// Says whether the node is a file or a directory. The rest of the block stays.
+pub(crate) fn set_kind(block: &mut Block, kind: Kind)
+    ensures row { row_of block.new ≡ record (row_of block.old) { kind = standing_octet kind } }
+    ensures header { header_of block.new ≡ header_of block.old }
+    ensures name { drop 32 block.new ≡ drop 32 block.old }
+    ensures whole { length block.new ≡ 128 }
+{
+    block[KIND_AT] = match kind {
+        Kind::Directory => 0,
+        Kind::File => 1,
+    };
+}
 
 /// The directory in which the node stands; the node itself where that is the root.
 pub(crate) fn parent_of(block: &Block) -> BlockId
     ensures value { result ≡ (row_of block.now).parent }
     ensures small { result < 65536 }
 {
-    BlockId::of_number(u32::from(u16::from_le_bytes([block[8], block[9]])))
+    BlockId::of_number(number_in(block, 8))
 }
 
 /// Puts the node into another directory. The rest of the block stays.
@@ -21,9 +109,7 @@ pub(crate) fn set_parent(block: &mut Block, parent: BlockId)
     ensures name { drop 32 block.new ≡ drop 32 block.old }
     ensures whole { length block.new ≡ 128 }
 {
-    let [low, high] = (parent.number() as u16).to_le_bytes();
-    block[8] = low;
-    block[9] = high;
+    set_number(block, 8, parent.number());
 }
 
 /// The first block of a file's octets, or the first entry of a directory.
@@ -31,7 +117,7 @@ pub(crate) fn first_of(block: &Block) -> BlockId
     ensures value { result ≡ (row_of block.now).first }
     ensures small { result < 65536 }
 {
-    BlockId::of_number(u32::from(u16::from_le_bytes([block[10], block[11]])))
+    BlockId::of_number(number_in(block, 10))
 }
 
 /// Names the first block of a file's octets, or the first entry of a directory. The rest of the block stays.
@@ -42,9 +128,7 @@ pub(crate) fn set_first(block: &mut Block, first: BlockId)
     ensures name { drop 32 block.new ≡ drop 32 block.old }
     ensures whole { length block.new ≡ 128 }
 {
-    let [low, high] = (first.number() as u16).to_le_bytes();
-    block[10] = low;
-    block[11] = high;
+    set_number(block, 10, first.number());
 }
 
 /// The last block of a file's octets.
@@ -52,7 +136,7 @@ pub(crate) fn last_of(block: &Block) -> BlockId
     ensures value { result ≡ (row_of block.now).last }
     ensures small { result < 65536 }
 {
-    BlockId::of_number(u32::from(u16::from_le_bytes([block[12], block[13]])))
+    BlockId::of_number(number_in(block, 12))
 }
 
 /// Names the last block of a file's octets. The rest of the block stays.
@@ -63,9 +147,7 @@ pub(crate) fn set_last(block: &mut Block, last: BlockId)
     ensures name { drop 32 block.new ≡ drop 32 block.old }
     ensures whole { length block.new ≡ 128 }
 {
-    let [low, high] = (last.number() as u16).to_le_bytes();
-    block[12] = low;
-    block[13] = high;
+    set_number(block, 12, last.number());
 }
 
 /// The next node of the same index head; the node itself where it is the last one.
@@ -73,7 +155,7 @@ pub(crate) fn same_head_of(block: &Block) -> BlockId
     ensures value { result ≡ (row_of block.now).same_head }
     ensures small { result < 65536 }
 {
-    BlockId::of_number(u32::from(u16::from_le_bytes([block[20], block[21]])))
+    BlockId::of_number(number_in(block, 20))
 }
 
 /// Names the next node of the same index head. The rest of the block stays.
@@ -84,9 +166,7 @@ pub(crate) fn set_same_head(block: &mut Block, same_head: BlockId)
     ensures name { drop 32 block.new ≡ drop 32 block.old }
     ensures whole { length block.new ≡ 128 }
 {
-    let [low, high] = (same_head.number() as u16).to_le_bytes();
-    block[20] = low;
-    block[21] = high;
+    set_number(block, 20, same_head.number());
 }
 
 /// The next entry of the parent; the node itself where it is the last one.
@@ -94,7 +174,7 @@ pub(crate) fn next_entry_of(block: &Block) -> BlockId
     ensures value { result ≡ (row_of block.now).next_entry }
     ensures small { result < 65536 }
 {
-    BlockId::of_number(u32::from(u16::from_le_bytes([block[22], block[23]])))
+    BlockId::of_number(number_in(block, 22))
 }
 
 /// Names the next entry of the parent. The rest of the block stays.
@@ -105,9 +185,7 @@ pub(crate) fn set_next_entry(block: &mut Block, next_entry: BlockId)
     ensures name { drop 32 block.new ≡ drop 32 block.old }
     ensures whole { length block.new ≡ 128 }
 {
-    let [low, high] = (next_entry.number() as u16).to_le_bytes();
-    block[22] = low;
-    block[23] = high;
+    set_number(block, 22, next_entry.number());
 }
 
 /// The entry of the parent before the node; the node itself where it is the first one.
@@ -115,7 +193,7 @@ pub(crate) fn previous_entry_of(block: &Block) -> BlockId
     ensures value { result ≡ (row_of block.now).previous_entry }
     ensures small { result < 65536 }
 {
-    BlockId::of_number(u32::from(u16::from_le_bytes([block[24], block[25]])))
+    BlockId::of_number(number_in(block, 24))
 }
 
 /// Names the entry of the parent before the node. The rest of the block stays.
@@ -126,9 +204,7 @@ pub(crate) fn set_previous_entry(block: &mut Block, previous_entry: BlockId)
     ensures name { drop 32 block.new ≡ drop 32 block.old }
     ensures whole { length block.new ≡ 128 }
 {
-    let [low, high] = (previous_entry.number() as u16).to_le_bytes();
-    block[24] = low;
-    block[25] = high;
+    set_number(block, 24, previous_entry.number());
 }
 
 /// How many octets a file has, or how many entries a directory.

@@ -1,9 +1,10 @@
 //! A run of blocks: a chain of blocks that one owner holds.
-ghost use Rattle.std.specs.Prelude.{◌≡◌, ◌+◌, ◌-◌, ◌*◌, ◌<◌, ◌≤◌, ◌++◌, length, replicate, None};
+ghost use Rattle.std.specs.Prelude.{◌≡◌, ℕ, ◌+◌, ◌-◌, ◌*◌, ◌<◌, ◌≤◌, ◌++◌, length, replicate, None};
 ghost use Rattle.cfdp_arena.specs.Arena.{octets_at, free_count, with_block};
 ghost use Rattle.cfdp_arena.specs.Blocks.{blank_block};
 ghost use Rattle.cfdp_tree.specs.Block.{payload};
-ghost use Rattle.cfdp_tree.specs.Runs.{IsHeld, OthersStay, octets_in};
+ghost use Rattle.cfdp_tree.specs.Nodes.{nodes_in};
+ghost use Rattle.cfdp_tree.specs.Runs.{IsHeld, AllStay, OthersStay, octets_in, nth};
 
 use crate::header::{BlockKind, next_of, set_next, set_tag};
 use cfdp_arena::{Arena, BlockId};
@@ -43,6 +44,8 @@ impl Run {
         ensures others { OthersStay arena.old arena.new self.old }
         ensures first { 0 < self.old.count → self.new.first ≡ self.old.first }
         ensures fresh { self.old.count ≡ 0 → octets_at arena.old self.new.first ≡ None }
+        ensures places { (k : ℕ) → k < self.old.count → nth arena.new self.new.first k ≡ nth arena.old self.old.first k }
+        ensures nodes { nodes_in arena.new ≡ nodes_in arena.old }
     {
         if self.count == 0 {
             *self = begin(arena);
@@ -64,6 +67,8 @@ impl Run {
         ensures size { length arena.new ≡ length arena.old }
         ensures others { OthersStay arena.old arena.new self.old }
         ensures first { self.new.first ≡ self.old.first }
+        ensures places { (k : ℕ) → k < self.old.count → nth arena.new self.new.first k ≡ nth arena.old self.old.first k }
+        ensures nodes { nodes_in arena.new ≡ nodes_in arena.old }
     {
         let block = take_block(arena);
         set_tag(
@@ -92,6 +97,8 @@ impl Run {
         ensures others { OthersStay arena.old arena.new self.new }
         ensures first { 0 < self.old.count → self.new.first ≡ self.old.first }
         ensures fresh { self.old.count ≡ 0 → 0 < count → octets_at arena.old self.new.first ≡ None }
+        ensures places { (k : ℕ) → k < self.old.count → nth arena.new self.new.first k ≡ nth arena.old self.old.first k }
+        ensures nodes { nodes_in arena.new ≡ nodes_in arena.old }
     {
         for _block in self.count..count {
             self.grow(arena);
@@ -104,6 +111,7 @@ impl Run {
         ensures freed { free_count arena.new ≡ free_count arena.old + self.count }
         ensures size { length arena.new ≡ length arena.old }
         ensures others { OthersStay arena.old arena.new self }
+        ensures nodes { nodes_in arena.new ≡ nodes_in arena.old }
     {
         let mut block = self.first;
         for _step in 0..self.count {
@@ -122,8 +130,9 @@ fn begin(arena: &mut Arena) -> Run
     ensures octets { octets_in arena.new result ≡ payload blank_block }
     ensures taken { free_count arena.new + 1 ≡ free_count arena.old }
     ensures size { length arena.new ≡ length arena.old }
-    ensures others { OthersStay arena.old arena.new record { first = 0; last = 0; count = 0 } }
+    ensures others { AllStay arena.old arena.new }
     ensures fresh { octets_at arena.old result.first ≡ None }
+    ensures nodes { nodes_in arena.new ≡ nodes_in arena.old }
 {
     let block = take_block(arena);
     set_tag(arena.bytes_mut(block), block, 0, BlockKind::Content);

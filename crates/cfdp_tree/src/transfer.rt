@@ -2,6 +2,7 @@
 ghost use Rattle.std.specs.Prelude.{◌≡◌, ℕ, ◌+◌, ◌*◌, ◌<◌, ◌≤◌, length, slice_range};
 ghost use Rattle.cfdp_arena.specs.Arena.{free_count};
 ghost use Rattle.cfdp_actions.specs.Store.{overwritten};
+ghost use Rattle.cfdp_tree.specs.Nodes.{nodes_in};
 ghost use Rattle.cfdp_tree.specs.Runs.{IsHeld, IsAt, OthersStay, octets_in, nth};
 
 use crate::cursor::Cursor;
@@ -24,6 +25,7 @@ impl Run {
         ensures free { free_count arena.new ≡ free_count arena.old }
         ensures size { length arena.new ≡ length arena.old }
         ensures others { OthersStay arena.old arena.new self.now }
+        ensures nodes { nodes_in arena.new ≡ nodes_in arena.old }
     {
         put_part(arena.bytes_mut(cursor.block), at, part);
     }
@@ -51,9 +53,11 @@ impl Run {
         ensures held { IsHeld arena.new self.now }
         ensures octets { octets_in arena.new self.now ≡ overwritten (octets_in arena.old self.now) at octets.now }
         ensures place { IsAt arena.new self.now result }
+        ensures places { (k : ℕ) → k ≤ self.now.count → nth arena.new self.now.first k ≡ nth arena.old self.now.first k }
         ensures free { free_count arena.new ≡ free_count arena.old }
         ensures size { length arena.new ≡ length arena.old }
         ensures others { OthersStay arena.old arena.new self.now }
+        ensures nodes { nodes_in arena.new ≡ nodes_in arena.old }
     {
         let end = at + octets.len();
         let begin = at / PAYLOAD_OCTETS;

@@ -1,6 +1,6 @@
-use Rattle.std.proofs.Common.{get_or, arith}
+use Rattle.std.proofs.Common.{drop, ap, ◌∙◌, arith}
 use Rattle.cfdp_tree.proofs.RowLaws.{name_kept}
 use Rattle.cfdp_tree.proofs.rows.set_same_head.Goals as goal
 
 pub returns-clause-name : goal.returns-clause-name
-returns-clause-name c = name_kept c.args.block.now 20 21 (get_or c.to_le_bytes.result 0 0) (get_or c.to_le_bytes.result 1 0) (omega arith) (omega arith)
+returns-clause-name c = ap (drop 32) c.set_number.ensures.number ∙ name_kept c.args.block.now 20 c.number.result (omega arith)

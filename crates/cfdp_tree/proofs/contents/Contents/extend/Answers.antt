@@ -1,7 +1,8 @@
 use Rattle.std.proofs.Common.{◌-◌, ◌*◌, take, drop, replicate, sym, ap, ◌∙◌, arith}
 use Rattle.cfdp_tree.specs.Runs.{octets_in}
 use Rattle.cfdp_tree.proofs.RunLaws.{length-run}
-use Rattle.cfdp_tree.proofs.Filling.{extended_octets, extended_zeros, blocks_of-fits, blocks_of-le, blocks_of-most, blocks_of-some, blocks_of-none}
+use Rattle.cfdp_tree.proofs.Filling.{extended_octets, extended_zeros, blocks_of-fits, blocks_of-le, blocks_of-most}
+use Rattle.cfdp_tree.proofs.SpareLaws.{spares_grown}
 use Rattle.cfdp_tree.proofs.contents.Contents.extend.Goals as goal
 
 pub grow_to-requires-clause-more : goal.grow_to-requires-clause-more
@@ -38,9 +39,7 @@ returns-clause-octets c =
     ap (take size) g.octets
     ∙ extended_octets xs old.size run.count long (omega (arith, f.blocks, least)) f.zeros size n c.requires.longer (omega (arith, c.blocks_of.ensures, fits)) (omega (arith, f.blocks, c.blocks_of.ensures, more))
 
-pub returns-clause-first : goal.returns-clause-first
-returns-clause-first c = (λ some. c.grow_to.ensures.first (omega (arith, c.requires.filled.blocks, blocks_of-some c.args.self.now.size some)))
-
-pub returns-clause-fresh : goal.returns-clause-fresh
-returns-clause-fresh c =
-    (λ none some. c.grow_to.ensures.fresh (c.requires.filled.blocks ∙ blocks_of-none c.args.self.now.size none) (omega (arith, c.blocks_of.ensures, blocks_of-some c.args.size some)))
+pub returns-clause-spares : goal.returns-clause-spares
+returns-clause-spares c =
+    let g = c.grow_to.ensures in let old = c.args.self.now in
+    spares_grown c.args.arena.now c.grow_to.new.arena old.run c.grow_to.new.self g.others g.first (λ none some. g.fresh none (omega (arith, g.count)))

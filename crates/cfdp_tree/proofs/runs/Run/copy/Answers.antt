@@ -42,4 +42,5 @@ loop-index-preserved c =
       free = c.copy_block.ensures.free ∙ inv.free;
       size = c.copy_block.ensures.size ∙ inv.size;
       others = others_then a l.arena after run inv.others c.copy_block.ensures.others;
+      nodes = c.copy_block.ensures.nodes ∙ inv.nodes;
     }

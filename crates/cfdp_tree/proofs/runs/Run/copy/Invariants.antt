@@ -1,6 +1,7 @@
 use Rattle.std.proofs.Common.{◌≡◌, ◌+◌, ◌*◌, ◌/◌, min, take, length}
 use Rattle.cfdp_arena.specs.Arena.{free_count}
 use Rattle.cfdp_actions.specs.Store.{overwritten}
+use Rattle.cfdp_tree.specs.Nodes.{nodes_in}
 use Rattle.cfdp_tree.specs.Runs.{IsHeld, IsAt, OthersStay, octets_in}
 use Rattle.cfdp_tree.proofs.runs.Run.copy.Given as goal
 
@@ -17,4 +18,5 @@ invariant-loop-index l = record {
   free : free_count l.arena ≡ free_count l.fn.arena;
   size : length l.arena ≡ length l.fn.arena;
   others : OthersStay l.fn.arena l.arena l.self;
+  nodes : nodes_in l.arena ≡ nodes_in l.fn.arena;
 }

@@ -4,12 +4,13 @@ use Rattle.cfdp_arena.specs.Arena.{octets_at, octets_of, free_count}
 use Rattle.cfdp_arena.specs.Blocks.{with_part, payload_part}
 use Rattle.cfdp_actions.specs.Store.{overwritten}
 use Rattle.cfdp_tree.specs.Block.{payload}
+use Rattle.cfdp_tree.specs.Nodes.{nodes_in}
 use Rattle.cfdp_tree.specs.Runs.{octets, header_in, octets_in, nth, IsHeld, OthersStay}
 use Rattle.cfdp_tree.proofs.Counts.{free_count-written}
 use Rattle.cfdp_tree.proofs.BlockLaws.{header-part, payload-part, whole-part}
 use Rattle.cfdp_tree.proofs.Octets.{slice_is}
 use Rattle.cfdp_tree.proofs.RunLaws.{run_slice}
-use Rattle.cfdp_tree.proofs.HeldLaws.{held_part, put_held, put_nth, put_others, put_octets}
+use Rattle.cfdp_tree.proofs.HeldLaws.{held_part, put_held, put_nth, put_others, put_octets, put_nodes}
 use Rattle.cfdp_tree.proofs.runs.Run.copy_in.Goals as goal
 
 pub copy_payload-requires : goal.copy_payload-requires
@@ -54,4 +55,5 @@ returns c =
       free = ap free_count target ∙ free_count-written a t.block new to.live;
       size = ap length target ∙ length-set a t.block (Some new);
       others = subst (λ x. OthersStay a x run) (sym target) (put_others a run r.held t.index r.to_within t.block r.to.1 new whole same);
+      nodes = ap nodes_in target ∙ put_nodes a run r.held t.index r.to_within t.block r.to.1 new whole same;
     }

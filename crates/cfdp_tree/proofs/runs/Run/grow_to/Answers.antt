@@ -27,4 +27,6 @@ loop-block-preserved c =
         | inl zero ↦ was_free (octets_at a after.first) (octets_at l.arena after.first) (λ live. inv.others after.first live (λ of. omega (arith, of.0, inv.count))) (g.fresh (inv.count ∙ zero))
         | inr more ↦ ap (octets_at a) (g.first (omega (arith, inv.count))) ∙ inv.fresh none (omega arith)
       ]);
+      places = (λ k within. g.places k (omega (arith, inv.count, inv.more)) ∙ inv.places k within);
+      nodes = g.nodes ∙ inv.nodes;
     }

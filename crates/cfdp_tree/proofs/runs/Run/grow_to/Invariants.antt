@@ -1,6 +1,7 @@
-use Rattle.std.proofs.Common.{◌≡◌, ◌+◌, ◌-◌, ◌*◌, ◌<◌, ◌≤◌, ◌++◌, length, replicate, None}
+use Rattle.std.proofs.Common.{◌≡◌, ℕ, ◌+◌, ◌-◌, ◌*◌, ◌<◌, ◌≤◌, ◌++◌, length, replicate, None}
 use Rattle.cfdp_arena.specs.Arena.{free_count, octets_at}
-use Rattle.cfdp_tree.specs.Runs.{IsHeld, OthersStay, octets_in}
+use Rattle.cfdp_tree.specs.Nodes.{nodes_in}
+use Rattle.cfdp_tree.specs.Runs.{IsHeld, OthersStay, octets_in, nth}
 use Rattle.cfdp_tree.proofs.runs.Run.grow_to.Given as goal
 
 abbrev pub invariant-loop-block : goal.invariant-loop-block
@@ -15,4 +16,6 @@ invariant-loop-block l = record {
   others : OthersStay l.fn.arena l.arena l.self;
   first : 0 < l.fn.self.count → l.self.first ≡ l.fn.self.first;
   fresh : l.fn.self.count ≡ 0 → 0 < l._block → octets_at l.fn.arena l.self.first ≡ None;
+  places : (k : ℕ) → k < l.fn.self.count → nth l.arena l.self.first k ≡ nth l.fn.arena l.fn.self.first k;
+  nodes : nodes_in l.arena ≡ nodes_in l.fn.arena;
 }

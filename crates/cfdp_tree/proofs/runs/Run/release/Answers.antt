@@ -1,10 +1,12 @@
-use Rattle.std.proofs.Common.{◌+◌, ◌-◌, ap, sym, ◌∙◌, subst, arith, length-set, None}
+use Rattle.std.proofs.Common.{◌+◌, ◌-◌, refl, ap, sym, ◌∙◌, subst, arith, length-set, None}
 use Rattle.std.specs.Prelude.{length}
 use Rattle.cfdp_arena.specs.Arena.{without_block, free_count}
 use Rattle.cfdp_tree.specs.Block.{header_of}
+use Rattle.cfdp_tree.specs.Nodes.{nodes_in}
 use Rattle.cfdp_tree.specs.Runs.{IsRun, OthersStay}
 use Rattle.cfdp_tree.proofs.Counts.{free_count-given}
-use Rattle.cfdp_tree.proofs.HeldLaws.{octets_are, released_live, released_rest, released_others}
+use Rattle.cfdp_tree.proofs.NodeLaws.{nodes-kept}
+use Rattle.cfdp_tree.proofs.HeldLaws.{octets_are, released_live, released_rest, released_others, released_no_node}
 use Rattle.cfdp_tree.proofs.runs.Run.release.Goals as goal
 
 pub loop-step-preserved : goal.loop-step-preserved
@@ -21,4 +23,7 @@ loop-step-preserved c =
       size = ap length c.give.ensures.freed ∙ length-set l.arena l.block None ∙ inv.size;
       others = subst (λ a. OthersStay c.args.arena.now a run) (sym c.give.ensures.freed)
           (released_others c.args.arena.now l.arena run l._step l.block c.loop-step-test.true inv.rest inv.others);
+      nodes = ap nodes_in c.give.ensures.freed
+          ∙ nodes-kept l.arena l.block None refl (released_no_node c.args.arena.now l.arena run l._step l.block c.loop-step-test.true inv.rest)
+          ∙ inv.nodes;
     }

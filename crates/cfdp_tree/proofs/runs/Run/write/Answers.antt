@@ -25,4 +25,6 @@ loop-index-preserved c =
       free = c.put_in.ensures.free ∙ inv.free;
       size = c.put_in.ensures.size ∙ inv.size;
       others = others_then a l.arena c.put_in.new.arena run inv.others c.put_in.ensures.others;
+      places = (λ k within. c.put_in.ensures.places k within ∙ inv.places k within);
+      nodes = c.put_in.ensures.nodes ∙ inv.nodes;
     }

@@ -1,7 +1,8 @@
-use Rattle.std.proofs.Common.{◌≡◌, take, length}
+use Rattle.std.proofs.Common.{◌≡◌, ℕ, ◌≤◌, take, length}
 use Rattle.cfdp_arena.specs.Arena.{free_count}
 use Rattle.cfdp_actions.specs.Store.{overwritten}
-use Rattle.cfdp_tree.specs.Runs.{IsHeld, IsAt, OthersStay, octets_in}
+use Rattle.cfdp_tree.specs.Nodes.{nodes_in}
+use Rattle.cfdp_tree.specs.Runs.{IsHeld, IsAt, OthersStay, octets_in, nth}
 use Rattle.cfdp_tree.proofs.Octets.{reached}
 use Rattle.cfdp_tree.proofs.runs.Run.write.Given as goal
 
@@ -15,4 +16,6 @@ invariant-loop-index l = record {
   free : free_count l.arena ≡ free_count l.fn.arena;
   size : length l.arena ≡ length l.fn.arena;
   others : OthersStay l.fn.arena l.arena l.self;
+  places : (k : ℕ) → k ≤ l.self.count → nth l.arena l.self.first k ≡ nth l.fn.arena l.self.first k;
+  nodes : nodes_in l.arena ≡ nodes_in l.fn.arena;
 }

@@ -1,0 +1,48 @@
+use Rattle.std.proofs.Common.{◌≡◌, ◌+◌, ℕ, length, length-take, take, sym, ◌∙◌, arith}
+use Rattle.cfdp_actions.specs.Store.{overwritten}
+use Rattle.cfdp_tree.specs.Runs.{octets_in}
+use Rattle.cfdp_tree.specs.Contents.{contents_in}
+use Rattle.cfdp_tree.proofs.Octets.{overwritten-extended}
+use Rattle.cfdp_tree.proofs.Filling.{blocks_of-fits, blocks_of-some}
+use Rattle.cfdp_tree.proofs.ContentsLaws.{length-contents, written_filled, written_contents}
+use Rattle.cfdp_tree.proofs.SpareLaws.{spares_kept, spares_then}
+use Rattle.cfdp_tree.proofs.contents.Contents.append.Goals as goal
+
+pub copy-requires-clause-apart : goal.copy-requires-clause-apart
+copy-requires-clause-apart c =
+    let s = c.args.source.now in let m = c.make_room-to in let r = c.requires in
+    let spared = m.ensures.spares s.run r.source.held r.apart in
+    let some = blocks_of-some s.size (omega arith) in
+    let more = blocks_of-some m.new.self.size (omega (arith, m.ensures.size)) in
+    (λ e. spared.1 (omega (arith, m.ensures.filled.blocks, more)) (omega (arith, r.source.blocks, some)) (sym e))
+
+pub copy-requires-clause-within : goal.copy-requires-clause-within
+copy-requires-clause-within c =
+    let m = c.make_room-to in omega (arith, m.ensures.filled.blocks, m.ensures.size, blocks_of-fits m.new.self.size)
+
+pub copy-requires-clause-there : goal.copy-requires-clause-there
+copy-requires-clause-there c = omega (arith, c.requires.source.blocks, blocks_of-fits c.args.source.now.size)
+
+pub returns-clause-filled : goal.returns-clause-filled
+returns-clause-filled c =
+    let s = c.args.source.now in let m = c.make_room-to in
+    let part = take s.size (octets_in m.new.arena s.run) in
+    written_filled m.new.arena m.new.self m.ensures.filled c.copy.new.arena c.args.self.now.size part (omega (arith, m.ensures.size, length-take {A = ℕ})) c.copy.ensures.held c.copy.ensures.octets
+
+pub returns-clause-octets : goal.returns-clause-octets
+returns-clause-octets c =
+    let a = c.args.arena.now in let old = c.args.self.now in let s = c.args.source.now in let m = c.make_room-to in let r = c.requires in
+    let n = old.size in
+    let part = take s.size (octets_in m.new.arena s.run) in
+    let spared = m.ensures.spares s.run r.source.held r.apart in
+    let front = contents_in a old in
+    let back = contents_in a s in
+    let end : n + s.size ≡ n + length back = omega (arith, length-contents a s r.source) in
+    written_contents m.new.arena m.new.self m.ensures.filled c.copy.new.arena n part (omega (arith, m.ensures.size, length-take {A = ℕ})) c.copy.ensures.held c.copy.ensures.octets
+    ∙ (λ k. overwritten (m.ensures.octets k) n (take s.size (spared.0.octets k)))
+    ∙ overwritten-extended front back n (n + s.size) (length-contents a old r.filled) end
+
+pub returns-clause-spares : goal.returns-clause-spares
+returns-clause-spares c =
+    let m = c.make_room-to in let after = m.new.self.run in
+    spares_then c.args.arena.now m.new.arena c.copy.new.arena c.args.self.now.run after after m.ensures.spares (spares_kept m.new.arena c.copy.new.arena after c.copy.ensures.others)

@@ -1,0 +1,65 @@
+-- The index: for each directory and name a head, from which a list of nodes begins, each of which names the next one.
+-- A node stands in the list of its own directory and name, once. How many nodes a list has stands in its head.
+--     Heads                      the heads
+--     hash_step, hash_of         a number for a directory and a name
+--     place_of directory name n  the head of the two among n of them
+--     chain nodes n b            n nodes from b on
+--     list_at nodes heads k      the list of a head
+--     IsListed nodes out n k b   the node b stands in the list k of n lists, and is not the one that stands in none
+--     count_out out              how many nodes stand in no list
+--     IsIndex nodes heads out    each node stands in its list, but for the one that is out, and each list has just its nodes
+use Rattle.std.specs.Prelude.{◌≡◌, ◌≢◌, ℕ, suc, zero, ◌+◌, ◌*◌, ◌%◌, ◌<◌, List, [], ◌∷◌, Option, Some, None, All, AllPairs, Contains, fold, length, slice_index_or, sum_by}
+use Rattle.cfdp_arena.specs.Arena.{Blocks, live_count}
+use Rattle.cfdp_paths.specs.Paths.{Name}
+use Rattle.cfdp_tree.specs.declared.index.Head.{Head}
+use Rattle.cfdp_tree.specs.Tree.{IsNode, row_at, name_at, home}
+
+abbrev pub Heads : Type 0
+Heads = List Head
+
+abbrev pub hash_step : ℕ → ℕ → ℕ
+hash_step hash octet = (31 * hash + octet) % 65521
+
+-- the root is 0
+abbrev pub hash_start : Option ℕ → ℕ
+hash_start None = 0
+hash_start (Some d) = d % 65521 + 1
+
+abbrev pub hash_of : Option ℕ → Name → ℕ
+hash_of directory name = fold hash_step (hash_start directory) name
+
+abbrev pub place_of : Option ℕ → Name → ℕ → ℕ
+place_of directory name n = hash_of directory name % n
+
+abbrev pub chain : Blocks → ℕ → ℕ → List ℕ
+chain nodes zero b = []
+chain nodes (suc n) b = b ∷ chain nodes n (row_at nodes b).same_head
+
+abbrev pub no_head : Head
+no_head = record { first = 0; count = 0 }
+
+abbrev pub list_of : Blocks → Head → List ℕ
+list_of nodes head = chain nodes head.count head.first
+
+abbrev pub list_at : Blocks → Heads → ℕ → List ℕ
+list_at nodes heads k = list_of nodes (slice_index_or heads k no_head)
+
+-- a node may be out of all lists
+pub record IsListed (nodes : Blocks) (out : Option ℕ) (n k b : ℕ) : Type 0 where
+  pub node : IsNode nodes b
+  pub place : place_of (home nodes b) (name_at nodes b) n ≡ k
+  pub listed : out ≢ Some b
+
+abbrev pub count_out : Option ℕ → ℕ
+count_out None = 0
+count_out (Some b) = 1
+
+pub record IsIndex (nodes : Blocks) (heads : Heads) (out : Option ℕ) : Type 0 where
+  pub some : 0 < length heads
+  pub small : (k : ℕ) → k < length heads → (slice_index_or heads k no_head).first < 65536
+  -- of its own nodes
+  pub own : (k : ℕ) → k < length heads → All (IsListed nodes out (length heads) k) (list_at nodes heads k)
+  pub once : (k : ℕ) → k < length heads → AllPairs (λ b c. b ≢ c) (list_at nodes heads k)
+  -- and of all of them
+  pub all : (b : ℕ) → IsNode nodes b → out ≢ Some b → Contains (list_at nodes heads (place_of (home nodes b) (name_at nodes b) (length heads))) b
+  pub counted : sum_by (λ (head : Head). head.count) heads + count_out out ≡ live_count nodes

@@ -1,0 +1,105 @@
+-- The tree that the nodes of an arena make. A node names the directory in which it stands, and so its path is the climb
+-- from it to the root. A path has at most 8 names, so a climb is followed for as many nodes.
+--     IsNode, IsDirectory nodes b    the block is a node;  that of a directory
+--     row_at, name_at                what it says, and its name
+--     home nodes b                   the directory in which it stands, None for the root
+--     most_names                     the most names of a path
+--     climb nodes n b, path_of       the names of the last n nodes on the way to it, and of all of them
+--     Ends nodes n b                 the way to it has no more than n nodes
+--     IsEntry nodes directory name b    the node stands in this directory under this name
+--     entries_of nodes d             how many nodes stand in a directory
+--     IsNamed block                  the block is whole, and its name is one
+--     IsTree nodes                   the nodes make a tree
+--     IsSized nodes                  each directory says how many entries it has
+--     unlinked row, Relinked old new     what it says but for its links;  each node says what it said, but for its links
+--     SamePlaces old new             the same nodes stand where they stood, under their names
+use Rattle.std.specs.Prelude.{◌≡◌, ℕ, suc, zero, ◌+◌, ◌≤◌, ◌==◌, if◌then◌else◌, List, [], ◌∷◌, ◌++◌, Option, Some, None, IsSome, is_some, length}
+use Rattle.std.specs.Option.{option_map_or}
+use Rattle.cfdp_arena.specs.Arena.{Blocks, octets_at, octets_of}
+use Rattle.cfdp_paths.specs.Paths.{Name, Path, IsName}
+use Rattle.cfdp_actions.specs.declared.kind.Kind.TheVariants as kind
+use Rattle.cfdp_tree.specs.Row.{Row, row_of, name_of, kind_told}
+
+abbrev pub IsNode : Blocks → ℕ → Type 0
+IsNode nodes b = IsSome (octets_at nodes b)
+
+abbrev pub row_at : Blocks → ℕ → Row
+row_at nodes b = row_of (octets_of nodes b)
+
+abbrev pub name_at : Blocks → ℕ → Name
+name_at nodes b = name_of (octets_of nodes b)
+
+pub record IsDirectory (nodes : Blocks) (b : ℕ) : Type 0 where
+  pub node : IsNode nodes b
+  pub directory : kind_told (row_at nodes b).kind ≡ kind.Directory
+
+-- a node that names itself stands in the root
+abbrev pub home_in : ℕ → List ℕ → Option ℕ
+home_in b block = if (row_of block).parent == b then None else Some (row_of block).parent
+
+abbrev pub home : Blocks → ℕ → Option ℕ
+home nodes b = home_in b (octets_of nodes b)
+
+abbrev pub climb : Blocks → ℕ → ℕ → Path
+climb nodes zero b = []
+climb nodes (suc n) b = option_map_or (λ d. climb nodes n d) (home nodes b) [] ++ name_at nodes b ∷ []
+
+unfoldable pub most_names : ℕ
+most_names = 8
+
+abbrev pub path_of : Blocks → ℕ → Path
+path_of nodes b = climb nodes most_names b
+
+abbrev pub Ends : Blocks → ℕ → ℕ → Type 0
+Ends nodes zero b = ⊥
+Ends nodes (suc n) b = (d : ℕ) → home nodes b ≡ Some d → Ends nodes n d
+
+pub record IsEntry (nodes : Blocks) (directory : Option ℕ) (name : Name) (b : ℕ) : Type 0 where
+  pub node : IsNode nodes b
+  pub there : home nodes b ≡ directory
+  pub named : name_at nodes b ≡ name
+
+-- of one block, and of the blocks from b on
+abbrev pub entry_of : ℕ → ℕ → Option (List ℕ) → ℕ
+entry_of d b None = 0
+entry_of d b (Some block) = option_map_or (λ e. if e == d then 1 else 0) (home_in b block) 0
+
+abbrev pub entries_from : ℕ → ℕ → Blocks → ℕ
+entries_from d b [] = 0
+entries_from d b (entry ∷ rest) = entry_of d b entry + entries_from d (suc b) rest
+
+abbrev pub entries_of : Blocks → ℕ → ℕ
+entries_of nodes d = entries_from d 0 nodes
+
+pub record IsNamed (block : List ℕ) : Type 0 where
+  pub whole : length block ≡ 128
+  pub fits : (row_of block).name_length ≤ 96
+  pub name : IsName (name_of block)
+
+pub record IsTree (nodes : Blocks) : Type 0 where
+  pub named : (b : ℕ) → IsNode nodes b → IsNamed (octets_of nodes b)
+  -- each stands in the root or in a directory
+  pub homes : (b d : ℕ) → IsNode nodes b → home nodes b ≡ Some d → IsDirectory nodes d
+  pub ends : (b : ℕ) → IsNode nodes b → Ends nodes most_names b
+  -- no two of one name in one directory
+  pub unique : (b c : ℕ) → IsNode nodes b → IsNode nodes c → home nodes b ≡ home nodes c → name_at nodes b ≡ name_at nodes c → b ≡ c
+
+-- a directory says how many entries it has
+pub record IsSized (nodes : Blocks) : Type 0 where
+  pub sized : (d : ℕ) → IsDirectory nodes d → (row_at nodes d).size ≡ entries_of nodes d
+
+pub record SamePlaces (old new : Blocks) : Type 0 where
+  pub nodes : (b : ℕ) → is_some (octets_at new b) ≡ is_some (octets_at old b)
+  pub homes : (b : ℕ) → home new b ≡ home old b
+  pub names : (b : ℕ) → name_at new b ≡ name_at old b
+  pub kinds : (b : ℕ) → kind_told (row_at new b).kind ≡ kind_told (row_at old b).kind
+  pub named : (b : ℕ) → IsNode new b → IsNamed (octets_of new b)
+
+abbrev pub unlinked : Row → Row
+unlinked row = record row { same_head = 0; next_entry = 0; previous_entry = 0 }
+
+pub record Relinked (old new : Blocks) : Type 0 where
+  pub nodes : (b : ℕ) → is_some (octets_at new b) ≡ is_some (octets_at old b)
+  pub rows : (b : ℕ) → unlinked (row_at new b) ≡ unlinked (row_at old b)
+  pub names : (b : ℕ) → name_at new b ≡ name_at old b
+  pub named : (b : ℕ) → IsNode new b → IsNamed (octets_of new b)
