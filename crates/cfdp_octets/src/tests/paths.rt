@@ -4,13 +4,23 @@ mod answers;
 mod limits;
 mod maps;
 
+use super::{Row, all_hold};
 use cfdp_paths::{LONGEST_NAME, Memory, Path, PathFault};
-use std::alloc::Global;
+use std::alloc::{AllocError, Global};
 use std::cmp::Ordering;
-use std::test::Fail;
+
+/// The path that the octets spell. They spell one, so that only memory can be wanting.
+fn parsed(alloc: Global, octets: &[u8]) -> Result<Path, Memory> {
+    match Path::parse(alloc, octets) {
+        Ok(path) => Ok(path),
+        Err(_) => Err(AllocError),
+    }
+}
 
 /// Octets that spell no path, and their fault.
-static FAULTS: [(&[u8], PathFault); 24] = [
+type Fault = (&'static [u8], PathFault);
+
+static FAULTS: [Fault; 24] = [
     (b"", PathFault::Empty),
     (b"/", PathFault::Empty),
     (b"//", PathFault::EmptyName),
@@ -37,17 +47,22 @@ static FAULTS: [(&[u8], PathFault); 24] = [
     (b"/1/2/3/4/5/6/7//9", PathFault::EmptyName),
 ];
 
-/// They are told so where each allocation is refused, too: a fault is found without memory.
-#[test]
-fn faults_in_order(rt: HostRuntime) {
-    for (octets, fault) in &FAULTS {
-        let found = Path::parse(rt.alloc(), octets).err();
-        assert!(rt; found == Some(*fault), "at {octets:?}");
+impl Row for Fault {
+    fn holds(&self, alloc: Global) -> Result<bool, Memory> {
+        Ok(Path::parse(alloc, self.0).err() == Some(self.1))
     }
 }
 
+/// They are told so where each allocation is refused, too: a fault is found without memory.
+#[test]
+fn faults_in_order(rt: HostRuntime) {
+    all_hold(&rt, rt.alloc(), &FAULTS);
+}
+
 /// What stands before and behind a name of 97 octets, and the fault of the whole.
-static AROUND_A_LONG_NAME: [(&[u8], &[u8], PathFault); 8] = [
+type AroundALongName = (&'static [u8], &'static [u8], PathFault);
+
+static AROUND_A_LONG_NAME: [AroundALongName; 8] = [
     (b"", b"", PathFault::NameTooLong),
     (b"/", b"", PathFault::NameTooLong),
     (b"", b"\0", PathFault::BadName),
@@ -58,31 +73,30 @@ static AROUND_A_LONG_NAME: [(&[u8], &[u8], PathFault); 8] = [
     (b"1/2/3/4/5/6/7/8/", b"", PathFault::TooDeep),
 ];
 
-/// The fault of octets with a name of 97 octets between others.
-fn long_name_fault(
-    alloc: Global,
-    before: &[u8],
-    behind: &[u8],
-) -> Result<Option<PathFault>, Memory> {
+/// The whole.
+fn around_a_long_name(alloc: Global, before: &[u8], behind: &[u8]) -> Result<Vec<u8>, Memory> {
     let mut octets = Vec::from_slice(alloc, before)?;
     octets.extend_from_slice(&[b'x'; LONGEST_NAME + 1])?;
     octets.extend_from_slice(behind)?;
-    Ok(Path::parse(alloc, &octets).err())
+    Ok(octets)
+}
+
+impl Row for AroundALongName {
+    fn holds(&self, alloc: Global) -> Result<bool, Memory> {
+        let octets = around_a_long_name(alloc, self.0, self.1)?;
+        Ok(Path::parse(alloc, &octets).err() == Some(self.2))
+    }
 }
 
 #[test]
 fn names_too_long(rt: HostRuntime) {
-    for (before, behind, fault) in &AROUND_A_LONG_NAME {
-        let found = long_name_fault(rt.alloc(), before, behind);
-        assert!(rt;
-            found == Ok(Some(*fault)),
-            "behind {before:?} and before {behind:?}"
-        );
-    }
+    all_hold(&rt, rt.alloc(), &AROUND_A_LONG_NAME);
 }
 
 /// Two paths, and whether the first is at or below the second, below it, and a child of it.
-static BESIDE: [(&[u8], &[u8], bool, bool, bool); 7] = [
+type Beside = (&'static [u8], &'static [u8], bool, bool, bool);
+
+static BESIDE: [Beside; 7] = [
     (b"d/x/y", b"d", true, true, false),
     (b"d/x/y", b"d/x", true, true, true),
     (b"d/x/y", b"d/x/y", true, false, false),
@@ -93,52 +107,56 @@ static BESIDE: [(&[u8], &[u8], bool, bool, bool); 7] = [
 ];
 
 /// How the first path stands to the second.
-fn beside(alloc: Global, path: &[u8], other: &[u8]) -> Result<(bool, bool, bool), PathFault> {
-    let path = Path::parse(alloc, path)?;
-    let other = Path::parse(alloc, other)?;
-    let is_at_or_below = path.is_at_or_below(&other);
-    Ok((
-        is_at_or_below,
-        path.is_below(&other),
-        path.is_child_of(&other),
-    ))
+fn beside(path: &Path, other: &Path) -> (bool, bool, bool) {
+    (
+        path.is_at_or_below(other),
+        path.is_below(other),
+        path.is_child_of(other),
+    )
+}
+
+impl Row for Beside {
+    fn holds(&self, alloc: Global) -> Result<bool, Memory> {
+        let path = parsed(alloc, self.0)?;
+        let other = parsed(alloc, self.1)?;
+        Ok(beside(&path, &other) == (self.2, self.3, self.4))
+    }
 }
 
 #[test]
 fn one_path_beside_another(rt: HostRuntime) {
-    for (path, other, at_or_below, below, child) in &BESIDE {
-        let found = beside(rt.alloc(), path, other);
-        assert!(rt;
-            found == Ok((*at_or_below, *below, *child)),
-            "{path:?} beside {other:?}"
-        );
-    }
+    all_hold(&rt, rt.alloc(), &BESIDE);
 }
 
 /// A path, how many names of `d/x/y`, and how it stands to the path of these.
-static BEGINNINGS: [(&[u8], usize, Ordering); 4] = [
+type Beginning = (&'static [u8], usize, Ordering);
+
+static BEGINNINGS: [Beginning; 4] = [
     (b"d", 0, Ordering::Greater),
     (b"d", 1, Ordering::Equal),
     (b"d", 2, Ordering::Less),
     (b"e", 3, Ordering::Greater),
 ];
 
-/// How a path stands to the first names of `d/x/y`, where that has so many.
-fn order(alloc: Global, path: &[u8], depth: usize) -> Result<Option<Ordering>, PathFault> {
-    let path = Path::parse(alloc, path)?;
-    let other = Path::parse(alloc, b"d/x/y")?;
+/// How a path stands to the first names of another, where that has so many.
+fn order(path: &Path, other: &Path, depth: usize) -> Option<Ordering> {
     if other.depth() < depth {
-        return Ok(None);
+        return None;
     }
-    Ok(Some(path.cmp_beginning(&other, depth)))
+    Some(path.cmp_beginning(other, depth))
+}
+
+impl Row for Beginning {
+    fn holds(&self, alloc: Global) -> Result<bool, Memory> {
+        let path = parsed(alloc, self.0)?;
+        let other = parsed(alloc, b"d/x/y")?;
+        Ok(order(&path, &other, self.1) == Some(self.2))
+    }
 }
 
 #[test]
 fn order_of_beginnings(rt: HostRuntime) {
-    for (path, depth, want) in &BEGINNINGS {
-        let found = order(rt.alloc(), path, *depth);
-        assert!(rt; found == Ok(Some(*want)), "{path:?} beside {depth} names");
-    }
+    all_hold(&rt, rt.alloc(), &BEGINNINGS);
 }
 
 /// The texts of the paths, with `|` behind each.
@@ -151,32 +169,57 @@ fn texts(alloc: Global, paths: &[Path]) -> Result<Vec<u8>, Memory> {
     Ok(texts)
 }
 
-/// The texts of these paths in order.
-fn sorted(alloc: Global, octets: &[&[u8]]) -> Result<Vec<u8>, Fail> {
+/// Paths, and their texts in order.
+type Sorted = (&'static [&'static [u8]], &'static [u8]);
+
+static SORTED: [Sorted; 1] = [(
+    &[b"d0", b"d/y", b"d/x/z", b"e", b"d", b"d/x", b"D"],
+    b"D|d|d/x|d/x/z|d/y|d0|e|",
+)];
+
+/// These paths in order.
+fn sorted(alloc: Global, octets: &[&[u8]]) -> Result<Vec<Path>, Memory> {
     let mut paths = Vec::new(alloc);
     for path in octets {
-        paths.push(Path::parse(alloc, path)?)?;
+        paths.push(parsed(alloc, path)?)?;
     }
     paths.sort()?;
-    Ok(texts(alloc, &paths)?)
+    Ok(paths)
+}
+
+impl Row for Sorted {
+    fn holds(&self, alloc: Global) -> Result<bool, Memory> {
+        let paths = sorted(alloc, self.0)?;
+        Ok(texts(alloc, &paths)?.as_slice() == self.1)
+    }
 }
 
 #[test]
-fn paths_in_order(rt: HostRuntime) -> Result<(), Fail> {
-    static PATHS: [&[u8]; 7] = [b"d0", b"d/y", b"d/x/z", b"e", b"d", b"d/x", b"D"];
-    let found = sorted(rt.alloc(), &PATHS)?;
-    assert!(rt; found.as_slice() == b"D|d|d/x|d/x/z|d/y|d0|e|".as_slice());
-    Ok(())
+fn paths_in_order(rt: HostRuntime) {
+    all_hold(&rt, rt.alloc(), &SORTED);
+}
+
+fn printed(alloc: Global, path: &Path, fault: PathFault) -> Result<String, Memory> {
+    format!(in alloc; "{path:?}: {fault}")
+}
+
+/// Octets, their path as it is printed, and a fault behind it.
+type Printed = (&'static [u8], PathFault, &'static str);
+
+static PRINTED: [Printed; 1] = [(
+    b"/d/a \xff\n/x",
+    PathFault::TooDeep,
+    "d/a \\xff\\n/x: the path has more than 8 names",
+)];
+
+impl Row for Printed {
+    fn holds(&self, alloc: Global) -> Result<bool, Memory> {
+        let path = parsed(alloc, self.0)?;
+        Ok(printed(alloc, &path, self.1)?.as_str() == self.2)
+    }
 }
 
 #[test]
-fn printed(rt: HostRuntime) -> Result<(), Fail> {
-    let path = Path::parse(rt.alloc(), b"/d/a \xff\n/x")?;
-    let fault = PathFault::TooDeep;
-    let printed = format!(in rt.alloc(); "{path:?}: {fault}")?;
-    assert!(rt;
-        printed.as_str() == "d/a \\xff\\n/x: the path has more than 8 names",
-        "{printed}"
-    );
-    Ok(())
+fn paths_and_faults_are_printed(rt: HostRuntime) {
+    all_hold(&rt, rt.alloc(), &PRINTED);
 }

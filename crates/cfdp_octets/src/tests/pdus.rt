@@ -5,10 +5,10 @@ mod meanings;
 mod slow;
 mod writing;
 
+use super::{Row, all_hold};
 use cfdp_pdus::*;
 use std::alloc::{AllocError, Global};
 use std::process::Abort;
-use std::test::Fail;
 
 // PDUs as they stand in worked examples, as a writer writes them: Metadata, File Data, EOF and Finished.
 static WRITTEN: [&str; 38] = [
@@ -90,11 +90,14 @@ fn octets(alloc: Global, text: &str) -> Result<Vec<u8>, AllocError> {
     Ok(out)
 }
 
-// The two readers agree.
+// Whether the two readers agree.
+fn is_agreed(alloc: Global, pdu: &[u8]) -> bool {
+    read_pdu(alloc, pdu) == slow::read(alloc, pdu)
+}
+
+// They agree.
 fn agree(rt: &impl Abort, alloc: Global, pdu: &[u8]) {
-    let read = read_pdu(alloc, pdu);
-    let slowly = slow::read(alloc, pdu);
-    assert!(rt; read == slowly, "{pdu:?}");
+    assert!(rt; is_agreed(alloc, pdu), "{pdu:?}");
 }
 
 // They agree on each beginning.
@@ -117,13 +120,13 @@ fn agree_on_changes(rt: &impl Abort, alloc: Global, pdu: &mut [u8]) {
 
 // They agree on a PDU, each of its beginnings, and on it with one bit changed.
 fn agree_around(rt: &impl Abort, alloc: Global, pdu: &mut [u8]) {
-    assert!(rt; read_pdu(alloc, pdu).is_ok(), "{pdu:?}");
+    assert!(rt; fault_in(alloc, pdu).is_none(), "{pdu:?}");
     agree(rt, alloc, pdu);
     agree_on_cuts(rt, alloc, pdu);
     agree_on_changes(rt, alloc, pdu);
 }
 
-fn agree_around_each(rt: &impl Abort, alloc: Global, examples: &[&str]) -> Result<(), Fail> {
+fn agree_around_each(rt: &impl Abort, alloc: Global, examples: &[&str]) -> Result<(), AllocError> {
     for example in examples {
         agree_around(rt, alloc, &mut octets(alloc, example)?);
     }
@@ -131,36 +134,38 @@ fn agree_around_each(rt: &impl Abort, alloc: Global, examples: &[&str]) -> Resul
 }
 
 #[test]
-fn as_the_slow_reader(rt: HostRuntime) -> Result<(), Fail> {
+fn as_the_slow_reader(rt: HostRuntime) -> Result<(), AllocError> {
     agree_around_each(&rt, rt.alloc(), &WRITTEN)?;
     agree_around_each(&rt, rt.alloc(), &OTHERS)
 }
 
-// A header and an offset, and so many octets 01 behind them.
+// Headers and offsets of File Data PDUs, and how many octets 01 stand behind them.
+static DATA: [(&str, usize); 2] = [
+    ("34007c00010602 00000000", 120),
+    ("34007b00010602 00000000", 119),
+];
+
+// So many octets 01 behind others.
 fn data(alloc: Global, before: &str, len: usize) -> Result<Vec<u8>, AllocError> {
     let mut pdu = octets(alloc, before)?;
-    pdu.extend_from_slice(&vec![in alloc; 1; len]?)?;
+    for _ in 0..len {
+        pdu.push(1)?;
+    }
     Ok(pdu)
 }
 
 #[test]
-fn data_as_the_slow_reader(rt: HostRuntime) -> Result<(), Fail> {
-    let alloc = rt.alloc();
-    agree_around(
-        &rt,
-        alloc,
-        &mut data(alloc, "34007c00010602 00000000", 120)?,
-    );
-    agree_around(
-        &rt,
-        alloc,
-        &mut data(alloc, "34007b00010602 00000000", 119)?,
-    );
+fn data_as_the_slow_reader(rt: HostRuntime) -> Result<(), AllocError> {
+    for (before, len) in &DATA {
+        agree_around(&rt, rt.alloc(), &mut data(rt.alloc(), before, *len)?);
+    }
     Ok(())
 }
 
 // What is no PDU, and its fault.
-static FAULTS: [(&str, PduFault); 23] = [
+type Fault = (&'static str, PduFault);
+
+static FAULTS: [Fault; 23] = [
     ("", PduFault::Truncated),
     (
         "04000d00010502 0740 00000000 0000 0003000161",
@@ -207,46 +212,69 @@ static FAULTS: [(&str, PduFault); 23] = [
     ("2c000300010502 0503 01", PduFault::BadTlv),
 ];
 
-// The fault of the octets that hexadecimal digits say.
-fn fault_of(alloc: Global, text: &str) -> Result<Option<PduFault>, AllocError> {
-    Ok(read_pdu(alloc, &octets(alloc, text)?).err())
+// The fault of octets that are no PDU.
+fn fault_in(alloc: Global, octets: &[u8]) -> Option<PduFault> {
+    read_pdu(alloc, octets).err()
+}
+
+impl Row for Fault {
+    fn holds(&self, alloc: Global) -> Result<bool, AllocError> {
+        let octets = octets(alloc, self.0)?;
+        Ok(fault_in(alloc, &octets) == Some(self.1))
+    }
 }
 
 #[test]
 fn faults(rt: HostRuntime) {
-    for (text, fault) in &FAULTS {
-        assert!(rt; fault_of(rt.alloc(), text) == Ok(Some(*fault)), "{text}");
-    }
+    all_hold(&rt, rt.alloc(), &FAULTS);
 }
 
 // A field that is wrong behind one that is right.
-static WRONG_BEHIND_RIGHT: [&[u8]; 4] = [
+struct WrongBehindRight(&'static [u8]);
+
+static WRONG_BEHIND_RIGHT: [WrongBehindRight; 4] = [
     // a request, and one with no action
-    b"\x24\x00\x12\x00\x01\x05\x02\x07\x40\x00\x00\x00\x00\x00\x00\x00\x03\x00\x01a\x00\x03\x90\x01a",
+    WrongBehindRight(
+        b"\x24\x00\x12\x00\x01\x05\x02\x07\x40\x00\x00\x00\x00\x00\x00\x00\x03\x00\x01a\x00\x03\x90\x01a",
+    ),
     // a request, and a field that is cut
-    b"\x24\x00\x0f\x00\x01\x05\x02\x07\x40\x00\x00\x00\x00\x00\x00\x00\x03\x00\x01a\x00\x03",
+    WrongBehindRight(
+        b"\x24\x00\x0f\x00\x01\x05\x02\x07\x40\x00\x00\x00\x00\x00\x00\x00\x03\x00\x01a\x00\x03",
+    ),
     // a response, and one with no status
-    b"\x2c\x00\x0e\x00\x01\x05\x02\x05\x03\x01\x04\x00\x01a\x00\x01\x04\x02\x01a\x00",
+    WrongBehindRight(
+        b"\x2c\x00\x0e\x00\x01\x05\x02\x05\x03\x01\x04\x00\x01a\x00\x01\x04\x02\x01a\x00",
+    ),
     // a response, and an entity ID of no octet
-    b"\x2c\x00\x0a\x00\x01\x05\x02\x05\x03\x01\x04\x00\x01a\x00\x06\x00",
+    WrongBehindRight(b"\x2c\x00\x0a\x00\x01\x05\x02\x05\x03\x01\x04\x00\x01a\x00\x06\x00"),
 ];
+
+impl Row for WrongBehindRight {
+    fn holds(&self, alloc: Global) -> Result<bool, AllocError> {
+        Ok(fault_in(alloc, self.0) == Some(PduFault::BadTlv))
+    }
+}
 
 // It is found before memory is asked for, so each allocation may be refused.
 #[test]
 fn faults_before_memory(rt: HostRuntime) {
-    for pdu in &WRONG_BEHIND_RIGHT {
-        let fault = read_pdu(rt.alloc(), pdu).err();
-        assert!(rt; fault == Some(PduFault::BadTlv), "{pdu:?}");
-    }
+    all_hold(&rt, rt.alloc(), &WRONG_BEHIND_RIGHT);
 }
 
-// A PDU of 20 octets that is cut anywhere is truncated.
-#[test]
-fn cuts(rt: HostRuntime) -> Result<(), Fail> {
-    let pdu = octets(rt.alloc(), WRITTEN[0])?;
+// Whether a PDU that is cut anywhere is truncated.
+fn cuts_are_told(alloc: Global, pdu: &[u8]) -> bool {
     for len in 0..pdu.len() {
-        let fault = read_pdu(rt.alloc(), &pdu[..len]).err();
-        assert!(rt; fault == Some(PduFault::Truncated), "{len}");
+        if fault_in(alloc, &pdu[..len]) != Some(PduFault::Truncated) {
+            return false;
+        }
     }
+    true
+}
+
+// A PDU of 20 octets.
+#[test]
+fn cuts(rt: HostRuntime) -> Result<(), AllocError> {
+    let pdu = octets(rt.alloc(), WRITTEN[0])?;
+    assert!(rt; cuts_are_told(rt.alloc(), &pdu));
     Ok(())
 }

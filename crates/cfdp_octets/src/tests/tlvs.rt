@@ -3,11 +3,10 @@
 mod copies;
 mod limits;
 
+use super::{Row, all_hold};
 use cfdp_status::{Action, Status};
 use cfdp_tlv::*;
-use std::alloc::Global;
-use std::process::Abort;
-use std::test::Fail;
+use std::alloc::{AllocError, Global};
 
 // A request TLV, and its action and names.
 type Asked = (&'static [u8], Action, &'static [u8], Option<&'static [u8]>);
@@ -151,64 +150,108 @@ static RESPONSES: [Told; 14] = [
     ),
 ];
 
-// What a request TLV says, written behind an octet, and whether that is the same TLV.
-fn rewritten_request(alloc: Global, tlv: &[u8]) -> Result<(FilestoreRequest, bool), TlvFault> {
-    let field = read_tlv(tlv)?;
-    let request = read_request(alloc, field.value)?;
-    let mut out = Vec::from_slice(alloc, b"x")?;
-    write_request(&request, &mut out)?;
-    let is_whole = field.kind == FILESTORE_REQUEST && field.rest.is_empty();
-    Ok((request, is_whole && out.strip_prefix(b"x") == Some(tlv)))
-}
-
-// Whether a request TLV says this and is written so.
-fn asks(alloc: Global, asked: &Asked) -> Result<bool, TlvFault> {
-    let (tlv, action, first, second) = *asked;
-    let (request, is_same) = rewritten_request(alloc, tlv)?;
-    let has_names = request.first() == first && request.second() == second;
-    Ok(is_same && has_names && request.action() == action)
-}
-
-// What a response TLV says, written behind an octet, and whether that is the same TLV.
-fn rewritten_response(alloc: Global, tlv: &[u8]) -> Result<(FilestoreResponse, bool), TlvFault> {
-    let field = read_tlv(tlv)?;
-    let response = read_response(alloc, field.value)?;
-    let mut out = Vec::from_slice(alloc, b"x")?;
-    write_response(&response, &mut out)?;
-    let is_whole = field.kind == FILESTORE_RESPONSE && field.rest.is_empty();
-    Ok((response, is_whole && out.strip_prefix(b"x") == Some(tlv)))
-}
-
-// Whether a response TLV says this and is written so.
-fn tells(alloc: Global, told: &Told) -> Result<bool, TlvFault> {
-    let (tlv, status, first, second, message) = *told;
-    let (response, is_same) = rewritten_response(alloc, tlv)?;
-    let has_names = response.first() == first && response.second() == second;
-    let has_message = response.message() == message;
-    Ok(is_same && has_names && has_message && response.status() == status)
-}
-
-fn all(rt: &impl Abort, alloc: Global) -> Result<(), TlvFault> {
-    for asked in &REQUESTS {
-        assert!(rt; asks(alloc, asked)?, "{:?}", asked.0);
+// The value of a TLV field of this type with nothing behind it; empty where it is no such field.
+fn value_in(tlv: &[u8], kind: u8) -> &[u8] {
+    match read_tlv(tlv) {
+        Ok(field) if field.kind == kind && field.rest.is_empty() => field.value,
+        _ => b"",
     }
-    for told in &RESPONSES {
-        assert!(rt; tells(alloc, told)?, "{:?}", told.0);
-    }
-    Ok(())
 }
 
-// Where an allocation is refused (`rt try --test --fail-alloc N`), all is done once more.
+// The request of a whole TLV. Only memory can be wanting.
+fn request_in(alloc: Global, tlv: &[u8]) -> Result<FilestoreRequest, AllocError> {
+    match read_request(alloc, value_in(tlv, FILESTORE_REQUEST)) {
+        Ok(request) => Ok(request),
+        Err(_) => Err(AllocError),
+    }
+}
+
+// The TLV of a request that is not too long, behind these octets.
+fn written_request(
+    alloc: Global,
+    before: &[u8],
+    request: &FilestoreRequest,
+) -> Result<Vec<u8>, AllocError> {
+    let mut out = Vec::from_slice(alloc, before)?;
+    match write_request(request, &mut out) {
+        Ok(()) => Ok(out),
+        Err(_) => Err(AllocError),
+    }
+}
+
+// Whether a request is of this action and has these names.
+fn asks(request: &FilestoreRequest, action: Action, first: &[u8], second: Option<&[u8]>) -> bool {
+    request.action() == action && request.first() == first && request.second() == second
+}
+
+impl Row for Asked {
+    fn holds(&self, alloc: Global) -> Result<bool, AllocError> {
+        let request = request_in(alloc, self.0)?;
+        let out = written_request(alloc, b"x", &request)?;
+        Ok(asks(&request, self.1, self.2, self.3) && out.strip_prefix(b"x") == Some(self.0))
+    }
+}
+
 #[test]
-fn both_ways(rt: HostRuntime) -> Result<(), Fail> {
-    match all(&rt, rt.alloc()) {
-        Err(TlvFault::Memory) => Ok(all(&rt, rt.alloc())?),
-        answer => Ok(answer?),
+fn requests(rt: HostRuntime) {
+    all_hold(&rt, rt.alloc(), &REQUESTS);
+}
+
+// The response of a whole TLV. Only memory can be wanting.
+fn response_in(alloc: Global, tlv: &[u8]) -> Result<FilestoreResponse, AllocError> {
+    match read_response(alloc, value_in(tlv, FILESTORE_RESPONSE)) {
+        Ok(response) => Ok(response),
+        Err(_) => Err(AllocError),
     }
+}
+
+// The TLV of a response that is not too long, behind these octets.
+fn written_response(
+    alloc: Global,
+    before: &[u8],
+    response: &FilestoreResponse,
+) -> Result<Vec<u8>, AllocError> {
+    let mut out = Vec::from_slice(alloc, before)?;
+    match write_response(response, &mut out) {
+        Ok(()) => Ok(out),
+        Err(_) => Err(AllocError),
+    }
+}
+
+// Whether a response has this status, these names and this message.
+fn tells(
+    response: &FilestoreResponse,
+    status: Status,
+    first: &[u8],
+    second: Option<&[u8]>,
+    message: &[u8],
+) -> bool {
+    response.status() == status
+        && response.first() == first
+        && response.second() == second
+        && response.message() == message
+}
+
+impl Row for Told {
+    fn holds(&self, alloc: Global) -> Result<bool, AllocError> {
+        let response = response_in(alloc, self.0)?;
+        let out = written_response(alloc, b"x", &response)?;
+        Ok(
+            tells(&response, self.1, self.2, self.3, self.4)
+                && out.strip_prefix(b"x") == Some(self.0),
+        )
+    }
+}
+
+#[test]
+fn responses(rt: HostRuntime) {
+    all_hold(&rt, rt.alloc(), &RESPONSES);
 }
 
 // Octets, and the value of the LV field at the front with what stands after it, if it is whole.
-static LVS: [(&[u8], Option<(&[u8], &[u8])>); 5] = [
+type Lv = (&'static [u8], Option<(&'static [u8], &'static [u8])>);
+
+static LVS: [Lv; 5] = [
     (b"\x02ab\x00", Some((b"ab", b"\x00"))),
     (b"\x00", Some((b"", b""))),
     (b"", None),
@@ -216,15 +259,21 @@ static LVS: [(&[u8], Option<(&[u8], &[u8])>); 5] = [
     (b"\xffabc", None),
 ];
 
-#[test]
-fn lv_fields(rt: HostRuntime) {
-    for (octets, want) in &LVS {
-        assert!(rt; read_lv(octets).ok() == *want, "{octets:?}");
+impl Row for Lv {
+    fn holds(&self, _: Global) -> Result<bool, AllocError> {
+        Ok(read_lv(self.0).ok() == self.1)
     }
 }
 
+#[test]
+fn lv_fields(rt: HostRuntime) {
+    all_hold(&rt, rt.alloc(), &LVS);
+}
+
 // Octets, and the type and the value of the TLV field at the front with what stands after it, if it is whole.
-static TLVS: [(&[u8], Option<(u8, &[u8], &[u8])>); 4] = [
+type Tlv = (&'static [u8], Option<(u8, &'static [u8], &'static [u8])>);
+
+static TLVS: [Tlv; 4] = [
     (b"\x06\x01\x02\x00", Some((6, b"\x02", b"\x00"))),
     (b"", None),
     (b"\x00", None),
@@ -236,66 +285,83 @@ fn tlv_parts(octets: &[u8]) -> Option<(u8, &[u8], &[u8])> {
     Some((field.kind, field.value, field.rest))
 }
 
-#[test]
-fn tlv_fields(rt: HostRuntime) {
-    for (octets, want) in &TLVS {
-        assert!(rt; tlv_parts(octets) == *want, "{octets:?}");
+impl Row for Tlv {
+    fn holds(&self, _: Global) -> Result<bool, AllocError> {
+        Ok(tlv_parts(self.0) == self.1)
     }
 }
 
+#[test]
+fn tlv_fields(rt: HostRuntime) {
+    all_hold(&rt, rt.alloc(), &TLVS);
+}
+
 // What spells no request, and its fault.
-static REQUEST_FAULTS: [(&[u8], TlvFault); 8] = [
-    (b"", TlvFault::Truncated),
-    (b"\x90\x01a", TlvFault::BadAction),
-    (b"\x90", TlvFault::BadAction),
-    (b"\x00", TlvFault::Truncated),
-    (b"\x00\x02a", TlvFault::Truncated),
-    (b"\x20\x01a", TlvFault::Truncated),
-    (b"\x10\x01a\x00", TlvFault::Trailing),
-    (b"\x20\x01a\x01b\x00", TlvFault::Trailing),
+struct NoRequest(&'static [u8], TlvFault);
+
+static REQUEST_FAULTS: [NoRequest; 8] = [
+    NoRequest(b"", TlvFault::Truncated),
+    NoRequest(b"\x90\x01a", TlvFault::BadAction),
+    NoRequest(b"\x90", TlvFault::BadAction),
+    NoRequest(b"\x00", TlvFault::Truncated),
+    NoRequest(b"\x00\x02a", TlvFault::Truncated),
+    NoRequest(b"\x20\x01a", TlvFault::Truncated),
+    NoRequest(b"\x10\x01a\x00", TlvFault::Trailing),
+    NoRequest(b"\x20\x01a\x01b\x00", TlvFault::Trailing),
 ];
 
 // What spells no response, and its fault.
-static RESPONSE_FAULTS: [(&[u8], TlvFault); 7] = [
-    (b"", TlvFault::Truncated),
-    (b"\x90\x01a\x00", TlvFault::BadAction),
-    (b"\x02\x01a\x00", TlvFault::BadStatus),
-    (b"\x71", TlvFault::BadStatus),
-    (b"\x00\x01a", TlvFault::Truncated),
-    (b"\x20\x01a\x01b", TlvFault::Truncated),
-    (b"\x00\x01a\x00\x00", TlvFault::Trailing),
+struct NoResponse(&'static [u8], TlvFault);
+
+static RESPONSE_FAULTS: [NoResponse; 7] = [
+    NoResponse(b"", TlvFault::Truncated),
+    NoResponse(b"\x90\x01a\x00", TlvFault::BadAction),
+    NoResponse(b"\x02\x01a\x00", TlvFault::BadStatus),
+    NoResponse(b"\x71", TlvFault::BadStatus),
+    NoResponse(b"\x00\x01a", TlvFault::Truncated),
+    NoResponse(b"\x20\x01a\x01b", TlvFault::Truncated),
+    NoResponse(b"\x00\x01a\x00\x00", TlvFault::Trailing),
 ];
+
+impl Row for NoRequest {
+    fn holds(&self, alloc: Global) -> Result<bool, AllocError> {
+        Ok(read_request(alloc, self.0).err() == Some(self.1))
+    }
+}
+
+impl Row for NoResponse {
+    fn holds(&self, alloc: Global) -> Result<bool, AllocError> {
+        Ok(read_response(alloc, self.0).err() == Some(self.1))
+    }
+}
 
 // These are the answers too where each allocation is refused: a fault is found without memory.
 #[test]
 fn faults(rt: HostRuntime) {
-    for (value, fault) in &REQUEST_FAULTS {
-        assert!(rt;
-            read_request(rt.alloc(), value).err() == Some(*fault),
-            "{value:?}"
-        );
-    }
-    for (value, fault) in &RESPONSE_FAULTS {
-        assert!(rt;
-            read_response(rt.alloc(), value).err() == Some(*fault),
-            "{value:?}"
-        );
-    }
+    all_hold(&rt, rt.alloc(), &REQUEST_FAULTS);
+    all_hold(&rt, rt.alloc(), &RESPONSE_FAULTS);
+}
+
+// Whether requests whose values differ in the spare bits say the same.
+fn spare_bits_say_nothing(alloc: Global) -> Result<bool, AllocError> {
+    let spare = request_in(alloc, b"\x00\x03\x1f\x01a")?;
+    Ok(spare == request_in(alloc, b"\x00\x03\x10\x01a")?)
 }
 
 #[test]
-fn spare_bits(rt: HostRuntime) -> Result<(), Fail> {
-    let spare = read_request(rt.alloc(), b"\x1f\x01a")?;
-    assert!(rt; spare == read_request(rt.alloc(), b"\x10\x01a")?);
-    Ok(())
+fn spare_bits(rt: HostRuntime) {
+    assert!(rt; spare_bits_say_nothing(rt.alloc()) == Ok(true));
 }
 
 // A field is appended behind what stands there.
-#[test]
-fn appended_field(rt: HostRuntime) -> Result<(), Fail> {
-    let mut out = Vec::with_capacity(rt.alloc(), 4)?;
+fn appended(alloc: Global) -> Result<Vec<u8>, AllocError> {
+    let mut out = Vec::with_capacity(alloc, 4)?;
     out.push_reserved(b'x');
     push_lv(&mut out, b"ab");
-    assert!(rt; out.as_slice() == b"x\x02ab".as_slice());
-    Ok(())
+    Ok(out)
+}
+
+#[test]
+fn appended_field(rt: HostRuntime) {
+    assert!(rt; appended(rt.alloc()).as_deref() == Ok(b"x\x02ab".as_slice()));
 }

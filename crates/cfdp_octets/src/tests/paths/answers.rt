@@ -1,15 +1,15 @@
 //! Each call that can answer want of memory, with ample memory, and with each allocation refused in turn
-//! (`rt try --test --fail-alloc N`): what was refused is told, and all is done once more.
+//! (`rt try --test --fail-alloc N`): what was refused is told, and the row is tried once more.
 
-use super::texts;
-use cfdp_paths::{MOST_NAMES, Memory, Path, PathFault};
+use super::{Row, all_hold, parsed, texts};
+use cfdp_paths::{MOST_NAMES, Memory, Path};
 use std::alloc::Global;
-use std::process::Abort;
-use std::test::Fail;
 
 /// Octets that spell a path, and the texts of its ancestors, its parent and its copy. One `/` in front means nothing, and any
 /// octet but `/` and 0 may stand in a name.
-static FAMILIES: [(&[u8], &[u8]); 8] = [
+type Family = (&'static [u8], &'static [u8]);
+
+static FAMILIES: [Family; 8] = [
     (b"a", b"a|"),
     (b"/a", b"a|"),
     (b"...", b"...|"),
@@ -34,32 +34,65 @@ fn family(alloc: Global, path: &Path) -> Result<Vec<Path>, Memory> {
 }
 
 /// Whether these are the texts of the ancestors of a path, its parent and its copy.
-pub(super) fn has_family(alloc: Global, octets: &[u8], want: &[u8]) -> Result<bool, PathFault> {
-    let path = Path::parse(alloc, octets)?;
+pub fn has_family(alloc: Global, octets: &[u8], want: &[u8]) -> Result<bool, Memory> {
+    let path = parsed(alloc, octets)?;
     let family = family(alloc, &path)?;
     Ok(texts(alloc, &family)?.as_slice() == want)
 }
 
+impl Row for Family {
+    fn holds(&self, alloc: Global) -> Result<bool, Memory> {
+        has_family(alloc, self.0, self.1)
+    }
+}
+
+#[test]
+fn families(rt: HostRuntime) {
+    all_hold(&rt, rt.alloc(), &FAMILIES);
+}
+
 /// How many of the first names of `d/x/y`, and the text of these.
-static BEGINNINGS: [(usize, &[u8]); 3] = [(1, b"d"), (2, b"d/x"), (3, b"d/x/y")];
+type Beginning = (usize, &'static [u8]);
+
+static BEGINNINGS: [Beginning; 3] = [(1, b"d"), (2, b"d/x"), (3, b"d/x/y")];
+
+/// The first names of a path, if it has so many.
+fn beginning(alloc: Global, path: &Path, depth: usize) -> Result<Option<Path>, Memory> {
+    if depth == 0 || path.depth() < depth {
+        return Ok(None);
+    }
+    Ok(Some(path.beginning(alloc, depth)?))
+}
 
 /// Whether this is the text of the first names of a path, of which it has so many.
-pub(super) fn has_beginning(
+pub fn has_beginning(
     alloc: Global,
     octets: &[u8],
     depth: usize,
     want: &[u8],
-) -> Result<bool, PathFault> {
-    let path = Path::parse(alloc, octets)?;
-    if depth == 0 || path.depth() < depth {
-        return Ok(false);
+) -> Result<bool, Memory> {
+    let path = parsed(alloc, octets)?;
+    match beginning(alloc, &path, depth)? {
+        Some(beginning) => Ok(beginning.text(alloc)?.as_slice() == want),
+        None => Ok(false),
     }
-    let beginning = path.beginning(alloc, depth)?;
-    Ok(beginning.text(alloc)?.as_slice() == want)
+}
+
+impl Row for Beginning {
+    fn holds(&self, alloc: Global) -> Result<bool, Memory> {
+        has_beginning(alloc, b"d/x/y", self.0, self.1)
+    }
+}
+
+#[test]
+fn beginnings(rt: HostRuntime) {
+    all_hold(&rt, rt.alloc(), &BEGINNINGS);
 }
 
 /// A path, where it is moved from and to, and its text then.
-static MOVES: [(&[u8], &[u8], &[u8], &[u8]); 4] = [
+type Move = (&'static [u8], &'static [u8], &'static [u8], &'static [u8]);
+
+static MOVES: [Move; 4] = [
     (b"d/x/y", b"d", b"e/f", b"e/f/x/y"),
     (b"d/x/y/z", b"d/x", b"e", b"e/y/z"),
     (b"d", b"d", b"e/f", b"e/f"),
@@ -74,44 +107,33 @@ fn rebased(alloc: Global, path: &Path, from: &Path, to: &Path) -> Result<Option<
     Ok(Some(path.rebased(alloc, from, to)?))
 }
 
-/// Whether this is what a path spells once it is moved from one path to another.
-pub(super) fn moves(
+/// What a path spells once it is moved from one path to another, where it is there and has room.
+fn moved(alloc: Global, path: &[u8], from: &[u8], to: &[u8]) -> Result<Option<Path>, Memory> {
+    let path = parsed(alloc, path)?;
+    let from = parsed(alloc, from)?;
+    let to = parsed(alloc, to)?;
+    rebased(alloc, &path, &from, &to)
+}
+
+/// Whether it spells this.
+pub fn moves(
     alloc: Global,
     path: &[u8],
     from: &[u8],
     to: &[u8],
     want: &[u8],
-) -> Result<bool, PathFault> {
-    let path = Path::parse(alloc, path)?;
-    let from = Path::parse(alloc, from)?;
-    let to = Path::parse(alloc, to)?;
-    let moved = rebased(alloc, &path, &from, &to)?;
-    Ok(moved == Some(Path::parse(alloc, want)?))
+) -> Result<bool, Memory> {
+    let moved = moved(alloc, path, from, to)?;
+    Ok(moved == Some(parsed(alloc, want)?))
 }
 
-fn all(rt: &impl Abort, alloc: Global) -> Result<(), PathFault> {
-    for (octets, want) in &FAMILIES {
-        assert!(rt; has_family(alloc, octets, want)?, "{octets:?}");
+impl Row for Move {
+    fn holds(&self, alloc: Global) -> Result<bool, Memory> {
+        moves(alloc, self.0, self.1, self.2, self.3)
     }
-    for (depth, want) in &BEGINNINGS {
-        assert!(rt;
-            has_beginning(alloc, b"d/x/y", *depth, want)?,
-            "{depth} names"
-        );
-    }
-    for (path, from, to, want) in &MOVES {
-        assert!(rt;
-            moves(alloc, path, from, to, want)?,
-            "{path:?} from {from:?} to {to:?}"
-        );
-    }
-    Ok(())
 }
 
 #[test]
-fn answers(rt: HostRuntime) -> Result<(), Fail> {
-    match all(&rt, rt.alloc()) {
-        Err(PathFault::Memory) => Ok(all(&rt, rt.alloc())?),
-        answer => Ok(answer?),
-    }
+fn paths_move(rt: HostRuntime) {
+    all_hold(&rt, rt.alloc(), &MOVES);
 }

@@ -1,9 +1,9 @@
 //! The longest path there is: 8 names of 96 octets, 775 octets in all.
 
 use super::answers::{has_beginning, has_family, moves};
-use cfdp_paths::{LONGEST_NAME, Memory, Path, PathFault};
+use super::parsed;
+use cfdp_paths::{LONGEST_NAME, Memory, Path};
 use std::alloc::Global;
-use std::test::Fail;
 
 /// The octets that spell it: 96 times the first name, 96 times `2`, 96 times `3` and so on.
 fn longest(alloc: Global, first: u8) -> Result<Vec<u8>, Memory> {
@@ -25,25 +25,40 @@ fn longest_family(alloc: Global, octets: &[u8]) -> Result<Vec<u8>, Memory> {
     Ok(texts)
 }
 
-/// Whether it is read, copied, and printed, and has its ancestors and its parent.
-fn is_whole(alloc: Global, octets: &[u8]) -> Result<bool, PathFault> {
-    let printed = format!(in alloc; "{:?}", Path::parse(alloc, octets)?)?;
-    let family = longest_family(alloc, octets)?;
-    Ok(has_family(alloc, octets, &family)? && printed.as_bytes() == octets)
+fn printed(alloc: Global, path: &Path) -> Result<String, Memory> {
+    format!(in alloc; "{path:?}")
+}
+
+/// Whether the path of the octets is printed as them.
+fn is_printed(alloc: Global, octets: &[u8]) -> Result<bool, Memory> {
+    let path = parsed(alloc, octets)?;
+    Ok(printed(alloc, &path)?.as_bytes() == octets)
+}
+
+/// Whether it is read, copied, and printed, and has its beginnings, its ancestors and its parent.
+fn longest_is_read(alloc: Global) -> Result<bool, Memory> {
+    let octets = longest(alloc, b'1')?;
+    let family = longest_family(alloc, &octets)?;
+    Ok(
+        is_printed(alloc, &octets)?
+            && has_family(alloc, &octets, &family)?
+            && has_beginning(alloc, &octets, 8, &octets)?,
+    )
 }
 
 #[test]
-fn it_is_read(rt: HostRuntime) -> Result<(), Fail> {
-    let octets = longest(rt.alloc(), b'1')?;
-    assert!(rt; is_whole(rt.alloc(), &octets)? && has_beginning(rt.alloc(), &octets, 8, &octets)?);
-    Ok(())
+fn it_is_read(rt: HostRuntime) {
+    assert!(rt; longest_is_read(rt.alloc()) == Ok(true));
 }
 
-/// It is moved to another longest path.
+/// Whether it is moved to another longest path.
+fn longest_moves(alloc: Global) -> Result<bool, Memory> {
+    let octets = longest(alloc, b'1')?;
+    let want = longest(alloc, b'9')?;
+    moves(alloc, &octets, &[b'1'; 96], &[b'9'; 96], &want)
+}
+
 #[test]
-fn it_moves(rt: HostRuntime) -> Result<(), Fail> {
-    let octets = longest(rt.alloc(), b'1')?;
-    let want = longest(rt.alloc(), b'9')?;
-    assert!(rt; moves(rt.alloc(), &octets, &[b'1'; 96], &[b'9'; 96], &want)?);
-    Ok(())
+fn it_moves(rt: HostRuntime) {
+    assert!(rt; longest_moves(rt.alloc()) == Ok(true));
 }

@@ -3,15 +3,15 @@
 ghost use Rattle.std.specs.Prelude.{◌≡◌, ◌+◌, nat_lt, length};
 ghost use Rattle.std.specs.List.{list_any};
 
-use cfdp_paths::{MOST_NAMES, Memory, Path, PathFault, PathMap};
+use super::{Row, all_hold, parsed};
+use cfdp_paths::{MOST_NAMES, Memory, Path, PathMap};
 use std::alloc::Global;
-use std::test::Fail;
 
 /// A map of these paths, in no order, with their numbers in the list.
-fn map_of(alloc: Global, paths: &[&[u8]]) -> Result<PathMap<usize>, PathFault> {
+fn map_of(alloc: Global, paths: &[&[u8]]) -> Result<PathMap<usize>, Memory> {
     let mut map = PathMap::new(alloc);
     for (number, octets) in paths.iter().enumerate() {
-        map.insert(Path::parse(alloc, octets)?, number)?;
+        map.insert(parsed(alloc, octets)?, number)?;
     }
     Ok(map)
 }
@@ -21,8 +21,15 @@ fn shown(alloc: Global, map: &PathMap<usize>) -> Result<String, Memory> {
     format!(in alloc; "{:?}", map.entries())
 }
 
+/// Whether these are the entries of the map.
+fn is_shown(alloc: Global, map: &PathMap<usize>, want: &str) -> Result<bool, Memory> {
+    Ok(shown(alloc, map)?.as_str() == want)
+}
+
 /// A path, the value at it, how many entries stand at and below it, and whether one stands below it.
-static LOOK_UPS: [(&[u8], Option<usize>, usize, bool); 5] = [
+type LookUp = (&'static [u8], Option<usize>, usize, bool);
+
+static LOOK_UPS: [LookUp; 5] = [
     (b"d", Some(2), 3, true),
     (b"d/x", Some(1), 2, true),
     (b"d/x/y", Some(3), 1, false),
@@ -30,75 +37,84 @@ static LOOK_UPS: [(&[u8], Option<usize>, usize, bool); 5] = [
     (b"e", Some(4), 1, false),
 ];
 
+/// The map of which that is so.
+static LOOKED_UP: [&[u8]; 5] = [b"d0", b"d/x", b"d", b"d/x/y", b"e"];
+
 /// What the map says of a path.
-fn looked_up(
-    alloc: Global,
-    map: &PathMap<usize>,
-    octets: &[u8],
-) -> Result<(Option<usize>, usize, bool), PathFault> {
-    let path = Path::parse(alloc, octets)?;
-    let below = map.has_below(&path);
-    Ok((map.get(&path).copied(), map.tree(&path).len(), below))
+fn looked_up(map: &PathMap<usize>, path: &Path) -> (Option<usize>, usize, bool) {
+    let below = map.has_below(path);
+    (map.get(path).copied(), map.tree(path).len(), below)
+}
+
+impl Row for LookUp {
+    fn holds(&self, alloc: Global) -> Result<bool, Memory> {
+        let map = map_of(alloc, &LOOKED_UP)?;
+        let path = parsed(alloc, self.0)?;
+        Ok(looked_up(&map, &path) == (self.1, self.2, self.3))
+    }
 }
 
 #[test]
-fn look_ups(rt: HostRuntime) -> Result<(), Fail> {
-    let map = map_of(rt.alloc(), &[b"d0", b"d/x", b"d", b"d/x/y", b"e"])?;
-    for (path, value, entries, below) in &LOOK_UPS {
-        let found = looked_up(rt.alloc(), &map, path);
-        assert!(rt; found == Ok((*value, *entries, *below)), "at {path:?}");
-    }
-    Ok(())
+fn look_ups(rt: HostRuntime) {
+    all_hold(&rt, rt.alloc(), &LOOK_UPS);
 }
 
 /// The value at the first names of a path, where it has so many.
-fn at_beginning(
-    alloc: Global,
-    map: &PathMap<usize>,
-    octets: &[u8],
-    depth: usize,
-) -> Result<Option<usize>, PathFault> {
-    let path = Path::parse(alloc, octets)?;
+fn at_beginning(map: &PathMap<usize>, path: &Path, depth: usize) -> Option<usize> {
     if path.depth() < depth {
-        return Ok(None);
+        return None;
     }
-    Ok(map.get_beginning(&path, depth).copied())
+    map.get_beginning(path, depth).copied()
+}
+
+/// How many names of `d/x/y`, and the value at these in a map.
+type Beginning = (usize, Option<usize>);
+
+static BEGINNINGS: [Beginning; 4] = [(0, None), (1, Some(1)), (2, None), (3, Some(2))];
+
+/// The map of which that is so.
+static BEGUN: [&[u8]; 3] = [b"e", b"d", b"d/x/y"];
+
+impl Row for Beginning {
+    fn holds(&self, alloc: Global) -> Result<bool, Memory> {
+        let map = map_of(alloc, &BEGUN)?;
+        let path = parsed(alloc, b"d/x/y")?;
+        Ok(path.depth() >= self.0 && at_beginning(&map, &path, self.0) == self.1)
+    }
 }
 
 #[test]
-fn beginnings(rt: HostRuntime) -> Result<(), Fail> {
-    let map = map_of(rt.alloc(), &[b"e", b"d", b"d/x/y"])?;
-    for (depth, want) in &[(0, None), (1, Some(1)), (2, None), (3, Some(2))] {
-        let found = at_beginning(rt.alloc(), &map, b"d/x/y", *depth);
-        assert!(rt; found == Ok(*want), "{depth} names");
-    }
-    Ok(())
+fn beginnings(rt: HostRuntime) {
+    all_hold(&rt, rt.alloc(), &BEGINNINGS);
 }
 
-/// A map of three, after a value was exchanged and set, and an entry was taken out twice.
-fn changed(alloc: Global) -> Result<String, PathFault> {
-    let mut map = map_of(alloc, &[b"b", b"a", b"c", b"a"])?;
-    let a = Path::parse(alloc, b"a")?;
-    let b = Path::parse(alloc, b"b")?;
+/// Exchanges and sets the value at `b`, and takes out the entry at `a` twice: what was there each time.
+fn change(map: &mut PathMap<usize>, a: &Path, b: &Path) -> [Option<usize>; 3] {
     let mut was = None;
-    if map.get(&b).is_some() {
-        was = Some(map.exchange(&b, 9));
+    if map.get(b).is_some() {
+        was = Some(map.exchange(b, 9));
     }
-    if map.get(&b) == Some(&9) {
-        map.set(&b, 7);
+    if map.get(b) == Some(&9) {
+        map.set(b, 7);
     }
-    let taken = (was, map.remove(&a), map.remove(&a));
-    Ok(format!(in alloc; "{taken:?} {:?}", map.entries())?)
+    [was, map.remove(a), map.remove(a)]
+}
+
+/// The map that is changed.
+static CHANGED: [&[u8]; 4] = [b"b", b"a", b"c", b"a"];
+
+/// Whether the changes answer what was there, and leave what they should.
+fn is_changed(alloc: Global) -> Result<bool, Memory> {
+    let mut map = map_of(alloc, &CHANGED)?;
+    let a = parsed(alloc, b"a")?;
+    let b = parsed(alloc, b"b")?;
+    let were = change(&mut map, &a, &b);
+    Ok(were == [Some(0), Some(3), None] && is_shown(alloc, &map, "[(b, 7), (c, 2)]")?)
 }
 
 #[test]
-fn changes(rt: HostRuntime) -> Result<(), Fail> {
-    let found = changed(rt.alloc())?;
-    assert!(rt;
-        found.as_str() == "(Some(0), Some(3), None) [(b, 7), (c, 2)]",
-        "{found}"
-    );
-    Ok(())
+fn changes(rt: HostRuntime) {
+    assert!(rt; is_changed(rt.alloc()) == Ok(true));
 }
 
 /// Whether one of the entries would have more than 8 names once it moved.
@@ -114,6 +130,13 @@ fn relocate(map: &mut PathMap<usize>, from: &Path, to: &Path) -> Result<(), Memo
         return Ok(());
     }
     map.relocate(from, to)
+}
+
+/// The same, of the paths that the octets spell.
+fn move_to(alloc: Global, map: &mut PathMap<usize>, from: &[u8], to: &[u8]) -> Result<(), Memory> {
+    let from = parsed(alloc, from)?;
+    let to = parsed(alloc, to)?;
+    relocate(map, &from, &to)
 }
 
 /// Paths, two of them, and the map of all once what stands at and below the one moved to the other.
@@ -155,56 +178,51 @@ static MOVES: [Move; 4] = [
     },
 ];
 
-/// Whether the move makes the map that is wanted.
-fn makes(alloc: Global, step: &Move) -> Result<bool, PathFault> {
-    let mut map = map_of(alloc, step.paths)?;
-    let from = Path::parse(alloc, step.from)?;
-    let to = Path::parse(alloc, step.to)?;
-    relocate(&mut map, &from, &to)?;
-    Ok(shown(alloc, &map)?.as_str() == step.want)
-}
-
-/// Where an allocation is refused (`rt try --test --fail-alloc N`), it is made once more.
-fn makes_at_last(alloc: Global, step: &Move) -> Result<bool, PathFault> {
-    match makes(alloc, step) {
-        Err(PathFault::Memory) => makes(alloc, step),
-        answer => answer,
+impl Row for Move {
+    fn holds(&self, alloc: Global) -> Result<bool, Memory> {
+        let mut map = map_of(alloc, self.paths)?;
+        move_to(alloc, &mut map, self.from, self.to)?;
+        is_shown(alloc, &map, self.want)
     }
 }
 
 #[test]
 fn moves(rt: HostRuntime) {
-    for step in &MOVES {
-        assert!(rt;
-            makes_at_last(rt.alloc(), step) == Ok(true),
-            "{:?}",
-            step.paths
-        );
-    }
+    all_hold(&rt, rt.alloc(), &MOVES);
 }
 
+/// Makes 26 entries in the directory `d`, whose names begin with the same letter.
+fn fill(alloc: Global, map: &mut PathMap<usize>, first: u8) -> Result<(), Memory> {
+    for second in b'a'..=b'z' {
+        map.insert(parsed(alloc, &[b'd', b'/', first, second])?, 9)?;
+    }
+    Ok(())
+}
+
+/// What stands beside the entries of the directory, and the directory.
+static BESIDE_A_CROWD: [&[u8]; 3] = [b"d", b"d0", b"c"];
+
 /// A directory of 676 entries beside others.
-fn crowd(alloc: Global) -> Result<PathMap<usize>, PathFault> {
-    let mut map = map_of(alloc, &[b"d", b"d0", b"c"])?;
+fn crowd(alloc: Global) -> Result<PathMap<usize>, Memory> {
+    let mut map = map_of(alloc, &BESIDE_A_CROWD)?;
     for first in b'a'..=b'z' {
-        for second in b'a'..=b'z' {
-            map.insert(Path::parse(alloc, &[b'd', b'/', first, second])?, 9)?;
-        }
+        fill(alloc, &mut map, first)?;
     }
     Ok(map)
 }
 
+/// How many entries stand at and below a path.
+fn count(alloc: Global, map: &PathMap<usize>, path: &[u8]) -> Result<usize, Memory> {
+    let path = parsed(alloc, path)?;
+    Ok(map.tree(&path).len())
+}
+
 /// How many of them there are behind a move of the directory: where it was, where it is, and in all.
-fn moved_crowd(alloc: Global) -> Result<(usize, usize, usize), PathFault> {
+fn moved_crowd(alloc: Global) -> Result<(usize, usize, usize), Memory> {
     let mut map = crowd(alloc)?;
-    let from = Path::parse(alloc, b"d")?;
-    let to = Path::parse(alloc, b"e/f")?;
-    relocate(&mut map, &from, &to)?;
-    Ok((
-        map.tree(&from).len(),
-        map.tree(&to).len(),
-        map.entries().len(),
-    ))
+    move_to(alloc, &mut map, b"d", b"e/f")?;
+    let (from, to) = (count(alloc, &map, b"d")?, count(alloc, &map, b"e/f")?);
+    Ok((from, to, map.entries().len()))
 }
 
 #[test]

@@ -3,12 +3,11 @@
 ghost use Rattle.std.specs.Prelude.{◌≡◌, true};
 ghost use Rattle.cfdp_pdus.specs.Canonical.{IsHeader};
 
-use super::agree;
+use super::{Row, all_hold, fault_in, is_agreed};
 use cfdp_pdus::*;
 use cfdp_status::{Action, Status};
 use cfdp_tlv::{FilestoreRequest, FilestoreResponse};
 use std::alloc::{AllocError, Global};
-use std::test::Fail;
 
 // The longest header, 28 octets, of a large file.
 fn header() -> Header
@@ -26,6 +25,15 @@ fn header() -> Header
         number: u64::MAX,
         destination: u64::MAX,
     }
+}
+
+// How many octets there are, where they are read as this PDU.
+fn read_back(alloc: Global, octets: &[u8], pdu: &Pdu) -> Option<usize> {
+    let is_same = match read_pdu(alloc, octets) {
+        Ok(read) => read == *pdu,
+        Err(_) => false,
+    };
+    if is_same { Some(octets.len()) } else { None }
 }
 
 // Writes a Metadata PDU with names of so many octets.
@@ -48,12 +56,20 @@ fn write_asked(
     Ok((out, metadata))
 }
 
+// How long the names are, and the fault.
+type NameLen = (usize, Option<WriteFault>);
+
+static NAME_LENS: [NameLen; 2] = [(255, None), (256, Some(WriteFault::TooLong))];
+
+impl Row for NameLen {
+    fn holds(&self, alloc: Global) -> Result<bool, AllocError> {
+        Ok(write_asked(alloc, self.0, Vec::new(alloc)).err() == self.1)
+    }
+}
+
 #[test]
 fn names_too_long(rt: HostRuntime) {
-    for (name_len, fault) in [(255, None), (256, Some(WriteFault::TooLong))] {
-        let written = write_asked(rt.alloc(), name_len, Vec::new(rt.alloc()));
-        assert!(rt; written.err() == fault, "{name_len} octets");
-    }
+    all_hold(&rt, rt.alloc(), &NAME_LENS);
 }
 
 // 64 requests with values of 254 octets.
@@ -66,17 +82,15 @@ fn many_requests(alloc: Global) -> Result<Vec<FilestoreRequest>, AllocError> {
     Ok(requests)
 }
 
-// How long a Metadata PDU of 64 requests is, and whether it is read back.
-fn requests_read_back(alloc: Global) -> Result<(usize, bool), Fail> {
+// How long a Metadata PDU of 64 requests is, where it is read back.
+fn requests_read_back(alloc: Global) -> Result<Option<usize>, WriteFault> {
     let (out, metadata) = write_asked(alloc, 255, many_requests(alloc)?)?;
-    let read = read_pdu(alloc, &out)?;
-    Ok((out.len(), read == Pdu::Metadata(header(), metadata)))
+    Ok(read_back(alloc, &out, &Pdu::Metadata(header(), metadata)))
 }
 
 #[test]
-fn longest_metadata(rt: HostRuntime) -> Result<(), Fail> {
-    assert!(rt; requests_read_back(rt.alloc())? == (16_934, true));
-    Ok(())
+fn longest_metadata(rt: HostRuntime) {
+    assert!(rt; requests_read_back(rt.alloc()) == Ok(Some(16_934)));
 }
 
 // 64 responses with messages of 200 octets.
@@ -90,25 +104,32 @@ fn many_responses(alloc: Global) -> Result<Vec<FilestoreResponse>, AllocError> {
     Ok(responses)
 }
 
-// How long a Finished PDU of 64 responses is, and whether it is read back.
-fn responses_read_back(alloc: Global) -> Result<(usize, bool), Fail> {
+// Writes a Finished PDU with these responses.
+fn write_outcome(
+    alloc: Global,
+    responses: Vec<FilestoreResponse>,
+) -> Result<(Vec<u8>, Finished), WriteFault> {
     let finished = Finished {
         condition: 15,
         incomplete: true,
         file_status: 3,
-        responses: many_responses(alloc)?,
+        responses,
         fault: Some(2),
     };
     let mut out = Vec::new(alloc);
     write_finished(&header(), &finished, &mut out)?;
-    let read = read_pdu(alloc, &out)?;
-    Ok((out.len(), read == Pdu::Finished(header(), finished)))
+    Ok((out, finished))
+}
+
+// How long a Finished PDU of 64 responses is, where it is read back.
+fn responses_read_back(alloc: Global) -> Result<Option<usize>, WriteFault> {
+    let (out, finished) = write_outcome(alloc, many_responses(alloc)?)?;
+    Ok(read_back(alloc, &out, &Pdu::Finished(header(), finished)))
 }
 
 #[test]
-fn longest_finished(rt: HostRuntime) -> Result<(), Fail> {
-    assert!(rt; responses_read_back(rt.alloc())? == (13_352, true));
-    Ok(())
+fn longest_finished(rt: HostRuntime) {
+    assert!(rt; responses_read_back(rt.alloc()) == Ok(Some(13_352)));
 }
 
 // Writes a File Data PDU of so many octets.
@@ -122,63 +143,78 @@ fn write_data(alloc: Global, len: usize) -> Result<(Vec<u8>, FileData), WriteFau
     Ok((out, file_data))
 }
 
-// How long the longest File Data PDU is, and whether it is read back.
-fn data_reads_back(alloc: Global) -> Result<(usize, bool), Fail> {
+// How long the longest File Data PDU is, where it is read back.
+fn data_reads_back(alloc: Global) -> Result<Option<usize>, WriteFault> {
     let (out, file_data) = write_data(alloc, 65_527)?;
-    let read = read_pdu(alloc, &out)?;
-    Ok((out.len(), read == Pdu::FileData(header(), file_data)))
+    Ok(read_back(alloc, &out, &Pdu::FileData(header(), file_data)))
 }
 
 #[test]
-fn longest_file_data(rt: HostRuntime) -> Result<(), Fail> {
-    assert!(rt; data_reads_back(rt.alloc())? == (65_563, true));
+fn longest_file_data(rt: HostRuntime) {
+    assert!(rt; data_reads_back(rt.alloc()) == Ok(Some(65_563)));
     assert!(rt; write_data(rt.alloc(), 65_528).err() == Some(WriteFault::TooLong));
-    Ok(())
 }
 
-// How long the longest EOF PDU is, and whether it is read back.
-fn eof_reads_back(alloc: Global) -> Result<(usize, bool), Fail> {
-    let eof = Eof {
-        condition: 15,
-        checksum: u32::MAX,
-        size: u64::MAX,
-    };
+const LONGEST_EOF: Eof = Eof {
+    condition: 15,
+    checksum: u32::MAX,
+    size: u64::MAX,
+};
+
+// Writes the longest EOF PDU.
+fn written_eof(alloc: Global) -> Result<Vec<u8>, WriteFault> {
     let mut out = Vec::new(alloc);
-    write_eof(&header(), &eof, &mut out)?;
-    let read = read_pdu(alloc, &out)?;
-    Ok((out.len(), read == Pdu::Eof(header(), eof)))
+    write_eof(&header(), &LONGEST_EOF, &mut out)?;
+    Ok(out)
+}
+
+// How long it is, where it is read back.
+fn eof_reads_back(alloc: Global) -> Result<Option<usize>, WriteFault> {
+    let out = written_eof(alloc)?;
+    Ok(read_back(alloc, &out, &Pdu::Eof(header(), LONGEST_EOF)))
 }
 
 #[test]
-fn longest_eof(rt: HostRuntime) -> Result<(), Fail> {
-    assert!(rt; eof_reads_back(rt.alloc())? == (52, true));
-    Ok(())
+fn longest_eof(rt: HostRuntime) {
+    assert!(rt; eof_reads_back(rt.alloc()) == Ok(Some(52)));
 }
 
-// A Metadata PDU without a file, up to the first name of its one request, which renames a name of 125 octets to one of 126, so
-// that its value has 254 octets.
-static BEFORE_LONGEST: [u8; 19] =
-    *b"\x24\x01\x08\x00\x01\x05\x02\x07\x40\x00\x00\x00\x00\x00\x00\x00\xfe\x20\x7d";
+// Metadata PDUs without a file, with one request, which renames a name of 125 octets to one of 126, so that its value has 254
+// octets, or to one of 127: what stands before the first name, the length of the second one, and the fault of the whole.
+type Rename = (&'static [u8], u8, Option<PduFault>);
 
-// The same where the second name has 127 octets.
-static BEFORE_TOO_LONG: [u8; 19] =
-    *b"\x24\x01\x09\x00\x01\x05\x02\x07\x40\x00\x00\x00\x00\x00\x00\x00\xff\x20\x7d";
+static RENAMES: [Rename; 2] = [
+    (
+        b"\x24\x01\x08\x00\x01\x05\x02\x07\x40\x00\x00\x00\x00\x00\x00\x00\xfe\x20\x7d",
+        126,
+        None,
+    ),
+    (
+        b"\x24\x01\x09\x00\x01\x05\x02\x07\x40\x00\x00\x00\x00\x00\x00\x00\xff\x20\x7d",
+        127,
+        Some(PduFault::RequestTooLong),
+    ),
+];
 
 // The whole of such a PDU.
 fn rename(alloc: Global, before: &[u8], second_len: u8) -> Result<Vec<u8>, AllocError> {
     let mut pdu = Vec::from_slice(alloc, before)?;
     pdu.extend_from_slice(&[b'p'; 125])?;
     pdu.push(second_len)?;
-    pdu.extend_from_slice(&vec![in alloc; b'r'; usize::from(second_len)]?)?;
+    for _ in 0..second_len {
+        pdu.push(b'r')?;
+    }
     Ok(pdu)
 }
 
+impl Row for Rename {
+    fn holds(&self, alloc: Global) -> Result<bool, AllocError> {
+        let pdu = rename(alloc, self.0, self.1)?;
+        Ok(fault_in(alloc, &pdu) == self.2 && is_agreed(alloc, &pdu))
+    }
+}
+
 #[test]
-fn longest_rename(rt: HostRuntime) -> Result<(), Fail> {
-    let pdu = rename(rt.alloc(), &BEFORE_LONGEST, 126)?;
-    assert!(rt; read_pdu(rt.alloc(), &pdu).is_ok());
-    agree(&rt, rt.alloc(), &pdu);
-    let pdu = rename(rt.alloc(), &BEFORE_TOO_LONG, 127)?;
-    assert!(rt; read_pdu(rt.alloc(), &pdu).err() == Some(PduFault::RequestTooLong));
-    Ok(())
+fn longest_rename(rt: HostRuntime) {
+    all_hold(&rt, rt.alloc(), &RENAMES);
 }

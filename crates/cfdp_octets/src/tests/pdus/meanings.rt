@@ -1,11 +1,10 @@
 //! What PDUs of the worked examples mean, part by part.
 
-use super::octets;
+use super::{Row, all_hold, octets};
 use cfdp_pdus::*;
 use cfdp_status::{Action, Status};
 use cfdp_tlv::{FilestoreRequest, FilestoreResponse};
 use std::alloc::{AllocError, Global};
-use std::test::Fail;
 
 // Unacknowledged, from entity 1 to entity 2, each number in one octet.
 fn header(number: u64) -> Header {
@@ -21,113 +20,154 @@ fn header(number: u64) -> Header {
     }
 }
 
-// The PDU that hexadecimal digits say.
-fn read(alloc: Global, text: &str) -> Result<Pdu, PduFault> {
-    read_pdu(alloc, &octets(alloc, text)?)
-}
-
-// Whether that is what they say.
-fn says(alloc: Global, text: &str, want: &Pdu) -> Result<bool, PduFault> {
-    Ok(read(alloc, text)? == *want)
-}
-
-// The header and the data field of a Metadata PDU.
-fn metadata_in(alloc: Global, text: &str) -> Result<(Header, Metadata), Fail> {
-    match read(alloc, text)? {
-        Pdu::Metadata(header, metadata) => Ok((header, metadata)),
-        _ => Err(Fail::new("it is another PDU")),
+// The PDU that hexadecimal digits say. They say one, so that only memory can be wanting.
+fn read(alloc: Global, text: &str) -> Result<Pdu, AllocError> {
+    match read_pdu(alloc, &octets(alloc, text)?) {
+        Ok(pdu) => Ok(pdu),
+        Err(_) => Err(AllocError),
     }
 }
 
+// Whether that is what they say.
+fn says(alloc: Global, text: &str, want: &Pdu) -> Result<bool, AllocError> {
+    Ok(read(alloc, text)? == *want)
+}
+
+// One octet at the beginning of a file.
+fn one_octet(alloc: Global) -> Result<Pdu, AllocError> {
+    let octets = Vec::from_slice(alloc, &[0x41])?;
+    Ok(Pdu::FileData(header(10), FileData { offset: 0, octets }))
+}
+
 #[test]
-fn segment_metadata_is_passed_over(rt: HostRuntime) -> Result<(), Fail> {
-    let octets = Vec::from_slice(rt.alloc(), &[0x41])?;
-    let want = Pdu::FileData(header(10), FileData { offset: 0, octets });
+fn segment_metadata_is_passed_over(rt: HostRuntime) -> Result<(), AllocError> {
+    let want = one_octet(rt.alloc())?;
     assert!(rt; says(rt.alloc(), "34000708010a0281ff0000000041", &want)?);
     Ok(())
 }
 
 // What is not ours, and its directive code.
-static NOT_OURS: [(&str, u8); 4] = [
+type NotOurs = (&'static str, u8);
+
+static NOT_OURS: [NotOurs; 4] = [
     ("24000300010502 065000", 6),
     ("24000100010502 08", 8),
     ("24000100010502 09", 9),
     ("24000100010502 0c", 12),
 ];
 
-#[test]
-fn others_are_not_ours(rt: HostRuntime) {
-    for (text, code) in &NOT_OURS {
-        let want = Pdu::NotOurs(header(5), *code);
-        assert!(rt; says(rt.alloc(), text, &want) == Ok(true), "{text}");
+impl Row for NotOurs {
+    fn holds(&self, alloc: Global) -> Result<bool, AllocError> {
+        says(alloc, self.0, &Pdu::NotOurs(header(5), self.1))
     }
 }
 
 #[test]
-fn a_large_file_has_eight_octets(rt: HostRuntime) -> Result<(), Fail> {
-    let text = "25000e00010f02 0740 ffffffffffffffff 0173 0166";
-    let (header, metadata) = metadata_in(rt.alloc(), text)?;
-    assert!(rt; header.large && metadata.size == u64::MAX);
-    Ok(())
+fn others_are_not_ours(rt: HostRuntime) {
+    all_hold(&rt, rt.alloc(), &NOT_OURS);
+}
+
+// A Metadata PDU: whether it is in acknowledged mode, whether it is of a large file, whether closure is asked for, the type of
+// the checksum, and the size.
+type Said = (&'static str, bool, bool, bool, u8, u64);
+
+static SAID: [Said; 3] = [
+    (
+        "25000e00010f02 0740 ffffffffffffffff 0173 0166",
+        false,
+        true,
+        true,
+        0,
+        u64::MAX,
+    ),
+    (
+        "20000800011002 0700 00000000 0000",
+        true,
+        false,
+        false,
+        0,
+        0,
+    ),
+    (
+        "24000a00011b02 0742 0000000f 0173 0166",
+        false,
+        false,
+        true,
+        2,
+        15,
+    ),
+];
+
+impl Row for Said {
+    fn holds(&self, alloc: Global) -> Result<bool, AllocError> {
+        match read(alloc, self.0)? {
+            Pdu::Metadata(header, metadata) => Ok(
+                header.acknowledged == self.1
+                    && header.large == self.2
+                    && metadata.closure == self.3
+                    && metadata.checksum_type == self.4
+                    && metadata.size == self.5,
+            ),
+            _ => Ok(false),
+        }
+    }
 }
 
 #[test]
-fn modes_and_types(rt: HostRuntime) -> Result<(), Fail> {
-    let (header, open) = metadata_in(rt.alloc(), "20000800011002 0700 00000000 0000")?;
-    assert!(rt; header.acknowledged && !open.closure && open.checksum_type == 0);
-    let (header, other) = metadata_in(rt.alloc(), "24000a00011b02 0742 0000000f 0173 0166")?;
-    assert!(rt; !header.acknowledged && other.closure && other.checksum_type == 2);
-    Ok(())
+fn modes_sizes_and_types(rt: HostRuntime) {
+    all_hold(&rt, rt.alloc(), &SAID);
 }
 
-// A Finished PDU's data field with one response, and another fault location than the header could say.
-fn with_a_fault(alloc: Global) -> Result<Finished, AllocError> {
+// A Finished PDU with one response, and another fault location than the header could say.
+fn with_a_fault(alloc: Global) -> Result<Pdu, AllocError> {
     let status = Status::Successful(Action::CreateFile);
     let made = FilestoreResponse::new(alloc, status, b"a", None, &[])?;
-    Ok(Finished {
+    let finished = Finished {
         condition: 0,
         incomplete: false,
         file_status: 3,
         responses: Vec::from_array(alloc, [made])?,
         fault: Some(0x0103),
-    })
+    };
+    let mut back = header(5);
+    back.toward_sender = true;
+    Ok(Pdu::Finished(back, finished))
 }
 
 #[test]
-fn the_last_entity_counts(rt: HostRuntime) -> Result<(), Fail> {
-    let back = Header {
-        toward_sender: true,
-        ..header(5)
-    };
-    let want = Pdu::Finished(back, with_a_fault(rt.alloc())?);
+fn the_last_entity_counts(rt: HostRuntime) -> Result<(), AllocError> {
+    let want = with_a_fault(rt.alloc())?;
     let text = "2c001200010502 0503 020161 060102 010400016100 06020103";
     assert!(rt; says(rt.alloc(), text, &want)?);
     Ok(())
 }
 
 // A file of 120 octets for `a`, behind which `a` is appended to itself.
-fn appended(alloc: Global) -> Result<Metadata, AllocError> {
+fn appended(alloc: Global) -> Result<Pdu, AllocError> {
     let append = FilestoreRequest::new(alloc, Action::AppendFile, b"a", Some(b"a"))?;
-    Ok(Metadata {
+    let metadata = Metadata {
         closure: true,
         checksum_type: 0,
         size: 120,
         source_name: Vec::from_slice(alloc, b"s")?,
         destination_name: Vec::from_slice(alloc, b"a")?,
         requests: Vec::from_array(alloc, [append])?,
-    })
+    };
+    Ok(Pdu::Metadata(header(6), metadata))
 }
 
 #[test]
-fn a_file_with_a_request(rt: HostRuntime) -> Result<(), Fail> {
-    let want = Pdu::Metadata(header(6), appended(rt.alloc())?);
+fn a_file_with_a_request(rt: HostRuntime) -> Result<(), AllocError> {
+    let want = appended(rt.alloc())?;
     let text = "24001100010602 0740 00000078 0173 0161 00053001610161";
     assert!(rt; says(rt.alloc(), text, &want)?);
     Ok(())
 }
 
 // The end of a file of 120 octets, and of a transaction that was cancelled.
-static ENDS: [(&str, u64, Eof); 2] = [
+type End = (&'static str, u64, Eof);
+
+static ENDS: [End; 2] = [
     (
         "24000a00010602 0400 1e1e1e1e 00000078",
         6,
@@ -148,10 +188,13 @@ static ENDS: [(&str, u64, Eof); 2] = [
     ),
 ];
 
+impl Row for End {
+    fn holds(&self, alloc: Global) -> Result<bool, AllocError> {
+        says(alloc, self.0, &Pdu::Eof(header(self.1), self.2))
+    }
+}
+
 #[test]
 fn ends(rt: HostRuntime) {
-    for (text, number, eof) in &ENDS {
-        let want = Pdu::Eof(header(*number), *eof);
-        assert!(rt; says(rt.alloc(), text, &want) == Ok(true), "{text}");
-    }
+    all_hold(&rt, rt.alloc(), &ENDS);
 }

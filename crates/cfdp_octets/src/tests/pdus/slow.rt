@@ -23,6 +23,11 @@ fn number(octets: &[u8], at: usize, len: usize, fault: PduFault) -> Result<u64, 
     Ok(number)
 }
 
+// The octets from a place on.
+fn behind(octets: &[u8], at: usize, fault: PduFault) -> Result<&[u8], PduFault> {
+    octets.get(at..).ok_or(fault)
+}
+
 // As many octets as the one at a place says, and the place behind them.
 fn counted(octets: &[u8], at: usize, fault: PduFault) -> Result<(&[u8], usize), PduFault> {
     let start = at.wrapping_add(1);
@@ -44,7 +49,9 @@ fn second_name(action: Action, value: &[u8], at: usize) -> Result<(Option<&[u8]>
 
 fn request(alloc: Global, value: &[u8]) -> Result<FilestoreRequest, PduFault> {
     let fault = PduFault::BadTlv;
-    let action = Action::of_code(octet(value, 0, fault)? / 16).ok_or(fault)?;
+    let Some(action) = Action::of_code(octet(value, 0, fault)? / 16) else {
+        return Err(fault);
+    };
     let (first, at) = counted(value, 1, fault)?;
     let (second, end) = second_name(action, value, at)?;
     if end != value.len() {
@@ -58,7 +65,9 @@ fn request(alloc: Global, value: &[u8]) -> Result<FilestoreRequest, PduFault> {
 
 fn response(alloc: Global, value: &[u8]) -> Result<FilestoreResponse, PduFault> {
     let fault = PduFault::BadTlv;
-    let status = Status::of_octet(octet(value, 0, fault)?).ok_or(fault)?;
+    let Some(status) = Status::of_octet(octet(value, 0, fault)?) else {
+        return Err(fault);
+    };
     let (first, at) = counted(value, 1, fault)?;
     let (second, at) = second_name(status.action(), value, at)?;
     let (message, end) = counted(value, at, fault)?;
@@ -93,7 +102,10 @@ fn requests(alloc: Global, field: &[u8], start: usize) -> Result<Vec<FilestoreRe
 }
 
 fn push<T: Drop>(items: &mut Vec<T>, item: T) -> Result<(), PduFault> {
-    items.push(item).map_err(|_| PduFault::Memory)
+    match items.push(item) {
+        Ok(()) => Ok(()),
+        Err(_) => Err(PduFault::Memory),
+    }
 }
 
 // The responses among the TLV fields from a place on.
@@ -156,20 +168,34 @@ fn size_len(header: &Header) -> usize
     if header.large { 8 } else { 4 }
 }
 
+// A copy of octets.
+fn copied(alloc: Global, octets: &[u8]) -> Result<Vec<u8>, PduFault> {
+    match Vec::from_slice(alloc, octets) {
+        Ok(octets) => Ok(octets),
+        Err(_) => Err(PduFault::Memory),
+    }
+}
+
+// The source name and the destination name from a place on, and the place behind them.
+fn names(field: &[u8], at: usize) -> Result<(&[u8], &[u8], usize), PduFault> {
+    let (source, at) = counted(field, at, PduFault::LengthMismatch)?;
+    let (destination, at) = counted(field, at, PduFault::LengthMismatch)?;
+    Ok((source, destination, at))
+}
+
 // A Metadata PDU's data field.
 fn metadata(alloc: Global, header: Header, field: &[u8]) -> Result<Pdu, PduFault> {
     let fault = PduFault::LengthMismatch;
     let size_len = size_len(&header);
     let flags = octet(field, 1, fault)?;
     let size = number(field, 2, size_len, fault)?;
-    let (source, at) = counted(field, 2 + size_len, fault)?;
-    let (destination, at) = counted(field, at, fault)?;
+    let (source, destination, at) = names(field, 2 + size_len)?;
     let metadata = Metadata {
         closure: flags & 0x40 != 0,
         checksum_type: flags & 0x0f,
         size,
-        source_name: Vec::from_slice(alloc, source)?,
-        destination_name: Vec::from_slice(alloc, destination)?,
+        source_name: copied(alloc, source)?,
+        destination_name: copied(alloc, destination)?,
         requests: requests(alloc, field, at)?,
     };
     Ok(Pdu::Metadata(header, metadata))
@@ -232,16 +258,15 @@ fn file_data(
     }
     let size_len = size_len(&header);
     let offset = number(field, at, size_len, fault)?;
-    let octets = field.get(at.wrapping_add(size_len)..).ok_or(fault)?;
-    let octets = Vec::from_slice(alloc, octets)?;
+    let octets = copied(alloc, behind(field, at.wrapping_add(size_len), fault)?)?;
     Ok(Pdu::FileData(header, FileData { offset, octets }))
 }
 
 // The header, and the place behind it.
 fn header(octets: &[u8], first: u8, fourth: u8) -> Result<(Header, usize), PduFault> {
     let cut = PduFault::Truncated;
-    let id_len = (fourth >> 4 & 7) + 1;
-    let number_len = (fourth & 7) + 1;
+    let id_len = fourth / 16 % 8 + 1;
+    let number_len = fourth % 8 + 1;
     let number_at = 4 + usize::from(id_len);
     let destination_at = number_at + usize::from(number_len);
     let header = Header {
@@ -277,7 +302,7 @@ pub fn read(alloc: Global, octets: &[u8]) -> Result<Pdu, PduFault> {
     if octets.len() > end {
         return Err(PduFault::LengthMismatch);
     }
-    let field = octets.get(field_at..).ok_or(cut)?;
+    let field = behind(octets, field_at, cut)?;
     if first & 0x10 != 0 {
         return file_data(alloc, header, fourth & 0x08 != 0, field);
     }
