@@ -5,7 +5,7 @@ ghost use Rattle.std.specs.Cmp.Rules.{comparing};
 ghost use Rattle.std.specs.Cmp.{partial_order_from_own_ties};
 ghost use Rattle.std.specs.Option.{option_copied};
 ghost use Rattle.std.specs.Ordering.{as_partial_cmp};
-ghost use Rattle.std.specs.Prelude.{◌≡◌, ◌≢◌, ◌+◌, ◌≤◌, ◌↔◌, ◌⊎◌, List, [], length, take, IsTrue, IsOk, IfOk, IfErr, MatchResult};
+ghost use Rattle.std.specs.Prelude.{◌≡◌, ◌≢◌, ◌+◌, ◌≤◌, ◌↔◌, ◌⊎◌, List, [], length, slice_index_or, take, IsTrue, IsOk, IfOk, IfErr, MatchResult};
 ghost use Rattle.cfdp_paths.specs.Faults.{fault_of};
 ghost use Rattle.cfdp_paths.specs.Paths.{Name, IsPath, Spells, ancestors, is_at_or_below, is_below, joined, names_of, parent, path_cmp, path_in, path_of, rebased, same_path, unless_root};
 
@@ -72,6 +72,18 @@ impl Path {
         ensures within { IsPath self.now }
     {
         count_separators(&self.octets) + 1
+    }
+
+    /// The name at the index, where the first name has the index 0; no octets where the path has no such name. Takes no
+    /// memory. Cost: one pass over the octets up to its end.
+    pub fn name(&self, index: usize) -> &[u8]
+        ensures name { result.now ≡ slice_index_or self.now index [] }
+        ensures short { length result.now ≤ 96 }
+    {
+        self.octets
+            .split(|octet| *octet == SEPARATOR)
+            .nth(index)
+            .unwrap_or(&[])
     }
 
     /// Whether `other` is a prefix of this path, or this path itself. Takes no memory. Cost: one comparison of

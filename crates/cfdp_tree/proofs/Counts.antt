@@ -1,7 +1,7 @@
 -- How many blocks are free once one of them has changed.
---     live_count-within, live_count-written      how many are live
+--     live_count-within, live_count-written, live_count-same      how many are live
 --     free_count-taken, free_count-written, free_count-given     a free block made live, a live one written, one made free
-use Rattle.std.proofs.Common.{◌≡◌, ℕ, suc, zero, ◌+◌, ◌<◌, ◌≤◌, List, [], ◌∷◌, length, Some, None, refl, arith, length-set}
+use Rattle.std.proofs.Common.{◌≡◌, ℕ, suc, zero, ◌+◌, ◌<◌, ◌≤◌, List, [], ◌∷◌, length, Some, None, is_some, refl, arith, length-set}
 use Rattle.cfdp_arena.specs.Arena.{Blocks, live_count, octets_at, IsLive, free_count, with_block, without_block}
 
 pub live_count-within : (arena : Blocks) → live_count arena ≤ length arena
@@ -29,6 +29,16 @@ live_count-given (Some x ∷ rest) zero live = refl
 live_count-given (None ∷ rest) zero live = cc
 live_count-given (Some x ∷ rest) (suc block) live = omega (arith, live_count-given rest block live)
 live_count-given (None ∷ rest) (suc block) live = live_count-given rest block live
+
+-- the same blocks are live
+pub live_count-same : (a b : Blocks) → length a ≡ length b → ((i : ℕ) → is_some (octets_at a i) ≡ is_some (octets_at b i)) → live_count a ≡ live_count b
+live_count-same [] [] long same = refl
+live_count-same [] (y ∷ ys) long same = absurd (omega arith)
+live_count-same (x ∷ xs) [] long same = absurd (omega arith)
+live_count-same (Some x ∷ xs) (Some y ∷ ys) long same = omega (arith, live_count-same xs ys (omega arith) (λ i. same (suc i)))
+live_count-same (None ∷ xs) (None ∷ ys) long same = live_count-same xs ys (omega arith) (λ i. same (suc i))
+live_count-same (Some x ∷ xs) (None ∷ ys) long same = (let e = same 0 in cc)
+live_count-same (None ∷ xs) (Some y ∷ ys) long same = (let e = same 0 in cc)
 
 pub free_count-taken : (arena : Blocks) (block : ℕ) (o : List ℕ) → octets_at arena block ≡ None → block < length arena → free_count (with_block arena block o) + 1 ≡ free_count arena
 free_count-taken arena block o free within =

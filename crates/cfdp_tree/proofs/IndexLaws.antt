@@ -2,8 +2,12 @@
 --     chain_more       a list's first node, and those behind it
 --     no_entry         what was denied
 --     own_first, own_rest, rest_has      of all of its nodes, of the first one, and of those behind it
-use Rattle.std.proofs.Common.{◌≡◌, ◌≢◌, ℕ, suc, zero, ◌<◌, List, ◌∷◌, length, get_or, ap, arith, Bool, false}
-use Rattle.std.specs.Prelude.{All, Contains, IsTrue}
+--     has_later, has_first, has_longer, chain_some     a node that stands in it
+--     once_first, once_rest    no node stands in it twice
+--     kept_chain               a list in which the node does not stand whose link has changed
+use Rattle.std.proofs.Common.{◌≡◌, ◌≢◌, ℕ, suc, zero, ◌<◌, List, ◌∷◌, length, get_or, refl, ap, ◌∙◌, subst, inl, inr, arith, Bool, false}
+use Rattle.std.proofs.lemmas.Bool.{cases_eq}
+use Rattle.std.specs.Prelude.{All, AllPairs, Contains, IsTrue}
 use Rattle.cfdp_arena.specs.Arena.{Blocks}
 use Rattle.cfdp_tree.specs.Tree.{row_at}
 use Rattle.cfdp_tree.specs.Index.{chain}
@@ -26,3 +30,39 @@ rest_has b rest c has other = at_place has.0 has.1 has.2
 
 pub no_entry : {b : Bool} → IsTrue b → b ≡ false → ⊥
 no_entry is not = cc
+
+pub has_later : (b : ℕ) (rest : List ℕ) (c : ℕ) → Contains rest c → Contains (b ∷ rest) c
+has_later b rest c has = (suc has.0, omega arith, has.2)
+
+pub has_first : (b : ℕ) (rest : List ℕ) → Contains (b ∷ rest) b
+has_first b rest = (0, omega arith, refl)
+
+pub chain_some : (nodes : Blocks) (n b c : ℕ) → Contains (chain nodes n b) c → 0 < n
+chain_some nodes zero b c has = omega (arith, has.1)
+chain_some nodes (suc n) b c has = omega arith
+
+pub has_longer : (nodes : Blocks) (n b c : ℕ) → Contains (chain nodes n b) c → Contains (chain nodes (suc n) b) c
+has_longer nodes zero b c has = absurd (omega (arith, has.1))
+has_longer nodes (suc n) b c has =
+    let next = (row_at nodes b).same_head in
+    elim (cases_eq b c) [
+      | inl e ↦ subst (Contains (b ∷ chain nodes (suc n) next)) e (has_first b (chain nodes (suc n) next))
+      | inr other ↦ has_later b (chain nodes (suc n) next) c (has_longer nodes n next c (rest_has b (chain nodes n next) c has other))
+    ]
+
+-- of lists in which no node stands twice
+pub once_first : (b : ℕ) (rest : List ℕ) → AllPairs (λ x y. x ≢ y) (b ∷ rest) → All (λ c. b ≢ c) rest
+once_first b rest once k d within = once 0 (suc k) d (omega arith) (omega arith)
+
+pub once_rest : (b : ℕ) (rest : List ℕ) → AllPairs (λ x y. x ≢ y) (b ∷ rest) → AllPairs (λ x y. x ≢ y) rest
+once_rest b rest once i j d before within = once (suc i) (suc j) d (omega arith) (omega arith)
+
+-- the link of one node has changed
+module _ (old new : Blocks) (b : ℕ) (others : (c : ℕ) → b ≢ c → (row_at new c).same_head ≡ (row_at old c).same_head) where
+  pub kept_chain : (n x : ℕ) → All (λ c. b ≢ c) (chain old n x) → chain new n x ≡ chain old n x
+  kept_chain zero x apart = refl
+  kept_chain (suc n) x apart =
+      let P : ℕ → Type 0 = λ c. b ≢ c in
+      let next = (row_at old x).same_head in
+      ap (λ y. x ∷ chain new n y) (others x (own_first P x (chain old n next) apart))
+      ∙ ap (λ rest. x ∷ rest) (kept_chain n next (own_rest P x (chain old n next) apart))

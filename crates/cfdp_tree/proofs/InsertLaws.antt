@@ -1,6 +1,6 @@
 -- A node that stood in no list of the index comes to the head of its own one.
 --     inserted      the index then
-use Rattle.std.proofs.Common.{◌≡◌, ◌≢◌, ℕ, suc, zero, ◌+◌, ◌<◌, List, [], ◌∷◌, length, length-set, set, get_or, Some, None, is_some, refl, sym, ap, ◌∙◌, subst, inl, inr, arith}
+use Rattle.std.proofs.Common.{◌≡◌, ◌≢◌, ℕ, ◌+◌, ◌<◌, List, [], ◌∷◌, length, length-set, set, get_or, Some, None, is_some, sym, ap, ◌∙◌, subst, inl, inr, arith}
 use Rattle.std.proofs.lemmas.List.{get_or-set_same, get_or-set_other}
 use Rattle.std.proofs.lemmas.List.Elements.{All-cons}
 use Rattle.std.proofs.lemmas.List.Kept.{AllPairs-cons}
@@ -10,14 +10,12 @@ use Rattle.std.specs.Prelude.{All, AllPairs, Contains, unwrap_or}
 use Rattle.cfdp_arena.specs.Arena.{Blocks, with_block}
 use Rattle.cfdp_tree.specs.declared.index.Head.{Head}
 use Rattle.cfdp_tree.specs.Row.{row_of, name_of}
-use Rattle.cfdp_tree.specs.Tree.{IsNode, row_at, name_at, home_in, home}
+use Rattle.cfdp_tree.specs.Tree.{IsNode, name_at, home_in, home}
 use Rattle.cfdp_tree.specs.Index.{Heads, place_of, chain, no_head, list_of, list_at, IsListed, IsIndex}
 use Rattle.cfdp_tree.proofs.Counts.{live_count-written}
-use Rattle.cfdp_tree.proofs.PlaceLaws.{at_b, kept_by}
-use Rattle.cfdp_tree.proofs.IndexLaws.{chain_more, own_first, own_rest}
-
-has_later : (x : ℕ) (xs : List ℕ) (c : ℕ) → Contains xs c → Contains (x ∷ xs) c
-has_later x xs c has = (suc has.0, omega arith, has.2)
+use Rattle.cfdp_tree.proofs.PlaceLaws.{kept_by}
+use Rattle.cfdp_tree.proofs.LinkLaws.{next_here, next_other}
+use Rattle.cfdp_tree.proofs.IndexLaws.{chain_more, has_later, has_first, kept_chain}
 
 module _ (nodes : Blocks) (heads : Heads) (b : ℕ) (block : List ℕ) (k : ℕ) (within : k < length heads) (index : IsIndex nodes heads (Some b)) (node : IsNode nodes b)
     (place : place_of (home nodes b) (name_at nodes b) (length heads) ≡ k) (head : Head) (head_is : head ≡ get_or heads k no_head)
@@ -43,25 +41,11 @@ module _ (nodes : Blocks) (heads : Heads) (b : ℕ) (block : List ℕ) (k : ℕ)
   names : (c : ℕ) → name_at new c ≡ name_at nodes c
   names = kept_by nodes b block node (λ c entry. name_of (unwrap_or entry [])) name
 
-  next_other : (c : ℕ) → b ≢ c → (row_at new c).same_head ≡ (row_at nodes c).same_head
-  next_other c other = ap (λ entry. (row_of (unwrap_or entry [])).same_head) (get_or-set_other nodes b c (Some block) None (λ e. other (sym e)))
-
-  next_here : (row_at new b).same_head ≡ head.first
-  next_here = ap (λ entry. (row_of (unwrap_or entry [])).same_head) (at_b nodes b block node) ∙ link
-
-  kept_chain : (n x : ℕ) → All (λ c. b ≢ c) (chain nodes n x) → chain new n x ≡ chain nodes n x
-  kept_chain zero x apart = refl
-  kept_chain (suc n) x apart =
-      let P : ℕ → Type 0 = λ c. b ≢ c in
-      let next = (row_at nodes x).same_head in
-      ap (λ y. x ∷ chain new n y) (next_other x (own_first P x (chain nodes n next) apart))
-      ∙ ap (λ rest. x ∷ rest) (kept_chain n next (own_rest P x (chain nodes n next) apart))
-
   apart_at : (j : ℕ) → j < length heads → All (λ c. b ≢ c) (list_at nodes heads j)
   apart_at j inside i d less e = (index.own j inside i d less).listed (ap Some e)
 
   kept_list : (j : ℕ) → j < length heads → list_of new (get_or heads j no_head) ≡ list_at nodes heads j
-  kept_list j inside = kept_chain (get_or heads j no_head).count (get_or heads j no_head).first (apart_at j inside)
+  kept_list j inside = kept_chain nodes new b (next_other nodes b block node) (get_or heads j no_head).count (get_or heads j no_head).first (apart_at j inside)
 
   list_other : (j : ℕ) → j < length heads → j ≢ k → list_at new after j ≡ list_at nodes heads j
   list_other j inside other = ap (list_of new) (get_or-set_other heads k j first no_head other) ∙ kept_list j inside
@@ -70,7 +54,7 @@ module _ (nodes : Blocks) (heads : Heads) (b : ℕ) (block : List ℕ) (k : ℕ)
   list_here =
       ap (list_of new) (get_or-set_same heads k first no_head within)
       ∙ chain_more new (head.count + 1) head.count b (omega arith)
-      ∙ ap (λ x. b ∷ chain new head.count x) next_here
+      ∙ ap (λ x. b ∷ chain new head.count x) (next_here nodes b block node ∙ link)
       ∙ ap (λ h. b ∷ list_of new h) head_is
       ∙ ap (λ rest. b ∷ rest) (kept_list k within)
 
@@ -118,7 +102,7 @@ module _ (nodes : Blocks) (heads : Heads) (b : ℕ) (block : List ℕ) (k : ℕ)
       let filled = index.some in
       elim (cases_eq c b) [
         | inl e ↦ subst (λ x. Contains (list_at new after (place_of (home nodes x) (name_at nodes x) (length heads))) x) (sym e)
-            (subst (λ i. Contains (list_at new after i) b) (sym place) (subst (λ xs. Contains xs b) (sym list_here) (0, omega arith, refl)))
+            (subst (λ i. Contains (list_at new after i) b) (sym place) (subst (λ xs. Contains xs b) (sym list_here) (has_first b (list_at nodes heads k))))
         | inr other ↦ has_old c (place_of (home nodes c) (name_at nodes c) (length heads)) (omega arith) (index.all c was (λ e. other (sym (some_same e))))
       ]
 

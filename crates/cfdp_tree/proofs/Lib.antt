@@ -13,5 +13,16 @@ pub mod TreeLaws
 pub mod IndexLaws
 pub mod ShowLaws
 pub mod PlaceLaws
+pub mod WriteLaws
+pub mod LinkLaws
 pub mod StoredLaws
 pub mod InsertLaws
+pub mod ClimbLaws
+pub mod AddLaws
+pub mod RemoveLaws
+pub mod SeenLaws
+pub mod BelowLaws
+pub mod MoveLaws
+pub mod SlotLaws
+pub mod CutLaws
+pub mod UnlistLaws

@@ -1,7 +1,7 @@
 -- Nodes that stand where they stood.
 --     kept_climb, kept_ends      the way to a node whose directories have stayed
 --     same_paths, same_tree      all nodes have stayed
---     at_b, kept_by              the block of one of them is written
+--     at_b, kept_by, still_named     the block of one of them is written
 --     same_places                the block of one of them is written
 use Rattle.std.proofs.Common.{◌≡◌, ℕ, suc, zero, List, [], ◌∷◌, ◌++◌, Option, Some, None, is_some, refl, sym, ap, ◌∙◌, subst, inl, inr}
 use Rattle.std.proofs.lemmas.List.{get_or-set_same, get_or-set_other}
@@ -62,6 +62,14 @@ module _ (old : Blocks) (b : ℕ) (block : List ℕ) (node : IsNode old b) where
     | inr other ↦ ap (word c) (get_or-set_other old b c (Some block) None other)
   ]
 
+  -- each node's name is still one
+  pub still_named : IsTree old → IsNamed block → (c : ℕ) → IsNode (with_block old b block) c → IsNamed (octets_of (with_block old b block) c)
+  still_named tree named c other = elim (cases_eq c b) [
+    | inl e ↦ subst IsNamed (sym (ap (octets_of (with_block old b block)) e ∙ ap (λ entry. unwrap_or entry []) at_b)) named
+    | inr apart ↦ (let stays = get_or-set_other old b c (Some block) None apart in
+        subst IsNamed (sym (ap (λ entry. unwrap_or entry []) stays)) (tree.named c (subst IsSome stays other)))
+  ]
+
   pub same_places : IsTree old → IsNamed block → home_in b block ≡ home old b → name_of block ≡ name_at old b
       → kind_told (row_of block).kind ≡ kind_told (row_at old b).kind → SamePlaces old (with_block old b block)
   same_places tree named there name kind = record {
@@ -69,9 +77,5 @@ module _ (old : Blocks) (b : ℕ) (block : List ℕ) (node : IsNode old b) where
     homes = kept_by (λ c entry. home_in c (unwrap_or entry [])) there;
     names = kept_by (λ c entry. name_of (unwrap_or entry [])) name;
     kinds = kept_by (λ c entry. kind_told (row_of (unwrap_or entry [])).kind) kind;
-    named = (λ c other. elim (cases_eq c b) [
-      | inl e ↦ subst IsNamed (sym (ap (octets_of (with_block old b block)) e ∙ ap (λ entry. unwrap_or entry []) at_b)) named
-      | inr apart ↦ (let stays = get_or-set_other old b c (Some block) None apart in
-          subst IsNamed (sym (ap (λ entry. unwrap_or entry []) stays)) (tree.named c (subst IsSome stays other)))
-    ]);
+    named = still_named tree named;
   }

@@ -1,17 +1,17 @@
 -- What becomes of other runs while one changes.
 --     spares_grown      the run has more blocks
 --     spares_kept       its blocks are the same, or are given back
---     runs_stay         a node's block is written
+--     runs_stay, runs_stay_given, runs_stay_taken     a node's block is written, given back or taken
 --     spares_then       two changes, one after the other
-use Rattle.std.proofs.Common.{◌≡◌, ℕ, suc, ◌-◌, ◌<◌, ◌≤◌, List, Some, None, inl, inr, sym, ap, ◌∙◌, subst, arith}
+use Rattle.std.proofs.Common.{◌≡◌, ℕ, suc, ◌-◌, ◌<◌, ◌≤◌, List, Option, Some, None, inl, inr, sym, ap, ◌∙◌, subst, arith}
 use Rattle.std.proofs.lemmas.Bool.{cases_eq}
 use Rattle.std.proofs.lemmas.List.{get_or-set_other}
-use Rattle.std.specs.Prelude.{IsSome}
-use Rattle.cfdp_arena.specs.Arena.{Blocks, octets_at, IsLive, with_block}
+use Rattle.std.specs.Prelude.{IsSome, slice_set}
+use Rattle.cfdp_arena.specs.Arena.{Blocks, octets_at, IsLive, with_block, without_block}
 use Rattle.cfdp_tree.specs.declared.runs.Run.{Run}
 use Rattle.cfdp_tree.specs.Nodes.{only_node, nodes_in}
 use Rattle.cfdp_tree.specs.Tree.{IsNode}
-use Rattle.cfdp_tree.specs.Runs.{IsRun, nth, IsHeld, OthersStay, Apart, Stays, RunsStay, Spares}
+use Rattle.cfdp_tree.specs.Runs.{IsPart, IsRun, nth, IsHeld, OthersStay, Apart, Stays, RunsStay, Spares}
 use Rattle.cfdp_tree.proofs.NodeLaws.{content_only}
 use Rattle.cfdp_tree.proofs.TreeLaws.{node_there}
 use Rattle.cfdp_tree.proofs.RunLaws.{KeepsFrom, kept_run, kept_octets, kept_nth}
@@ -61,9 +61,23 @@ keeps_stays old new run keeps held =
       places = places;
     }
 
+-- a block that is none of a run's changes
+pub runs_stay_other : (arena : Blocks) (b : ℕ) (entry : Option (List ℕ)) → ((owner rank : ℕ) → IsPart owner rank (octets_at arena b) → ⊥) → RunsStay arena (slice_set arena b entry)
+runs_stay_other arena b entry other run held =
+    let keeps : KeepsFrom run.first 0 arena (slice_set arena b entry) = (λ block r le part. get_or-set_other arena b block entry None
+    (λ e. other run.first r (subst (λ x. IsPart run.first r (octets_at arena x)) e part))) in
+    keeps_stays arena (slice_set arena b entry) run keeps held
+
+-- a node's block is none of a run's
+node_apart : (arena : Blocks) (b : ℕ) → IsNode (nodes_in arena) b → (owner rank : ℕ) → IsPart owner rank (octets_at arena b) → ⊥
+node_apart arena b node owner rank part =
+    no_live (only_node (octets_at arena b)) (content_only owner rank (octets_at arena b) part) (subst IsSome (node_there arena b node) node)
+
 pub runs_stay : (arena : Blocks) (b : ℕ) (new : List ℕ) → IsNode (nodes_in arena) b → RunsStay arena (with_block arena b new)
-runs_stay arena b new node run held =
-    let noted : IsSome (only_node (octets_at arena b)) = subst IsSome (node_there arena b node) node in
-    let keeps : KeepsFrom run.first 0 arena (with_block arena b new) = (λ block r le part. get_or-set_other arena b block (Some new) None
-    (λ e. no_live (only_node (octets_at arena block)) (content_only run.first r (octets_at arena block) part) (subst (λ x. IsSome (only_node (octets_at arena x))) (sym e) noted))) in
-    keeps_stays arena (with_block arena b new) run keeps held
+runs_stay arena b new node = runs_stay_other arena b (Some new) (node_apart arena b node)
+
+pub runs_stay_given : (arena : Blocks) (b : ℕ) → IsNode (nodes_in arena) b → RunsStay arena (without_block arena b)
+runs_stay_given arena b node = runs_stay_other arena b None (node_apart arena b node)
+
+pub runs_stay_taken : (arena : Blocks) (b : ℕ) (new : List ℕ) → octets_at arena b ≡ None → RunsStay arena (with_block arena b new)
+runs_stay_taken arena b new free = runs_stay_other arena b (Some new) (λ owner rank part. no_live (octets_at arena b) free part.live)

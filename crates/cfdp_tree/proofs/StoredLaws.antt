@@ -1,6 +1,8 @@
 -- What the slots and the files hold, while one of them changes.
 --     stored_changed     one of them has other octets
+--     spared             the runs of the others stay, and are apart from the new one
 --     stored_others      the others have the octets that they had
+--     apart_back         what is apart from another run, so is that one from it
 use Rattle.std.proofs.Common.{◌≡◌, ◌≢◌, ℕ, ◌<◌, List, length, set, get_or, sym, ap, ◌∙◌, subst, inl, inr}
 use Rattle.std.proofs.lemmas.List.{get_or-set_same, get_or-set_other}
 use Rattle.std.proofs.lemmas.Bool.{cases_eq}
@@ -12,12 +14,12 @@ use Rattle.cfdp_tree.specs.Contents.{IsFilled, contents_in}
 use Rattle.cfdp_tree.specs.Kept.{no_contents, IsStored}
 use Rattle.cfdp_tree.proofs.ContentsLaws.{stays_filled, stays_contents}
 
-apart_back : (a b : Run) → Apart a b → Apart b a
+pub apart_back : (a b : Run) → Apart a b → Apart b a
 apart_back a b apart some other e = apart other some (sym e)
 
 module _ (old new : Blocks) (held : List Contents) (i : ℕ) (within : i < length held) (after : Contents) (stored : IsStored old held)
     (spares : Spares old new (get_or held i no_contents).run after.run) (filled : IsFilled new after) where
-  spared : (j : ℕ) → j ≢ i → Stays old new (get_or held j no_contents).run × Apart after.run (get_or held j no_contents).run
+  pub spared : (j : ℕ) → j ≢ i → Stays old new (get_or held j no_contents).run × Apart after.run (get_or held j no_contents).run
   spared j other = spares (get_or held j no_contents).run (stored.filled j).held (stored.apart i j (λ e. other (sym e)))
 
   here : get_or (set held i after) i no_contents ≡ after

@@ -1,5 +1,6 @@
 -- The nodes of an arena, and the tree that they make.
 --     node_there, node_entry, node_live, node_octets, node_kind     a node's block is what the arena has there
+--     last_same           paths that end in a name each
 --     same_node           a path has one node at most
 use Rattle.std.proofs.Common.{◌≡◌, ℕ, suc, zero, Bool, true, false, List, [], ◌∷◌, ◌++◌, length, length-append, Option, Some, None, refl, sym, ap, ◌∙◌, subst, arith}
 use Rattle.std.proofs.Math.ListN.{get_or-map}
@@ -47,7 +48,7 @@ module _ (arena : Blocks) (b : ℕ) (node : IsNode (nodes_in arena) b) where
       octets_same e = cc
 
 -- two paths that end in a name
-last_same : (p q : Path) (m n : Name) → p ++ m ∷ [] ≡ q ++ n ∷ [] → (p ≡ q) × (m ≡ n)
+pub last_same : (p q : Path) (m n : Name) → p ++ m ∷ [] ≡ q ++ n ∷ [] → (p ≡ q) × (m ≡ n)
 last_same [] [] m n e = (refl, cc)
 last_same [] (y ∷ q) m n e = absurd (omega (arith, ap length e, length-append q (n ∷ [])))
 last_same (x ∷ p) [] m n e = absurd (omega (arith, ap length e, length-append p (m ∷ [])))

@@ -4,11 +4,13 @@
 --     hash_step, hash_of         a number for a directory and a name
 --     place_of directory name n  the head of the two among n of them
 --     chain nodes n b            n nodes from b on
---     list_at nodes heads k      the list of a head
+--     list_of nodes head         the list of a head
+--     list_at nodes heads k      the list of the head at a place
+--     without b list             a list but for one node
 --     IsListed nodes out n k b   the node b stands in the list k of n lists, and is not the one that stands in none
 --     count_out out              how many nodes stand in no list
 --     IsIndex nodes heads out    each node stands in its list, but for the one that is out, and each list has just its nodes
-use Rattle.std.specs.Prelude.{◌≡◌, ◌≢◌, ℕ, suc, zero, ◌+◌, ◌*◌, ◌%◌, ◌<◌, List, [], ◌∷◌, Option, Some, None, All, AllPairs, Contains, fold, length, slice_index_or, sum_by}
+use Rattle.std.specs.Prelude.{◌≡◌, ◌≢◌, ℕ, suc, zero, ◌+◌, ◌*◌, ◌%◌, ◌<◌, ◌==◌, not, List, [], ◌∷◌, Option, Some, None, All, AllPairs, Contains, filter, fold, length, slice_index_or, sum_by}
 use Rattle.cfdp_arena.specs.Arena.{Blocks, live_count}
 use Rattle.cfdp_paths.specs.Paths.{Name}
 use Rattle.cfdp_tree.specs.declared.index.Head.{Head}
@@ -43,6 +45,9 @@ list_of nodes head = chain nodes head.count head.first
 
 abbrev pub list_at : Blocks → Heads → ℕ → List ℕ
 list_at nodes heads k = list_of nodes (slice_index_or heads k no_head)
+
+abbrev pub without : ℕ → List ℕ → List ℕ
+without b list = filter (λ c. not (c == b)) list
 
 -- a node may be out of all lists
 pub record IsListed (nodes : Blocks) (out : Option ℕ) (n k b : ℕ) : Type 0 where

@@ -6,11 +6,15 @@ ghost use Rattle.cfdp_actions.specs.Store.{extended, overwritten};
 ghost use Rattle.cfdp_tree.specs.Nodes.{nodes_in};
 ghost use Rattle.cfdp_tree.specs.Runs.{IsAt, Apart, Spares, nth};
 ghost use Rattle.cfdp_tree.specs.Contents.{IsFilled, contents_in};
+ghost use Rattle.cfdp_tree.specs.Kept.{contents_told};
+ghost use Rattle.cfdp_tree.specs.Row.{row_of};
 
 use crate::cursor::Cursor;
 use crate::header::PAYLOAD_OCTETS;
+use crate::rows::{first_of, last_of, size_of};
 use crate::runs::Run;
-use cfdp_arena::Arena;
+use cfdp_actions::Kind;
+use cfdp_arena::{Arena, Block};
 
 /// The octets of a file or of a staged list: a run that has just the blocks for them, and how many they are.
 #[derive(Clone, Copy, Debug)]
@@ -20,11 +24,27 @@ pub(crate) struct Contents {
 }
 
 /// The blocks of so many octets.
-fn blocks_of(octets: u32) -> u32
+pub(crate) fn blocks_of(octets: u32) -> u32
     requires { octets ≤ 7864320 }
     ensures { result ≡ blocks_of octets }
 {
     octets.div_ceil(PAYLOAD_OCTETS as u32)
+}
+
+/// The octets of a file, by its node's block.
+pub(crate) fn contents_of(block: &Block) -> Contents
+    requires { (row_of block.now).size ≤ 7864320 }
+    ensures { result ≡ contents_told Kind.File (row_of block.now) }
+{
+    let size = size_of(block);
+    Contents {
+        run: Run {
+            first: first_of(block),
+            last: last_of(block),
+            count: blocks_of(size),
+        },
+        size,
+    }
 }
 
 impl Contents {

@@ -1,10 +1,12 @@
 //! The index: nodes by their directory and their name.
-ghost use Rattle.std.specs.Prelude.{◌≡◌, ◌<◌, ◌≤◌, ◌↔◌, ℕ, None, fold, length, IsTrue, IfSome, IfNone};
+ghost use Rattle.std.specs.Prelude.{◌≡◌, ◌≢◌, ◌+◌, ◌-◌, ◌<◌, ◌≤◌, ◌↔◌, ℕ, Some, None, All, AllPairs, Contains, fold, length, IsTrue, IfSome, IfNone};
+ghost use Rattle.cfdp_arena.specs.Arena.{free_count};
 ghost use Rattle.cfdp_tree.specs.Nodes.{nodes_in};
-ghost use Rattle.cfdp_tree.specs.Tree.{IsTree, IsNode, IsEntry};
-ghost use Rattle.cfdp_tree.specs.Index.{hash_of, place_of, IsIndex};
+ghost use Rattle.cfdp_tree.specs.Runs.{RunsStay};
+ghost use Rattle.cfdp_tree.specs.Tree.{IsTree, IsNode, IsEntry, Relinked, row_at};
+ghost use Rattle.cfdp_tree.specs.Index.{hash_of, place_of, chain, list_of, without, IsIndex};
 
-use crate::rows::{home_is, name_is, same_head_of};
+use crate::rows::{home_is, name_is, same_head_of, set_same_head};
 use cfdp_arena::{Arena, BlockId};
 
 /// Where a list of nodes begins, and how many there are. Where there are none, the node means nothing.
@@ -38,6 +40,105 @@ pub(crate) fn place_of(heads: &[Head], directory: Option<BlockId>, name: &[u8]) 
     ensures within { result < length heads.now }
 {
     hash_of(directory, name) as usize % heads.len()
+}
+
+/// Puts a node that stands in no list into the list of its directory and name. In constant time.
+pub(crate) fn insert(
+    arena: &mut Arena,
+    heads: &mut [Head],
+    node: &BlockId,
+    directory: Option<BlockId>,
+    name: &[u8],
+)
+    requires tree { IsTree (nodes_in arena.old) }
+    requires index { IsIndex (nodes_in arena.old) heads.old (Some node.now) }
+    requires entry { IsEntry (nodes_in arena.old) directory name.now node.now }
+    ensures index { IsIndex (nodes_in arena.new) heads.new None }
+    ensures links { Relinked (nodes_in arena.old) (nodes_in arena.new) }
+    ensures runs { RunsStay arena.old arena.new }
+    ensures free { free_count arena.new ≡ free_count arena.old }
+    ensures size { length arena.new ≡ length arena.old }
+{
+    let _free = arena.free();
+    let place = place_of(heads, directory, name);
+    let head = heads[place];
+    set_same_head(arena.bytes_mut(*node), head.first);
+    heads[place] = Head {
+        first: *node,
+        count: head.count + 1,
+    };
+}
+
+/// Takes a node out of the list of its directory and name. In expected constant time.
+pub(crate) fn remove(
+    arena: &mut Arena,
+    heads: &mut [Head],
+    node: &BlockId,
+    directory: Option<BlockId>,
+    name: &[u8],
+)
+    requires tree { IsTree (nodes_in arena.old) }
+    requires index { IsIndex (nodes_in arena.old) heads.old None }
+    requires entry { IsEntry (nodes_in arena.old) directory name.now node.now }
+    ensures index { IsIndex (nodes_in arena.new) heads.new (Some node.now) }
+    ensures links { Relinked (nodes_in arena.old) (nodes_in arena.new) }
+    ensures runs { RunsStay arena.old arena.new }
+    ensures free { free_count arena.new ≡ free_count arena.old }
+    ensures size { length arena.new ≡ length arena.old }
+{
+    let place = place_of(heads, directory, name);
+    let head = heads[place];
+    heads[place] = take_out(arena, &head, node);
+}
+
+/// The list of a head without one of its nodes. In time linear in the nodes before it.
+fn take_out(arena: &mut Arena, head: &Head, node: &BlockId) -> Head
+    requires tree { IsTree (nodes_in arena.old) }
+    requires nodes { All (IsNode (nodes_in arena.old)) (list_of (nodes_in arena.old) head.now) }
+    requires once { AllPairs (λ b c. b ≢ c) (list_of (nodes_in arena.old) head.now) }
+    requires there { Contains (list_of (nodes_in arena.old) head.now) node.now }
+    requires small { head.now.first < 65536 }
+    ensures list { list_of (nodes_in arena.new) result ≡ without node.now (list_of (nodes_in arena.old) head.now) }
+    ensures others { (other : Head)
+        → All (λ b. Contains (list_of (nodes_in arena.old) head.now) b → ⊥) (list_of (nodes_in arena.old) other)
+        → list_of (nodes_in arena.new) other ≡ list_of (nodes_in arena.old) other }
+    ensures count { result.count + 1 ≡ head.now.count }
+    ensures small { result.first < 65536 }
+    ensures links { Relinked (nodes_in arena.old) (nodes_in arena.new) }
+    ensures runs { RunsStay arena.old arena.new }
+    ensures free { free_count arena.new ≡ free_count arena.old }
+    ensures size { length arena.new ≡ length arena.old }
+{
+    let next = same_head_of(arena.bytes(*node));
+    let count = head.count - 1;
+    if head.first == *node {
+        return Head { first: next, count };
+    }
+    let before = node_before(arena, head, node);
+    set_same_head(arena.bytes_mut(before), next);
+    Head {
+        first: head.first,
+        count,
+    }
+}
+
+/// The node of a list that names this one, which is not the first, as the next one.
+fn node_before(arena: &Arena, head: &Head, node: &BlockId) -> BlockId
+    requires nodes { All (IsNode (nodes_in arena.now)) (list_of (nodes_in arena.now) head.now) }
+    requires there { Contains (list_of (nodes_in arena.now) head.now) node.now }
+    requires later { head.now.first ≢ node.now }
+    ensures before { (row_at (nodes_in arena.now) result).same_head ≡ node.now }
+    ensures there { Contains (chain (nodes_in arena.now) (head.now.count - 1) head.now.first) result }
+{
+    let mut before = head.first;
+    for _step in 1..head.count {
+        let next = same_head_of(arena.bytes(before));
+        if next == *node {
+            return before;
+        }
+        before = next;
+    }
+    unreachable!();
 }
 
 /// The node that stands in this directory under this name. In expected constant time.

@@ -4,8 +4,8 @@
 //! each block of a run carries the run's first block and its own rank, so that what a run holds does not change when
 //! another run does (`runs`). Octets go into a run, out of it and from run to run by slices of a block, and a place in a
 //! run is kept as a cursor (`cursor`, `transfer`, `copy`). The octets of a file or of a staged list are a run that has
-//! just the blocks for them (`contents`). What stands at a path is a node, one block with its name and its links (`rows`), and
-//! nodes are found by their directory and their name (`index`).
+//! just the blocks for them (`contents`). What stands at a path is a node, one block with its name and its links (`rows`, `nodes`),
+//! and nodes are found by their directory and their name (`index`).
 #![tactic(auto)]
 
 mod contents;
@@ -13,7 +13,16 @@ mod copy;
 mod cursor;
 mod header;
 mod index;
+mod lookup;
+mod nodes;
 mod payload;
 mod rows;
 mod runs;
+mod slots;
 mod transfer;
+mod tree_store;
+
+pub use tree_store::TreeStore;
+
+#[cfg(test)]
+mod tests;

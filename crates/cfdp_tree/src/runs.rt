@@ -144,7 +144,7 @@ fn begin(arena: &mut Arena) -> Run
 }
 
 /// Takes a block where one is free.
-fn take_block(arena: &mut Arena) -> BlockId
+pub(crate) fn take_block(arena: &mut Arena) -> BlockId
     requires room { 0 < free_count arena.old }
     ensures was_free { octets_at arena.old result ≡ None }
     ensures within { result < length arena.old }

@@ -1,0 +1,4 @@
+//! The layers below the tree, run.
+
+mod lists;
+mod nodes;
