@@ -8,3 +8,4 @@ pub mod StagedLaws
 pub mod StoreLaws
 pub mod Refusing
 pub mod Allowed
+pub mod ChangeLaws

@@ -33,7 +33,7 @@ use Rattle.cfdp_actions.proofs.ShownLaws.{same_path-comm, file_there}
 use Rattle.cfdp_actions.proofs.SurveyLaws.{blocks_of-bound, lists_blocks}
 use Rattle.cfdp_actions.proofs.WeighedLaws.{weights-put, weights-without, weights-relocated-le, weights-relocated}
 
-true_from_T : (b : Bool) → T b → b ≡ true
+pub true_from_T : (b : Bool) → T b → b ≡ true
 true_from_T true h = refl
 true_from_T false h = absurd h
 
@@ -146,7 +146,7 @@ weight-either : (b : Bool) (n : Node) (o : Option Node) (w : ℕ) → weight o �
 weight-either true n o w h = omega arith
 weight-either false n o w h = omega arith
 
-weight-found : (es : List (Path × Node)) (p : Path) → weight (find path_cmp p es) ≤ weights es
+pub weight-found : (es : List (Path × Node)) (p : Path) → weight (find path_cmp p es) ≤ weights es
 weight-found [] p = omega arith
 weight-found (e ∷ es) p = weight-either (same_path p e.0) e.1 (find path_cmp p es) (weights es) (weight-found es p)
 

@@ -5,7 +5,11 @@ pub mod Fitting
 pub mod Hearing
 pub mod LineLemmas
 pub mod Moving
+pub mod Numbering
+pub mod Preparing
+pub mod Reconciling
 pub mod Running
+pub mod SameConfig
 pub mod Statuses
 pub mod Steps
 pub mod Streaming

@@ -17,7 +17,9 @@ mod from_slice;
 mod hexadecimal;
 mod input;
 mod journal_text;
+mod link_files;
 mod link_lines;
+mod link_scripts;
 mod listing;
 mod messages;
 mod output;
@@ -34,11 +36,14 @@ mod stage;
 mod streams;
 mod to_write;
 mod transfers;
+mod workers;
 
 pub use faults::{LinkFault, ProgramEnd, RunFault};
 pub use from_read::FromRead;
+pub use link_scripts::{Open, links};
 pub use plain_scripts::{plain, plain_text};
 pub use replay_scripts::{replay, replay_text};
+pub use run::INPUT_LIMIT;
 pub use streams::{Failed, ScriptIn, ScriptOut};
 pub use to_write::ToWrite;
 

@@ -13,7 +13,7 @@ use crate::streams::{ScriptIn, ScriptOut};
 use std::alloc::Global;
 
 /// The longest script, in octets.
-pub(crate) const INPUT_LIMIT: usize = 268_435_456;
+pub const INPUT_LIMIT: usize = 268_435_456;
 
 /// How much is read at once, in octets.
 const PIECE: usize = 65_536;

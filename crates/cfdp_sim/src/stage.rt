@@ -39,6 +39,28 @@ pub(crate) fn with_prefixes(config: &Config, protected: Protected) -> Config
     .unwrap()
 }
 
+/// The same prefixes once more.
+fn copy_prefixes(alloc: Global, protected: &Protected) -> Result<Protected, AllocError>
+    ensures { IfOk result (λ copy. copy ≡ protected.now) }
+{
+    let mut copy = Protected::new();
+    for place in 0..protected.len() {
+        let Some(prefix) = protected.get(place) else {
+            return Err(AllocError);
+        };
+        copy.add(prefix.copy(alloc)?).map_err(|_| AllocError)?;
+    }
+    Ok(copy)
+}
+
+/// The same configuration once more.
+pub(crate) fn copy_config(alloc: Global, config: &Config) -> Result<Config, AllocError>
+    ensures { IfOk result (λ copy. copy ≡ config.now) }
+{
+    let protected = copy_prefixes(alloc, config.protected())?;
+    Ok(with_prefixes(config, protected))
+}
+
 /// The configuration of these numbers, with nothing protected.
 fn config_of(
     entity: u64,

@@ -5,6 +5,8 @@ mod failing;
 mod fakes;
 mod fault_scripts;
 mod limits;
+mod link_gates;
+mod links;
 mod long_inputs;
 mod replay_examples;
 mod replays;

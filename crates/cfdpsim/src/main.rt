@@ -1,19 +1,27 @@
 //! `cfdpsim`: runs scripts over the receiving side of CFDP (CCSDS 727.0-B-5).
 //!
 //! `cfdpsim plain` reads a script of filestore requests from standard input, and `cfdpsim replay [FILE]` one of PDUs and
-//! local events from a file, or from standard input without one. Each writes its report to standard output. What goes wrong
-//! is told in one line on standard error and by the exit status: 1 for a read, a write or memory that failed, 2 for unknown
-//! words, 3 for a bad line.
+//! local events from a file, or from standard input without one. `cfdpsim links FILE..` reads one to four such files and runs
+//! them all at once, a worker each, on one entity. Each writes its report to standard output. What goes wrong is told in one
+//! line on standard error and by the exit status: 1 for a read, a write or memory that failed, a full journal, or receipts
+//! that differ from it, 2 for unknown words, 3 for a bad line.
 #![tactic(auto)]
 
+mod files;
 mod words;
 
-use cfdp_sim::{FromRead, ProgramEnd, RunFault, ToWrite, plain, replay};
-use std::io::{ErrorKind, Read};
+use cfdp_sim::{FromRead, Open, ProgramEnd, RunFault, ToWrite, links, plain, replay};
+use files::{open, read_all};
+use std::io;
+use std::io::Read;
 use std::process::ExitCode;
 use std::rt::{Env, Files};
-use std::{fs, io};
+use std::sync::Wait;
+use std::thread::Threads;
 use words::{Asked, parse, read_words};
+
+/// How many files `links` takes at most.
+const MOST_FILES: usize = 4;
 
 fn main(rt: HostRuntime) -> ExitCode {
     let end = run(&rt);
@@ -25,7 +33,7 @@ fn main(rt: HostRuntime) -> ExitCode {
 }
 
 /// Does what the words of the command line ask for.
-fn run<R: AllocGlobal + Env + Files + Input + Print>(rt: &R) -> ProgramEnd {
+fn run<R: AllocGlobal + Env + Files + Input + Print + Threads + Wait + Sync>(rt: &R) -> ProgramEnd {
     let words = match read_words(rt) {
         Ok(words) => words,
         Err(end) => return end,
@@ -33,13 +41,11 @@ fn run<R: AllocGlobal + Env + Files + Input + Print>(rt: &R) -> ProgramEnd {
     match parse(rt.alloc(), &words) {
         Ok(Asked::Plain) => run_plain(rt),
         Ok(Asked::Replay(None)) => run_replay(rt, rt.reader()),
-        Ok(Asked::Replay(Some(path))) => match fs::open(rt, path) {
+        Ok(Asked::Replay(Some(path))) => match open(rt, path) {
             Ok(file) => run_replay(rt, file),
-            Err(error) if error.kind() == ErrorKind::OutOfMemory => {
-                ProgramEnd::Run(RunFault::Memory)
-            }
-            Err(_) => ProgramEnd::Run(RunFault::Read),
+            Err(fault) => ProgramEnd::Run(fault),
         },
+        Ok(Asked::Links(paths)) => run_links(rt, &paths),
         Err(end) => end,
     }
 }
@@ -64,4 +70,24 @@ fn run_replay<R: AllocGlobal + Print, I: Read + Drop>(rt: &R, input: I) -> Progr
     let mut reader = FromRead::new(input);
     let mut writer = ToWrite::new(io::writer(rt));
     end_of(replay(rt.alloc(), &mut reader, &mut writer))
+}
+
+/// `cfdpsim links`: from these files, which are read before a line of them is judged, to standard output, unbuffered too.
+/// More files than `links` takes are unknown words.
+fn run_links<R: AllocGlobal + Files + Print + Threads + Wait + Sync>(
+    rt: &R,
+    paths: &[&str],
+) -> ProgramEnd {
+    if paths.len() > MOST_FILES {
+        return ProgramEnd::Usage;
+    }
+    let scripts = match read_all(rt, rt.alloc(), paths) {
+        Ok(scripts) => scripts,
+        Err(fault) => return ProgramEnd::Run(fault),
+    };
+    let mut writer = ToWrite::new(io::writer(rt));
+    match links(rt, rt.alloc(), &scripts, &Open, &mut writer) {
+        Ok(()) => ProgramEnd::Fine,
+        Err(fault) => ProgramEnd::Link(fault),
+    }
 }

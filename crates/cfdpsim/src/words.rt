@@ -1,26 +1,28 @@
 //! The words of the command line.
-ghost use Rattle.std.specs.Prelude.{◌≡◌, ◌≢◌, ◌⊎◌, ℕ, List, [], ◌∷◌, map, true, codes, OnOk, IfErr, Err};
-ghost use Rattle.clap.specs.Words.{takes, fault_of, kind_of};
+ghost use Rattle.std.specs.Prelude.{◌≡◌, ◌≢◌, ◌⊎◌, ℕ, List, [], ◌∷◌, map, true, codes, unwrap_or, OnOk, IfOk, IfErr, Err};
+ghost use Rattle.clap.specs.Words.{all_of, app_of, fault_of, found_of, kind_of, rows_of, subcommand_of, subcommand_rows_of, takes};
 ghost use Rattle.clap.specs.declared.error.kind.ErrorKind.TheVariants as kind;
 ghost use Rattle.cfdp_sim.specs.declared.faults.ProgramEnd.TheVariants.{Usage, Run};
 ghost use Rattle.cfdp_sim.specs.declared.faults.RunFault.TheVariants.{Memory};
-ghost use Rattle.cfdpsim.specs.Words.{program};
+ghost use Rattle.cfdpsim.specs.Words.{IsAsked, program};
 
 use cfdp_sim::{ProgramEnd, RunFault};
 use clap::error::ErrorKind;
-use clap::{Arg, Command, Error};
-use std::alloc::Global;
+use clap::{Arg, ArgMatches, Command, Error};
+use std::alloc::{AllocError, Global};
 use std::convert::AsStr;
 use std::rt::Env;
 use std::{env, io};
 
 /// What the words ask for.
-#[derive(Clone, Copy, Debug, PartialEq, Eq)]
+#[derive(Debug, PartialEq, Eq, Drop)]
 pub enum Asked<'a> {
     /// `plain`: to run filestore requests from standard input.
     Plain,
     /// `replay`: to run PDUs and local events from this file, or from standard input.
     Replay(Option<&'a str>),
+    /// `links`: to run PDUs and local events from these files, a worker each.
+    Links(Vec<&'a str>),
 }
 
 /// The words of the command line. Words that are no text are unknown ones.
@@ -49,6 +51,8 @@ pub fn read_words<R: AllocGlobal + Env>(rt: &R) -> Result<Vec<String>, ProgramEn
 ///
 /// `Usage` for words that are no command, and the run's `Memory` where memory was refused.
 pub fn parse<'a, S: AsStr>(alloc: Global, words: &'a [S]) -> Result<Asked<'a>, ProgramEnd>
+    // It is the command that the words name, with their files.
+    ensures asked { IfOk result (IsAsked (subcommand_of program (map S.text words.now))) }
     // The words of a command leave `clap` nothing to refuse, and only words that it does not take are unknown.
     ensures taken { OnOk result (fault_of program (map S.text words.now) ≡ []) }
     ensures refused { result ≡ Err Usage → takes program (map S.text words.now) ≢ true }
@@ -68,39 +72,64 @@ pub fn parse<'a, S: AsStr>(alloc: Global, words: &'a [S]) -> Result<Asked<'a>, P
 
 /// The same with the errors of `clap`.
 fn parse_command<'a, S: AsStr>(alloc: Global, words: &'a [S]) -> Result<Asked<'a>, Error>
+    ensures asked { IfOk result (IsAsked (subcommand_of program (map S.text words.now))) }
     ensures taken { OnOk result (fault_of program (map S.text words.now) ≡ []) }
     ensures refused { IfErr result (λ error. takes program (map S.text words.now) ≡ true → kind_of error ≡ kind.OutOfMemory) }
+{
+    let program = program_of(alloc)?;
+    let matches = program.try_get_matches_from(words)?;
+    let asked = asked_by(alloc, &matches)?;
+    Ok(asked)
+}
+
+/// The words that the program knows.
+fn program_of<'a>(alloc: Global) -> Result<Command<'a>, AllocError>
+    ensures { IfOk result (λ command. app_of command ≡ program) }
 {
     let plain = Command::new(alloc, "plain");
     let file = Arg::new(alloc, "FILE");
     let replay = Command::new(alloc, "replay").arg(file)?;
+    let files = Arg::new(alloc, "FILE").required(true).num_args(1..=4);
+    let links = Command::new(alloc, "links").arg(files)?;
     let program = Command::new(alloc, "cfdpsim")
         .subcommand_required(true)
         .subcommand(plain)?
-        .subcommand(replay)?;
-    let matches = program.try_get_matches_from(words)?;
-    Ok(match matches.subcommand_matches("replay") {
-        None => Asked::Plain,
-        Some(found) => Asked::Replay(found.get_str("FILE")),
-    })
+        .subcommand(replay)?
+        .subcommand(links)?;
+    Ok(program)
+}
+
+/// What the words ask for in which these matches were found.
+fn asked_by<'a>(alloc: Global, matches: &ArgMatches<'a>) -> Result<Asked<'a>, AllocError>
+    ensures { IfOk result (IsAsked (subcommand_rows_of matches.now)) }
+{
+    if let Some(found) = matches.subcommand_matches("replay") {
+        return Ok(Asked::Replay(found.get_str("FILE")));
+    }
+    match matches.subcommand_matches("links") {
+        Some(found) => Ok(Asked::Links(files_of(alloc, found)?)),
+        None => Ok(Asked::Plain),
+    }
+}
+
+/// The files that stand behind a command, in their order.
+fn files_of<'a>(alloc: Global, found: &ArgMatches<'a>) -> Result<Vec<&'a str>, AllocError>
+    ensures { IfOk result (λ files. map (λ name. name.now) files.items
+        ≡ unwrap_or (all_of (codes "FILE") (rows_of (found_of found.now))) []) }
+{
+    match found.get_strs("FILE") {
+        Some(files) => Vec::from_slice(alloc, files),
+        None => Ok(Vec::new(alloc)),
+    }
 }
 
 #[cfg(test)]
 mod tests {
     use super::*;
+    use std::test::Fail;
 
-    /// What is a command, and what it asks for.
-    static COMMANDS: [(&[&str], Asked<'static>); 3] = [
-        (&["cfdpsim", "plain"], Asked::Plain),
-        (&["cfdpsim", "replay"], Asked::Replay(None)),
-        (
-            &["cfdpsim", "replay", "a.replay"],
-            Asked::Replay(Some("a.replay")),
-        ),
-    ];
-
-    /// What is none: help, a version, and words too few or too many.
-    static NO_COMMANDS: [&[&str]; 15] = [
+    /// What is no command: help, a version, and words too few or too many.
+    static NO_COMMANDS: [&[&str]; 22] = [
         &["cfdpsim"],
         &["cfdpsim", "plane"],
         &["cfdpsim", "Plain"],
@@ -111,18 +140,43 @@ mod tests {
         &["cfdpsim", "replay", "-x"],
         &["cfdpsim", "replay", "--help"],
         &["cfdpsim", "Replay"],
+        &["cfdpsim", "links"],
+        &["cfdpsim", "links", "a", "b", "c", "d", "e"],
+        &["cfdpsim", "links", "-x"],
+        &["cfdpsim", "links", "a", "-x"],
+        &["cfdpsim", "links", "--help"],
+        &["cfdpsim", "link", "a"],
         &["cfdpsim", "-h"],
         &["cfdpsim", "--help"],
         &["cfdpsim", "help"],
         &["cfdpsim", "help", "plain"],
+        &["cfdpsim", "help", "links"],
         &["cfdpsim", "--version"],
     ];
 
     #[test]
-    fn words(rt: HostRuntime) {
-        for (words, asked) in &COMMANDS {
-            assert_eq!(rt; parse(rt.alloc(), words), Ok(*asked), "{words:?}");
-        }
+    fn commands(rt: HostRuntime) {
+        let asked = parse(rt.alloc(), &["cfdpsim", "plain"]);
+        assert_eq!(rt; asked, Ok(Asked::Plain));
+        let asked = parse(rt.alloc(), &["cfdpsim", "replay"]);
+        assert_eq!(rt; asked, Ok(Asked::Replay(None)));
+        let asked = parse(rt.alloc(), &["cfdpsim", "replay", "a.replay"]);
+        assert_eq!(rt; asked, Ok(Asked::Replay(Some("a.replay"))));
+    }
+
+    #[test]
+    fn several_files(rt: HostRuntime) -> Result<(), Fail> {
+        let asked = parse(rt.alloc(), &["cfdpsim", "links", "a.links"]);
+        let one = Vec::from_slice(rt.alloc(), &["a.links"])?;
+        assert_eq!(rt; asked, Ok(Asked::Links(one)));
+        let asked = parse(rt.alloc(), &["cfdpsim", "links", "a", "b", "c", "d"]);
+        let four = Vec::from_slice(rt.alloc(), &["a", "b", "c", "d"])?;
+        assert_eq!(rt; asked, Ok(Asked::Links(four)));
+        Ok(())
+    }
+
+    #[test]
+    fn no_commands(rt: HostRuntime) {
         for words in &NO_COMMANDS {
             assert_eq!(rt;
                 parse(rt.alloc(), words),

@@ -1,0 +1,20 @@
+use Rattle.std.proofs.Common.{◌≡◌, ℕ, ◌+◌, List, ◌++◌, drop, length, map, None}
+use Rattle.std.specs.List.{AllByRecursion}
+use Rattle.std.specs.Vec.Iter.{into_iter_items}
+use Rattle.cfdp_engine.specs.Seats.{Seated}
+use Rattle.cfdp_engine.specs.Sharing.{told_of}
+use Rattle.cfdp_sim.specs.Linked.{AllNumbered, AreHanded, HasReadable, IsHeard, IsWork}
+use Rattle.cfdp_sim.specs.Links.{said_of}
+use Rattle.cfdp_sim.proofs.link_scripts.settle_all.Given as goal
+
+abbrev pub invariant-loop-worked : goal.invariant-loop-worked
+invariant-loop-worked l = record {
+  works : AllNumbered IsWork (length l.seats.items) (into_iter_items l.worked-iterator);
+  finished : AllByRecursion (λ worked. worked.stopped ≡ None) (into_iter_items l.worked-iterator);
+  heard : AllByRecursion (λ file. AllByRecursion IsHeard (map said_of file.items)) (drop (length l.seats.items) l.files);
+  handed : (others : List Seated) (counts : List ℕ)
+      → AreHanded (λ seat. told_of seat.receipts) (length l.seats.items) (map (λ file. map said_of file.items) (drop (length l.seats.items) l.files)) others counts
+      → AreHanded (λ seat. told_of seat.receipts) 0 (map (λ file. map said_of file.items) l.files) (l.seats.items ++ others) (l.dropped.items ++ counts);
+  readable : AllByRecursion HasReadable l.seats.items;
+  each : length l.seats.items + length (into_iter_items l.worked-iterator) ≡ length l.files;
+}

@@ -1,0 +1,300 @@
+//! The scripts of `links`: several files at once, a worker each, on one entity.
+ghost use Rattle.std.specs.Prelude.{◌≡◌, ◌≢◌, ℕ, ◌≤◌, true, length, map, None, Err, IfNone, IfOk, IfErr, OnErr, OnOk};
+ghost use Rattle.std.specs.List.{AllByRecursion};
+ghost use Rattle.cfdp_transactions.specs.World.{start};
+ghost use Rattle.cfdp_transactions.specs.Writable.{FitsReply};
+ghost use Rattle.cfdp_engine.specs.Journal.{IsHistory, replies_of};
+ghost use Rattle.cfdp_engine.specs.Seats.{IsReconciled};
+ghost use Rattle.cfdp_engine.specs.Sharing.{told_of};
+ghost use Rattle.cfdp_engine.specs.Working.{BringAll, passed_over};
+ghost use Rattle.cfdp_sim.specs.JournalTexts.{journal_text};
+ghost use Rattle.cfdp_sim.specs.Lines.{input_limit};
+ghost use Rattle.cfdp_sim.specs.Linked.{AllNumbered, AreHanded, Handed, HasReadable, IsHeard, IsLinkRun, IsLinked, IsLinkedBy, IsRunFault, IsWork, Stops};
+ghost use Rattle.cfdp_sim.specs.Links.{link_files, said_of};
+ghost use Rattle.cfdp_sim.specs.declared.faults.LinkFault.TheVariants.{BadLine, ReceiptsDiffer, Write};
+
+use crate::faults::LinkFault;
+use crate::journal_text::text_of;
+use crate::link_files::{Prepared, read_files};
+use crate::messages::are_same;
+use crate::output::write_all;
+use crate::readable::messages_are_readable;
+use crate::stage::copy_config;
+use crate::streams::ScriptOut;
+use crate::workers::run_all;
+use cfdp_actions::ListStore;
+use cfdp_engine::{Closed, Entry, Gate, Journaled, Message, Seat, Shared, Stop, Worked, close};
+use cfdp_transactions::{Config, Core, laws};
+use std::alloc::Global;
+use std::sync::Wait;
+use std::thread::Threads;
+
+/// A gate that lets everybody pass.
+pub struct Open;
+
+impl Gate for Open {
+    fn pass<R: Wait>(&self, _rt: &R, _seat: u8, _turn: u64) {}
+}
+
+/// What a stop of a worker is to the whole run.
+fn fault_of(stop: Stop) -> LinkFault
+    ensures { IsRunFault result }
+{
+    match stop {
+        Stop::Memory => LinkFault::Memory,
+        Stop::JournalFull => LinkFault::JournalFull,
+    }
+}
+
+/// Why the first worker stopped that did.
+fn first_stop(workers: &[Worked]) -> Option<Stop>
+    ensures { IfNone result (AllByRecursion (λ worked. worked.stopped ≡ None) workers.now) }
+{
+    for worked in workers {
+        if let Some(stop) = worked.stopped {
+            return Some(stop);
+        }
+    }
+    None
+}
+
+/// The seat of a worker that took just what its file says, and how many PDUs without an event it took.
+///
+/// # Errors
+///
+/// [`LinkFault::ReceiptsDiffer`] where it took something else.
+fn settle(worked: Worked, messages: &[Message]) -> Result<(Seat, u64), LinkFault>
+    requires brought { BringAll worked.taken.items (told_of worked.seat.receipts) }
+    requires dropped { worked.dropped ≡ passed_over worked.taken.items }
+    requires heard { AllByRecursion IsHeard (map said_of messages.now) }
+    ensures seat { IfOk result (λ settled. settled.0 ≡ worked.seat) }
+    ensures handed { IfOk result (λ settled. Handed (map said_of messages.now) (told_of settled.0.receipts) settled.1) }
+    ensures readable { IfOk result (λ settled. HasReadable settled.0) }
+    ensures differs { OnErr result (result ≡ Err ReceiptsDiffer) }
+{
+    let Worked {
+        seat,
+        taken,
+        dropped,
+        stopped: _,
+    } = worked;
+    if !are_same(&taken, messages) {
+        return Err(LinkFault::ReceiptsDiffer);
+    }
+    messages_are_readable(&taken);
+    Ok((seat, dropped))
+}
+
+/// The seats of all workers, and how many PDUs without an event each took.
+///
+/// # Errors
+///
+/// [`LinkFault::ReceiptsDiffer`] where one took something else than its file says; want of memory.
+fn settle_all(
+    alloc: Global,
+    workers: Vec<Worked>,
+    files: &[Vec<Message>],
+) -> Result<(Vec<Seat>, Vec<u64>), LinkFault>
+    requires each { length workers.items ≡ length files.now }
+    requires works { AllNumbered IsWork 0 workers.items }
+    requires finished { AllByRecursion (λ worked. worked.stopped ≡ None) workers.items }
+    requires heard { AllByRecursion (λ file. AllByRecursion IsHeard (map said_of file.items)) files.now }
+    ensures handed { IfOk result (λ settled. AreHanded (λ seat. told_of seat.receipts) 0 (map (λ file. map said_of file.items) files.now) settled.0.items settled.1.items) }
+    ensures readable { IfOk result (λ settled. AllByRecursion HasReadable settled.0.items) }
+    ensures fault { IfErr result IsRunFault }
+{
+    let mut seats = Vec::with_capacity(alloc, files.len())?;
+    let mut dropped = Vec::with_capacity(alloc, files.len())?;
+    for worked in workers {
+        let Some(file) = files.get(seats.len()) else {
+            return Err(LinkFault::ReceiptsDiffer);
+        };
+        let (seat, passed_over) = match settle(worked, file) {
+            Ok(settled) => settled,
+            Err(fault) => return Err(fault),
+        };
+        let (Ok(()), Ok(())) = (seats.push(seat), dropped.push(passed_over)) else {
+            return Err(LinkFault::Memory);
+        };
+    }
+    Ok((seats, dropped))
+}
+
+/// What is left of the engine, where the receipts of the seats are its journal, and it has this configuration.
+///
+/// # Errors
+///
+/// [`LinkFault::ReceiptsDiffer`] elsewhere.
+fn reconcile(
+    config: &Config,
+    journaled: Journaled<ListStore>,
+    seats: Vec<Seat>,
+) -> Result<Closed<ListStore>, LinkFault>
+    ensures config { IfOk result (λ closed. closed.core.world.config ≡ config.now) }
+    ensures history { IfOk result (λ closed. IsHistory closed.journal.items closed.core.world) }
+    ensures reconciled { IfOk result (λ closed. IsReconciled closed.journal.items closed.seats.items) }
+    ensures seats { IfOk result (λ closed. closed.seats.items ≡ seats.items) }
+    ensures differs { OnErr result (result ≡ Err ReceiptsDiffer) }
+{
+    if journaled.core().config() != config {
+        return Err(LinkFault::ReceiptsDiffer);
+    }
+    match close(journaled, seats) {
+        Ok(closed) => Ok(closed),
+        Err(_) => Err(LinkFault::ReceiptsDiffer),
+    }
+}
+
+/// The replies of a journal can be written, where its events are those of seats that handed in what may have been read. Does
+/// nothing.
+fn replies_fit(core: &Core<ListStore>, journal: &[Entry], seats: &[Seat])
+    requires history { IsHistory journal.now core.now.world }
+    requires reconciled { IsReconciled journal.now seats.now }
+    requires readable { AllByRecursion HasReadable seats.now }
+    ensures { AllByRecursion FitsReply (replies_of journal.now) }
+{
+    laws::outcomes_fit();
+}
+
+/// The text of an engine that is closed.
+fn text_of_closed(
+    alloc: Global,
+    closed: &Closed<ListStore>,
+    dropped: &[u64],
+) -> Result<Vec<u8>, LinkFault>
+    requires history { IsHistory closed.now.journal.items closed.now.core.world }
+    requires reconciled { IsReconciled closed.now.journal.items closed.now.seats.items }
+    requires readable { AllByRecursion HasReadable closed.now.seats.items }
+    ensures ok { IfOk result (λ text. text.items ≡ journal_text closed.now.journal.items closed.now.seats.items dropped.now closed.now.core.world) }
+    ensures fault { IfErr result IsRunFault }
+{
+    replies_fit(&closed.core, &closed.journal, &closed.seats);
+    let text = text_of(alloc, &closed.core, &closed.journal, &closed.seats, dropped)?;
+    Ok(text)
+}
+
+/// The text of the workers' journal, once none is at work.
+///
+/// # Errors
+///
+/// Why the first worker stopped that did; [`LinkFault::ReceiptsDiffer`] where one took something else than its file says, the
+/// receipts are not the journal, or the entity has not this configuration; want of memory.
+fn text_of_work(
+    alloc: Global,
+    config: &Config,
+    journaled: Journaled<ListStore>,
+    workers: Vec<Worked>,
+    files: &[Vec<Message>],
+) -> Result<Vec<u8>, LinkFault>
+    requires each { length workers.items ≡ length files.now }
+    requires works { AllNumbered IsWork 0 workers.items }
+    requires heard { AllByRecursion (λ file. AllByRecursion IsHeard (map said_of file.items)) files.now }
+    ensures ok { IfOk result (λ text. IsLinked (record { config = config.now; said = map (λ file. map said_of file.items) files.now }) text.items) }
+    ensures fault { IfErr result IsRunFault }
+{
+    if let Some(stop) = first_stop(&workers) {
+        return Err(fault_of(stop));
+    }
+    let (seats, dropped) = match settle_all(alloc, workers, files) {
+        Ok(settled) => settled,
+        Err(fault) => return Err(fault),
+    };
+    match reconcile(config, journaled, seats) {
+        Ok(closed) => text_of_closed(alloc, &closed, &dropped),
+        Err(fault) => Err(fault),
+    }
+}
+
+/// Runs a worker for each file, and tells what they did.
+///
+/// # Errors
+///
+/// Those of [`text_of_work`]; memory was refused, or a thread could not be started.
+fn run_files<R: Threads + Wait + Sync, G: Gate + Sync>(
+    rt: &R,
+    alloc: Global,
+    prepared: Prepared,
+    gate: &G,
+) -> Result<Vec<u8>, LinkFault>
+    requires few { length prepared.files.items ≤ 4 }
+    requires fresh { prepared.core.world ≡ start prepared.core.world.config }
+    requires heard { AllByRecursion (λ file. AllByRecursion IsHeard (map said_of file.items)) prepared.files.items }
+    ensures ok { IfOk result (λ text. IsLinked (record { config = prepared.core.world.config; said = map (λ file. map said_of file.items) prepared.files.items }) text.items) }
+    ensures fault { IfErr result IsRunFault }
+{
+    let Prepared { core, files } = prepared;
+    let config = copy_config(alloc, core.config())?;
+    let shared = Shared::new(Journaled::new(alloc, core)?);
+    let workers = run_all(rt, alloc, &shared, &files, gate)?;
+    text_of_work(alloc, &config, shared.into_journaled(), workers, &files)
+}
+
+/// Reads all files, and then runs a worker for each.
+fn text_of_scripts<R: Threads + Wait + Sync, G: Gate + Sync>(
+    rt: &R,
+    alloc: Global,
+    scripts: &[Vec<u8>],
+    gate: &G,
+) -> Result<Vec<u8>, LinkFault>
+    requires few { length scripts.now ≤ 4 }
+    requires short { AllByRecursion (λ script. length script.items ≤ input_limit) scripts.now }
+    ensures ok { IfOk result (λ text. IsLinkedBy (map (λ script. script.items) scripts.now) text.items) }
+    ensures stops { IfErr result (λ fault. Stops (link_files (map (λ script. script.items) scripts.now)) fault) }
+    ensures no_write { result ≢ Err Write }
+{
+    match read_files(alloc, scripts) {
+        Ok(prepared) => run_files(rt, alloc, prepared, gate),
+        Err(fault) => Err(fault),
+    }
+}
+
+/// Runs the scripts of several files on one receiving entity, a worker each, all at once.
+///
+/// The lines of all files are read before a worker starts; they are those of `replay`, without `list`. Only the first file may
+/// begin with `config` and `protect`. The seats are numbered from 0 in the order of the files. Each worker has an inbox of 16
+/// messages, and all are fed line by line in turn; it passes the gate with each message. A message for a worker that has stopped
+/// is given up. What is written is each entry of the journal with the number of its seat, each seat with the number of its
+/// receipts and of the PDUs without an event, the length of the journal, and all that stands in the filestore. Who comes first
+/// among the workers is free, and so is the order of the entries of different seats. There are at most four files, each of at
+/// most 268,435,456 octets.
+///
+/// # Errors
+///
+/// [`LinkFault::BadLine`] for the first bad line of the first file that has one; [`LinkFault::Memory`] where memory was refused
+/// or a thread could not be started; [`LinkFault::JournalFull`] where the journal was full (of several workers that stopped the
+/// one with the lowest seat decides); [`LinkFault::ReceiptsDiffer`] where a worker did not take what its file says, the receipts
+/// are not the journal, or the entity has not the configuration of the files; [`LinkFault::Write`] where the writer failed.
+/// Nothing was written unless it is Write.
+///
+/// Memory: the messages of all files twice, the journal, the filestore and the text. Cost: one pass over the octets, and that of
+/// the events.
+pub fn links<R: Threads + Wait + Sync, G: Gate + Sync, W: ScriptOut>(
+    rt: &R,
+    alloc: Global,
+    scripts: &[Vec<u8>],
+    gate: &G,
+    writer: &mut W,
+) -> Result<(), LinkFault>
+    requires few { length scripts.now ≤ 4 }
+    requires short { AllByRecursion (λ script. length script.items ≤ input_limit) scripts.now }
+    // No script has a bad line, and the text that was written is that of a journal of the entity with their configuration,
+    // whose entries are the receipts of the seats, and in which each seat's events are those of its file's lines.
+    ensures ok { OnOk result (IsLinkRun (map (λ script. script.items) scripts.now) (W.contents writer.old) (W.contents writer.new)) }
+    // The first bad line of the first file that has one.
+    ensures bad_line { (file line : ℕ) → result ≡ Err (BadLine file line) → link_files (map (λ script. script.items) scripts.now) ≡ Err (file, line) }
+    // Nothing but want of memory hides it.
+    ensures no_other { IfErr result (λ fault. Stops (link_files (map (λ script. script.items) scripts.now)) fault) }
+    // Nothing was written; or the writer is to blame. Otherwise it has not failed.
+    ensures unwritten { OnErr result (result ≢ Err Write → W.contents writer.new ≡ W.contents writer.old) }
+    ensures write { result ≡ Err Write → W.failed writer.new ≡ true }
+    ensures well_written { result ≢ Err Write → W.failed writer.new ≡ W.failed writer.old }
+{
+    let text = match text_of_scripts(rt, alloc, scripts, gate) {
+        Ok(text) => text,
+        Err(fault) => return Err(fault),
+    };
+    match write_all(writer, &text) {
+        Ok(()) => Ok(()),
+        Err(_) => Err(LinkFault::Write),
+    }
+}
