@@ -1,5 +1,5 @@
 -- How many blocks are free once one of them has changed.
---     live_count-within, live_count-written, live_count-same      how many are live
+--     live_count-within, live_count-taken, live_count-written, live_count-given, live_count-same      how many are live
 --     free_count-taken, free_count-written, free_count-given     a free block made live, a live one written, one made free
 use Rattle.std.proofs.Common.{◌≡◌, ℕ, suc, zero, ◌+◌, ◌<◌, ◌≤◌, List, [], ◌∷◌, length, Some, None, is_some, refl, arith, length-set}
 use Rattle.cfdp_arena.specs.Arena.{Blocks, live_count, octets_at, IsLive, free_count, with_block, without_block}
@@ -9,7 +9,7 @@ live_count-within [] = omega arith
 live_count-within (Some o ∷ rest) = omega (arith, live_count-within rest)
 live_count-within (None ∷ rest) = omega (arith, live_count-within rest)
 
-live_count-taken : (arena : Blocks) (block : ℕ) (o : List ℕ) → octets_at arena block ≡ None → block < length arena → live_count (with_block arena block o) ≡ live_count arena + 1
+pub live_count-taken : (arena : Blocks) (block : ℕ) (o : List ℕ) → octets_at arena block ≡ None → block < length arena → live_count (with_block arena block o) ≡ live_count arena + 1
 live_count-taken [] block o free within = absurd (omega arith)
 live_count-taken (Some x ∷ rest) zero o free within = cc
 live_count-taken (None ∷ rest) zero o free within = refl
@@ -23,7 +23,7 @@ live_count-written (None ∷ rest) zero o live = cc
 live_count-written (Some x ∷ rest) (suc block) o live = omega (arith, live_count-written rest block o live)
 live_count-written (None ∷ rest) (suc block) o live = live_count-written rest block o live
 
-live_count-given : (arena : Blocks) (block : ℕ) → IsLive arena block → live_count (without_block arena block) + 1 ≡ live_count arena
+pub live_count-given : (arena : Blocks) (block : ℕ) → IsLive arena block → live_count (without_block arena block) + 1 ≡ live_count arena
 live_count-given [] block live = cc
 live_count-given (Some x ∷ rest) zero live = refl
 live_count-given (None ∷ rest) zero live = cc

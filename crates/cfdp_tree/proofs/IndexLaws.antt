@@ -4,6 +4,7 @@
 --     own_first, own_rest, rest_has      of all of its nodes, of the first one, and of those behind it
 --     has_later, has_first, has_longer, chain_some     a node that stands in it
 --     once_first, once_rest    no node stands in it twice
+--     kept_links               a list of nodes whose links have stayed
 --     kept_chain               a list in which the node does not stand whose link has changed
 use Rattle.std.proofs.Common.{◌≡◌, ◌≢◌, ℕ, suc, zero, ◌<◌, List, ◌∷◌, length, get_or, refl, ap, ◌∙◌, subst, inl, inr, arith, Bool, false}
 use Rattle.std.proofs.lemmas.Bool.{cases_eq}
@@ -11,6 +12,7 @@ use Rattle.std.specs.Prelude.{All, AllPairs, Contains, IsTrue}
 use Rattle.cfdp_arena.specs.Arena.{Blocks}
 use Rattle.cfdp_tree.specs.Tree.{row_at}
 use Rattle.cfdp_tree.specs.Index.{chain}
+use Rattle.cfdp_tree.specs.Lists as lists
 
 pub chain_more : (nodes : Blocks) (n m b : ℕ) → n ≡ suc m → chain nodes n b ≡ b ∷ chain nodes m (row_at nodes b).same_head
 chain_more nodes n m b e = ap (λ k. chain nodes k b) e
@@ -57,12 +59,16 @@ once_first b rest once k d within = once 0 (suc k) d (omega arith) (omega arith)
 pub once_rest : (b : ℕ) (rest : List ℕ) → AllPairs (λ x y. x ≢ y) (b ∷ rest) → AllPairs (λ x y. x ≢ y) rest
 once_rest b rest once i j d before within = once (suc i) (suc j) d (omega arith) (omega arith)
 
+-- P is of the nodes whose links have stayed
+module _ (P : ℕ → Type 0) (old new : ℕ → ℕ) (same : (c : ℕ) → P c → new c ≡ old c) where
+  pub kept_links : (n b : ℕ) → All P (lists.chain old n b) → lists.chain new n b ≡ lists.chain old n b
+  kept_links zero b own = refl
+  kept_links (suc n) b own =
+      let rest = lists.chain old n (old b) in
+      ap (λ c. b ∷ lists.chain new n c) (same b (own_first P b rest own))
+      ∙ ap (λ xs. b ∷ xs) (kept_links n (old b) (own_rest P b rest own))
+
 -- the link of one node has changed
 module _ (old new : Blocks) (b : ℕ) (others : (c : ℕ) → b ≢ c → (row_at new c).same_head ≡ (row_at old c).same_head) where
   pub kept_chain : (n x : ℕ) → All (λ c. b ≢ c) (chain old n x) → chain new n x ≡ chain old n x
-  kept_chain zero x apart = refl
-  kept_chain (suc n) x apart =
-      let P : ℕ → Type 0 = λ c. b ≢ c in
-      let next = (row_at old x).same_head in
-      ap (λ y. x ∷ chain new n y) (others x (own_first P x (chain old n next) apart))
-      ∙ ap (λ rest. x ∷ rest) (kept_chain n next (own_rest P x (chain old n next) apart))
+  kept_chain n x apart = kept_links (λ c. b ≢ c) (λ c. (row_at old c).same_head) (λ c. (row_at new c).same_head) others n x apart

@@ -3,7 +3,7 @@
 --     created_octets, created_nodes                    where it is taken
 --     deleted_noted                                    where it is given back
 --     home_told                                        where a node stands by what it says
-use Rattle.std.proofs.Common.{◌≡◌, ◌≢◌, ℕ, ◌<◌, List, [], Option, Some, None, length, true, false, refl, sym, ap, ◌∙◌, subst, arith}
+use Rattle.std.proofs.Common.{◌≡◌, ◌≢◌, ℕ, ◌<◌, List, [], Option, Some, None, length, refl, sym, ap, ◌∙◌, arith}
 use Rattle.std.proofs.lemmas.Bool.{eq-eqb, ne_eqb}
 use Rattle.std.proofs.lemmas.List.{get_or-set_same, length-map, map-set}
 use Rattle.std.specs.Prelude.{◌==◌, if◌then◌else◌, unwrap_or}

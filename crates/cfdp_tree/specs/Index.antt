@@ -10,10 +10,11 @@
 --     IsListed nodes out n k b   the node b stands in the list k of n lists, and is not the one that stands in none
 --     count_out out              how many nodes stand in no list
 --     IsIndex nodes heads out    each node stands in its list, but for the one that is out, and each list has just its nodes
-use Rattle.std.specs.Prelude.{◌≡◌, ◌≢◌, ℕ, suc, zero, ◌+◌, ◌*◌, ◌%◌, ◌<◌, ◌==◌, not, List, [], ◌∷◌, Option, Some, None, All, AllPairs, Contains, filter, fold, length, slice_index_or, sum_by}
+use Rattle.std.specs.Prelude.{◌≡◌, ◌≢◌, ℕ, ◌+◌, ◌*◌, ◌%◌, ◌<◌, ◌==◌, not, List, Option, Some, None, All, AllPairs, Contains, filter, fold, length, slice_index_or, sum_by}
 use Rattle.cfdp_arena.specs.Arena.{Blocks, live_count}
 use Rattle.cfdp_paths.specs.Paths.{Name}
 use Rattle.cfdp_tree.specs.declared.index.Head.{Head}
+use Rattle.cfdp_tree.specs.Lists as lists
 use Rattle.cfdp_tree.specs.Tree.{IsNode, row_at, name_at, home}
 
 abbrev pub Heads : Type 0
@@ -34,8 +35,7 @@ abbrev pub place_of : Option ℕ → Name → ℕ → ℕ
 place_of directory name n = hash_of directory name % n
 
 abbrev pub chain : Blocks → ℕ → ℕ → List ℕ
-chain nodes zero b = []
-chain nodes (suc n) b = b ∷ chain nodes n (row_at nodes b).same_head
+chain nodes n b = lists.chain (λ c. (row_at nodes c).same_head) n b
 
 abbrev pub no_head : Head
 no_head = record { first = 0; count = 0 }

@@ -6,16 +6,31 @@
 --     Nodes        the nodes of an arena alone
 --     Tree         the tree that they make
 --     Places       directories and the root
+--     Lists        lists of nodes by links
 --     Index        nodes by their directory and their name
+--     Entries      the entries of a directory and of the root
+--     Links        what changes where a link between entries does
 --     Kept         the store that an arena is
 --     Slots        its staged lists
+--     Changes      what stays where links change
+--     Walk         walks over what stands below a place
+--     Survey       the nodes of what stands there
+--     Text         the octets of a path
 pub mod Block
+pub mod Changes
 pub mod Contents
+pub mod Entries
+pub mod Files
 pub mod Index
 pub mod Kept
+pub mod Links
+pub mod Lists
 pub mod Nodes
 pub mod Places
 pub mod Row
 pub mod Runs
 pub mod Slots
+pub mod Survey
+pub mod Text
 pub mod Tree
+pub mod Walk

@@ -1,6 +1,7 @@
 -- A node's block: what stands at one path of the tree, and its links. Its payload begins with 24 octets of numbers, the
 -- low octet first, and its name stands in the last 96 octets of the block. How many nodes an index head has, and how many
--- entries a directory, is counted where their links begin: so the link of the last of them means nothing.
+-- entries a directory, is counted where their links begin: so the link of an index head's last node means nothing, nor
+-- does the link back of a first entry. The last entry names itself as the next one.
 --     octets 8 and 9      the parent: the directory's number, its own where the root is the parent
 --     octets 10 and 11    of a file the first block of its octets, of a directory its first entry
 --     octets 12 and 13    of a file the last block of its octets

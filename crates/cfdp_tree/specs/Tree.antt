@@ -7,13 +7,11 @@
 --     climb nodes n b, path_of       the names of the last n nodes on the way to it, and of all of them
 --     Ends nodes n b                 the way to it has no more than n nodes
 --     IsEntry nodes directory name b    the node stands in this directory under this name
---     entries_of nodes d             how many nodes stand in a directory
 --     IsNamed block                  the block is whole, and its name is one
 --     IsTree nodes                   the nodes make a tree
---     IsSized nodes                  each directory says how many entries it has
---     unlinked row, Relinked old new     what it says but for its links;  each node says what it said, but for its links
+--     unlinked row, Relinked old new     what it says but for its link of the index;  each node says what it said, but for that
 --     SamePlaces old new             the same nodes stand where they stood, under their names
-use Rattle.std.specs.Prelude.{◌≡◌, ℕ, suc, zero, ◌+◌, ◌≤◌, ◌==◌, if◌then◌else◌, List, [], ◌∷◌, ◌++◌, Option, Some, None, IsSome, is_some, length}
+use Rattle.std.specs.Prelude.{◌≡◌, ℕ, suc, zero, ◌≤◌, ◌==◌, if◌then◌else◌, List, [], ◌∷◌, ◌++◌, Option, Some, None, IsSome, is_some, length}
 use Rattle.std.specs.Option.{option_map_or}
 use Rattle.cfdp_arena.specs.Arena.{Blocks, octets_at, octets_of}
 use Rattle.cfdp_paths.specs.Paths.{Name, Path, IsName}
@@ -59,18 +57,6 @@ pub record IsEntry (nodes : Blocks) (directory : Option ℕ) (name : Name) (b : 
   pub there : home nodes b ≡ directory
   pub named : name_at nodes b ≡ name
 
--- of one block, and of the blocks from b on
-abbrev pub entry_of : ℕ → ℕ → Option (List ℕ) → ℕ
-entry_of d b None = 0
-entry_of d b (Some block) = option_map_or (λ e. if e == d then 1 else 0) (home_in b block) 0
-
-abbrev pub entries_from : ℕ → ℕ → Blocks → ℕ
-entries_from d b [] = 0
-entries_from d b (entry ∷ rest) = entry_of d b entry + entries_from d (suc b) rest
-
-abbrev pub entries_of : Blocks → ℕ → ℕ
-entries_of nodes d = entries_from d 0 nodes
-
 pub record IsNamed (block : List ℕ) : Type 0 where
   pub whole : length block ≡ 128
   pub fits : (row_of block).name_length ≤ 96
@@ -84,10 +70,6 @@ pub record IsTree (nodes : Blocks) : Type 0 where
   -- no two of one name in one directory
   pub unique : (b c : ℕ) → IsNode nodes b → IsNode nodes c → home nodes b ≡ home nodes c → name_at nodes b ≡ name_at nodes c → b ≡ c
 
--- a directory says how many entries it has
-pub record IsSized (nodes : Blocks) : Type 0 where
-  pub sized : (d : ℕ) → IsDirectory nodes d → (row_at nodes d).size ≡ entries_of nodes d
-
 pub record SamePlaces (old new : Blocks) : Type 0 where
   pub nodes : (b : ℕ) → is_some (octets_at new b) ≡ is_some (octets_at old b)
   pub homes : (b : ℕ) → home new b ≡ home old b
@@ -96,7 +78,7 @@ pub record SamePlaces (old new : Blocks) : Type 0 where
   pub named : (b : ℕ) → IsNode new b → IsNamed (octets_of new b)
 
 abbrev pub unlinked : Row → Row
-unlinked row = record row { same_head = 0; next_entry = 0; previous_entry = 0 }
+unlinked row = record row { same_head = 0 }
 
 pub record Relinked (old new : Blocks) : Type 0 where
   pub nodes : (b : ℕ) → is_some (octets_at new b) ≡ is_some (octets_at old b)

@@ -6,12 +6,12 @@ ghost use Rattle.cfdp_actions.specs.Store.{extended, overwritten};
 ghost use Rattle.cfdp_tree.specs.Nodes.{nodes_in};
 ghost use Rattle.cfdp_tree.specs.Runs.{IsAt, Apart, Spares, nth};
 ghost use Rattle.cfdp_tree.specs.Contents.{IsFilled, contents_in};
-ghost use Rattle.cfdp_tree.specs.Kept.{contents_told};
-ghost use Rattle.cfdp_tree.specs.Row.{row_of};
+ghost use Rattle.cfdp_tree.specs.Kept.{contents_told, file_of};
+ghost use Rattle.cfdp_tree.specs.Row.{row_of, kind_told};
 
 use crate::cursor::Cursor;
 use crate::header::PAYLOAD_OCTETS;
-use crate::rows::{first_of, last_of, size_of};
+use crate::rows::{first_of, kind_of, last_of, size_of};
 use crate::runs::Run;
 use cfdp_actions::Kind;
 use cfdp_arena::{Arena, Block};
@@ -47,11 +47,24 @@ pub(crate) fn contents_of(block: &Block) -> Contents
     }
 }
 
+/// What a node holds, by its block: the octets of a file, and of a directory none.
+pub(crate) fn held_by(block: &Block) -> Contents
+    requires { kind_told (row_of block.now).kind ≡ Kind.File → (row_of block.now).size ≤ 7864320 }
+    ensures { result ≡ file_of block.now }
+{
+    match kind_of(block) {
+        Kind::File => contents_of(block),
+        Kind::Directory => Contents::empty(),
+    }
+}
+
 impl Contents {
     /// No octets.
     pub(crate) fn empty() -> Contents
         ensures blocks { result.run.count ≡ 0 }
         ensures size { result.size ≡ 0 }
+        ensures first { result.run.first ≡ 0 }
+        ensures last { result.run.last ≡ 0 }
     {
         Contents {
             run: Run::empty(),

@@ -16,6 +16,19 @@ pub(crate) struct Head {
     pub(crate) count: u32,
 }
 
+impl Head {
+    /// The head of a list of no nodes.
+    pub(crate) fn empty() -> Head
+        ensures first { result.first ≡ 0 }
+        ensures count { result.count ≡ 0 }
+    {
+        Head {
+            first: BlockId::of_number(0),
+            count: 0,
+        }
+    }
+}
+
 /// One more than the greatest hash.
 const HASHES: u32 = 65_521;
 

@@ -1,26 +1,36 @@
-//! The lower layers of a filestore inside an arena.
+//! A filestore inside an arena: [`TreeStore`].
 //!
 //! A block of the arena is a header of 8 octets and a payload of 120 octets (`header`, `payload`). Blocks stand in runs:
 //! each block of a run carries the run's first block and its own rank, so that what a run holds does not change when
 //! another run does (`runs`). Octets go into a run, out of it and from run to run by slices of a block, and a place in a
 //! run is kept as a cursor (`cursor`, `transfer`, `copy`). The octets of a file or of a staged list are a run that has
-//! just the blocks for them (`contents`). What stands at a path is a node, one block with its name and its links (`rows`, `nodes`),
-//! and nodes are found by their directory and their name (`index`).
+//! just the blocks for them (`contents`, `files`, `slots`). What stands at a path is a node, one block with its name and its
+//! links (`rows`, `nodes`). Nodes are found by their directory and their name (`index`, `lookup`), and stand in a list for
+//! each directory (`entries`), by which what stands below a place is walked over (`walk`) and told in path order (`survey`,
+//! `spelling`, `listing`, `summing`). The store puts these together (`tree_store`, `install`).
 #![tactic(auto)]
 
 mod contents;
 mod copy;
 mod cursor;
+mod entries;
+mod files;
 mod header;
 mod index;
+mod install;
+mod listing;
 mod lookup;
 mod nodes;
 mod payload;
 mod rows;
 mod runs;
 mod slots;
+mod spelling;
+mod summing;
+mod survey;
 mod transfer;
 mod tree_store;
+mod walk;
 
 pub use tree_store::TreeStore;
 

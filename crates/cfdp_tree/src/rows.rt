@@ -46,6 +46,16 @@ pub(crate) fn name_is(block: &Block, name: &[u8]) -> bool
         && &block[NAME_AT..NAME_AT + name.len()] == name
 }
 
+/// The name of the node.
+pub(crate) fn name_in(block: &Block) -> &[u8]
+    requires whole { length block.now ≡ 128 }
+    requires fits { (row_of block.now).name_length ≤ 96 }
+    ensures { result.now ≡ name_of block.now }
+{
+    let length = usize::from(block[NAME_LENGTH_AT]);
+    &block[NAME_AT..NAME_AT + length]
+}
+
 /// Whether the node of this number stands in this directory, `None` for the root.
 pub(crate) fn home_is(block: &Block, own: &BlockId, directory: &Option<BlockId>) -> bool
     ensures { IsTrue result ↔ (home_in own.now block.now ≡ directory.now) }
@@ -101,6 +111,14 @@ pub(crate) fn parent_of(block: &Block) -> BlockId
     BlockId::of_number(number_in(block, 8))
 }
 
+/// The directory in which the node of this number stands, `None` for the root.
+pub(crate) fn home_of(block: &Block, own: &BlockId) -> Option<BlockId>
+    ensures { result ≡ home_in own.now block.now }
+{
+    let parent = parent_of(block);
+    if parent == *own { None } else { Some(parent) }
+}
+
 /// Puts the node into another directory. The rest of the block stays.
 pub(crate) fn set_parent(block: &mut Block, parent: BlockId)
     requires small { parent < 65536 }
@@ -150,7 +168,7 @@ pub(crate) fn set_last(block: &mut Block, last: BlockId)
     set_number(block, 12, last.number());
 }
 
-/// The next node of the same index head; the node itself where it is the last one.
+/// The next node of the same index head, which means nothing where it is the last one.
 pub(crate) fn same_head_of(block: &Block) -> BlockId
     ensures value { result ≡ (row_of block.now).same_head }
     ensures small { result < 65536 }
@@ -188,7 +206,7 @@ pub(crate) fn set_next_entry(block: &mut Block, next_entry: BlockId)
     set_number(block, 22, next_entry.number());
 }
 
-/// The entry of the parent before the node; the node itself where it is the first one.
+/// The entry of the parent before the node, which means nothing where it is the first one.
 pub(crate) fn previous_entry_of(block: &Block) -> BlockId
     ensures value { result ≡ (row_of block.now).previous_entry }
     ensures small { result < 65536 }

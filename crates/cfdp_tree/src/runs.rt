@@ -21,7 +21,9 @@ pub(crate) struct Run {
 impl Run {
     /// A run of no blocks.
     pub(crate) fn empty() -> Run
-        ensures { result.count ≡ 0 }
+        ensures count { result.count ≡ 0 }
+        ensures first { result.first ≡ 0 }
+        ensures last { result.last ≡ 0 }
     {
         let none = BlockId::of_number(0);
         Run {

@@ -23,6 +23,8 @@ impl Slot {
     pub(crate) fn empty() -> Slot
         ensures blocks { result.contents.run.count ≡ 0 }
         ensures size { result.contents.size ≡ 0 }
+        ensures first { result.contents.run.first ≡ 0 }
+        ensures last { result.contents.run.last ≡ 0 }
         ensures block { result.place.block ≡ result.contents.run.first }
         ensures index { result.place.index ≡ 0 }
     {

@@ -1,26 +1,45 @@
 //! A store that is kept in an arena.
 
-ghost use Rattle.std.specs.Prelude.{◌≡◌, ◌+◌, ◌-◌, ◌<◌, ◌≤◌, IsTrue, IsOk, IfOk, OnOk, OnErr, [], ◌∷◌, length, slice_range};
-ghost use Rattle.cfdp_actions.specs.Filestore.{node_at, staged_in, blocks_of, blocks, Stages, has_entries, is_file, octets_at, parent_is_good};
-ghost use Rattle.cfdp_actions.specs.Store.{free_blocks, with_changes, kind_at, extended, overwritten};
+ghost use Rattle.std.specs.Prelude.{◌≡◌, ◌≤◌, true, IsTrue, IfOk, Some, None, [], ◌∷◌};
+ghost use Rattle.cfdp_actions.specs.Filestore.{Becomes, node_at, parent_is_good};
+ghost use Rattle.cfdp_actions.specs.Store.{empty_store, free_blocks, with_changes};
+ghost use Rattle.cfdp_tree.specs.Changes.{empty_node};
 
-use crate::contents::contents_of;
-use crate::index::Head;
+use crate::contents::{contents_of, held_by};
+use crate::entries::{link_entry, unlink_entry};
+use crate::files::{find_file, set_contents};
+use crate::index;
+use crate::index::{Head, insert};
+use crate::listing::{entries, standings};
 use crate::lookup::{find_path, lookup};
-use crate::rows::{kind_of, size_of};
+use crate::nodes::{create_node, delete_node, rename_node};
+use crate::rows::{home_of, kind_of, size_of};
 use crate::slots::Slot;
-use cfdp_actions::Kind;
+use crate::survey::survey;
+use crate::walk::deepest_in;
+use cfdp_actions::{Entry, Filestore, Kind, Standing};
 use cfdp_arena::Arena;
 use cfdp_paths::{Memory, Path};
+use std::alloc::Global;
 use std::marker::Model;
 
 /// A store that is kept wholly in the blocks of an arena, of which a node takes one, and each 120 octets of a file or of
-/// a staged list one more. After `new` it takes no memory.
+/// a staged list one more. None of its changes takes memory: only `new`, `listing` and `standing` do.
+///
+/// Cost: a call looks each name of its paths up by the directory and the name, in expected constant time whatever else
+/// stands in the directory. `kind`, `parent_is_good`, `has_entries`, `size`, `make_file`, `make_dir`, `install` where
+/// nothing stood, and `rename`, also of a directory, take no more than that; `free` and `staged_size` take constant time.
+/// `remove`, `unstage` and `install` over a file give back the blocks that are dropped, one by one; `stage_extend` makes
+/// zeros of those that it takes. `read`, `read_staged`, `stage_put`, `append` and `replace` copy the octets that they are asked
+/// for by slices of a block; `read_staged` and `stage_put` begin their search for the place where the slot was last written,
+/// where that is before it, and `read` at the file's first block. `deepest` and `standing` go through what stands at and below the
+/// path, `listing` through everything with all octets.
 #[derive(Drop)]
 pub struct TreeStore {
-    arena: Arena,
-    heads: Vec<Head>,
-    slots: Vec<Slot>,
+    pub(crate) arena: Arena,
+    pub(crate) heads: Vec<Head>,
+    root: Head,
+    pub(crate) slots: Vec<Slot>,
 }
 
 impl Model for TreeStore {
@@ -35,22 +54,63 @@ impl Model for TreeStore {
 
     ghost view = { λ s. store_of s.arena (staged_in s.slots.items) };
 
-    ghost invariant = { λ s. IsStore s.arena s.heads.items s.slots.items };
+    ghost invariant = { λ s. IsStore s.arena s.heads.items s.root s.slots.items };
 }
 
+/// How many slots for staged lists a store has.
+const SLOTS: usize = 64;
+
 impl TreeStore {
-    /// Whether a file or a directory stands at the path, if anything does.
-    pub fn kind(&self, path: &Path) -> Option<Kind>
-        ensures { result ≡ kind_at self.now.filestore path.now }
+    /// A store of so many blocks, 1 to 65,536, in which nothing stands and nothing is staged. All the memory that it ever
+    /// takes is taken here: 128 octets for each block, the heads of the index, of which there are as many as blocks, and
+    /// the slots. In time linear in the blocks.
+    ///
+    /// # Errors
+    ///
+    /// [`Memory`] where there was none.
+    pub fn new(alloc: Global, blocks: u32) -> Result<TreeStore, Memory>
+        requires some { 1 ≤ blocks }
+        requires few { blocks ≤ 65536 }
+        ensures { IfOk result (λ store. store ≡ empty_store blocks true) }
     {
+        let arena = Arena::new(alloc, blocks)?;
+        let mut heads = Vec::new(alloc);
+        heads.resize(blocks as usize, Head::empty())?;
+        let mut slots = Vec::new(alloc);
+        slots.resize(SLOTS, Slot::empty())?;
+        Ok(TreeStore {
+            arena,
+            heads,
+            root: Head::empty(),
+            slots,
+        })
+    }
+
+    /// Makes an empty file or directory. In expected time linear in the octets of the path for each name.
+    fn make_node(&mut self, path: &Path, kind: Kind)
+        requires absent { node_at self.old.filestore path.now ≡ None }
+        requires parent { IsTrue (parent_is_good self.old.filestore path.now) }
+        requires room { 1 ≤ free_blocks self.old }
+        ensures { self.new ≡ with_changes self.old (Becomes path.now (Some (empty_node kind)) ∷ []) }
+    {
+        let depth = path.depth() - 1;
+        let directory = &lookup(&self.arena, &self.heads, path, depth);
+        let name = path.name(depth);
+        let node = create_node(&mut self.arena, *directory, kind, name);
+        insert(&mut self.arena, &mut self.heads, &node, *directory, name);
+        link_entry(&mut self.arena, &mut self.root, &node, *directory);
+    }
+}
+
+impl Filestore for TreeStore {
+    ghost state = { λ s. s };
+
+    fn kind(&self, path: &Path) -> Option<Kind> {
         let node = find_path(&self.arena, &self.heads, path)?;
         Some(kind_of(self.arena.bytes(node)))
     }
 
-    /// Whether the path's parent is the root or a directory.
-    pub fn parent_is_good(&self, path: &Path) -> bool
-        ensures { result ≡ parent_is_good self.now.filestore path.now }
-    {
+    fn parent_is_good(&self, path: &Path) -> bool {
         let depth = path.depth() - 1;
         if depth == 0 {
             return true;
@@ -61,10 +121,7 @@ impl TreeStore {
         }
     }
 
-    /// Whether anything stands below the path.
-    pub fn has_entries(&self, path: &Path) -> bool
-        ensures { result ≡ has_entries self.now.filestore path.now }
-    {
+    fn has_entries(&self, path: &Path) -> bool {
         match find_path(&self.arena, &self.heads, path) {
             Some(node) => {
                 let block = self.arena.bytes(node);
@@ -74,59 +131,122 @@ impl TreeStore {
         }
     }
 
-    /// How many octets a file has: at most 7,864,320, the payload of 65,536 blocks.
-    pub fn size(&self, path: &Path) -> u64
-        requires { IsTrue (is_file (node_at self.now.filestore path.now)) }
-        ensures value { result ≡ length (octets_at self.now.filestore path.now) }
-        ensures within { result ≤ 7864320 }
-    {
+    fn size(&self, path: &Path) -> u64 {
         let node = find_path(&self.arena, &self.heads, path).unwrap();
         u64::from(size_of(self.arena.bytes(node)))
     }
 
-    /// Fills the buffer with a file's octets from the place `at` on.
-    pub fn read(&self, path: &Path, at: u64, buffer: &mut [u8])
-        requires file { IsTrue (is_file (node_at self.now.filestore path.now)) }
-        requires range { at + length buffer.old ≤ length (octets_at self.now.filestore path.now) }
-        ensures { buffer.new ≡ slice_range (octets_at self.now.filestore path.now) at (at + length buffer.old) }
-    {
+    fn read(&self, path: &Path, at: u64, buffer: &mut [u8]) {
         let node = find_path(&self.arena, &self.heads, path).unwrap();
         let file = contents_of(self.arena.bytes(node));
         file.get(&self.arena, file.run.start(), at as u32, buffer);
     }
 
-    /// How many octets are staged in the slot: 0 where none are, and at most 7,864,320.
-    pub fn staged_size(&self, slot: u8) -> u64
-        requires { slot < 64 }
-        ensures value { result ≡ length (staged_in self.now.filestore slot) }
-        ensures within { result ≤ 7864320 }
-        ensures slots { length self.now.filestore.staged ≡ 64 }
-    {
+    fn deepest(&self, path: &Path) -> u8 {
+        let node = find_path(&self.arena, &self.heads, path).unwrap();
+        let alone = Head {
+            first: node,
+            count: 1,
+        };
+        deepest_in(&self.arena, &alone, path.depth()) as u8
+    }
+
+    fn staged_size(&self, slot: u8) -> u64 {
         u64::from(self.slots[usize::from(slot)].contents.size)
     }
 
-    /// Fills the buffer with the octets that are staged in the slot, from the place `at` on.
-    pub fn read_staged(&self, slot: u8, at: u64, buffer: &mut [u8])
-        requires slot { slot < 64 }
-        requires range { at + length buffer.old ≤ length (staged_in self.now.filestore slot) }
-        ensures { buffer.new ≡ slice_range (staged_in self.now.filestore slot) at (at + length buffer.old) }
-    {
+    fn read_staged(&self, slot: u8, at: u64, buffer: &mut [u8]) {
         let slot = &self.slots[usize::from(slot)];
         slot.contents
             .get(&self.arena, slot.place, at as u32, buffer);
     }
 
-    /// Adds zeros at the end of what is staged in the slot, up to the size. Answers the blocks that are taken.
-    pub fn stage_extend(&mut self, slot: u8, size: u64) -> Result<u32, Memory>
-        requires slot { slot < 64 }
-        requires longer { length (staged_in self.old.filestore slot) ≤ size }
-        requires room { blocks_of size - blocks_of (length (staged_in self.old.filestore slot)) ≤ free_blocks self.old }
-        ensures ticks { IfOk result (λ ticks. ticks ≡ blocks_of size - blocks_of (length (staged_in self.old.filestore slot))) }
-        ensures extended { OnOk result (self.new ≡ with_changes self.old
-            (Stages slot (extended (staged_in self.old.filestore slot) size) ∷ [])) }
-        ensures err { OnErr result (self.new ≡ self.old) }
-        ensures thrifty { IsTrue self.old.takes_no_memory → IsOk result }
-    {
+    fn free(&self) -> u32 {
+        self.arena.free()
+    }
+
+    fn takes_no_memory(&self) -> bool {
+        let _ = &self.arena;
+        true
+    }
+
+    fn listing(&self, alloc: Global) -> Result<Vec<Entry>, Memory> {
+        let found = survey(alloc, &self.arena, &self.root, 1)?;
+        entries(alloc, &self.arena, found)
+    }
+
+    fn standing(&self, alloc: Global, path: &Path) -> Result<Vec<Standing>, Memory> {
+        let Some(node) = find_path(&self.arena, &self.heads, path) else {
+            return Ok(Vec::new(alloc));
+        };
+        let alone = Head {
+            first: node,
+            count: 1,
+        };
+        let found = survey(alloc, &self.arena, &alone, path.depth())?;
+        standings(alloc, &self.arena, found)
+    }
+
+    fn make_file(&mut self, path: &Path) -> Result<u32, Memory> {
+        self.make_node(path, Kind::File);
+        Ok(1)
+    }
+
+    fn make_dir(&mut self, path: &Path) -> Result<u32, Memory> {
+        self.make_node(path, Kind::Directory);
+        Ok(1)
+    }
+
+    fn remove(&mut self, path: &Path) -> Result<u32, Memory> {
+        let node = find_path(&self.arena, &self.heads, path).unwrap();
+        let block = self.arena.bytes(node);
+        let held = held_by(block);
+        let directory = &home_of(block, &node);
+        let blocks = held.run.count;
+        held.release(&mut self.arena);
+        unlink_entry(&mut self.arena, &mut self.root, &node, *directory);
+        let name = path.name(path.depth() - 1);
+        index::remove(&mut self.arena, &mut self.heads, &node, *directory, name);
+        delete_node(&mut self.arena, node);
+        Ok(blocks + 1)
+    }
+
+    fn rename(&mut self, from: &Path, to: &Path) -> Result<u32, Memory> {
+        let node = find_path(&self.arena, &self.heads, from).unwrap();
+        let old = &home_of(self.arena.bytes(node), &node);
+        let old_name = from.name(from.depth() - 1);
+        let depth = to.depth() - 1;
+        let new = &lookup(&self.arena, &self.heads, to, depth);
+        let new_name = to.name(depth);
+        unlink_entry(&mut self.arena, &mut self.root, &node, *old);
+        index::remove(&mut self.arena, &mut self.heads, &node, *old, old_name);
+        rename_node(&mut self.arena, &node, *new, new_name);
+        insert(&mut self.arena, &mut self.heads, &node, *new, new_name);
+        link_entry(&mut self.arena, &mut self.root, &node, *new);
+        Ok(0)
+    }
+
+    fn append(&mut self, first: &Path, second: &Path) -> Result<u32, Memory> {
+        let file = find_file(&self.arena, &self.heads, first);
+        let source = find_file(&self.arena, &self.heads, second);
+        let contents = file.append(&mut self.arena, &source);
+        set_contents(&mut self.arena, &file.node, &contents);
+        Ok(contents.run.count - file.contents.run.count + source.contents.run.count)
+    }
+
+    fn replace(&mut self, first: &Path, second: &Path) -> Result<u32, Memory> {
+        let file = find_file(&self.arena, &self.heads, first);
+        let source = find_file(&self.arena, &self.heads, second);
+        if file.node == source.node {
+            return Ok(0);
+        }
+        let mut contents = file.contents;
+        contents.replace(&mut self.arena, &source.contents);
+        set_contents(&mut self.arena, &file.node, &contents);
+        Ok(file.contents.run.count + 2 * source.contents.run.count)
+    }
+
+    fn stage_extend(&mut self, slot: u8, size: u64) -> Result<u32, Memory> {
         let index = usize::from(slot);
         let mut slot = self.slots[index];
         let before = slot.contents.run.count;
@@ -135,13 +255,7 @@ impl TreeStore {
         Ok(slot.contents.run.count - before)
     }
 
-    /// Puts octets in the place of those that are staged in the slot from the place `at` on.
-    pub fn stage_put(&mut self, slot: u8, at: u64, octets: &[u8])
-        requires slot { slot < 64 }
-        requires range { at + length octets.now ≤ length (staged_in self.old.filestore slot) }
-        ensures { self.new ≡ with_changes self.old
-            (Stages slot (overwritten (staged_in self.old.filestore slot) at octets.now) ∷ []) }
-    {
+    fn stage_put(&mut self, slot: u8, at: u64, octets: &[u8]) {
         let index = usize::from(slot);
         let mut slot = self.slots[index];
         slot.place = slot
@@ -150,12 +264,7 @@ impl TreeStore {
         self.slots[index] = slot;
     }
 
-    /// Drops what is staged in the slot. Answers the blocks that are given back.
-    pub fn unstage(&mut self, slot: u8) -> u32
-        requires { slot < 64 }
-        ensures ticks { result ≡ blocks_of (length (staged_in self.old.filestore slot)) }
-        ensures dropped { self.new ≡ with_changes self.old (Stages slot [] ∷ []) }
-    {
+    fn unstage(&mut self, slot: u8) -> u32 {
         let index = usize::from(slot);
         let slot = self.slots[index];
         let blocks = slot.contents.run.count;
@@ -164,21 +273,12 @@ impl TreeStore {
         blocks
     }
 
-    /// The blocks that nothing takes. There are at most 65,536 blocks, and no more are in use than there are.
-    pub fn free(&self) -> u32
-        ensures value { result ≡ free_blocks self.now }
-        ensures in_use { blocks self.now.filestore ≤ self.now.capacity }
-        ensures capacity { self.now.capacity ≤ 65536 }
-    {
-        self.arena.free()
-    }
-
-    /// Whether no change of this store takes memory, so that none can answer want of it: none does.
-    pub fn takes_no_memory(&self) -> bool
-        ensures value { result ≡ self.now.takes_no_memory }
-        ensures in_use { blocks self.now.filestore ≤ 65536 }
-    {
-        let _ = &self.arena;
-        true
+    fn install(&mut self, slot: u8, path: &Path) -> Result<u32, Memory> {
+        if self.kind(path).is_some() {
+            return Ok(self.install_over(slot, path));
+        }
+        let ticks = self.make_file(path)?;
+        self.install_over(slot, path);
+        Ok(ticks)
     }
 }

@@ -7,7 +7,7 @@ use Rattle.cfdp_tree.specs.Nodes.{nodes_in}
 use Rattle.cfdp_tree.specs.Tree.{IsEntry, row_at}
 use Rattle.cfdp_tree.specs.Index.{no_head, chain, list_at, place_of, IsListed}
 use Rattle.cfdp_tree.proofs.TreeLaws.{node_live, node_octets}
-use Rattle.cfdp_tree.proofs.IndexLaws.{chain_more, own_first, own_rest, rest_has, no_entry}
+use Rattle.cfdp_tree.proofs.IndexLaws.{chain_more, chain_some, own_first, own_rest, rest_has, no_entry}
 use Rattle.cfdp_tree.proofs.index.find.Goals as goal
 
 pub loop-step-init : goal.loop-step-init
@@ -59,3 +59,11 @@ loop-step-preserved c =
           (rest_has l.node (chain nodes m next) b (subst (λ xs. Contains xs b) list (l.invariant.left b entry))
           (λ e. no_entry (c.is_entry.ensures.1 (subst (IsEntry nodes c.args.directory c.args.name.now) (sym e) entry)) c.if-is_entry.false)));
     }
+
+pub returns-clause-none : goal.returns-clause-none
+returns-clause-none c b entry =
+    let l = c.loop-step in let nodes = nodes_in c.args.arena.now in let heads = c.args.heads.now in let place = c.place_of-place.result in
+    let count = (slice_index_or heads place c.index-heads-place-2.result).count in
+    let some = chain_some nodes (count - l._step) l.node b (l.invariant.left b entry) in
+    let over = c.loop-step-test.false in
+    omega arith

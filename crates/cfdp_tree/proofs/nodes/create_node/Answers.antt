@@ -1,8 +1,8 @@
 use Rattle.std.proofs.Common.{◌≡◌, ◌≢◌, ◌+◌, Some, None, length, sym, ap, ◌∙◌, subst}
-use Rattle.std.specs.Prelude.{◌==◌, if◌then◌else◌, unwrap_or, IfSome}
+use Rattle.std.specs.Prelude.{◌==◌, if◌then◌else◌, IfSome}
 use Rattle.cfdp_arena.specs.Arena.{octets_at, octets_of, free_count, with_block}
 use Rattle.cfdp_arena.specs.Blocks.{blank_block}
-use Rattle.cfdp_tree.specs.Block.{Header, header_of}
+use Rattle.cfdp_tree.specs.Block.{Header}
 use Rattle.cfdp_tree.specs.Row.{Row, row_of, name_of, plain_row}
 use Rattle.cfdp_tree.specs.Nodes.{nodes_in}
 use Rattle.cfdp_tree.specs.Runs.{RunsStay}

@@ -1,7 +1,5 @@
-use Rattle.std.proofs.Common.{◌≡◌, Some, None, length, ap, ◌∙◌}
-use Rattle.std.specs.Prelude.{◌==◌, if◌then◌else◌, unwrap_or}
-use Rattle.cfdp_arena.specs.Arena.{octets_of}
-use Rattle.cfdp_tree.specs.Block.{header_of}
+use Rattle.std.proofs.Common.{Some, None, length, ap, ◌∙◌}
+use Rattle.std.specs.Prelude.{◌==◌, if◌then◌else◌}
 use Rattle.cfdp_tree.specs.Row.{Row, row_of, name_of}
 use Rattle.cfdp_tree.proofs.Counts.{free_count-written}
 use Rattle.cfdp_tree.proofs.TreeLaws.{node_live, node_octets}

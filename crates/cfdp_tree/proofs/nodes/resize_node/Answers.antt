@@ -1,7 +1,5 @@
-use Rattle.std.proofs.Common.{◌≡◌, length, take, drop, ap, ◌∙◌}
-use Rattle.cfdp_arena.specs.Arena.{octets_of}
-use Rattle.cfdp_tree.specs.Row.{Row, row_of, name_of}
-use Rattle.cfdp_tree.specs.Nodes.{nodes_in}
+use Rattle.std.proofs.Common.{◌≡◌, length, take, ap, ◌∙◌}
+use Rattle.cfdp_tree.specs.Row.{row_of, name_of}
 use Rattle.cfdp_tree.proofs.Counts.{free_count-written}
 use Rattle.cfdp_tree.proofs.TreeLaws.{node_live, node_octets}
 use Rattle.cfdp_tree.proofs.SpareLaws.{runs_stay}

@@ -1,0 +1,49 @@
+-- The octets of a path.
+--     text-push, text_home      one name more;  a node's path by its directory
+--     text_spells               they spell the path
+--     path_good                 a node's path is one
+use Rattle.std.proofs.Common.{◌≡◌, ℕ, zero, suc, List, [], ◌∷◌, ◌++◌, length, length-append, Option, Some, None, refl, ap, ◌∙◌, inr, arith}
+use Rattle.std.proofs.lemmas.Grind.{flat_map-append}
+use Rattle.std.proofs.lemmas.List.{append-nil, append_assoc}
+use Rattle.std.proofs.lemmas.List.Elements.{All-append, All-cons, All-nil}
+use Rattle.std.specs.Option.{option_map_or}
+use Rattle.std.specs.Prelude.{All}
+use Rattle.cfdp_arena.specs.Arena.{Blocks}
+use Rattle.cfdp_paths.specs.Paths.{Name, Path, IsName, IsPath, slash, joined, Spells}
+use Rattle.cfdp_tree.specs.Tree.{IsNode, name_at, home, climb, most_names, path_of, Ends, IsTree}
+use Rattle.cfdp_tree.specs.Places.{path_at}
+use Rattle.cfdp_tree.specs.Text.{slashed, text_of}
+use Rattle.cfdp_tree.proofs.ClimbLaws.{path_by_home}
+use Rattle.cfdp_tree.proofs.WalkLaws.{few_names}
+
+pub text-push : (p : Path) (name : Name) → text_of (p ++ name ∷ []) ≡ text_of p ++ slash ∷ name
+text-push p name = flat_map-append slashed p (name ∷ []) ∙ ap (λ t. text_of p ++ slash ∷ t) (append-nil name)
+
+pub text_home : (p q : Path) (name : Name) (rest : List ℕ) → q ≡ p ++ name ∷ [] → text_of q ++ rest ≡ text_of p ++ slash ∷ (name ++ rest)
+text_home p q name rest e = ap (λ x. text_of x ++ rest) e ∙ ap (λ t. t ++ rest) (text-push p name) ∙ append_assoc (text_of p) (slash ∷ name) rest
+
+text_joined : (name : Name) (p : Path) → text_of (name ∷ p) ≡ slash ∷ joined (name ∷ p)
+text_joined name [] = ap (λ t. slash ∷ t) (append-nil name)
+text_joined name (other ∷ p) = ap (λ t. slash ∷ name ++ t) (text_joined other p)
+
+pub text_spells : (p : Path) → IsPath p → Spells (text_of p) p
+text_spells [] good = absurd (omega (arith, good.some))
+text_spells (name ∷ p) good = (good, inr (text_joined name p))
+
+module _ (nodes : Blocks) (tree : IsTree nodes) where
+  names_good : (n b : ℕ) → IsNode nodes b → Ends nodes n b → All IsName (climb nodes n b)
+  names_good zero b node ends = absurd ends
+  names_good (suc n) b node ends =
+      All-append IsName (option_map_or (λ d. climb nodes n d) (home nodes b) []) (name_at nodes b ∷ []) (above (λ d there. names_good n d (tree.homes b d node there).node (ends d there)) (home nodes b) (λ d e. e))
+      (All-cons IsName (name_at nodes b) [] (tree.named b node).name (All-nil IsName))
+    where
+      above : ((d : ℕ) → home nodes b ≡ Some d → All IsName (climb nodes n d)) → (x : Option ℕ) → ((d : ℕ) → x ≡ Some d → home nodes b ≡ Some d) → All IsName (option_map_or (λ d. climb nodes n d) x [])
+      above each None is = All-nil IsName
+      above each (Some d) is = each d (is d refl)
+
+  pub path_good : (b : ℕ) → IsNode nodes b → IsPath (path_of nodes b)
+  path_good b node = record {
+    some = omega (arith, ap length (path_by_home nodes tree b node), length-append (path_at nodes (home nodes b)) (name_at nodes b ∷ []));
+    few = few_names nodes b;
+    names = names_good most_names b node (tree.ends b node);
+  }

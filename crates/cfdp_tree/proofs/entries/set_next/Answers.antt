@@ -1,0 +1,14 @@
+use Rattle.cfdp_tree.proofs.RearrangeLaws.{next_named, next_rest}
+use Rattle.cfdp_tree.proofs.entries.set_next.Goals as goal
+
+pub returns-clause-link : goal.returns-clause-link
+returns-clause-link c =
+    let e = c.set_next_entry.ensures in
+    next_named c.args.arena.now c.args.node.now c.bytes_mut.result.now c.set_next_entry.new.block c.requires.tree c.requires.node c.bytes_mut.ensures.octets
+    e.header e.name e.whole c.args.next.now e.row
+
+pub returns-clause-rest : goal.returns-clause-rest
+returns-clause-rest c =
+    let e = c.set_next_entry.ensures in
+    next_rest c.args.arena.now c.args.node.now c.bytes_mut.result.now c.set_next_entry.new.block c.requires.tree c.requires.node c.bytes_mut.ensures.octets
+    e.header e.name e.whole c.args.next.now e.row

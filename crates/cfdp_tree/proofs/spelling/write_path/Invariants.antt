@@ -1,0 +1,17 @@
+use Rattle.std.proofs.Common.{◌≡◌, ◌*◌, ◌≤◌, ◌++◌, drop, length}
+use Rattle.cfdp_tree.specs.Nodes.{nodes_in}
+use Rattle.cfdp_tree.specs.Tree.{IsNode, path_of}
+use Rattle.cfdp_tree.specs.Text.{text_of}
+use Rattle.cfdp_tree.proofs.spelling.write_path.Given as goal
+
+abbrev pub invariant-loop-parent : goal.invariant-loop-parent
+invariant-loop-parent l = record {
+  node : IsNode (nodes_in l.arena) l.node;
+  room : 97 * length (path_of (nodes_in l.arena) l.node) ≤ l.start;
+  within : l.start ≤ length l.text;
+  long : length l.text ≡ length l.fn.text;
+  text : text_of (path_of (nodes_in l.arena) l.node) ++ drop l.start l.text ≡ text_of (path_of (nodes_in l.arena) l.fn.node);
+}
+
+abbrev pub decreases-loop-parent : goal.decreases-loop-parent
+decreases-loop-parent l = length (path_of (nodes_in l.arena) l.node)

@@ -1,0 +1,59 @@
+-- What stands at a node and below it, and below several nodes: a directory before its entries.
+--     entries_told             the list of a directory's entries, by its row;  an empty one for a file
+--     entries_in               the same by its block
+--     chain_of nodes head      the nodes of a list
+--     entries_of nodes b       the entries of a node
+--     walk nodes n b           the node and what stands below it, as far down as n names
+--     walks nodes n list       the same of each node of a list
+--     walks_at nodes depth list    all of it, where each node of the list has a path of so many names
+--     longest nodes list       the number of names of the longest path of some nodes
+--     StandsDeep nodes depth b a node whose path has as many names
+--     StandAt nodes depth list each is such a node
+--     HasLists nodes           the nodes stand in lists of entries
+use Rattle.std.specs.Prelude.{◌≡◌, ℕ, suc, zero, ◌-◌, max, List, [], ◌∷◌, None, length, All}
+use Rattle.std.specs.List.{flat_map}
+use Rattle.cfdp_arena.specs.Arena.{Blocks, octets_of}
+use Rattle.cfdp_actions.specs.declared.kind.Kind.{Kind}
+use Rattle.cfdp_actions.specs.declared.kind.Kind.TheVariants as kind
+use Rattle.cfdp_tree.specs.declared.index.Head.{Head}
+use Rattle.cfdp_tree.specs.Row.{Row, row_of, kind_told}
+use Rattle.cfdp_tree.specs.Tree.{IsNode, path_of}
+use Rattle.cfdp_tree.specs.Entries.{entry_chain, IsGrouped}
+
+abbrev pub entries_told : Kind → Row → Head
+entries_told kind.Directory row = record { first = row.first; count = row.size }
+entries_told kind.File row = record { first = row.first; count = 0 }
+
+abbrev pub entries_in : List ℕ → Head
+entries_in block = entries_told (kind_told (row_of block).kind) (row_of block)
+
+abbrev pub chain_of : Blocks → Head → List ℕ
+chain_of nodes head = entry_chain nodes head.count head.first
+
+abbrev pub entries_of : Blocks → ℕ → List ℕ
+entries_of nodes b = chain_of nodes (entries_in (octets_of nodes b))
+
+abbrev pub walk : Blocks → ℕ → ℕ → List ℕ
+walk nodes zero b = []
+walk nodes (suc n) b = b ∷ flat_map (walk nodes n) (entries_of nodes b)
+
+abbrev pub walks : Blocks → ℕ → List ℕ → List ℕ
+walks nodes n list = flat_map (walk nodes n) list
+
+-- a path has 8 names at most
+abbrev pub walks_at : Blocks → ℕ → List ℕ → List ℕ
+walks_at nodes depth list = walks nodes (9 - depth) list
+
+abbrev pub longest : Blocks → List ℕ → ℕ
+longest nodes [] = 0
+longest nodes (b ∷ rest) = max (length (path_of nodes b)) (longest nodes rest)
+
+pub record StandsDeep (nodes : Blocks) (depth b : ℕ) : Type 0 where
+  pub node : IsNode nodes b
+  pub names : length (path_of nodes b) ≡ depth
+
+abbrev pub StandAt : Blocks → ℕ → List ℕ → Type 0
+StandAt nodes depth list = All (StandsDeep nodes depth) list
+
+abbrev pub HasLists : Blocks → Type 0
+HasLists nodes = (root : Head) × IsGrouped nodes root None

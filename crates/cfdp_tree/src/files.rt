@@ -1,0 +1,111 @@
+//! The octets of a file come to its node.
+ghost use Rattle.std.specs.Prelude.{◌≡◌, ◌≢◌, ℕ, ◌+◌, ◌<◌, ◌≤◌, ◌++◌, None, length, drop};
+ghost use Rattle.cfdp_arena.specs.Arena.{octets_of, free_count, with_block};
+ghost use Rattle.cfdp_actions.specs.Filestore.{blocks_of};
+ghost use Rattle.cfdp_tree.specs.Block.{header_of};
+ghost use Rattle.cfdp_tree.specs.Row.{row_of};
+ghost use Rattle.cfdp_tree.specs.Nodes.{nodes_in};
+ghost use Rattle.cfdp_tree.specs.Runs.{IsHeld, Apart, RunsStay, Spares};
+ghost use Rattle.cfdp_tree.specs.Contents.{IsFilled, contents_in};
+ghost use Rattle.cfdp_tree.specs.Tree.{IsNode, IsTree, row_at, name_at, path_of};
+ghost use Rattle.cfdp_tree.specs.Index.{IsIndex};
+ghost use Rattle.cfdp_tree.specs.Kept.{contents_told};
+ghost use Rattle.cfdp_tree.specs.Files.{with_run};
+
+use crate::contents::{Contents, contents_of};
+use crate::index::Head;
+use crate::lookup::find_path;
+use crate::rows::{set_first, set_last, set_size};
+use crate::runs::Run;
+use cfdp_actions::Kind;
+use cfdp_arena::{Arena, Block, BlockId};
+use cfdp_paths::Path;
+
+/// A file that was found: its node, and its octets.
+#[derive(Clone, Copy, Debug)]
+pub(crate) struct FoundFile {
+    pub(crate) node: BlockId,
+    pub(crate) contents: Contents,
+}
+
+/// The file at a path. In expected time linear in the octets of the path for each name.
+pub(crate) fn find_file(arena: &Arena, heads: &[Head], path: &Path) -> FoundFile
+    requires tree { IsTree (nodes_in arena.now) }
+    requires index { IsIndex (nodes_in arena.now) heads.now None }
+    requires there { (b : ℕ) × IsNode (nodes_in arena.now) b × (path_of (nodes_in arena.now) b ≡ path.now) }
+    requires most { (b : ℕ) → IsNode (nodes_in arena.now) b → path_of (nodes_in arena.now) b ≡ path.now →
+        (row_at (nodes_in arena.now) b).size ≤ 7864320 }
+    ensures node { IsNode (nodes_in arena.now) result.node }
+    ensures path { path_of (nodes_in arena.now) result.node ≡ path.now }
+    ensures contents { result.contents ≡ contents_told Kind.File (row_at (nodes_in arena.now) result.node) }
+{
+    let node = find_path(arena, heads, path).unwrap();
+    FoundFile {
+        node,
+        contents: contents_of(arena.bytes(node)),
+    }
+}
+
+impl FoundFile {
+    /// Puts the octets of a file, which may be the same one, behind those of this one. In time linear in them.
+    pub(crate) fn append(&self, arena: &mut Arena, source: &FoundFile) -> Contents
+        requires filled { IsFilled arena.old self.now.contents }
+        requires source { IsFilled arena.old source.now.contents }
+        requires same { self.now.node ≡ source.now.node → self.now.contents ≡ source.now.contents }
+        requires apart { self.now.node ≢ source.now.node → Apart self.now.contents.run source.now.contents.run }
+        requires most { self.now.contents.size + source.now.contents.size ≤ 7864320 }
+        requires room { blocks_of (self.now.contents.size + source.now.contents.size)
+            ≤ free_count arena.old + blocks_of self.now.contents.size }
+        ensures filled { IsFilled arena.new result }
+        ensures size { result.size ≡ self.now.contents.size + source.now.contents.size }
+        ensures octets { contents_in arena.new result
+            ≡ contents_in arena.old self.now.contents ++ contents_in arena.old source.now.contents }
+        ensures taken { free_count arena.new + blocks_of (self.now.contents.size + source.now.contents.size)
+            ≡ free_count arena.old + blocks_of self.now.contents.size }
+        ensures capacity { length arena.new ≡ length arena.old }
+        ensures spares { Spares arena.old arena.new self.now.contents.run result.run }
+        ensures nodes { nodes_in arena.new ≡ nodes_in arena.old }
+    {
+        let mut contents = self.contents;
+        if self.node == source.node {
+            contents.append_self(arena);
+        } else {
+            contents.append(arena, &source.contents);
+        }
+        contents
+    }
+}
+
+/// Says where a file's octets stand, and how many they are. In constant time.
+pub(crate) fn set_contents(arena: &mut Arena, node: &BlockId, contents: &Contents)
+    requires node { IsNode (nodes_in arena.old) node.now }
+    requires held { IsHeld arena.old contents.now.run }
+    ensures nodes { nodes_in arena.new
+        ≡ with_block (nodes_in arena.old) node.now (octets_of (nodes_in arena.new) node.now) }
+    ensures row { row_at (nodes_in arena.new) node.now
+        ≡ record (with_run (row_at (nodes_in arena.old) node.now) contents.now.run) { size = contents.now.size } }
+    ensures name { name_at (nodes_in arena.new) node.now ≡ name_at (nodes_in arena.old) node.now }
+    ensures whole { length (octets_of (nodes_in arena.new) node.now) ≡ 128 }
+    ensures runs { RunsStay arena.old arena.new }
+    ensures free { free_count arena.new ≡ free_count arena.old }
+    ensures capacity { length arena.new ≡ length arena.old }
+{
+    let _free = arena.free();
+    let block = arena.bytes_mut(*node);
+    set_run(block, &contents.run);
+    set_size(block, contents.size);
+}
+
+/// Names the first and the last block of a file's octets, where there are some. The rest of the block stays.
+fn set_run(block: &mut Block, run: &Run)
+    requires first { 0 < run.now.count → run.now.first < 65536 }
+    requires last { 0 < run.now.count → run.now.last < 65536 }
+    ensures row { row_of block.new ≡ with_run (row_of block.old) run.now }
+    ensures header { header_of block.new ≡ header_of block.old }
+    ensures name { drop 32 block.new ≡ drop 32 block.old }
+{
+    if run.count > 0 {
+        set_first(block, run.first);
+        set_last(block, run.last);
+    }
+}

@@ -1,0 +1,45 @@
+//! What is staged becomes a file.
+ghost use Rattle.std.specs.Prelude.{◌≡◌, ◌+◌, ◌-◌, ◌*◌, ◌<◌, ◌≤◌, IsTrue, IsOk, IfOk, OnOk, OnErr, Some, None, false, [], ◌∷◌, ◌++◌, length, is_none, if◌then◌else◌};
+ghost use Rattle.cfdp_paths.specs.Paths.{same_path};
+ghost use Rattle.cfdp_actions.specs.Filestore.{File, node_at, staged_in, blocks_of, Becomes, Stages, is_file, is_directory, octets_at, parent_is_good};
+ghost use Rattle.cfdp_actions.specs.Store.{free_blocks, with_changes};
+
+use crate::files::{find_file, set_contents};
+use crate::slots::Slot;
+use crate::tree_store::TreeStore;
+use cfdp_actions::Filestore;
+use cfdp_paths::Path;
+
+impl TreeStore {
+    /// Makes what is staged in the slot the contents of a file; the slot is then empty. Answers the blocks that the old
+    /// contents give back.
+    pub(crate) fn install_over(&mut self, slot: u8, path: &Path) -> u32
+        requires slot { slot < 64 }
+        requires file { IsTrue (is_file (node_at self.old.filestore path.now)) }
+        ensures ticks { result ≡ blocks_of (length (octets_at self.old.filestore path.now)) }
+        ensures installed { self.new ≡ with_changes self.old
+            (Stages slot [] ∷ Becomes path.now (Some (File (staged_in self.old.filestore slot))) ∷ []) }
+    {
+        self.exchange(slot, path);
+        self.unstage(slot)
+    }
+
+    /// Gives a file what is staged in the slot, and the slot what the file had. No octet moves. In constant time, but for
+    /// the search for the file.
+    fn exchange(&mut self, slot: u8, path: &Path)
+        requires slot { slot < 64 }
+        requires file { IsTrue (is_file (node_at self.old.filestore path.now)) }
+        ensures exchanged { self.new ≡ with_changes self.old (Stages slot (octets_at self.old.filestore path.now)
+            ∷ Becomes path.now (Some (File (staged_in self.old.filestore slot))) ∷ []) }
+        ensures slots { length self.old.filestore.staged ≡ 64 }
+    {
+        let index = usize::from(slot);
+        let file = find_file(&self.arena, &self.heads, path);
+        let staged = self.slots[index];
+        set_contents(&mut self.arena, &file.node, &staged.contents);
+        self.slots[index] = Slot {
+            contents: file.contents,
+            place: file.contents.run.start(),
+        };
+    }
+}

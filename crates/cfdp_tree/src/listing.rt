@@ -1,0 +1,100 @@
+//! What stands at nodes, as callers see it.
+ghost use Rattle.std.specs.Prelude.{◌≡◌, All, IfOk, map};
+ghost use Rattle.cfdp_actions.specs.Store.{entry_of, standing_of};
+ghost use Rattle.cfdp_tree.specs.Nodes.{nodes_in};
+ghost use Rattle.cfdp_tree.specs.Survey.{shown, IsSound};
+
+use crate::contents::contents_of;
+use crate::rows::{kind_of, size_of};
+use crate::summing::checksum_of;
+use cfdp_actions::{Entry, Kind, Standing};
+use cfdp_arena::{Arena, BlockId};
+use cfdp_paths::{Memory, Path};
+use std::alloc::Global;
+
+/// What stands at some nodes that come with their paths. In time linear in their number.
+///
+/// # Errors
+///
+/// [`Memory`] where there was none for the vector: one allocation.
+pub(crate) fn standings(
+    alloc: Global,
+    arena: &Arena,
+    found: Vec<(Path, BlockId)>,
+) -> Result<Vec<Standing>, Memory>
+    requires sound { All (IsSound arena.now) found.items }
+    ensures { IfOk result (λ all. all.items
+        ≡ map (λ e. standing_of (shown arena.now (nodes_in arena.now) e)) found.items) }
+{
+    let mut all = Vec::with_capacity(alloc, found.len())?;
+    for (path, node) in found {
+        all.push(standing(arena, path, &node))?;
+    }
+    Ok(all)
+}
+
+/// The same with the checksums of the files. In time linear in all their octets.
+///
+/// # Errors
+///
+/// [`Memory`] where there was none for the vector: one allocation.
+pub(crate) fn entries(
+    alloc: Global,
+    arena: &Arena,
+    found: Vec<(Path, BlockId)>,
+) -> Result<Vec<Entry>, Memory>
+    requires sound { All (IsSound arena.now) found.items }
+    ensures { IfOk result (λ all. all.items
+        ≡ map (λ e. entry_of (shown arena.now (nodes_in arena.now) e)) found.items) }
+{
+    let mut all = Vec::with_capacity(alloc, found.len())?;
+    for (path, node) in found {
+        all.push(entry(arena, path, &node))?;
+    }
+    Ok(all)
+}
+
+/// What stands at a node.
+fn standing(arena: &Arena, path: Path, node: &BlockId) -> Standing
+    requires { IsSound arena.now (path, node.now) }
+    ensures { result ≡ standing_of (shown arena.now (nodes_in arena.now) (path, node.now)) }
+{
+    let block = arena.bytes(*node);
+    match kind_of(block) {
+        Kind::Directory => Standing {
+            path,
+            kind: Kind::Directory,
+            size: 0,
+        },
+        Kind::File => Standing {
+            path,
+            kind: Kind::File,
+            size: u64::from(size_of(block)),
+        },
+    }
+}
+
+/// The same with the checksum of a file.
+fn entry(arena: &Arena, path: Path, node: &BlockId) -> Entry
+    requires { IsSound arena.now (path, node.now) }
+    ensures { result ≡ entry_of (shown arena.now (nodes_in arena.now) (path, node.now)) }
+{
+    let block = arena.bytes(*node);
+    match kind_of(block) {
+        Kind::Directory => Entry {
+            path,
+            kind: Kind::Directory,
+            size: 0,
+            checksum: 0,
+        },
+        Kind::File => {
+            let file = contents_of(block);
+            Entry {
+                path,
+                kind: Kind::File,
+                size: u64::from(file.size),
+                checksum: checksum_of(arena, &file),
+            }
+        }
+    }
+}

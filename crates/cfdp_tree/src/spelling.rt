@@ -1,0 +1,65 @@
+//! The paths of nodes.
+ghost use Rattle.std.specs.Prelude.{◌≡◌, ◌+◌, ◌≤◌, ◌∷◌, ◌++◌, IfOk, drop, length};
+ghost use Rattle.cfdp_paths.specs.Paths.{slash};
+ghost use Rattle.cfdp_tree.specs.Nodes.{nodes_in};
+ghost use Rattle.cfdp_tree.specs.Tree.{IsTree, IsNode, path_of};
+ghost use Rattle.cfdp_tree.specs.Text.{text_of};
+
+use crate::rows::{home_of, name_in};
+use cfdp_arena::{Arena, BlockId};
+use cfdp_paths::{LONGEST_NAME, MOST_NAMES, Memory, Path};
+use std::alloc::Global;
+
+/// The most octets of the names of a path, with a slash before each.
+const MOST_OCTETS: usize = MOST_NAMES * (LONGEST_NAME + 1);
+
+/// The path of a node. In time linear in its octets.
+///
+/// # Errors
+///
+/// [`Memory`] where there was none for the path: one allocation of its length.
+pub(crate) fn path_of(alloc: Global, arena: &Arena, node: &BlockId) -> Result<Path, Memory>
+    requires tree { IsTree (nodes_in arena.now) }
+    requires node { IsNode (nodes_in arena.now) node.now }
+    ensures { IfOk result (λ path. path ≡ path_of (nodes_in arena.now) node.now) }
+{
+    let mut text = [0; MOST_OCTETS];
+    let start = write_path(arena, node, &mut text);
+    Path::parse(alloc, &text[start..]).map_err(|_| Memory {})
+}
+
+/// Writes the names of a node's path, a slash before each, to the end of the buffer. Answers where they begin. In time
+/// linear in the octets.
+fn write_path(arena: &Arena, node: &BlockId, text: &mut [u8]) -> usize
+    requires tree { IsTree (nodes_in arena.now) }
+    requires node { IsNode (nodes_in arena.now) node.now }
+    requires room { 776 ≤ length text.old }
+    ensures length { length text.new ≡ length text.old }
+    ensures within { result ≤ length text.new }
+    ensures text { drop result text.new ≡ text_of (path_of (nodes_in arena.now) node.now) }
+{
+    let mut start = text.len();
+    let mut node = *node;
+    loop {
+        let block = arena.bytes(node);
+        start = prepend(text, start, name_in(block));
+        match home_of(block, &node) {
+            Some(parent) => node = parent,
+            None => return start,
+        }
+    }
+}
+
+/// Writes a slash and a name before the place `end`. Answers where they begin.
+fn prepend(text: &mut [u8], end: usize, name: &[u8]) -> usize
+    requires within { end ≤ length text.old }
+    requires room { length name.now + 1 ≤ end }
+    ensures start { result + (length name.now + 1) ≡ end }
+    ensures text { drop result text.new ≡ slash ∷ name.now ++ drop end text.old }
+    ensures length { length text.new ≡ length text.old }
+{
+    let start = end - name.len();
+    text[start..end].copy_from_slice(name);
+    text[start - 1] = b'/';
+    start - 1
+}

@@ -1,0 +1,56 @@
+//! What stands at a place of the tree and below it, in path order.
+ghost use Rattle.std.specs.Prelude.{◌≡◌, All, IfOk, IsSorted, IsPermutation, map};
+ghost use Rattle.cfdp_tree.specs.Nodes.{nodes_in};
+ghost use Rattle.cfdp_tree.specs.Tree.{IsTree, IsNode};
+ghost use Rattle.cfdp_tree.specs.Walk.{chain_of, walks_at, StandAt, HasLists};
+ghost use Rattle.cfdp_tree.specs.Survey.{with_path, by_path};
+
+use crate::index::Head;
+use crate::spelling::path_of;
+use crate::walk::collect_nodes;
+use cfdp_arena::{Arena, BlockId};
+use cfdp_paths::{Memory, Path};
+use std::alloc::Global;
+
+/// The nodes of a list, each of which has a path of `depth` names, and all that stands below them, each with its path, in
+/// path order. In time linear in what stands there, times a logarithm.
+///
+/// # Errors
+///
+/// [`Memory`] where there was none for the paths: one allocation for each, and some for the vectors.
+pub(crate) fn survey(
+    alloc: Global,
+    arena: &Arena,
+    list: &Head,
+    depth: usize,
+) -> Result<Vec<(Path, BlockId)>, Memory>
+    requires tree { IsTree (nodes_in arena.now) }
+    requires lists { HasLists (nodes_in arena.now) }
+    requires nodes { StandAt (nodes_in arena.now) depth (chain_of (nodes_in arena.now) list.now) }
+    ensures found { IfOk result (λ found. IsPermutation (map (with_path (nodes_in arena.now))
+        (walks_at (nodes_in arena.now) depth (chain_of (nodes_in arena.now) list.now))) found.items) }
+    ensures sorted { IfOk result (λ found. IsSorted by_path found.items) }
+{
+    let mut nodes = Vec::new(alloc);
+    collect_nodes(arena, list, depth, &mut nodes)?;
+    let mut found = with_paths(alloc, arena, &nodes)?;
+    found.sort_unstable_by(|one, other| one.0.cmp(&other.0));
+    Ok(found)
+}
+
+/// The nodes, each with its path.
+fn with_paths(
+    alloc: Global,
+    arena: &Arena,
+    nodes: &[BlockId],
+) -> Result<Vec<(Path, BlockId)>, Memory>
+    requires tree { IsTree (nodes_in arena.now) }
+    requires nodes { All (IsNode (nodes_in arena.now)) nodes.now }
+    ensures { IfOk result (λ found. found.items ≡ map (with_path (nodes_in arena.now)) nodes.now) }
+{
+    let mut found = Vec::with_capacity(alloc, nodes.len())?;
+    for node in nodes {
+        found.push((path_of(alloc, arena, node)?, *node))?;
+    }
+    Ok(found)
+}

@@ -1,0 +1,75 @@
+//! Walks over what stands below a place.
+ghost use Rattle.std.specs.Prelude.{◌≡◌, ◌≤◌, ◌++◌, OnOk};
+ghost use Rattle.cfdp_tree.specs.Nodes.{nodes_in};
+ghost use Rattle.cfdp_tree.specs.Tree.{IsTree};
+ghost use Rattle.cfdp_tree.specs.Walk.{entries_in, chain_of, walks_at, longest, StandAt, HasLists};
+
+use crate::index::Head;
+use crate::rows::{first_of, kind_of, next_entry_of, size_of};
+use cfdp_actions::Kind;
+use cfdp_arena::{Arena, Block, BlockId};
+use cfdp_paths::Memory;
+
+/// The list of a directory's entries, by its block; an empty one for a file.
+fn entries_in(block: &Block) -> Head
+    ensures { result ≡ entries_in block.now }
+{
+    let count = match kind_of(block) {
+        Kind::Directory => size_of(block),
+        Kind::File => 0,
+    };
+    Head {
+        first: first_of(block),
+        count,
+    }
+}
+
+/// The number of names of the longest path among the nodes of a list, each of which has a path of `depth` names, and all
+/// that stands below them; 0 for an empty list. Takes no memory. In time linear in what stands there, by at most
+/// 9 calls within one another.
+pub(crate) fn deepest_in(arena: &Arena, list: &Head, depth: usize) -> usize
+    requires tree { IsTree (nodes_in arena.now) }
+    requires lists { HasLists (nodes_in arena.now) }
+    requires nodes { StandAt (nodes_in arena.now) depth (chain_of (nodes_in arena.now) list.now) }
+    ensures value { result ≡ longest (nodes_in arena.now)
+        (walks_at (nodes_in arena.now) depth (chain_of (nodes_in arena.now) list.now)) }
+    ensures within { result ≤ 8 }
+{
+    let mut deepest = 0;
+    let mut node = list.first;
+    for _step in 0..list.count {
+        let block = arena.bytes(node);
+        let below = deepest_in(arena, &entries_in(block), depth + 1);
+        deepest = deepest.max(depth).max(below);
+        node = next_entry_of(block);
+    }
+    deepest
+}
+
+/// Puts the nodes of a list, each of which has a path of `depth` names, at the end of a vector, each before the nodes
+/// below it. In time linear in what stands there, by at most 9 calls within one another.
+///
+/// # Errors
+///
+/// [`Memory`] where there was none for the vector.
+pub(crate) fn collect_nodes(
+    arena: &Arena,
+    list: &Head,
+    depth: usize,
+    found: &mut Vec<BlockId>,
+) -> Result<(), Memory>
+    requires tree { IsTree (nodes_in arena.now) }
+    requires lists { HasLists (nodes_in arena.now) }
+    requires nodes { StandAt (nodes_in arena.now) depth (chain_of (nodes_in arena.now) list.now) }
+    ensures { OnOk result (found.new.items ≡ found.old.items
+        ++ walks_at (nodes_in arena.now) depth (chain_of (nodes_in arena.now) list.now)) }
+{
+    let mut node = list.first;
+    for _step in 0..list.count {
+        found.push(node)?;
+        let block = arena.bytes(node);
+        collect_nodes(arena, &entries_in(block), depth + 1, found)?;
+        node = next_entry_of(block);
+    }
+    Ok(())
+}
