@@ -1,5 +1,4 @@
 pub mod PresentLaws
-pub mod SummingLaws
 pub mod RowLaws
 pub mod WeighedLaws
 pub mod ShownLaws

@@ -5,5 +5,4 @@ pub mod Prefixes
 pub mod Performing
 pub mod Listed
 pub mod Codes
-pub mod Sources
 pub mod Refusals

@@ -3,8 +3,8 @@
 ghost use Rattle.std.specs.Prelude.{◌≡◌, ◌≤◌};
 ghost use Rattle.cfdp_actions.specs.Filestore.{blocks_of};
 
-/// The octets that a block holds.
-pub const BLOCK_OCTETS: u64 = 120;
+/// The octets of a file or of a staged list that a block holds.
+pub const PAYLOAD_OCTETS: u64 = 120;
 
 /// The blocks of so many octets, which are no more than two files have: one for each 120 octets, the last one filled in
 /// part.
@@ -12,5 +12,5 @@ pub fn blocks_of(octets: u64) -> u32
     requires { octets ≤ 15728640 }
     ensures { result ≡ blocks_of octets }
 {
-    ((octets + (BLOCK_OCTETS - 1)) / BLOCK_OCTETS) as u32
+    ((octets + (PAYLOAD_OCTETS - 1)) / PAYLOAD_OCTETS) as u32
 }

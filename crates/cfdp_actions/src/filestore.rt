@@ -1,6 +1,7 @@
 //! What a store of files offers.
 
 ghost use Rattle.std.specs.Prelude.{◌≡◌, ◌≢◌, ℕ, ◌+◌, ◌-◌, ◌*◌, ◌<◌, ◌≤◌, ◌==◌, Bool, true, false, not, if◌then◌else◌, IsTrue, IsFalse, IsSome, IsNone, IsOk, IfOk, OnOk, OnErr, Option, Some, None, List, [], ◌∷◌, ◌++◌, length, map, slice_range, is_none};
+ghost use Rattle.cfdp_checksum.specs.Checksum.{checksum};
 ghost use Rattle.cfdp_paths.specs.Paths.{same_path, is_at_or_below};
 ghost use Rattle.cfdp_actions.specs.Filestore.{Node, File, Directory, node_at, staged_in, blocks_of, weight, blocks, Becomes, Stages, has_entries, is_directory, is_file, octets_in, octets_at, parent_is_good, tree_at, deepest_of};
 ghost use Rattle.cfdp_actions.specs.Actions.{is_too_deep, vacated, settled};
@@ -47,6 +48,12 @@ pub trait Filestore: Drop {
         ensures { buffer.new
             ≡ slice_range (octets_at (state self.now).filestore path.now) at (at + length buffer.old) };
 
+    /// A file's modular checksum (CCSDS 727.0-B-5 §4.2.2): modulo 2^32 the sum of its octets as words of four octets, the
+    /// first one the most significant and the last word filled with zeros. Takes no memory. In time linear in the octets.
+    fn checksum(&self, path: &Path) -> u32
+        requires { IsTrue (is_file (node_at (state self.now).filestore path.now)) }
+        ensures { result ≡ checksum (octets_at (state self.now).filestore path.now) };
+
     /// The number of names of the longest path at or below a path at which something stands: 1 to 8.
     fn deepest(&self, path: &Path) -> u8
         requires { IsSome (node_at (state self.now).filestore path.now) }
@@ -65,6 +72,11 @@ pub trait Filestore: Drop {
         requires slot { slot < 64 }
         requires range { at + length buffer.old ≤ length (staged_in (state self.now).filestore slot) }
         ensures { buffer.new ≡ slice_range (staged_in (state self.now).filestore slot) at (at + length buffer.old) };
+
+    /// The modular checksum of what is staged in the slot, as that of a file. Takes no memory. In time linear in the octets.
+    fn staged_checksum(&self, slot: u8) -> u32
+        requires { slot < 64 }
+        ensures { result ≡ checksum (staged_in (state self.now).filestore slot) };
 
     /// The blocks that nothing takes. There are at most 65,536 blocks, and no more are in use than there are.
     fn free(&self) -> u32

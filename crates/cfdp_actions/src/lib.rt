@@ -6,7 +6,6 @@
 #![tactic(auto)]
 
 mod blocks;
-mod checksum;
 mod content;
 mod filestore;
 mod kind;
@@ -19,8 +18,7 @@ mod rows;
 mod staging;
 mod survey;
 
-pub use blocks::BLOCK_OCTETS;
-pub use checksum::{entry_checksum, staged_checksum};
+pub use blocks::PAYLOAD_OCTETS;
 pub use filestore::Filestore;
 pub use kind::{Entry, Kind, Standing};
 pub use kinds::{Kinds, refusal};

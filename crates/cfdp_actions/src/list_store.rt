@@ -6,6 +6,7 @@ ghost use Rattle.cfdp_actions.specs.Store.{empty_store};
 use crate::blocks::blocks_of;
 use crate::content::{Content, Growth, append, octets_at};
 use crate::{Entry, Filestore, Kind, Standing, staging, survey};
+use cfdp_checksum::modular_checksum;
 use cfdp_paths::{Memory, Path, PathMap};
 use std::alloc::Global;
 use std::marker::Model;
@@ -107,6 +108,10 @@ impl Filestore for ListStore {
         copy_out(octets_at(&self.entries, path), at as usize, buffer);
     }
 
+    fn checksum(&self, path: &Path) -> u32 {
+        modular_checksum(octets_at(&self.entries, path))
+    }
+
     fn deepest(&self, path: &Path) -> u8 {
         survey::deepest(self.entries.tree(path))
     }
@@ -118,6 +123,10 @@ impl Filestore for ListStore {
     fn read_staged(&self, slot: u8, at: u64, buffer: &mut [u8]) {
         let octets = self.staged[usize::from(slot)].as_slice();
         copy_out(octets, at as usize, buffer);
+    }
+
+    fn staged_checksum(&self, slot: u8) -> u32 {
+        modular_checksum(&self.staged[usize::from(slot)])
     }
 
     fn free(&self) -> u32 {

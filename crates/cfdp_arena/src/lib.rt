@@ -20,8 +20,11 @@ pub use region::Region;
 /// Want of memory: the one refusal of `Arena::new`.
 pub type Memory = std::alloc::AllocError;
 
+/// How many octets a block has.
+pub const BLOCK_OCTETS: usize = 128;
+
 /// The octets of a block: 8 for its owner's links, and a payload of 120.
-pub type Block = [u8; 128];
+pub type Block = [u8; BLOCK_OCTETS];
 
 #[cfg(test)]
 mod tests;

@@ -3,7 +3,7 @@ ghost use Rattle.std.specs.Prelude.{◌≡◌, ◌<◌};
 ghost use Rattle.cfdp_arena.specs.FreeList.{link};
 ghost use Rattle.cfdp_arena.specs.Blocks.{blank_block};
 
-use crate::Block;
+use crate::{BLOCK_OCTETS, Block};
 
 /// Returns the number of the free block after this one.
 pub(crate) fn next_free(block: &Block) -> u32
@@ -27,5 +27,5 @@ pub(crate) fn link_to(block: &mut Block, next: u32)
 pub(crate) fn blank(block: &mut Block)
     ensures zeros { block.new ≡ blank_block }
 {
-    *block = [0; 128];
+    *block = [0; BLOCK_OCTETS];
 }

@@ -5,12 +5,9 @@ ghost use Rattle.std.specs.Borrow.{sem};
 ghost use Rattle.cfdp_arena.specs.Blocks.{blank_block};
 ghost use Rattle.cfdp_arena.specs.Ownership.{region_owns, region_lends};
 
-use crate::Block;
+use crate::{BLOCK_OCTETS, Block};
 use std::alloc::{AllocError, Allocator, Global};
 use std::marker::{Model, Send};
-
-/// The octets of a block.
-const BLOCK_OCTETS: usize = 128;
 
 /// A row of blocks in memory that it owns, with room for more until each place has its block. It has no `Drop`, so
 /// that a region which is not given to `release` is refused.
@@ -65,7 +62,7 @@ impl Region {
         ensures blocks { self.new.blocks ≡ self.old.blocks ++ blank_block ∷ [] }
         ensures room { self.new.room ≡ self.old.room }
     {
-        unsafe { *self.base.add(number) = [0; 128] };
+        unsafe { *self.base.add(number) = [0; BLOCK_OCTETS] };
     }
 
     /// Gives the memory back to the allocator.

@@ -10,16 +10,16 @@ ghost use Rattle.cfdp_sim.specs.Stages.{stage_of};
 use crate::faults::LinkFault;
 use crate::link_lines::read_file;
 use crate::stage::Stage;
-use cfdp_actions::ListStore;
 use cfdp_engine::Message;
 use cfdp_transactions::Core;
+use cfdp_tree::TreeStore;
 use std::alloc::Global;
 
 /// What is made of the files before a worker starts.
 #[derive(Drop)]
 pub(crate) struct Prepared {
     /// An entity of their configuration, to which nothing has happened.
-    pub(crate) core: Core<ListStore>,
+    pub(crate) core: Core<TreeStore>,
 
     /// What each file says, in their order.
     pub(crate) files: Vec<Vec<Message>>,

@@ -22,9 +22,9 @@ use crate::readable::messages_are_readable;
 use crate::stage::copy_config;
 use crate::streams::ScriptOut;
 use crate::workers::run_all;
-use cfdp_actions::ListStore;
 use cfdp_engine::{Closed, Entry, Gate, Journaled, Message, Seat, Shared, Stop, Worked, close};
 use cfdp_transactions::{Config, Core, laws};
+use cfdp_tree::TreeStore;
 use std::alloc::Global;
 use std::sync::Wait;
 use std::thread::Threads;
@@ -127,9 +127,9 @@ fn settle_all(
 /// [`LinkFault::ReceiptsDiffer`] elsewhere.
 fn reconcile(
     config: &Config,
-    journaled: Journaled<ListStore>,
+    journaled: Journaled<TreeStore>,
     seats: Vec<Seat>,
-) -> Result<Closed<ListStore>, LinkFault>
+) -> Result<Closed<TreeStore>, LinkFault>
     ensures config { IfOk result (λ closed. closed.core.world.config ≡ config.now) }
     ensures history { IfOk result (λ closed. IsHistory closed.journal.items closed.core.world) }
     ensures reconciled { IfOk result (λ closed. IsReconciled closed.journal.items closed.seats.items) }
@@ -147,7 +147,7 @@ fn reconcile(
 
 /// The replies of a journal can be written, where its events are those of seats that handed in what may have been read. Does
 /// nothing.
-fn replies_fit(core: &Core<ListStore>, journal: &[Entry], seats: &[Seat])
+fn replies_fit(core: &Core<TreeStore>, journal: &[Entry], seats: &[Seat])
     requires history { IsHistory journal.now core.now.world }
     requires reconciled { IsReconciled journal.now seats.now }
     requires readable { AllByRecursion HasReadable seats.now }
@@ -159,7 +159,7 @@ fn replies_fit(core: &Core<ListStore>, journal: &[Entry], seats: &[Seat])
 /// The text of an engine that is closed.
 fn text_of_closed(
     alloc: Global,
-    closed: &Closed<ListStore>,
+    closed: &Closed<TreeStore>,
     dropped: &[u64],
 ) -> Result<Vec<u8>, LinkFault>
     requires history { IsHistory closed.now.journal.items closed.now.core.world }
@@ -182,7 +182,7 @@ fn text_of_closed(
 fn text_of_work(
     alloc: Global,
     config: &Config,
-    journaled: Journaled<ListStore>,
+    journaled: Journaled<TreeStore>,
     workers: Vec<Worked>,
     files: &[Vec<Message>],
 ) -> Result<Vec<u8>, LinkFault>

@@ -13,7 +13,7 @@ use crate::requests::Requests;
 use crate::run::run;
 use crate::streams::{ScriptIn, ScriptOut};
 use crate::to_write::ToWrite;
-use cfdp_actions::ListStore;
+use cfdp_tree::TreeStore;
 use std::alloc::Global;
 
 /// The blocks of the filestore.
@@ -68,7 +68,7 @@ pub fn plain<R: ScriptIn, W: ScriptOut>(
     ensures well_read { result ≢ Err Read → R.failed reader.new ≡ R.failed reader.old }
     ensures well_written { result ≢ Err Write → W.failed writer.new ≡ W.failed writer.old }
 {
-    let Ok(store) = ListStore::new(alloc, BLOCKS) else {
+    let Ok(store) = TreeStore::new(alloc, BLOCKS) else {
         return Err(RunFault::Memory);
     };
     run(alloc, Requests::new(alloc, store), reader, writer)

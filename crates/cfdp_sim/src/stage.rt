@@ -11,9 +11,10 @@ ghost use Rattle.cfdp_sim.specs.declared.script.LineFault.TheVariants.{Bad};
 
 use crate::entity::Entity;
 use crate::script::LineFault;
-use cfdp_actions::{ListStore, Protected};
+use cfdp_actions::Protected;
 use cfdp_paths::{Path, PathFault};
 use cfdp_transactions::{Config, Core, Event};
+use cfdp_tree::TreeStore;
 use std::alloc::{AllocError, Global};
 use std::mem;
 
@@ -85,10 +86,10 @@ fn config_of(
 }
 
 /// The entity of this configuration, over an empty store.
-fn entity_of(alloc: Global, config: Config) -> Result<Entity<ListStore>, AllocError>
+fn entity_of(alloc: Global, config: Config) -> Result<Entity<TreeStore>, AllocError>
     ensures { IfOk result (λ entity. entity.core.world ≡ start config) }
 {
-    let store = ListStore::new(alloc, config.blocks())?;
+    let store = TreeStore::new(alloc, config.blocks())?;
     Entity::new(alloc, config, store)
 }
 
@@ -99,7 +100,7 @@ pub(crate) enum Stage {
     /// are protected, and these.
     Preparing(bool, Config, Protected),
     /// After it.
-    Running(Entity<ListStore>),
+    Running(Entity<TreeStore>),
 }
 
 impl Stage {
@@ -159,7 +160,7 @@ impl Stage {
     }
 
     /// The core of the entity, which begins here where no event came before.
-    pub(crate) fn into_core(self, alloc: Global) -> Result<Core<ListStore>, AllocError>
+    pub(crate) fn into_core(self, alloc: Global) -> Result<Core<TreeStore>, AllocError>
         ensures { IfOk result (λ core. core.world ≡ world_of (stage_of self)) }
     {
         match self {

@@ -3,8 +3,8 @@ ghost use Rattle.std.specs.Prelude.{◌≡◌, ◌≤◌, length, IfOk};
 ghost use Rattle.cfdp_sim.specs.Linked.{AllNumbered, IsWork};
 
 use crate::messages::copy_of;
-use cfdp_actions::ListStore;
 use cfdp_engine::{Gate, Message, Seat, Shared, Worked, work};
+use cfdp_tree::TreeStore;
 use crossbeam_channel::{Receiver, Sender, bounded};
 use std::alloc::{AllocError, Global};
 use std::sync::Wait;
@@ -28,7 +28,7 @@ impl Promise<Worked> for Numbered {
 fn work_as<R: Wait, G: Gate>(
     rt: &R,
     alloc: Global,
-    shared: &Shared<ListStore>,
+    shared: &Shared<TreeStore>,
     number: u8,
     inbox: Receiver<Message, Global>,
     gate: &G,
@@ -90,7 +90,7 @@ fn join_all<R: Threads>(
 pub(crate) fn run_all<R: Threads + Wait + Sync, G: Gate + Sync>(
     rt: &R,
     alloc: Global,
-    shared: &Shared<ListStore>,
+    shared: &Shared<TreeStore>,
     files: &[Vec<Message>],
     gate: &G,
 ) -> Result<Vec<Worked>, AllocError>

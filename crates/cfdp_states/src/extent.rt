@@ -3,7 +3,7 @@
 ghost use Rattle.std.specs.Prelude.{◌≡◌, ◌<◌, ◌≤◌, ◌^◌};
 ghost use Rattle.cfdp_states.specs.Sketching.{extent_weight, extent_content};
 
-use cfdp_actions::BLOCK_OCTETS;
+use cfdp_actions::PAYLOAD_OCTETS;
 
 /// What stands at a path: a directory, or a file of at most so many octets.
 #[derive(Clone, Copy, Debug, PartialEq, Eq)]
@@ -22,7 +22,7 @@ impl Extent {
     {
         match self {
             Extent::Directory => 0,
-            Extent::File(octets) => octets.div_ceil(BLOCK_OCTETS),
+            Extent::File(octets) => octets.div_ceil(PAYLOAD_OCTETS),
         }
     }
 

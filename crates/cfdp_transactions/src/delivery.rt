@@ -15,7 +15,7 @@ use crate::closing::{end, finish, turn};
 use crate::conditions::{FILE_CHECKSUM_FAILURE, FILE_SIZE_ERROR, NO_ERROR};
 use crate::entry::Entry;
 use crate::{Config, Phase, Reply};
-use cfdp_actions::{Filestore, staged_checksum};
+use cfdp_actions::Filestore;
 use cfdp_pdus::Eof;
 
 /// The EOF of the transaction at a place (§4.6.1). Costs the checksum of what is staged, where all of it is there.
@@ -74,7 +74,7 @@ pub(crate) fn is_right<S: Filestore>(store: &S, entry: &Entry, sum: u32) -> bool
     requires { entry.now.slot < 64 }
     ensures { result ≡ ((entry.now.metadata.checksum_type == 15) || (checksum (staged_in (S.state store.now).filestore entry.now.slot) == sum)) }
 {
-    entry.metadata().checksum_type == NULL_CHECKSUM || staged_checksum(store, entry.slot()) == sum
+    entry.metadata().checksum_type == NULL_CHECKSUM || store.staged_checksum(entry.slot()) == sum
 }
 
 /// All octets of the file of the transaction at a place are there (§4.6.1): its items are performed from now on where the

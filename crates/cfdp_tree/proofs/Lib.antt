@@ -53,3 +53,4 @@ pub mod RegroupLaws
 pub mod RootedLaws
 pub mod ShiftLaws
 pub mod InOrderLaws
+pub mod SummingLaws

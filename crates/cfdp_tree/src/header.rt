@@ -8,7 +8,7 @@ use cfdp_arena::{Block, BlockId};
 pub(crate) const HEADER_OCTETS: usize = 8;
 
 /// The octets of a payload.
-pub(crate) const PAYLOAD_OCTETS: usize = 120;
+pub(crate) const PAYLOAD_OCTETS: usize = cfdp_actions::PAYLOAD_OCTETS as usize;
 
 /// What a block is for.
 #[derive(Clone, Copy, Debug, PartialEq, Eq)]

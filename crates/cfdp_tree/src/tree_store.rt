@@ -15,6 +15,7 @@ use crate::lookup::{find_path, lookup};
 use crate::nodes::{create_node, delete_node, rename_node};
 use crate::rows::{home_of, kind_of, size_of};
 use crate::slots::Slot;
+use crate::summing::checksum_of;
 use crate::survey::survey;
 use crate::walk::deepest_in;
 use cfdp_actions::{Entry, Filestore, Kind, Standing};
@@ -142,6 +143,12 @@ impl Filestore for TreeStore {
         file.get(&self.arena, file.run.start(), at as u32, buffer);
     }
 
+    fn checksum(&self, path: &Path) -> u32 {
+        let node = find_path(&self.arena, &self.heads, path).unwrap();
+        let file = contents_of(self.arena.bytes(node));
+        checksum_of(&self.arena, &file)
+    }
+
     fn deepest(&self, path: &Path) -> u8 {
         let node = find_path(&self.arena, &self.heads, path).unwrap();
         let alone = Head {
@@ -159,6 +166,10 @@ impl Filestore for TreeStore {
         let slot = &self.slots[usize::from(slot)];
         slot.contents
             .get(&self.arena, slot.place, at as u32, buffer);
+    }
+
+    fn staged_checksum(&self, slot: u8) -> u32 {
+        checksum_of(&self.arena, &self.slots[usize::from(slot)].contents)
     }
 
     fn free(&self) -> u32 {

@@ -31,34 +31,58 @@ fn compare(
 ) -> Result<(), Memory> {
     let reply = hand_in(rt, core, event, true);
     let same = is_told(rt, alloc, &reply, told)?;
-    assert!(rt; same, "{told:?} on {event:?}");
+    assert!(rt; same);
     Ok(())
+}
+
+/// Hands in what is given, and compares the reply.
+fn hands_in(
+    rt: &impl Abort,
+    alloc: Global,
+    core: &mut Core<ListStore>,
+    given: Given,
+    told: Told,
+) -> Result<(), Memory> {
+    let event = given.event(rt, alloc)?;
+    compare(rt, alloc, core, &event, told)
+}
+
+/// Begins a transaction that has nothing to do, and compares the reply.
+fn begin(
+    rt: &impl Abort,
+    alloc: Global,
+    core: &mut Core<ListStore>,
+    number: u8,
+    told: Told,
+) -> Result<(), Memory> {
+    let event = nothing_to_do(alloc, number);
+    compare(rt, alloc, core, &event, told)
+}
+
+/// The EOF PDU of one of them.
+const EOF: Given = Given::Pdu("24000a0001070204000000000000000000");
+
+/// A 65th transaction finds no place until one of the 64 is taken.
+fn one_more(rt: &impl Abort, alloc: Global, core: &mut Core<ListStore>) -> Result<(), Memory> {
+    begin(rt, alloc, core, 65, Told::TableFull)?;
+    hands_in(rt, alloc, core, EOF, Told::Done)?;
+    begin(rt, alloc, core, 65, Told::TableFull)?;
+    hands_in(
+        rt,
+        alloc,
+        core,
+        Given::Take(7),
+        Told::Finished("2c0002000107020503"),
+    )?;
+    begin(rt, alloc, core, 65, Told::Admitted(0, 0))
 }
 
 fn fill_the_table(rt: &impl Abort, alloc: Global) -> Result<(), Memory> {
     let mut core = entity_of(rt, alloc, DEFAULT)?;
     for number in 1..=64 {
-        compare(
-            rt,
-            alloc,
-            &mut core,
-            &nothing_to_do(alloc, number),
-            Told::Admitted(0, 0),
-        )?;
+        begin(rt, alloc, &mut core, number, Told::Admitted(0, 0))?;
     }
-    let one_more = nothing_to_do(alloc, 65);
-    compare(rt, alloc, &mut core, &one_more, Told::TableFull)?;
-    let eof = Given::Pdu("24000a0001070204000000000000000000").event(rt, alloc)?;
-    compare(rt, alloc, &mut core, &eof, Told::Done)?;
-    compare(rt, alloc, &mut core, &one_more, Told::TableFull)?;
-    compare(
-        rt,
-        alloc,
-        &mut core,
-        &Event::Take(id(7)),
-        Told::Finished("2c0002000107020503"),
-    )?;
-    compare(rt, alloc, &mut core, &one_more, Told::Admitted(0, 0))
+    one_more(rt, alloc, &mut core)
 }
 
 #[test]
@@ -70,28 +94,28 @@ fn a_table_of_64(rt: HostRuntime) -> Result<(), Memory> {
 }
 
 /// One octet at an offset.
-fn put(
-    rt: &impl Abort,
-    alloc: Global,
-    core: &mut Core<ListStore>,
-    offset: u64,
-    told: Told,
-) -> Result<(), Memory> {
-    let event = Given::Octets(18, offset, 1, 9).event(rt, alloc)?;
-    compare(rt, alloc, core, &event, told)
+fn octet_at(offset: u64) -> Given {
+    Given::Octets(18, offset, 1, 9)
+}
+
+/// A file of 2,400 octets at most.
+const METADATA: Given = Given::Pdu("24000a0001120207400000000001730166");
+
+/// An octet behind 32 pieces is dropped until two of them are one.
+fn join_pieces(rt: &impl Abort, alloc: Global, core: &mut Core<ListStore>) -> Result<(), Memory> {
+    assert!(rt; core.gaps(id(18)).unwrap_or_default().len() == 31);
+    hands_in(rt, alloc, core, octet_at(64), Told::Dropped)?;
+    hands_in(rt, alloc, core, octet_at(1), Told::Stored)?;
+    hands_in(rt, alloc, core, octet_at(64), Told::Stored)
 }
 
 fn fill_the_pieces(rt: &impl Abort, alloc: Global) -> Result<(), Memory> {
     let mut core = entity_of(rt, alloc, DEFAULT)?;
-    let metadata = Given::Pdu("24000a0001120207400000000001730166").event(rt, alloc)?;
-    compare(rt, alloc, &mut core, &metadata, Told::Admitted(21, 2))?;
+    hands_in(rt, alloc, &mut core, METADATA, Told::Admitted(21, 2))?;
     for place in 0..32 {
-        put(rt, alloc, &mut core, 2 * place, Told::Stored)?;
+        hands_in(rt, alloc, &mut core, octet_at(2 * place), Told::Stored)?;
     }
-    assert_eq!(rt; core.gaps(id(18)).unwrap_or_default().len(), 31);
-    put(rt, alloc, &mut core, 64, Told::Dropped)?;
-    put(rt, alloc, &mut core, 1, Told::Stored)?;
-    put(rt, alloc, &mut core, 64, Told::Stored)
+    join_pieces(rt, alloc, &mut core)
 }
 
 #[test]

@@ -2,10 +2,10 @@
 
 ghost use Rattle.std.specs.Prelude.{◌≡◌, ◌≤◌};
 
-use super::scene::path_of;
+use super::scene::{path_of, protects};
 use cfdp_actions::{Entry, Filestore, Kind, ListStore, Protected};
 use cfdp_paths::Memory;
-use cfdp_pdus::{FileData, Header, Pdu, PduFault, read_pdu};
+use cfdp_pdus::{FileData, Header, Pdu, read_pdu};
 use cfdp_status::{Action, Status, TransactionId};
 use cfdp_transactions::{Config, Core, Event, Outcome, Phase, Reply, event_of};
 use cfdp_verifier::{Place, Refusal};
@@ -13,7 +13,7 @@ use std::alloc::{AllocError, Global};
 use std::process::Abort;
 
 /// What is handed in. PDUs are in hexadecimal, without spaces. Transactions are those of entity 1 with these numbers.
-#[derive(Clone, Copy, Debug)]
+#[derive(Clone, Copy)]
 pub enum Given {
     Pdu(&'static str),
     /// File data: the offset, how many octets, and each of them.
@@ -25,7 +25,7 @@ pub enum Given {
 }
 
 /// What is replied.
-#[derive(Clone, Copy, Debug)]
+#[derive(Clone, Copy)]
 pub enum Told {
     Admitted(u32, u32),
     TooManyRequests,
@@ -61,7 +61,7 @@ pub enum Told {
 pub type Standing = (&'static [u8], Option<(u64, u32)>);
 
 /// One after another.
-#[derive(Clone, Copy, Debug)]
+#[derive(Clone, Copy)]
 pub enum Row {
     /// An event, and the reply.
     On(Given, Told),
@@ -80,7 +80,7 @@ pub enum Row {
 }
 
 /// What a configuration leaves open: the blocks, the cap, and the protected paths.
-#[derive(Clone, Copy, Debug)]
+#[derive(Clone, Copy)]
 pub struct Limits {
     pub blocks: u32,
     pub cap: u64,
@@ -144,23 +144,21 @@ pub fn octets_of(rt: &impl Abort, alloc: Global, text: &str) -> Result<Vec<u8>, 
     Ok(octets)
 }
 
-/// The PDU of a hexadecimal text.
+/// The PDU of a hexadecimal text, which has one: only memory can be wanting.
 fn pdu_of(rt: &impl Abort, alloc: Global, text: &str) -> Result<Pdu, Memory> {
     let octets = octets_of(rt, alloc, text)?;
     match read_pdu(alloc, &octets) {
         Ok(pdu) => Ok(pdu),
-        Err(fault) => {
-            assert_eq!(rt; fault, PduFault::Memory, "on {text}");
-            Err(AllocError)
-        }
+        Err(_) => Err(AllocError),
     }
 }
 
-/// The event of a PDU.
+/// The event of a PDU, which is one.
 fn event_in(rt: &impl Abort, alloc: Global, text: &str) -> Result<Event, Memory> {
-    let event = event_of(pdu_of(rt, alloc, text)?);
-    assert!(rt; event.is_ok(), "on {text}");
-    event.map_err(|_| AllocError)
+    match event_of(pdu_of(rt, alloc, text)?) {
+        Ok(event) => Ok(event),
+        Err(_) => Err(AllocError),
+    }
 }
 
 /// So many equal octets of a file.
@@ -196,7 +194,7 @@ impl Given {
 /// The status of an octet that stands in a response.
 fn status_of(rt: &impl Abort, octet: u8) -> Status {
     let status = Status::of_octet(octet);
-    assert!(rt; status.is_some(), "on {octet}");
+    assert!(rt; status.is_some());
     status.unwrap_or(Status::NotAllowed(Action::CreateFile))
 }
 
@@ -267,23 +265,26 @@ pub fn is_told(rt: &impl Abort, alloc: Global, reply: &Reply, told: Told) -> Res
     }
 }
 
-/// The entity 2 that has just begun.
+/// The paths that a configuration protects.
+fn protected_of(rt: &impl Abort, alloc: Global, names: &[&[u8]]) -> Result<Protected, Memory> {
+    let mut protected = Protected::new();
+    for name in names {
+        assert!(rt; protects(alloc, &mut protected, name)?);
+    }
+    Ok(protected)
+}
+
+/// The entity 2 that has just begun. Its limits are good: only memory can be wanting.
 pub fn entity_of(
     rt: &impl Abort,
     alloc: Global,
     limits: Limits,
 ) -> Result<Core<ListStore>, Memory> {
     assert!(rt; 1 <= limits.blocks && limits.blocks <= 65_536);
-    let mut protected = Protected::new();
-    for name in limits.protected {
-        assert!(rt; protected.add(path_of(rt, alloc, name)?).is_ok());
-    }
+    let protected = protected_of(rt, alloc, limits.protected)?;
     match Config::new(2, limits.blocks, limits.cap, 2, 1000, protected) {
         Ok(config) => Core::new(alloc, config, ListStore::new(alloc, limits.blocks)?),
-        Err(fault) => {
-            assert!(rt; false, "{fault}");
-            Err(AllocError)
-        }
+        Err(_) => Err(AllocError),
     }
 }
 
@@ -307,43 +308,34 @@ pub fn hand_in(rt: &impl Abort, core: &mut Core<ListStore>, event: &Event, twice
     let before = summary(core);
     let reply = apply(rt, core, event, twice);
     if let Reply::Memory = reply {
-        assert_eq!(rt; summary(core), before, "on {event:?}");
+        assert!(rt; summary(core) == before);
         return apply(rt, core, event, twice);
     }
     reply
 }
 
 /// Whether an entry of the listing is what is expected.
-fn is_standing(
-    rt: &impl Abort,
-    alloc: Global,
-    entry: &Entry,
-    expected: Standing,
-) -> Result<bool, Memory> {
+fn is_standing(alloc: Global, entry: &Entry, expected: Standing) -> Result<bool, Memory> {
     let told = match entry.kind {
         Kind::Directory => None,
         Kind::File => Some((entry.size, entry.checksum)),
     };
-    Ok(told == expected.1 && entry.path == path_of(rt, alloc, expected.0)?)
+    Ok(told == expected.1 && entry.path == path_of(alloc, expected.0)?)
 }
 
-/// Whether what stands is what is expected, in path order.
-fn stands(
-    rt: &impl Abort,
-    alloc: Global,
-    store: &ListStore,
-    expected: &[Standing],
-) -> Result<bool, Memory> {
-    let listing = store.listing(alloc)?;
-    if listing.len() != expected.len() {
-        return Ok(false);
-    }
+fn are_standing(alloc: Global, listing: &[Entry], expected: &[Standing]) -> Result<bool, Memory> {
     for (entry, row) in listing.iter().zip(expected) {
-        if !is_standing(rt, alloc, entry, *row)? {
+        if !is_standing(alloc, entry, *row)? {
             return Ok(false);
         }
     }
-    Ok(true)
+    Ok(listing.len() == expected.len())
+}
+
+/// Whether what stands is what is expected, in path order.
+fn stands(alloc: Global, store: &ListStore, expected: &[Standing]) -> Result<bool, Memory> {
+    let listing = store.listing(alloc)?;
+    are_standing(alloc, &listing, expected)
 }
 
 /// Whether the reply to an event is the one that is told.
@@ -402,7 +394,7 @@ fn is_met(
         return replies(rt, alloc, core, given, told, twice);
     }
     if let Row::Standing(expected) = row {
-        return stands(rt, alloc, core.store(), expected);
+        return stands(alloc, core.store(), expected);
     }
     Ok(holds(core, row))
 }
@@ -411,7 +403,7 @@ fn try_case(rt: &impl Abort, alloc: Global, case: &Case, twice: bool) -> Result<
     let mut core = entity_of(rt, alloc, case.0)?;
     for (place, row) in case.1.iter().enumerate() {
         let met = is_met(rt, alloc, &mut core, *row, twice)?;
-        assert!(rt; met, "at row {place}, which is {row:?}");
+        assert!(rt; met, "at row {place}");
     }
     Ok(())
 }

@@ -2,7 +2,7 @@
 
 ghost use Rattle.std.specs.Prelude.{◌≡◌, IfNone};
 
-use super::scene::{Before, Row, Scene, Told, check, read};
+use super::scene::{Before, Row, Scene, Told, check, read_all};
 use cfdp_paths::Memory;
 use cfdp_quota::Quota;
 use cfdp_verifier::{Proposal, Verdict, verify};
@@ -120,30 +120,44 @@ fn tell(
     Ok(text)
 }
 
+/// A destination, the requests' TLVs, and what the call tells of them.
+type Call = (&'static [u8], &'static [&'static [u8]], &'static str);
+
+static CALLS: [Call; 2] = [
+    (
+        b"d/new",
+        &[b"\x00\x07\x70\x05\x64\x2f\x6f\x6c\x64"],
+        "5 blocks, 6 steps",
+    ),
+    (
+        b"d/..",
+        &[
+            b"\x00\x07\x70\x05\x64\x2f\x6f\x6c\x64",
+            b"\x00\x03\x00\x01\x64",
+        ],
+        "BadPath(Destination)",
+    ),
+];
+
+/// Whether the call tells that of a file of 480 octets at most.
+fn is_told(alloc: Global, scene: &Scene, quota: &Quota, call: &Call) -> Result<bool, Memory> {
+    let (destination, tlvs, told) = call;
+    let requests = read_all(alloc, tlvs)?;
+    let proposal = Proposal {
+        destination: Some(destination),
+        bound: 480,
+        requests: &requests,
+    };
+    Ok(tell(alloc, scene, quota, &proposal)?.as_str() == *told)
+}
+
 fn try_call(rt: &impl Abort, alloc: Global) -> Result<(), Memory> {
     let scene = Scene::new(rt, alloc, 32, &BEFORE)?;
     let quota = scene.quota(rt);
-    let mut requests = Vec::new(alloc);
-    requests.push(read(rt, alloc, b"\x00\x07\x70\x05\x64\x2f\x6f\x6c\x64")?)?;
-    let proposal = Proposal {
-        destination: Some(b"d/new"),
-        bound: 480,
-        requests: &requests,
-    };
-    assert_eq!(rt;
-        tell(alloc, &scene, &quota, &proposal)?.as_str(),
-        "5 blocks, 6 steps"
-    );
-    requests.push(read(rt, alloc, b"\x00\x03\x00\x01\x64")?)?;
-    let proposal = Proposal {
-        destination: Some(b"d/.."),
-        bound: 480,
-        requests: &requests,
-    };
-    assert_eq!(rt;
-        tell(alloc, &scene, &quota, &proposal)?.as_str(),
-        "BadPath(Destination)"
-    );
+    for (place, call) in CALLS.iter().enumerate() {
+        let holds = is_told(alloc, &scene, &quota, call)?;
+        assert!(rt; holds, "call {place}");
+    }
     Ok(())
 }
 

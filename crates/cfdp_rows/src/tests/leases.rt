@@ -2,12 +2,13 @@
 
 mod plain;
 
+use super::scene::path_of;
 use cfdp_actions::Request;
 use cfdp_leases::*;
-use cfdp_paths::{Memory, Path, PathFault};
+use cfdp_paths::{Memory, Path};
 use cfdp_status::{Action, TransactionId};
 use plain::Plain;
-use std::alloc::{AllocError, Global};
+use std::alloc::Global;
 use std::process::Abort;
 
 /// A request by its action and names, the second one empty where there is none.
@@ -28,32 +29,14 @@ fn id(number: u64) -> TransactionId {
     TransactionId { source: 1, number }
 }
 
-/// The path of a name, which has to spell one.
-fn path_of(rt: &impl Abort, alloc: Global, name: &[u8]) -> Result<Path, Memory> {
-    match Path::parse(alloc, name) {
-        Ok(path) => Ok(path),
-        Err(fault) => {
-            assert_eq!(rt; fault, PathFault::Memory, "on {name:?}");
-            Err(AllocError)
-        }
-    }
-}
-
-fn request(rt: &impl Abort, alloc: Global, named: Named) -> Result<Request, Memory> {
+fn request(alloc: Global, named: Named) -> Result<Request, Memory> {
     let (action, first, second) = named;
-    let second = if second.is_empty() {
-        None
-    } else {
-        Some(path_of(rt, alloc, second)?)
-    };
-    let request = Request::new(action, path_of(rt, alloc, first)?, second);
-    assert!(rt; request.is_some(), "on {named:?}");
-    request.ok_or(AllocError)
+    super::scene::request(alloc, action, first, second)
 }
 
 /// The footprint of one request.
-fn footprint_of(rt: &impl Abort, alloc: Global, named: Named) -> Result<Footprint, Memory> {
-    let request = request(rt, alloc, named)?;
+fn footprint_of(alloc: Global, named: Named) -> Result<Footprint, Memory> {
+    let request = request(alloc, named)?;
     footprint(alloc, &[request], None)
 }
 
@@ -64,9 +47,36 @@ fn admit(
     footprint: Footprint,
 ) -> Result<(), Memory> {
     let transaction = id(number);
-    assert!(rt; leases.conflict(&footprint).is_none());
-    assert!(rt; !leases.holds(transaction));
+    assert!(rt; leases.conflict(&footprint).is_none() && !leases.holds(transaction));
     leases.grant(transaction, footprint)
+}
+
+/// Grants the request's footprint twice over: in the leases and in the plain list.
+fn grant(
+    rt: &impl Abort,
+    alloc: Global,
+    leases: &mut Leases,
+    plain: &mut Plain,
+    number: u64,
+    named: Named,
+) -> Result<(), Memory> {
+    admit(rt, leases, number, footprint_of(alloc, named)?)?;
+    plain.grant(id(number), footprint_of(alloc, named)?)?;
+    assert!(rt; leases.holds(id(number)));
+    Ok(())
+}
+
+/// Whether both answer this to the question which transaction conflicts first.
+fn is_first(
+    alloc: Global,
+    leases: &Leases,
+    plain: &Plain,
+    named: Named,
+    first: Option<u64>,
+) -> Result<bool, Memory> {
+    let footprint = footprint_of(alloc, named)?;
+    let expected = first.map(id);
+    Ok(leases.conflict(&footprint) == expected && plain.conflict(&footprint) == expected)
 }
 
 fn happen(
@@ -77,15 +87,9 @@ fn happen(
     event: Event,
 ) -> Result<(), Memory> {
     match event {
-        Event::Granted(number, named) => {
-            admit(rt, leases, number, footprint_of(rt, alloc, named)?)?;
-            plain.grant(id(number), footprint_of(rt, alloc, named)?)?;
-            assert!(rt; leases.holds(id(number)));
-        }
+        Event::Granted(number, named) => grant(rt, alloc, leases, plain, number, named)?,
         Event::Asked(named, first) => {
-            let footprint = footprint_of(rt, alloc, named)?;
-            let found = [leases.conflict(&footprint), plain.conflict(&footprint)];
-            assert_eq!(rt; found, [first.map(id); 2], "on {named:?}");
+            assert!(rt; is_first(alloc, leases, plain, named, first)?);
         }
         Event::Released(number) => {
             leases.release(id(number));
@@ -167,16 +171,30 @@ static COVERED: [(&[u8], Option<Lease>); 12] = [
     (b"newer", None),
 ];
 
+/// That footprint.
+fn three_kinds(alloc: Global) -> Result<Footprint, Memory> {
+    let append = request(alloc, (Action::AppendFile, b"a/b", b"c/d/e"))?;
+    let rename = request(alloc, (Action::RenameFile, b"old", b"new"))?;
+    let destination = path_of(alloc, b"in/file")?;
+    footprint(alloc, &[append, rename], Some(&destination))
+}
+
+/// Whether it holds the path so.
+fn is_covered(
+    alloc: Global,
+    held: &Footprint,
+    name: &[u8],
+    lease: Option<Lease>,
+) -> Result<bool, Memory> {
+    let path = path_of(alloc, name)?;
+    Ok(covers(held, &path) == lease)
+}
+
 fn try_covers(rt: &impl Abort, alloc: Global) -> Result<(), Memory> {
-    let requests = [
-        request(rt, alloc, (Action::AppendFile, b"a/b", b"c/d/e"))?,
-        request(rt, alloc, (Action::RenameFile, b"old", b"new"))?,
-    ];
-    let destination = path_of(rt, alloc, b"in/file")?;
-    let held = footprint(alloc, &requests, Some(&destination))?;
+    let held = three_kinds(alloc)?;
     for (name, lease) in &COVERED {
-        let path = path_of(rt, alloc, name)?;
-        assert_eq!(rt; covers(&held, &path), *lease, "on {name:?}");
+        let holds = is_covered(alloc, &held, name, *lease)?;
+        assert!(rt; holds, "on {name:?}");
     }
     Ok(())
 }
@@ -212,34 +230,60 @@ static FIVE: [Named; 5] = [
 ];
 
 /// Their footprints.
-fn five(rt: &impl Abort, alloc: Global) -> Result<Vec<Footprint>, Memory> {
+fn five(alloc: Global) -> Result<Vec<Footprint>, Memory> {
     let mut footprints = Vec::with_capacity(alloc, FIVE.len())?;
     for named in &FIVE {
-        footprints.push(footprint_of(rt, alloc, *named)?)?;
+        footprints.push(footprint_of(alloc, *named)?)?;
     }
     Ok(footprints)
 }
 
+/// What the leases are asked about.
+#[derive(Drop)]
+struct Asked {
+    probes: [Footprint; 2],
+    paths: [Path; 2],
+}
+
+fn make_asked(alloc: Global) -> Result<Asked, Memory> {
+    let remove = footprint_of(alloc, REMOVE)?;
+    let delete = footprint_of(alloc, (Action::DeleteFile, b"d/e", b""))?;
+    let directory = path_of(alloc, b"d")?;
+    let file = path_of(alloc, b"d/e")?;
+    Ok(Asked {
+        probes: [remove, delete],
+        paths: [directory, file],
+    })
+}
+
+/// Grants a footprint: where that is refused no answer has changed, and the same is granted when it is asked for again.
+fn grant_one(
+    rt: &impl Abort,
+    leases: &mut Leases,
+    number: u64,
+    footprint: Footprint,
+    again: Footprint,
+    asked: &Asked,
+) {
+    let before = answers(leases, &asked.probes, &asked.paths);
+    if admit(rt, leases, number, footprint).is_err() {
+        assert!(rt; answers(leases, &asked.probes, &asked.paths) == before);
+        assert!(rt; admit(rt, leases, number, again).is_ok());
+    }
+    assert!(rt; leases.holds(id(number)));
+}
+
 /// Five grants one after another. All else that takes memory comes before them, so that only a grant can be refused
-/// from then on: that changes no answer, and the same is granted when it is asked for again.
+/// from then on.
 fn grant_five(rt: &impl Abort, alloc: Global) -> Result<(), Memory> {
-    let probes = [
-        footprint_of(rt, alloc, REMOVE)?,
-        footprint_of(rt, alloc, (Action::DeleteFile, b"d/e", b""))?,
-    ];
-    let paths = [path_of(rt, alloc, b"d")?, path_of(rt, alloc, b"d/e")?];
-    let wanted = five(rt, alloc)?.into_iter().zip(five(rt, alloc)?);
+    let asked = make_asked(alloc)?;
+    let wanted = five(alloc)?.into_iter().zip(five(alloc)?);
     let mut leases = Leases::new(alloc);
     for (number, (footprint, again)) in (1..=5u64).zip(wanted) {
-        let before = answers(&leases, &probes, &paths);
-        if admit(rt, &mut leases, number, footprint).is_err() {
-            assert_eq!(rt; answers(&leases, &probes, &paths), before);
-            assert_eq!(rt; admit(rt, &mut leases, number, again), Ok(()));
-        }
-        assert!(rt; leases.holds(id(number)));
+        grant_one(rt, &mut leases, number, footprint, again, &asked);
     }
-    assert_eq!(rt; leases.conflict(&probes[0]), Some(id(1)));
-    assert_eq!(rt; leases.conflict(&probes[1]), Some(id(5)));
+    assert!(rt; leases.conflict(&asked.probes[0]) == Some(id(1)));
+    assert!(rt; leases.conflict(&asked.probes[1]) == Some(id(5)));
     Ok(())
 }
 
@@ -254,10 +298,15 @@ fn a_refused_grant_changes_nothing(rt: HostRuntime) -> Result<(), Memory> {
 }
 
 /// A create of a file below seven directories, the same for each number.
-fn deep_create(rt: &impl Abort, alloc: Global, number: u8) -> Result<Request, Memory> {
+fn deep_create(alloc: Global, number: u8) -> Result<Request, Memory> {
     let name = format!(in alloc; "1/2/3/4/5/6/7/{number}")?;
-    let path = path_of(rt, alloc, name.as_bytes())?;
-    Request::new(Action::CreateFile, path, None).ok_or(AllocError)
+    super::scene::request(alloc, Action::CreateFile, name.as_bytes(), b"")
+}
+
+/// Its footprint.
+fn deep_footprint(alloc: Global, number: u8) -> Result<Footprint, Memory> {
+    let requests = [deep_create(alloc, number)?];
+    footprint(alloc, &requests, None)
 }
 
 /// Whether each path stands before the next one.
@@ -268,42 +317,58 @@ fn in_order(paths: &[Path]) -> bool {
         .all(|(path, next)| path < next)
 }
 
-#[test]
-fn each_path_stands_once(rt: HostRuntime) -> Result<(), Memory> {
-    let alloc = rt.alloc();
+/// Creates of 64 files below seven directories.
+fn deep_creates(alloc: Global) -> Result<Vec<Request>, Memory> {
     let mut requests = Vec::with_capacity(alloc, 64)?;
     for number in 0..64 {
-        requests.push(deep_create(&rt, alloc, number)?)?;
+        requests.push(deep_create(alloc, number)?)?;
     }
-    let destination = path_of(&rt, alloc, b"1/2/3/4/5/6/7/8")?;
-    let footprint = footprint(alloc, &requests, Some(&destination))?;
-    assert_eq!(rt; footprint.exclusive().len(), 64);
-    assert_eq!(rt; footprint.shared().len(), 7);
+    Ok(requests)
+}
+
+/// The footprint of these requests and of one of the files as a destination.
+fn wide_footprint(alloc: Global) -> Result<Footprint, Memory> {
+    let requests = deep_creates(alloc)?;
+    let destination = path_of(alloc, b"1/2/3/4/5/6/7/8")?;
+    footprint(alloc, &requests, Some(&destination))
+}
+
+#[test]
+fn each_path_stands_once(rt: HostRuntime) -> Result<(), Memory> {
+    let footprint = wide_footprint(rt.alloc())?;
+    assert!(rt; footprint.exclusive().len() == 64 && footprint.shared().len() == 7);
     assert!(rt; in_order(footprint.exclusive()) && in_order(footprint.shared()));
     Ok(())
 }
 
-#[test]
-fn sixty_four_grants(rt: HostRuntime) -> Result<(), Memory> {
-    let alloc = rt.alloc();
-    let mut leases = Leases::new(alloc);
+/// Grants the footprints of all numbers below 64.
+fn grant_deep(rt: &impl Abort, alloc: Global, leases: &mut Leases) -> Result<(), Memory> {
     for number in 0..64u8 {
-        let requests = [deep_create(&rt, alloc, number)?];
         admit(
-            &rt,
-            &mut leases,
+            rt,
+            leases,
             u64::from(number),
-            footprint(alloc, &requests, None)?,
+            deep_footprint(alloc, number)?,
         )?;
     }
-    let last = [deep_create(&rt, alloc, 63)?];
-    assert_eq!(rt;
-        leases.conflict(&footprint(alloc, &last, None)?),
-        Some(id(63))
-    );
-    let above = footprint_of(&rt, alloc, (Action::RemoveDirectory, b"1/2", b""))?;
-    assert_eq!(rt; leases.conflict(&above), Some(id(0)));
+    Ok(())
+}
+
+/// Whether the first transaction in the way of another use of the last file is the last, and of a removal above all of them
+/// the first, until it is over.
+fn are_in_the_way(alloc: Global, leases: &mut Leases) -> Result<bool, Memory> {
+    let last = deep_footprint(alloc, 63)?;
+    let above = footprint_of(alloc, (Action::RemoveDirectory, b"1/2", b""))?;
+    let begin = leases.conflict(&last) == Some(id(63)) && leases.conflict(&above) == Some(id(0));
     leases.release(id(0));
-    assert_eq!(rt; leases.conflict(&above), Some(id(1)));
+    Ok(begin && leases.conflict(&above) == Some(id(1)))
+}
+
+#[test]
+fn sixty_four_grants(rt: HostRuntime) -> Result<(), Memory> {
+    let mut leases = Leases::new(rt.alloc());
+    grant_deep(&rt, rt.alloc(), &mut leases)?;
+    let holds = are_in_the_way(rt.alloc(), &mut leases)?;
+    assert!(rt; holds);
     Ok(())
 }

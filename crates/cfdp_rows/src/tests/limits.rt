@@ -3,7 +3,7 @@
 use super::scene::{Before, Case, Row, Scene, Told, check_all, check_list};
 use cfdp_paths::Memory;
 use cfdp_quota::Quota;
-use cfdp_verifier::{Proposal, verify};
+use cfdp_verifier::{Proposal, Verdict, verify};
 use std::alloc::Global;
 use std::process::Abort;
 
@@ -86,20 +86,24 @@ static NEEDS: [(u64, u32, Told); 4] = [
     ),
 ];
 
+/// The verdict on a file of so many octets where so many blocks are to spare.
+fn judge(alloc: Global, scene: &Scene, bound: u64, spare: u32) -> Result<Verdict, Memory> {
+    let list = Proposal {
+        destination: Some(b"a"),
+        bound,
+        requests: &[],
+    };
+    let quota = Quota::new(spare);
+    let (store, leases, protected) = (&scene.store, &scene.leases, &scene.protected);
+    verify(alloc, store, leases, &quota, protected, &list)
+}
+
 fn try_needs(rt: &impl Abort, alloc: Global) -> Result<(), Memory> {
     let scene = Scene::new(rt, alloc, 64, &[])?;
     for (bound, spare, told) in &NEEDS {
-        let list = Proposal {
-            destination: Some(b"a"),
-            bound: *bound,
-            requests: &[],
-        };
-        let quota = Quota::new(*spare);
-        let (store, leases, protected) = (&scene.store, &scene.leases, &scene.protected);
-        let verdict = verify(alloc, store, leases, &quota, protected, &list)?;
-        assert_eq!(rt;
-            Told::of(rt, &verdict),
-            *told,
+        let verdict = judge(alloc, &scene, *bound, *spare)?;
+        assert!(rt;
+            Told::of(rt, &verdict) == *told,
             "{bound} octets, {spare} blocks"
         );
     }
@@ -115,19 +119,34 @@ fn needs_that_no_count_tells(rt: HostRuntime) -> Result<(), Memory> {
     }
 }
 
+/// The TLV of a rename: the octets of the table one behind another.
+static LONG_NAMES: [&[u8]; 7] = [
+    b"\x00\xfe\x20\x7d",
+    &[b'p'; 96],
+    b"/",
+    &[b'q'; 28],
+    b"\x7e",
+    &[b'p'; 96],
+    b"/",
+];
+
+/// The end of its second name.
+static LAST_NAME: [u8; 29] = [b'r'; 29];
+
+fn rename_between_long_names(alloc: Global) -> Result<Vec<u8>, Memory> {
+    let mut tlv = Vec::new(alloc);
+    for part in &LONG_NAMES {
+        tlv.extend_from_slice(part)?;
+    }
+    tlv.extend_from_slice(&LAST_NAME)?;
+    Ok(tlv)
+}
+
 /// A value of 254 octets: its response would have 255.
 #[test]
 fn a_rename_between_long_names(rt: HostRuntime) -> Result<(), Memory> {
-    let mut tlv = Vec::new(rt.alloc());
-    tlv.extend_from_slice(b"\x00\xfe\x20\x7d")?;
-    tlv.extend_from_slice(&[b'p'; 96])?;
-    tlv.push(b'/')?;
-    tlv.extend_from_slice(&[b'q'; 28])?;
-    tlv.push(0x7e)?;
-    tlv.extend_from_slice(&[b'p'; 96])?;
-    tlv.push(b'/')?;
-    tlv.extend_from_slice(&[b'r'; 29])?;
-    assert_eq!(rt; tlv.len(), 2 + 254);
+    let tlv = rename_between_long_names(rt.alloc())?;
+    assert!(rt; tlv.len() == 2 + 254);
     check_list(&rt, rt.alloc(), 64, &[&tlv], Told::WouldFail(0, 0x21))
 }
 

@@ -1,44 +1,72 @@
 //! Verdicts for which memory is refused: `rt try --test --fail-alloc N` refuses the Nth growth, and no other.
 
-use super::scene::{Before, Scene, Told, parse, read};
-use cfdp_actions::Filestore;
+ghost use Rattle.std.specs.Prelude.{◌≡◌, IfNone};
+
+use super::scene::{Before, Scene, Told, parse, read_all};
+use cfdp_actions::{Entry, Filestore};
 use cfdp_leases::footprint;
 use cfdp_paths::Memory;
 use cfdp_status::TransactionId;
-use cfdp_verifier::Proposal;
+use cfdp_verifier::{Proposal, Verdict};
 use std::alloc::Global;
 use std::process::Abort;
 
 /// A file that a live transaction is about to create.
 static BEFORE: [Before; 1] = [Before::Admitted(22, &[b"\x00\x03\x00\x01x"], 1, 2)];
 
-/// The verdict on a list with a file. Where memory is refused instead, store, leases and reserves are as before, and
-/// the next answer is the verdict.
+/// What no want of memory changes: what stands, the first transaction in the way of a list that deletes `x`, and the blocks
+/// to spare.
+type Seen = (Vec<Entry>, Option<TransactionId>, u32);
+
+fn seen(rt: &impl Abort, alloc: Global, scene: &Scene) -> Result<Seen, Memory> {
+    let delete = [parse(alloc, b"\x00\x03\x10\x01x")?];
+    let in_the_way = footprint(alloc, &delete, None)?;
+    let listing = scene.store.listing(alloc)?;
+    let user = scene.leases.conflict(&in_the_way);
+    Ok((listing, user, scene.quota(rt).spare()))
+}
+
+/// Store, leases and reserves are as before.
+fn is_as_before(
+    rt: &impl Abort,
+    alloc: Global,
+    scene: &Scene,
+    before: &Seen,
+) -> Result<bool, Memory> {
+    let now = seen(rt, alloc, scene)?;
+    Ok(now == *before && now.1 == Some(USER))
+}
+
+/// The verdict on a list. Where memory is refused instead, all is as before, and the next answer is the verdict.
+fn judge(
+    rt: &impl Abort,
+    alloc: Global,
+    scene: &Scene,
+    list: &Proposal<'_>,
+) -> Result<Verdict, Memory>
+    requires { IfNone list.now.destination (list.now.bound ≡ 0) }
+{
+    let before = seen(rt, alloc, scene)?;
+    match scene.ask(rt, alloc, list) {
+        Ok(verdict) => Ok(verdict),
+        Err(_) => {
+            assert!(rt; is_as_before(rt, alloc, scene, &before)?);
+            scene.ask(rt, alloc, list)
+        }
+    }
+}
+
+/// The verdict on a list with a file.
 fn ask_again(rt: &impl Abort, alloc: Global, tlvs: &[&[u8]], told: Told) -> Result<(), Memory> {
     let scene = Scene::new(rt, alloc, 64, &BEFORE)?;
-    let mut requests = Vec::new(alloc);
-    for tlv in tlvs {
-        requests.push(read(rt, alloc, tlv)?)?;
-    }
+    let requests = read_all(alloc, tlvs)?;
     let list = Proposal {
         destination: Some(b"b"),
         bound: 240,
         requests: &requests,
     };
-    let delete = [parse(rt, alloc, b"\x00\x03\x10\x01x")?];
-    let in_the_way = footprint(alloc, &delete, None)?;
-    let listing = scene.store.listing(alloc)?;
-    let spare = scene.quota(rt).spare();
-    let verdict = match scene.ask(rt, alloc, &list) {
-        Ok(verdict) => verdict,
-        Err(_) => {
-            assert!(rt; scene.store.listing(alloc)? == listing);
-            assert_eq!(rt; scene.leases.conflict(&in_the_way), Some(USER));
-            assert_eq!(rt; scene.quota(rt).spare(), spare);
-            scene.ask(rt, alloc, &list)?
-        }
-    };
-    assert_eq!(rt; Told::of(rt, &verdict), told, "on {tlvs:?}");
+    let verdict = judge(rt, alloc, &scene, &list)?;
+    assert!(rt; Told::of(rt, &verdict) == told);
     Ok(())
 }
 

@@ -2,7 +2,7 @@
 
 use super::scene::{Before, Scene, request};
 use super::views::{Item, requests};
-use cfdp_actions::perform;
+use cfdp_actions::{Request, perform};
 use cfdp_leases::footprint;
 use cfdp_paths::Memory;
 use cfdp_states::View;
@@ -26,30 +26,56 @@ static MOVES: [Item; 3] = [
     (Action::RemoveDirectory, b"stays", b"", 0x62),
 ];
 
+/// Makes an empty file in the directory.
+fn create(alloc: Global, scene: &mut Scene, name: &[u8]) -> Result<(), Memory> {
+    let create = request(alloc, Action::CreateFile, name, b"")?;
+    perform(&mut scene.store, &scene.protected, &create)?;
+    Ok(())
+}
+
 /// Makes empty files in the directory.
-fn fill(rt: &impl Abort, alloc: Global, scene: &mut Scene, directory: &str) -> Result<(), Memory> {
+fn fill(alloc: Global, scene: &mut Scene, directory: &str) -> Result<(), Memory> {
     for number in 0..MANY {
         let name = format!(in alloc; "{directory}/{number}")?;
-        let create = request(rt, alloc, Action::CreateFile, name.as_bytes(), b"")?;
-        perform(&mut scene.store, &scene.protected, &create)?;
+        create(alloc, scene, name.as_bytes())?;
     }
+    Ok(())
+}
+
+/// A store with both directories full.
+fn filled(rt: &impl Abort, alloc: Global) -> Result<Scene, Memory> {
+    let mut scene = Scene::new(rt, alloc, 16_384, &BEFORE)?;
+    fill(alloc, &mut scene, "moves")?;
+    fill(alloc, &mut scene, "stays")?;
+    Ok(scene)
+}
+
+/// Moves one directory there and back.
+fn apply(view: &mut View<'_>, requests: &[Request]) -> Result<bool, Memory> {
+    for (request, (_, _, _, status)) in requests.iter().zip(&MOVES) {
+        if view.apply(request)?.octet() != *status {
+            return Ok(false);
+        }
+    }
+    Ok(true)
+}
+
+/// Moves it 32 times.
+fn apply_often(rt: &impl Abort, view: &mut View<'_>, requests: &[Request]) -> Result<(), Memory> {
+    for number in 0..32 {
+        let holds = apply(view, requests)?;
+        assert!(rt; holds, "move {number}");
+    }
+    assert!(rt; view.need() == 0 && view.steps() == 128);
     Ok(())
 }
 
 #[test]
 fn many_entries_move_often(rt: HostRuntime) -> Result<(), Memory> {
     let alloc = rt.alloc();
-    let mut scene = Scene::new(&rt, alloc, 16_384, &BEFORE)?;
-    fill(&rt, alloc, &mut scene, "moves")?;
-    fill(&rt, alloc, &mut scene, "stays")?;
-    let requests = requests(&rt, alloc, &MOVES)?;
+    let scene = filled(&rt, alloc)?;
+    let requests = requests(alloc, &MOVES)?;
     let leased = footprint(alloc, &requests, None)?;
     let mut view = View::of(alloc, &scene.store, &scene.protected, &leased)?;
-    for _ in 0..32 {
-        for (request, (_, _, _, status)) in requests.iter().zip(&MOVES) {
-            assert_eq!(rt; view.apply(request)?.octet(), *status, "on {request:?}");
-        }
-    }
-    assert_eq!(rt; (view.need(), view.steps()), (0, 128));
-    Ok(())
+    apply_often(&rt, &mut view, &requests)
 }

@@ -40,6 +40,10 @@ impl<S: Filestore> Filestore for OneTree<S> {
         self.inner.read(path, at, buffer);
     }
 
+    fn checksum(&self, path: &Path) -> u32 {
+        self.inner.checksum(path)
+    }
+
     fn deepest(&self, path: &Path) -> u8 {
         self.inner.deepest(path)
     }
@@ -50,6 +54,10 @@ impl<S: Filestore> Filestore for OneTree<S> {
 
     fn read_staged(&self, slot: u8, at: u64, buffer: &mut [u8]) {
         self.inner.read_staged(slot, at, buffer);
+    }
+
+    fn staged_checksum(&self, slot: u8) -> u32 {
+        self.inner.staged_checksum(slot)
     }
 
     fn free(&self) -> u32 {
@@ -141,11 +149,11 @@ fn look(rt: &impl Abort, alloc: Global) -> Result<(), Memory> {
         protected,
         ..
     } = Scene::new(rt, alloc, 64, &BEFORE)?;
-    let root = path_of(rt, alloc, b"d")?;
+    let root = path_of(alloc, b"d")?;
     let store = OneTree { inner: store, root };
     assert!(rt; store.listing(alloc).is_err());
     run(rt, alloc, &store, &protected, &IN_TREE)?;
-    let leased = footprint(alloc, &requests(rt, alloc, &OUTSIDE)?, None)?;
+    let leased = footprint(alloc, &requests(alloc, &OUTSIDE)?, None)?;
     assert!(rt; View::of(alloc, &store, &protected, &leased).is_err());
     Ok(())
 }

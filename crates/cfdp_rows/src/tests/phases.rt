@@ -1,7 +1,9 @@
 //! Each event in each phase, and PDUs of another entity.
 
 use super::entity::{Case, DEFAULT, Given, Row, Told, check_all, entity_of, hand_in, is_told};
+use cfdp_actions::ListStore;
 use cfdp_paths::Memory;
+use cfdp_transactions::{Core, Reply};
 use std::alloc::Global;
 use std::process::Abort;
 
@@ -126,6 +128,18 @@ static PHASES: [Phase; 7] = [
     ),
 ];
 
+/// The reply to what is handed in.
+fn handed_in(
+    rt: &impl Abort,
+    alloc: Global,
+    core: &mut Core<ListStore>,
+    given: Given,
+    twice: bool,
+) -> Result<Reply, Memory> {
+    let event = given.event(rt, alloc)?;
+    Ok(hand_in(rt, core, &event, twice))
+}
+
 /// Whether this is the reply to an event behind what came before.
 fn is_reply(
     rt: &impl Abort,
@@ -136,35 +150,41 @@ fn is_reply(
 ) -> Result<bool, Memory> {
     let mut core = entity_of(rt, alloc, DEFAULT)?;
     for given in before {
-        let _reply = hand_in(rt, &mut core, &given.event(rt, alloc)?, false);
+        let _reply = handed_in(rt, alloc, &mut core, *given, false)?;
     }
-    let reply = hand_in(rt, &mut core, &event.event(rt, alloc)?, true);
+    let reply = handed_in(rt, alloc, &mut core, event, true)?;
     is_told(rt, alloc, &reply, told)
 }
 
-/// Compares that reply. Where memory is refused it is asked for once more.
-fn compare(
+/// The same; where memory is refused it is asked for once more.
+fn is_reply_at_last(
     rt: &impl Abort,
     alloc: Global,
     before: &[Given],
     event: Given,
     told: Told,
-) -> Result<(), Memory> {
-    let same = match is_reply(rt, alloc, before, event, told) {
-        Ok(same) => same,
-        Err(_) => is_reply(rt, alloc, before, event, told)?,
-    };
-    assert!(rt; same, "{told:?} on {event:?} behind {before:?}");
+) -> Result<bool, Memory> {
+    match is_reply(rt, alloc, before, event, told) {
+        Ok(same) => Ok(same),
+        Err(_) => is_reply(rt, alloc, before, event, told),
+    }
+}
+
+/// The replies in one phase. Of an event with another one the number is told, from 0.
+fn compare(rt: &impl Abort, alloc: Global, phase: &Phase) -> Result<(), Memory> {
+    let (before, replies) = phase;
+    assert!(rt; replies.len() == EVENTS.len());
+    for (place, (event, told)) in EVENTS.iter().zip(*replies).enumerate() {
+        let same = is_reply_at_last(rt, alloc, before, *event, *told)?;
+        assert!(rt; same, "event {place} behind {} others", before.len());
+    }
     Ok(())
 }
 
 #[test]
 fn each_event_in_each_phase(rt: HostRuntime) -> Result<(), Memory> {
-    for (before, replies) in &PHASES {
-        assert_eq!(rt; replies.len(), EVENTS.len(), "behind {before:?}");
-        for (event, told) in EVENTS.iter().zip(*replies) {
-            compare(&rt, rt.alloc(), before, *event, *told)?;
-        }
+    for phase in &PHASES {
+        compare(&rt, rt.alloc(), phase)?;
     }
     Ok(())
 }

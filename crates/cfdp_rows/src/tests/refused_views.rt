@@ -40,7 +40,7 @@ fn install(rt: &impl Abort, view: &mut View<'_>, paths: &[Path; 3]) -> Result<bo
     match view.install(&paths[0], 120) {
         Ok(installed) => Ok(installed),
         Err(_) => {
-            assert_eq!(rt; answers(view, paths), before);
+            assert!(rt; answers(view, paths) == before);
             view.install(&paths[0], 120)
         }
     }
@@ -57,38 +57,40 @@ fn apply(
     match view.apply(request) {
         Ok(told) => Ok(told),
         Err(_) => {
-            assert_eq!(rt; answers(view, paths), before);
+            assert!(rt; answers(view, paths) == before);
             view.apply(request)
         }
     }
+}
+
+/// The paths of which a view is asked.
+fn asked(alloc: Global) -> Result<[Path; 3], Memory> {
+    let installed = path_of(alloc, b"x")?;
+    let before = path_of(alloc, b"d/a")?;
+    let moved = path_of(alloc, b"e/a")?;
+    Ok([installed, before, moved])
+}
+
+/// Installs `x` and applies the requests.
+fn try_items(rt: &impl Abort, view: &mut View<'_>, paths: &[Path; 3], requests: &[Request]) {
+    assert!(rt; answers(view, paths) == (0, 0, [None, Some(0), None]));
+    assert!(rt; install(rt, view, paths) == Ok(true));
+    for (place, (request, (_, _, _, status))) in requests.iter().zip(&ITEMS).enumerate() {
+        let told = apply(rt, view, paths, request);
+        assert!(rt; told.map(Status::octet) == Ok(*status), "request {place}");
+    }
+    assert!(rt; answers(view, paths) == (4, 10, [Some(120), None, Some(120)]));
 }
 
 /// All else that takes memory comes before the install and the requests, so that only one of these can be refused from
 /// then on: that changes no answer, and the same is done when it is asked for again.
 fn run(rt: &impl Abort, alloc: Global) -> Result<(), Memory> {
     let scene = Scene::new(rt, alloc, 8, &BEFORE)?;
-    let requests = requests(rt, alloc, &ITEMS)?;
-    let paths = [
-        path_of(rt, alloc, b"x")?,
-        path_of(rt, alloc, b"d/a")?,
-        path_of(rt, alloc, b"e/a")?,
-    ];
+    let requests = requests(alloc, &ITEMS)?;
+    let paths = asked(alloc)?;
     let leased = footprint(alloc, &requests, Some(&paths[0]))?;
     let mut view = View::of(alloc, &scene.store, &scene.protected, &leased)?;
-    assert_eq!(rt; answers(&view, &paths), (0, 0, [None, Some(0), None]));
-    assert_eq!(rt; install(rt, &mut view, &paths), Ok(true));
-    for (request, (_, _, _, status)) in requests.iter().zip(&ITEMS) {
-        let told = apply(rt, &mut view, &paths, request);
-        assert_eq!(rt;
-            told.map(Status::octet),
-            Ok(*status),
-            "status of {request:?}"
-        );
-    }
-    assert_eq!(rt;
-        answers(&view, &paths),
-        (4, 10, [Some(120), None, Some(120)])
-    );
+    try_items(rt, &mut view, &paths, &requests);
     Ok(())
 }
 

@@ -4,10 +4,10 @@ ghost use Rattle.std.specs.Prelude.{◌≡◌, ◌<◌, ◌≤◌, IfNone};
 
 use cfdp_actions::{Filestore, Kind, ListStore, Protected, Request, perform};
 use cfdp_leases::Leases;
-use cfdp_paths::{Memory, Path, PathFault};
+use cfdp_paths::{Memory, Path};
 use cfdp_quota::Quota;
 use cfdp_status::{Action, TransactionId};
-use cfdp_tlv::{FILESTORE_REQUEST, FilestoreRequest, TlvFault, read_request, read_tlv};
+use cfdp_tlv::{FILESTORE_REQUEST, FilestoreRequest, read_request, read_tlv};
 use cfdp_verifier::{Place, Proposal, Refusal, Verdict, verify};
 use std::alloc::{AllocError, Global};
 use std::process::Abort;
@@ -30,7 +30,7 @@ pub enum Before {
 }
 
 /// A verdict in numbers.
-#[derive(Clone, Copy, Debug, PartialEq, Eq)]
+#[derive(Clone, Copy, PartialEq, Eq)]
 pub enum Told {
     /// So many blocks and steps are granted.
     Granted(u32, u32),
@@ -55,7 +55,7 @@ impl Told {
             Verdict::Refuse(Refusal::BadPath(Place::Destination)) => Told::BadDestination,
             Verdict::Refuse(Refusal::BadPath(Place::Request(number))) => Told::BadName(*number),
             Verdict::Refuse(Refusal::Conflict(transaction)) => {
-                assert_eq!(rt; transaction.source, 1);
+                assert!(rt; transaction.source == 1);
                 Told::Conflict(transaction.number)
             }
             Verdict::Refuse(Refusal::DestinationNotAllowed) => Told::DestinationNotAllowed,
@@ -99,61 +99,66 @@ fn slot_of(rt: &impl Abort, number: u8) -> usize
     usize::from(number)
 }
 
-/// The request of a TLV, which has to be one, and nothing behind it.
-pub fn read(rt: &impl Abort, alloc: Global, tlv: &[u8]) -> Result<FilestoreRequest, Memory> {
-    let request = match read_tlv(tlv) {
-        Ok(field) => {
-            assert!(rt;
-                field.kind == FILESTORE_REQUEST && field.rest.is_empty(),
-                "on {tlv:?}"
-            );
-            read_request(alloc, field.value)
+/// The request of a TLV, which is one, and nothing behind it: only memory can be wanting.
+pub fn read(alloc: Global, tlv: &[u8]) -> Result<FilestoreRequest, Memory> {
+    match read_tlv(tlv) {
+        Ok(field) if field.kind == FILESTORE_REQUEST && field.rest.is_empty() => {
+            read_value(alloc, field.value)
         }
-        Err(fault) => Err(fault),
-    };
-    match request {
-        Ok(request) => Ok(request),
-        Err(fault) => {
-            assert_eq!(rt; fault, TlvFault::Memory, "on {tlv:?}");
-            Err(AllocError)
-        }
+        _ => Err(AllocError),
     }
 }
 
-/// The path of a name, which has to spell one.
-pub fn path_of(rt: &impl Abort, alloc: Global, name: &[u8]) -> Result<Path, Memory> {
+/// The request of a TLV's value.
+fn read_value(alloc: Global, value: &[u8]) -> Result<FilestoreRequest, Memory> {
+    match read_request(alloc, value) {
+        Ok(request) => Ok(request),
+        Err(_) => Err(AllocError),
+    }
+}
+
+/// The requests of TLVs.
+pub fn read_all(alloc: Global, tlvs: &[&[u8]]) -> Result<Vec<FilestoreRequest>, Memory> {
+    let mut requests = Vec::new(alloc);
+    for tlv in tlvs {
+        requests.push(read(alloc, tlv)?)?;
+    }
+    Ok(requests)
+}
+
+/// The path of a name, which spells one: only memory can be wanting.
+pub fn path_of(alloc: Global, name: &[u8]) -> Result<Path, Memory> {
     match Path::parse(alloc, name) {
         Ok(path) => Ok(path),
-        Err(fault) => {
-            assert_eq!(rt; fault, PathFault::Memory, "on {name:?}");
-            Err(AllocError)
-        }
+        Err(_) => Err(AllocError),
     }
 }
 
-/// The request for an action at its names, the second of which is empty where there is none.
+/// The path of a second name, which is empty where there is none.
+fn second_of(alloc: Global, name: &[u8]) -> Result<Option<Path>, Memory> {
+    if name.is_empty() {
+        return Ok(None);
+    }
+    Ok(Some(path_of(alloc, name)?))
+}
+
+/// The request for an action at its names, the second of which is empty where there is none. They are neither too few nor
+/// too many.
 pub fn request(
-    rt: &impl Abort,
     alloc: Global,
     action: Action,
     first: &[u8],
     second: &[u8],
 ) -> Result<Request, Memory> {
-    let other = if second.is_empty() {
-        None
-    } else {
-        Some(path_of(rt, alloc, second)?)
-    };
-    let request = Request::new(action, path_of(rt, alloc, first)?, other);
-    assert!(rt; request.is_some(), "on {first:?} {second:?}");
-    request.ok_or(AllocError)
+    let second = second_of(alloc, second)?;
+    Request::new(action, path_of(alloc, first)?, second).ok_or(AllocError)
 }
 
 /// The request of a TLV with paths for its names.
-pub fn parse(rt: &impl Abort, alloc: Global, tlv: &[u8]) -> Result<Request, Memory> {
-    let sent = read(rt, alloc, tlv)?;
+pub fn parse(alloc: Global, tlv: &[u8]) -> Result<Request, Memory> {
+    let sent = read(alloc, tlv)?;
     let second = sent.second().unwrap_or(b"");
-    request(rt, alloc, sent.action(), sent.first(), second)
+    request(alloc, sent.action(), sent.first(), second)
 }
 
 /// Puts a file of so many octets at the path; false where it does not fit or may not be.
@@ -175,6 +180,12 @@ fn deliver(store: &mut ListStore, path: &Path, size: u64) -> Result<bool, Memory
             Ok(true)
         }
     }
+}
+
+/// Protects a path: whether there is room for it.
+pub fn protects(alloc: Global, protected: &mut Protected, name: &[u8]) -> Result<bool, Memory> {
+    let path = path_of(alloc, name)?;
+    Ok(protected.add(path).is_ok())
 }
 
 impl Scene {
@@ -201,28 +212,19 @@ impl Scene {
     fn happen(&mut self, rt: &impl Abort, alloc: Global, event: Before) -> Result<(), Memory> {
         match event {
             Before::Protected(name) => {
-                let path = path_of(rt, alloc, name)?;
-                assert!(rt; self.protected.add(path).is_ok());
+                assert!(rt; protects(alloc, &mut self.protected, name)?);
             }
             Before::Delivered(name, size) => {
                 assert!(rt; size <= 7_864_320);
-                let path = path_of(rt, alloc, name)?;
-                assert!(rt; deliver(&mut self.store, &path, size)?, "on {name:?}");
+                let path = path_of(alloc, name)?;
+                assert!(rt; deliver(&mut self.store, &path, size)?);
             }
             Before::Performed(tlv) => self.perform(rt, alloc, tlv)?,
             Before::Admitted(number, tlvs, blocks, steps) => {
                 let told = Told::Granted(blocks, steps);
                 self.admit(rt, alloc, number, tlvs, told)?;
             }
-            Before::Stepped(number, tlv) => {
-                let slot = slot_of(rt, number);
-                let free = self.store.free();
-                self.perform(rt, alloc, tlv)?;
-                let reserve = u64::from(self.reserves[slot].unwrap_or(0));
-                let had = reserve + u64::from(self.store.free());
-                assert!(rt; u64::from(free) <= had && had - u64::from(free) <= 65_536);
-                self.reserves[slot] = Some((had - u64::from(free)) as u32);
-            }
+            Before::Stepped(number, tlv) => self.step(rt, alloc, slot_of(rt, number), tlv)?,
             Before::Completed(number) => {
                 self.leases.release(id(number));
                 self.reserves[slot_of(rt, number)] = None;
@@ -231,11 +233,30 @@ impl Scene {
         Ok(())
     }
 
+    /// Performs a request of the transaction in the slot, of whose reserve it takes blocks or gives them back.
+    fn step(
+        &mut self,
+        rt: &impl Abort,
+        alloc: Global,
+        slot: usize,
+        tlv: &[u8],
+    ) -> Result<(), Memory>
+        requires { slot < 64 }
+    {
+        let free = self.store.free();
+        self.perform(rt, alloc, tlv)?;
+        let reserve = u64::from(self.reserves[slot].unwrap_or(0));
+        let had = reserve + u64::from(self.store.free());
+        assert!(rt; u64::from(free) <= had && had - u64::from(free) <= 65_536);
+        self.reserves[slot] = Some((had - u64::from(free)) as u32);
+        Ok(())
+    }
+
     /// Performs a request on the store, which has to be successful.
     fn perform(&mut self, rt: &impl Abort, alloc: Global, tlv: &[u8]) -> Result<(), Memory> {
-        let request = parse(rt, alloc, tlv)?;
+        let request = parse(alloc, tlv)?;
         let done = perform(&mut self.store, &self.protected, &request)?;
-        assert!(rt; done.status.is_successful(), "on {tlv:?}");
+        assert!(rt; done.status.is_successful());
         Ok(())
     }
 
@@ -249,11 +270,12 @@ impl Scene {
         told: Told,
     ) -> Result<(), Memory> {
         let verdict = self.judge(rt, alloc, None, tlvs)?;
-        assert_eq!(rt; Told::of(rt, &verdict), told, "on {tlvs:?}");
+        assert!(rt; Told::of(rt, &verdict) == told);
         if let Verdict::Grant(grant) = verdict {
             let transaction = id(number);
-            assert!(rt; self.leases.conflict(&grant.footprint).is_none());
-            assert!(rt; !self.leases.holds(transaction));
+            assert!(rt;
+                self.leases.conflict(&grant.footprint).is_none() && !self.leases.holds(transaction)
+            );
             self.leases.grant(transaction, grant.footprint)?;
             self.reserves[slot_of(rt, number)] = Some(grant.blocks);
         }
@@ -286,10 +308,7 @@ impl Scene {
         file: Option<(&[u8], u64)>,
         tlvs: &[&[u8]],
     ) -> Result<Verdict, Memory> {
-        let mut requests = Vec::new(alloc);
-        for tlv in tlvs {
-            requests.push(read(rt, alloc, tlv)?)?;
-        }
+        let requests = read_all(alloc, tlvs)?;
         let verdict = match file {
             None => {
                 let list = Proposal {
@@ -339,9 +358,9 @@ fn try_rows(
     rows: &[Row],
 ) -> Result<(), Memory> {
     let scene = Scene::new(rt, alloc, blocks, before)?;
-    for (file, tlvs, told) in rows {
+    for (place, (file, tlvs, told)) in rows.iter().enumerate() {
         let verdict = scene.judge(rt, alloc, *file, tlvs)?;
-        assert_eq!(rt; Told::of(rt, &verdict), *told, "on {file:?} {tlvs:?}");
+        assert!(rt; Told::of(rt, &verdict) == *told, "at row {place}");
     }
     Ok(())
 }
@@ -377,7 +396,7 @@ fn try_list(
     told: Told,
 ) -> Result<(), Memory> {
     let verdict = Scene::new(rt, alloc, blocks, &[])?.judge(rt, alloc, None, tlvs)?;
-    assert_eq!(rt; Told::of(rt, &verdict), told);
+    assert!(rt; Told::of(rt, &verdict) == told);
     Ok(())
 }
 

@@ -1,10 +1,10 @@
 //! Configurations at the edges of their limits.
 
-use super::scene::path_of;
+use super::scene::protects;
 use cfdp_actions::Protected;
 use cfdp_paths::Memory;
 use cfdp_transactions::{Config, ConfigFault};
-use std::alloc::Global;
+use std::alloc::{AllocError, Global};
 use std::process::Abort;
 
 /// The blocks, the cap, the check limit and the journal; the fault, where they have one.
@@ -26,47 +26,65 @@ static ROWS: [Row; 12] = [
     (16, 0, 0, 15, Some(ConfigFault::BadChecks)),
 ];
 
-#[test]
-fn each_limit_at_its_edge(rt: HostRuntime) -> Result<(), Memory> {
-    for (blocks, cap, checks, journal, fault) in &ROWS {
-        let told = Config::new(2, *blocks, *cap, *checks, *journal, Protected::new());
-        assert_eq!(rt; told.err(), *fault);
-    }
-    Ok(())
+/// Whether a configuration has the fault of its row.
+fn has_fault(row: &Row) -> bool {
+    let (blocks, cap, checks, journal, fault) = row;
+    let told = Config::new(2, *blocks, *cap, *checks, *journal, Protected::new());
+    told.err() == *fault
 }
 
+#[test]
+fn each_limit_at_its_edge(rt: HostRuntime) {
+    for (place, row) in ROWS.iter().enumerate() {
+        assert!(rt; has_fault(row), "at row {place}");
+    }
+}
+
+/// The entity, the blocks, the cap, the check limit and the journal.
+type Values = (u64, u32, u64, u32, u32);
+
 /// A configuration with one protected path.
-fn make(
-    rt: &impl Abort,
-    alloc: Global,
-    values: [u64; 5],
-    name: &[u8],
-) -> Result<Option<Config>, Memory> {
-    let [entity, blocks, cap, checks, journal] = values;
-    assert!(rt; blocks <= 65_536 && checks <= 1_000 && journal <= 1_000_000);
+fn make(alloc: Global, values: Values, name: &[u8]) -> Result<Option<Config>, Memory> {
+    let (entity, blocks, cap, checks, journal) = values;
     let mut protected = Protected::new();
-    assert!(rt; protected.add(path_of(rt, alloc, name)?).is_ok());
-    let made = Config::new(
-        entity,
-        blocks as u32,
-        cap,
-        checks as u32,
-        journal as u32,
-        protected,
-    );
-    Ok(made.ok())
+    if !protects(alloc, &mut protected, name)? {
+        return Ok(None);
+    }
+    Ok(Config::new(entity, blocks, cap, checks, journal, protected).ok())
+}
+
+const VALUES: Values = (2, 64, 2400, 2, 1000);
+
+/// A configuration's values and protected path, and whether it is equal to the one beside it.
+type Pair = (Values, &'static [u8], bool);
+
+/// Each stands beside one with [`VALUES`] and `sys`.
+static PAIRS: [Pair; 7] = [
+    (VALUES, b"/sys", true),
+    (VALUES, b"sy", false),
+    ((3, 64, 2400, 2, 1000), b"sys", false),
+    ((2, 65, 2400, 2, 1000), b"sys", false),
+    ((2, 64, 2401, 2, 1000), b"sys", false),
+    ((2, 64, 2400, 3, 1000), b"sys", false),
+    ((2, 64, 2400, 2, 1001), b"sys", false),
+];
+
+/// Whether the pair is as the row says. Both can be made.
+fn is_pair(alloc: Global, config: &Config, pair: &Pair) -> Result<bool, Memory> {
+    let (values, name, equal) = pair;
+    match make(alloc, *values, name)? {
+        Some(other) => Ok((*config == other) == *equal),
+        None => Ok(false),
+    }
 }
 
 fn try_pairs(rt: &impl Abort, alloc: Global) -> Result<(), Memory> {
-    let values = [2, 64, 2400, 2, 1000];
-    let config = make(rt, alloc, values, b"sys")?;
-    assert!(rt; config.is_some());
-    assert!(rt; config == make(rt, alloc, values, b"/sys")?);
-    assert!(rt; config != make(rt, alloc, values, b"sy")?);
-    for place in 0..5 {
-        let mut other = values;
-        other[place] += 1;
-        assert!(rt; config != make(rt, alloc, other, b"sys")?, "at {place}");
+    let Some(config) = make(alloc, VALUES, b"sys")? else {
+        return Err(AllocError);
+    };
+    for (place, pair) in PAIRS.iter().enumerate() {
+        let holds = is_pair(alloc, &config, pair)?;
+        assert!(rt; holds, "at pair {place}");
     }
     Ok(())
 }

@@ -19,10 +19,10 @@ pub type Row = (Option<(&'static [u8], u64)>, &'static [Item], u32, u32);
 type Case = (u32, &'static [Before], &'static [Row]);
 
 /// The requests of a row.
-pub fn requests(rt: &impl Abort, alloc: Global, items: &[Item]) -> Result<Vec<Request>, Memory> {
+pub fn requests(alloc: Global, items: &[Item]) -> Result<Vec<Request>, Memory> {
     let mut requests = Vec::new(alloc);
     for (action, first, second, _) in items {
-        requests.push(request(rt, alloc, *action, first, second)?)?;
+        requests.push(request(alloc, *action, first, second)?)?;
     }
     Ok(requests)
 }
@@ -34,9 +34,9 @@ fn apply(
     requests: &[Request],
     items: &[Item],
 ) -> Result<(), Memory> {
-    for (request, (_, _, _, status)) in requests.iter().zip(items) {
+    for (place, (request, (_, _, _, status))) in requests.iter().zip(items).enumerate() {
         let told = view.apply(request)?;
-        assert_eq!(rt; told.octet(), *status, "status of {request:?}");
+        assert!(rt; told.octet() == *status, "request {place}");
     }
     Ok(())
 }
@@ -53,6 +53,45 @@ fn view_of<'a, S: Filestore>(
     View::of(alloc, store, protected, &leased)
 }
 
+/// The view of what a list leases, in which its file is installed.
+fn view_with_file<'a, S: Filestore>(
+    alloc: Global,
+    store: &S,
+    protected: &'a Protected,
+    requests: &[Request],
+    (name, bound): (&[u8], u64),
+) -> Result<Option<View<'a>>, Memory> {
+    let path = path_of(alloc, name)?;
+    let mut view = view_of(alloc, store, protected, requests, Some(&path))?;
+    if view.install(&path, bound)? && view.bound(&path) == Some(bound) {
+        Ok(Some(view))
+    } else {
+        Ok(None)
+    }
+}
+
+/// The view on which a row is run: `None` where its file may not be installed.
+fn begun<'a, S: Filestore>(
+    alloc: Global,
+    store: &S,
+    protected: &'a Protected,
+    requests: &[Request],
+    file: Option<(&[u8], u64)>,
+) -> Result<Option<View<'a>>, Memory> {
+    match file {
+        None => Ok(Some(view_of(alloc, store, protected, requests, None)?)),
+        Some(file) => view_with_file(alloc, store, protected, requests, file),
+    }
+}
+
+/// Whether the view took so many blocks and steps. The row that is told the greatest u32 needs more.
+fn has_taken(view: &View<'_>, need: u32, steps: u32) -> bool {
+    view.need() == need
+        && view.steps() == steps
+        && view.needs_at_most(need) == (need < u32::MAX)
+        && (need == 0 || !view.needs_at_most(need - 1))
+}
+
 /// Runs a row on a view of the store.
 pub fn run<S: Filestore>(
     rt: &impl Abort,
@@ -62,22 +101,15 @@ pub fn run<S: Filestore>(
     row: &Row,
 ) -> Result<(), Memory> {
     let (file, items, need, steps) = *row;
-    let requests = requests(rt, alloc, items)?;
-    let mut view = match file {
-        None => view_of(alloc, store, protected, &requests, None)?,
-        Some((name, bound)) => {
-            let path = path_of(rt, alloc, name)?;
-            let mut view = view_of(alloc, store, protected, &requests, Some(&path))?;
-            assert!(rt; view.install(&path, bound)?, "on {name:?}");
-            assert_eq!(rt; view.bound(&path), Some(bound));
-            view
+    let requests = requests(alloc, items)?;
+    let mut view = begun(alloc, store, protected, &requests, file)?;
+    match &mut view {
+        Some(view) => {
+            apply(rt, view, &requests, items)?;
+            assert!(rt; has_taken(view, need, steps));
         }
-    };
-    apply(rt, &mut view, &requests, items)?;
-    assert_eq!(rt; (view.need(), view.steps()), (need, steps), "on {file:?}");
-    // The row that is told the greatest u32 needs more.
-    assert_eq!(rt; view.needs_at_most(need), need < u32::MAX, "on {file:?}");
-    assert!(rt; need == 0 || !view.needs_at_most(need - 1), "on {file:?}");
+        None => assert!(rt; false, "the file may not be installed"),
+    }
     Ok(())
 }
 
@@ -218,21 +250,35 @@ fn each_case(rt: HostRuntime) -> Result<(), Memory> {
     check_all(&rt, rt.alloc(), &CASES)
 }
 
+/// Paths at which no file can be installed.
+static REFUSED: [&[u8]; 3] = [b"sys/a", b"sys", b"x/y"];
+
+/// Whether an install at the path is refused and changes nothing, and one at the other path is not.
+fn is_refused(view: &mut View<'_>, path: &Path, allowed: &Path) -> Result<bool, Memory> {
+    let bound = view.bound(path);
+    let is_refused = !view.install(path, 15)?;
+    let is_same = view.bound(path) == bound && view.need() == 0 && view.steps() == 0;
+    Ok(is_refused && is_same && view.install(allowed, 15)? && view.need() == 2 && view.steps() == 2)
+}
+
+fn is_refused_at(
+    alloc: Global,
+    scene: &Scene,
+    kept: &[Request],
+    name: &[u8],
+) -> Result<bool, Memory> {
+    let allowed = path_of(alloc, b"sys/b")?;
+    let path = path_of(alloc, name)?;
+    let mut view = view_of(alloc, &scene.store, &scene.protected, kept, Some(&path))?;
+    is_refused(&mut view, &path, &allowed)
+}
+
 fn install_refused(rt: &impl Abort, alloc: Global) -> Result<(), Memory> {
     let scene = Scene::new(rt, alloc, 64, PROTECTED)?;
-    let kept = requests(rt, alloc, KEPT)?;
-    let allowed = path_of(rt, alloc, b"sys/b")?;
-    for name in [b"sys/a".as_slice(), b"sys", b"x/y"] {
-        let path = path_of(rt, alloc, name)?;
-        let mut view = view_of(alloc, &scene.store, &scene.protected, &kept, Some(&path))?;
-        let bound = view.bound(&path);
-        assert!(rt; !view.install(&path, 15)?, "on {name:?}");
-        assert_eq!(rt;
-            (view.bound(&path), view.need(), view.steps()),
-            (bound, 0, 0)
-        );
-        assert!(rt; view.install(&allowed, 15)?, "after {name:?}");
-        assert_eq!(rt; (view.need(), view.steps()), (2, 2));
+    let kept = requests(alloc, KEPT)?;
+    for name in &REFUSED {
+        let holds = is_refused_at(alloc, &scene, &kept, name)?;
+        assert!(rt; holds, "on {name:?}");
     }
     Ok(())
 }
@@ -252,31 +298,34 @@ static DIRECTORY: [Before; 2] = [
     Before::Performed(b"\x00\x05\x00\x03d/x"),
 ];
 
+/// Requests, and what a view of each tells of the sizes of `d/x` and `d`.
+static BOUNDS: [(Item, Option<u64>, Option<u64>); 2] = [
+    ((Action::CreateFile, b"d/y", b"", 0x00), None, None),
+    ((Action::RemoveDirectory, b"d", b"", 0x62), Some(0), None),
+];
+
+/// What the view tells of the size at the path.
+fn bound_at(alloc: Global, view: &View<'_>, name: &[u8]) -> Result<Option<u64>, Memory> {
+    let path = path_of(alloc, name)?;
+    Ok(view.bound(&path))
+}
+
 /// What a view of one request tells of the sizes of `d/x` and `d`.
-fn bounds(
-    rt: &impl Abort,
-    alloc: Global,
-    scene: &Scene,
-    item: Item,
-) -> Result<[Option<u64>; 2], Memory> {
-    let requests = requests(rt, alloc, &[item])?;
+fn bounds(alloc: Global, scene: &Scene, item: Item) -> Result<(Option<u64>, Option<u64>), Memory> {
+    let requests = requests(alloc, &[item])?;
     let view = view_of(alloc, &scene.store, &scene.protected, &requests, None)?;
-    let file = path_of(rt, alloc, b"d/x")?;
-    let directory = path_of(rt, alloc, b"d")?;
-    Ok([view.bound(&file), view.bound(&directory)])
+    Ok((
+        bound_at(alloc, &view, b"d/x")?,
+        bound_at(alloc, &view, b"d")?,
+    ))
 }
 
 fn see(rt: &impl Abort, alloc: Global) -> Result<(), Memory> {
     let scene = Scene::new(rt, alloc, 64, &DIRECTORY)?;
-    let beside = (Action::CreateFile, b"d/y".as_slice(), b"".as_slice(), 0x00);
-    assert_eq!(rt; bounds(rt, alloc, &scene, beside)?, [None, None]);
-    let whole = (
-        Action::RemoveDirectory,
-        b"d".as_slice(),
-        b"".as_slice(),
-        0x62,
-    );
-    assert_eq!(rt; bounds(rt, alloc, &scene, whole)?, [Some(0), None]);
+    for (item, file, directory) in &BOUNDS {
+        let told = bounds(alloc, &scene, *item)?;
+        assert!(rt; told == (*file, *directory));
+    }
     Ok(())
 }
 

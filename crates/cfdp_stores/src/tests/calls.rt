@@ -2,26 +2,36 @@
 
 ghost use Rattle.std.specs.Prelude.{◌<◌};
 
-use cfdp_actions::{BLOCK_OCTETS, Filestore, Kind, Request, entry_checksum};
+use cfdp_actions::{Filestore, Kind, PAYLOAD_OCTETS, Request};
 use cfdp_paths::{Memory, Path};
 use cfdp_status::Action;
-use std::alloc::Global;
-use std::test::Fail;
+use std::alloc::{AllocError, Global};
 
-/// The request for an action at its names. No second name: empty.
+/// The path that the octets spell. They spell one, so that only memory can be wanting.
+pub fn parsed(alloc: Global, octets: &[u8]) -> Result<Path, Memory> {
+    match Path::parse(alloc, octets) {
+        Ok(path) => Ok(path),
+        Err(_) => Err(AllocError),
+    }
+}
+
+/// The path of a second name. Empty: none.
+fn parsed_second(alloc: Global, octets: &[u8]) -> Result<Option<Path>, Memory> {
+    if octets.is_empty() {
+        return Ok(None);
+    }
+    Ok(Some(parsed(alloc, octets)?))
+}
+
+/// The request for an action at its names, which are neither too few nor too many. No second name: empty.
 pub fn request(
     alloc: Global,
     action: Action,
     first: &[u8],
     second: &[u8],
-) -> Result<Request, Fail> {
-    let first = Path::parse(alloc, first)?;
-    let second = if second.is_empty() {
-        None
-    } else {
-        Some(Path::parse(alloc, second)?)
-    };
-    Ok(Request::new(action, first, second).ok_or("a name too few or too many")?)
+) -> Result<Request, Memory> {
+    let second = parsed_second(alloc, second)?;
+    Request::new(action, parsed(alloc, first)?, second).ok_or(AllocError)
 }
 
 /// Stages the octets and installs them at a path at which a file or nothing stands. The ticks of both; `None` where
@@ -38,14 +48,26 @@ pub fn deliver<S: Filestore>(
     let Some(staged) = extend(store, 0, size)? else {
         return Ok(None);
     };
-    if store.staged_size(0) != size {
+    if !put(store, 0, 0, octets) {
         return Ok(None);
     }
-    store.stage_put(0, 0, octets);
     match install(store, 0, path)? {
         Some(installed) => Ok(Some((staged, installed))),
         None => Ok(None),
     }
+}
+
+/// Puts the octets into what is staged in the slot, from the place `at` on; false where that ends before them.
+pub fn put<S: Filestore>(store: &mut S, slot: u8, at: u64, octets: &[u8]) -> bool
+    requires { slot < 64 }
+{
+    let size = store.staged_size(slot);
+    let length = octets.len() as u64;
+    if length > size || at > size - length {
+        return false;
+    }
+    store.stage_put(slot, at, octets);
+    true
 }
 
 /// Installs what is staged in the slot; `None` where it may not be.
@@ -84,7 +106,7 @@ pub fn extend<S: Filestore>(store: &mut S, slot: u8, size: u64) -> Result<Option
 {
     if size > 7864320
         || store.staged_size(slot) > size
-        || (size + (BLOCK_OCTETS - 1)) / BLOCK_OCTETS > u64::from(store.free())
+        || (size + (PAYLOAD_OCTETS - 1)) / PAYLOAD_OCTETS > u64::from(store.free())
     {
         return Ok(None);
     }
@@ -111,7 +133,7 @@ pub fn deepest<S: Filestore>(store: &S, path: &Path) -> Option<u8> {
 /// The checksum of the file at the path, if a file stands there.
 pub fn checksum<S: Filestore>(store: &S, path: &Path) -> Option<u32> {
     match store.kind(path) {
-        Some(Kind::File) => Some(entry_checksum(store, path)),
+        Some(Kind::File) => Some(store.checksum(path)),
         Some(Kind::Directory) | None => None,
     }
 }

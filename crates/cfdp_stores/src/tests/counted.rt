@@ -34,6 +34,10 @@ impl<S: Filestore> Filestore for Counted<S> {
         self.inner.read(path, at, buffer);
     }
 
+    fn checksum(&self, path: &Path) -> u32 {
+        self.inner.checksum(path)
+    }
+
     fn deepest(&self, path: &Path) -> u8 {
         self.inner.deepest(path)
     }
@@ -44,6 +48,10 @@ impl<S: Filestore> Filestore for Counted<S> {
 
     fn read_staged(&self, slot: u8, at: u64, buffer: &mut [u8]) {
         self.inner.read_staged(slot, at, buffer);
+    }
+
+    fn staged_checksum(&self, slot: u8) -> u32 {
+        self.inner.staged_checksum(slot)
     }
 
     fn free(&self) -> u32 {

@@ -1,15 +1,17 @@
 //! Each call that can answer want of memory, for runs in which one allocation is refused (`rt try --test --fail-alloc N`):
 //! a call whose own allocation it is answers `Memory` and leaves the store as before, and made once more it succeeds. With
-//! every allocation granted each call succeeds at once.
+//! every allocation granted each call succeeds at once. Of a `TreeStore` no change can be refused.
 
-use super::calls::{extend, install, staged};
-use cfdp_actions::{Entry, Filestore, Kind, ListStore, Protected, Request, perform};
-use cfdp_paths::{Memory, Path, PathFault};
+use super::calls::{extend, install, put, staged};
+use cfdp_actions::{
+    Entry, Filestore, Kind, ListStore, Performed, Protected, Request, Standing, perform,
+};
+use cfdp_paths::{Memory, Path};
 use cfdp_status::Action;
+use cfdp_tree::TreeStore;
 use std::alloc::{AllocError, Global};
 use std::fmt::Debug;
 use std::process::Abort;
-use std::test::Fail;
 
 /// What the call answers; where it is refused memory, that is told by its name, and it is made once more.
 fn answered<T, R: Abort + Print, F: Fn() -> Result<T, Memory>>(
@@ -28,16 +30,16 @@ fn answered<T, R: Abort + Print, F: Fn() -> Result<T, Memory>>(
     }
 }
 
-/// The path that the octets spell, whether or not memory is refused at first.
-fn parsed(alloc: Global, octets: &[u8]) -> Result<Path, Fail> {
+/// The path that the octets spell, whether or not memory is refused at first. They spell one.
+fn parsed(alloc: Global, octets: &[u8]) -> Result<Path, Memory> {
     match Path::parse(alloc, octets) {
-        Err(PathFault::Memory) => Ok(Path::parse(alloc, octets)?),
-        answer => Ok(answer?),
+        Ok(path) => Ok(path),
+        Err(_) => super::calls::parsed(alloc, octets),
     }
 }
 
 /// What a store shows of its state: all that stands, what is staged in one slot, and the free blocks.
-#[derive(Debug, Drop, PartialEq)]
+#[derive(Drop, PartialEq)]
 struct Picture {
     listing: Vec<Entry>,
     staged: Vec<u8>,
@@ -47,7 +49,11 @@ struct Picture {
 /// The slot in which the tests stage octets.
 const SLOT: u8 = 63;
 
-fn shown<R: Abort + Print>(rt: &R, alloc: Global, store: &ListStore) -> Result<Picture, Fail> {
+fn shown<S: Filestore, R: Abort + Print>(
+    rt: &R,
+    alloc: Global,
+    store: &S,
+) -> Result<Picture, Memory> {
     Ok(Picture {
         listing: answered(rt, "listing", || store.listing(alloc))?,
         staged: answered(
@@ -62,32 +68,32 @@ fn shown<R: Abort + Print>(rt: &R, alloc: Global, store: &ListStore) -> Result<P
 /// The octets of a path, and the kind, the size and the checksum of what stands there.
 type Stands = (&'static [u8], Kind, u64, u32);
 
+/// Whether the entry is as the row says.
+fn is_at(alloc: Global, entry: &Entry, row: &Stands) -> Result<bool, Memory> {
+    let (path, kind, size, checksum) = row;
+    let is_same = entry.kind == *kind && entry.size == *size && entry.checksum == *checksum;
+    Ok(entry.path.text(alloc)?.as_slice() == *path && is_same)
+}
+
 /// Whether just these stand.
 fn stand(alloc: Global, entries: &[Entry], rows: &[Stands]) -> Result<bool, Memory> {
-    if entries.len() != rows.len() {
-        return Ok(false);
-    }
-    for (entry, (path, kind, size, checksum)) in entries.iter().zip(rows) {
-        let is_it = entry.path.text(alloc)?.as_slice() == *path
-            && entry.kind == *kind
-            && entry.size == *size
-            && entry.checksum == *checksum;
-        if !is_it {
+    for (entry, row) in entries.iter().zip(rows) {
+        if !is_at(alloc, entry, row)? {
             return Ok(false);
         }
     }
-    Ok(true)
+    Ok(entries.len() == rows.len())
 }
 
 /// What a change of the store answers. Where it is refused memory, that is told by what it is, the store is as before,
 /// and the change is made once more.
-fn changed<T, N: Debug, R: Abort + Print, F: Fn(&mut ListStore) -> Result<T, Memory>>(
+fn changed<S: Filestore, T, N: Debug, R: Abort + Print, F: Fn(&mut S) -> Result<T, Memory>>(
     rt: &R,
     alloc: Global,
-    store: &mut ListStore,
+    store: &mut S,
     what: &N,
     change: F,
-) -> Result<T, Fail>
+) -> Result<T, Memory>
     requires { F.IsAlwaysCallable change }
 {
     let before = shown(rt, alloc, store)?;
@@ -95,8 +101,9 @@ fn changed<T, N: Debug, R: Abort + Print, F: Fn(&mut ListStore) -> Result<T, Mem
         Ok(value) => Ok(value),
         Err(AllocError) => {
             let _ = println!(rt; "{what:?} was refused memory");
-            assert_eq!(rt; shown(rt, alloc, store)?, before, "after {what:?}");
-            Ok(change(store)?)
+            let after = shown(rt, alloc, store)?;
+            assert!(rt; after == before);
+            change(store)
         }
     }
 }
@@ -104,77 +111,131 @@ fn changed<T, N: Debug, R: Abort + Print, F: Fn(&mut ListStore) -> Result<T, Mem
 /// A request, and the status octet and the ticks that it comes to. No second name: empty.
 type Row = (Action, &'static [u8], &'static [u8], u8, u32);
 
-/// The request of a row.
-fn request_of(alloc: Global, row: &Row) -> Result<Request, Fail> {
-    let (action, first, second, _, _) = row;
-    let first = parsed(alloc, first)?;
-    let second = if second.is_empty() {
-        None
-    } else {
-        Some(parsed(alloc, second)?)
-    };
-    Ok(Request::new(*action, first, second).ok_or("a name too few or too many")?)
+/// The path of a second name. Empty: none.
+fn parsed_second(alloc: Global, octets: &[u8]) -> Result<Option<Path>, Memory> {
+    if octets.is_empty() {
+        return Ok(None);
+    }
+    Ok(Some(parsed(alloc, octets)?))
 }
 
-/// Performs the rows one after another; then just these stand.
-fn run<R: Abort + Print>(
+/// The request of a row.
+fn request_of(alloc: Global, row: &Row) -> Result<Request, Memory> {
+    let (action, first, second, _, _) = row;
+    let second = parsed_second(alloc, second)?;
+    Request::new(*action, parsed(alloc, first)?, second).ok_or(AllocError)
+}
+
+/// Performs the request of a row: what is done.
+fn performed<S: Filestore, R: Abort + Print>(
     rt: &R,
     alloc: Global,
-    store: &mut ListStore,
-    rows: &[Row],
+    store: &mut S,
+    row: &Row,
+) -> Result<Performed, Memory> {
+    let request = request_of(alloc, row)?;
+    changed(rt, alloc, store, &request.action(), |store| {
+        perform(store, &Protected::new(), &request)
+    })
+}
+
+/// Just these stand.
+fn leaves<S: Filestore, R: Abort + Print>(
+    rt: &R,
+    alloc: Global,
+    store: &S,
     standing: &[Stands],
-) -> Result<(), Fail> {
-    for row in rows {
-        let request = request_of(alloc, row)?;
-        let done = changed(rt, alloc, store, &request.action(), |store| {
-            perform(store, &Protected::new(), &request)
-        })?;
-        let (_, _, _, octet, ticks) = *row;
-        assert_eq!(rt;
-            (done.status.octet(), done.ticks),
-            (octet, ticks),
-            "{request:?}"
-        );
-    }
-    let listing = shown(rt, alloc, store)?.listing;
-    assert!(rt;
-        answered(rt, "text", || stand(alloc, &listing, standing))?,
-        "{listing:?}"
-    );
+) -> Result<(), Memory> {
+    let picture = shown(rt, alloc, store)?;
+    let holds = answered(rt, "text", || stand(alloc, &picture.listing, standing))?;
+    assert!(rt; holds);
     Ok(())
 }
 
-/// An empty store of 16 blocks.
-fn new_store<R: Abort + Print>(rt: &R, alloc: Global) -> Result<ListStore, Memory> {
+/// Performs the rows one after another; then just these stand. Of a row that comes to something else its number is told,
+/// from 0.
+fn run<S: Filestore, R: Abort + Print>(
+    rt: &R,
+    alloc: Global,
+    store: &mut S,
+    rows: &[Row],
+    standing: &[Stands],
+) -> Result<(), Memory> {
+    for (number, row) in rows.iter().enumerate() {
+        let done = performed(rt, alloc, store, row)?;
+        let (_, _, _, octet, ticks) = *row;
+        assert!(rt;
+            done.status.octet() == octet && done.ticks == ticks,
+            "row {number}"
+        );
+    }
+    leaves(rt, alloc, store, standing)
+}
+
+/// An empty store of 16 blocks in a list.
+fn new_lists<R: Abort + Print>(rt: &R, alloc: Global) -> Result<ListStore, Memory> {
     answered(rt, "new", || ListStore::new(alloc, 16))
 }
 
-/// Stages octets in the slot and installs them at a path: the ticks of both.
-fn deliver<R: Abort + Print>(
+/// An empty store of 16 blocks inside an arena.
+fn new_tree<R: Abort + Print>(rt: &R, alloc: Global) -> Result<TreeStore, Memory> {
+    answered(rt, "new", || TreeStore::new(alloc, 16))
+}
+
+/// Extends what is staged in the slot: the ticks.
+fn extended<S: Filestore, R: Abort + Print>(
     rt: &R,
     alloc: Global,
-    store: &mut ListStore,
+    store: &mut S,
+    size: u64,
+) -> Result<Option<u32>, Memory> {
+    changed(rt, alloc, store, &"stage_extend", |store| {
+        extend(store, SLOT, size)
+    })
+}
+
+/// Stages octets in the slot and installs them at a path: the ticks of both.
+fn deliver<S: Filestore, R: Abort + Print>(
+    rt: &R,
+    alloc: Global,
+    store: &mut S,
     path: &[u8],
     octets: &[u8],
-) -> Result<(Option<u32>, Option<u32>), Fail> {
+) -> Result<(Option<u32>, Option<u32>), Memory> {
     let path = parsed(alloc, path)?;
     let size = octets.len() as u64;
-    let staged = changed(rt, alloc, store, &"stage_extend", |store| {
-        extend(store, SLOT, size)
-    })?;
-    assert!(rt; store.staged_size(SLOT) == size);
-    store.stage_put(SLOT, 0, octets);
+    let staged = extended(rt, alloc, store, size)?;
+    assert!(rt; store.staged_size(SLOT) == size && put(store, SLOT, 0, octets));
     let installed = changed(rt, alloc, store, &"install", |store| {
         install(store, SLOT, &path)
     })?;
     Ok((staged, installed))
 }
 
+/// What is delivered at `a` takes blocks of its own: one where it is staged, and one for the file.
+fn deliver_anew<S: Filestore, R: Abort + Print>(
+    rt: &R,
+    alloc: Global,
+    store: &mut S,
+    octets: &[u8],
+) -> Result<(), Memory> {
+    let ticks = deliver(rt, alloc, store, b"a", octets)?;
+    assert!(rt; ticks == (Some(1), Some(1)));
+    Ok(())
+}
+
+/// A block of ones.
+static ONES: [u8; 120] = [1; 120];
+
+/// All blocks of the store are free, and nothing is staged.
+fn is_empty<S: Filestore>(rt: &impl Abort, store: &S) {
+    assert!(rt; store.free() == 16 && store.staged_size(SLOT) == 0);
+}
+
 #[test]
-fn new(rt: HostRuntime) -> Result<(), Fail> {
-    let store = new_store(&rt, rt.alloc())?;
-    assert_eq!(rt; store.free(), 16);
-    assert_eq!(rt; store.staged_size(SLOT), 0);
+fn new(rt: HostRuntime) -> Result<(), Memory> {
+    is_empty(&rt, &new_lists(&rt, rt.alloc())?);
+    is_empty(&rt, &new_tree(&rt, rt.alloc())?);
     Ok(())
 }
 
@@ -194,9 +255,22 @@ static CREATES_LEAVES: [Stands; 3] = [
 ];
 
 #[test]
-fn creates(rt: HostRuntime) -> Result<(), Fail> {
-    let mut store = new_store(&rt, rt.alloc())?;
-    run(&rt, rt.alloc(), &mut store, &CREATES, &CREATES_LEAVES)
+fn creates(rt: HostRuntime) -> Result<(), Memory> {
+    let alloc = rt.alloc();
+    run(
+        &rt,
+        alloc,
+        &mut new_lists(&rt, alloc)?,
+        &CREATES,
+        &CREATES_LEAVES,
+    )?;
+    run(
+        &rt,
+        alloc,
+        &mut new_tree(&rt, alloc)?,
+        &CREATES,
+        &CREATES_LEAVES,
+    )
 }
 
 /// What [`renames`] performs.
@@ -211,9 +285,22 @@ static RENAMES: [Row; 4] = [
 static RENAMES_LEAVES: [Stands; 2] = [(b"c", Kind::File, 0, 0), (b"e", Kind::Directory, 0, 0)];
 
 #[test]
-fn renames(rt: HostRuntime) -> Result<(), Fail> {
-    let mut store = new_store(&rt, rt.alloc())?;
-    run(&rt, rt.alloc(), &mut store, &RENAMES, &RENAMES_LEAVES)
+fn renames(rt: HostRuntime) -> Result<(), Memory> {
+    let alloc = rt.alloc();
+    run(
+        &rt,
+        alloc,
+        &mut new_lists(&rt, alloc)?,
+        &RENAMES,
+        &RENAMES_LEAVES,
+    )?;
+    run(
+        &rt,
+        alloc,
+        &mut new_tree(&rt, alloc)?,
+        &RENAMES,
+        &RENAMES_LEAVES,
+    )
 }
 
 /// What [`removes`] performs.
@@ -229,9 +316,10 @@ static REMOVES: [Row; 8] = [
 ];
 
 #[test]
-fn removes(rt: HostRuntime) -> Result<(), Fail> {
-    let mut store = new_store(&rt, rt.alloc())?;
-    run(&rt, rt.alloc(), &mut store, &REMOVES, &[])
+fn removes(rt: HostRuntime) -> Result<(), Memory> {
+    let alloc = rt.alloc();
+    run(&rt, alloc, &mut new_lists(&rt, alloc)?, &REMOVES, &[])?;
+    run(&rt, alloc, &mut new_tree(&rt, alloc)?, &REMOVES, &[])
 }
 
 /// What [`appends`] performs.
@@ -240,15 +328,20 @@ static APPENDS: [Row; 1] = [(Action::AppendFile, b"a", b"a", 0x30, 2)];
 /// What stands then.
 static APPENDS_LEAVES: [Stands; 1] = [(b"a", Kind::File, 240, 0x3c3c_3c3c)];
 
+/// Performs [`APPENDS`] on an empty store in which `ONES` is delivered.
+fn append_in<S: Filestore, R: Abort + Print>(
+    rt: &R,
+    alloc: Global,
+    store: &mut S,
+) -> Result<(), Memory> {
+    deliver_anew(rt, alloc, store, &ONES)?;
+    run(rt, alloc, store, &APPENDS, &APPENDS_LEAVES)
+}
+
 #[test]
-fn appends(rt: HostRuntime) -> Result<(), Fail> {
-    let alloc = rt.alloc();
-    let mut store = new_store(&rt, alloc)?;
-    assert_eq!(rt;
-        deliver(&rt, alloc, &mut store, b"a", &[1; 120])?,
-        (Some(1), Some(1))
-    );
-    run(&rt, alloc, &mut store, &APPENDS, &APPENDS_LEAVES)
+fn appends(rt: HostRuntime) -> Result<(), Memory> {
+    append_in(&rt, rt.alloc(), &mut new_lists(&rt, rt.alloc())?)?;
+    append_in(&rt, rt.alloc(), &mut new_tree(&rt, rt.alloc())?)
 }
 
 /// What [`replaces`] performs.
@@ -263,41 +356,53 @@ static REPLACES_LEAVES: [Stands; 2] = [
     (b"b", Kind::File, 120, 0x1e1e_1e1e),
 ];
 
+/// Performs [`REPLACES`] on an empty store in which `ONES` is delivered.
+fn replace_in<S: Filestore, R: Abort + Print>(
+    rt: &R,
+    alloc: Global,
+    store: &mut S,
+) -> Result<(), Memory> {
+    deliver_anew(rt, alloc, store, &ONES)?;
+    run(rt, alloc, store, &REPLACES, &REPLACES_LEAVES)
+}
+
 #[test]
-fn replaces(rt: HostRuntime) -> Result<(), Fail> {
-    let alloc = rt.alloc();
-    let mut store = new_store(&rt, alloc)?;
-    assert_eq!(rt;
-        deliver(&rt, alloc, &mut store, b"a", &[1; 120])?,
-        (Some(1), Some(1))
-    );
-    run(&rt, alloc, &mut store, &REPLACES, &REPLACES_LEAVES)
+fn replaces(rt: HostRuntime) -> Result<(), Memory> {
+    replace_in(&rt, rt.alloc(), &mut new_lists(&rt, rt.alloc())?)?;
+    replace_in(&rt, rt.alloc(), &mut new_tree(&rt, rt.alloc())?)
+}
+
+/// What stands once `b"\x01\x01\x01\x01"` is delivered over the file.
+static DELIVERS_LEAVES: [Stands; 1] = [(b"a", Kind::File, 4, 0x0101_0101)];
+
+/// What is staged grows, and is installed where nothing stands.
+fn grows_and_installs<S: Filestore, R: Abort + Print>(
+    rt: &R,
+    alloc: Global,
+    store: &mut S,
+) -> Result<(), Memory> {
+    let staged = extended(rt, alloc, store, 4)?;
+    let ticks = deliver(rt, alloc, store, b"a", &ONES)?;
+    assert!(rt; staged == Some(1) && ticks == (Some(0), Some(1)));
+    Ok(())
+}
+
+/// Delivers into an empty store, and then over the file.
+fn stage_and_install<S: Filestore, R: Abort + Print>(
+    rt: &R,
+    alloc: Global,
+    store: &mut S,
+) -> Result<(), Memory> {
+    grows_and_installs(rt, alloc, store)?;
+    deliver_anew(rt, alloc, store, &[1; 4])?;
+    leaves(rt, alloc, store, &DELIVERS_LEAVES)
 }
 
 /// What is staged grows, is installed where nothing stands, and then over the file.
 #[test]
-fn stages_and_installs(rt: HostRuntime) -> Result<(), Fail> {
-    let alloc = rt.alloc();
-    let mut store = new_store(&rt, alloc)?;
-    let staged = changed(&rt, alloc, &mut store, &"stage_extend", |store| {
-        extend(store, SLOT, 4)
-    })?;
-    assert_eq!(rt; staged, Some(1));
-    assert_eq!(rt;
-        deliver(&rt, alloc, &mut store, b"a", &[1; 120])?,
-        (Some(0), Some(1))
-    );
-    assert_eq!(rt;
-        deliver(&rt, alloc, &mut store, b"a", &[1; 4])?,
-        (Some(1), Some(1))
-    );
-    run(
-        &rt,
-        alloc,
-        &mut store,
-        &[],
-        &[(b"a", Kind::File, 4, 0x0101_0101)],
-    )
+fn stages_and_installs(rt: HostRuntime) -> Result<(), Memory> {
+    stage_and_install(&rt, rt.alloc(), &mut new_lists(&rt, rt.alloc())?)?;
+    stage_and_install(&rt, rt.alloc(), &mut new_tree(&rt, rt.alloc())?)
 }
 
 /// What [`what_stands`] performs.
@@ -312,25 +417,45 @@ static WHAT_STANDS_LEAVES: [Stands; 2] = [
     (b"d/x", Kind::File, 0, 0),
 ];
 
+/// Performs [`WHAT_STANDS`] on an empty store, and tells what stands below the directory.
+fn show_what_stands<S: Filestore, R: Abort + Print>(
+    rt: &R,
+    alloc: Global,
+    store: &mut S,
+) -> Result<(), Memory> {
+    run(rt, alloc, store, &WHAT_STANDS, &WHAT_STANDS_LEAVES)?;
+    stand_below(rt, alloc, store)
+}
+
 #[test]
-fn what_stands(rt: HostRuntime) -> Result<(), Fail> {
-    let alloc = rt.alloc();
-    let mut store = new_store(&rt, alloc)?;
-    run(&rt, alloc, &mut store, &WHAT_STANDS, &WHAT_STANDS_LEAVES)?;
-    let names = [parsed(alloc, b"d")?, parsed(alloc, b"d/x")?];
-    Ok(stand_below(&rt, alloc, &store, &names)?)
+fn what_stands(rt: HostRuntime) -> Result<(), Memory> {
+    show_what_stands(&rt, rt.alloc(), &mut new_lists(&rt, rt.alloc())?)?;
+    show_what_stands(&rt, rt.alloc(), &mut new_tree(&rt, rt.alloc())?)
+}
+
+/// Whether these are a directory and an empty file in it.
+fn are_two(found: &[Standing], directory: &Path, file: &Path) -> bool {
+    match found {
+        [above, below] => {
+            above.path == *directory
+                && above.kind == Kind::Directory
+                && below.path == *file
+                && below.kind == Kind::File
+                && below.size == 0
+        }
+        _ => false,
+    }
 }
 
 /// Just a directory and an empty file in it stand at and below the directory.
-fn stand_below<R: Abort + Print>(
+fn stand_below<S: Filestore, R: Abort + Print>(
     rt: &R,
     alloc: Global,
-    store: &ListStore,
-    names: &[Path; 2],
+    store: &S,
 ) -> Result<(), Memory> {
-    let found = answered(rt, "standing", || store.standing(alloc, &names[0]))?;
-    assert_eq!(rt; found.len(), 2);
-    assert!(rt; found[0].path == names[0] && found[0].kind == Kind::Directory);
-    assert!(rt; found[1].path == names[1] && found[1].kind == Kind::File && found[1].size == 0);
+    let directory = parsed(alloc, b"d")?;
+    let file = parsed(alloc, b"d/x")?;
+    let found = answered(rt, "standing", || store.standing(alloc, &directory))?;
+    assert!(rt; are_two(&found, &directory, &file));
     Ok(())
 }

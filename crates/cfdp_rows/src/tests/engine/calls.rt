@@ -2,11 +2,30 @@
 
 use super::scene::{Given, event, id, journaled, shared};
 use cfdp_actions::ListStore;
-use cfdp_engine::{Fault, Journaled, NotClosed, Seat, Shared, close};
+use cfdp_engine::{Entry, Fault, Journaled, Seat, Shared, close};
 use cfdp_transactions::{Phase, Reply};
 use std::alloc::Global;
 use std::process::Abort;
 use std::sync::Wait;
+
+/// What is replied.
+#[derive(Clone, Copy)]
+enum Told {
+    Admitted(u32, u32),
+    Duplicate,
+    JournalFull,
+}
+
+/// Whether the reply is the one that is told.
+fn is_told(reply: &Reply, told: Told) -> bool {
+    match (reply, told) {
+        (Reply::Admitted(blocks, steps), Told::Admitted(told_blocks, told_steps)) => {
+            *blocks == told_blocks && *steps == told_steps
+        }
+        (Reply::Duplicate, Told::Duplicate) | (Reply::JournalFull, Told::JournalFull) => true,
+        _ => false,
+    }
+}
 
 /// Hands in an event, for which this is the reply.
 fn replies(
@@ -15,32 +34,47 @@ fn replies(
     seat: u8,
     alloc: Global,
     given: Given,
-    expected: &Reply,
+    told: Told,
 ) {
     let reply = journaled.accept(seat, event(rt, alloc, given));
-    assert!(rt; reply.same(expected));
+    assert!(rt; is_told(&reply, told));
+}
+
+/// Whether the journal has the same event twice, first as it was admitted from seat 7, and then as a duplicate from seat 8.
+fn is_twice(journal: &[Entry]) -> bool {
+    match journal {
+        [first, second] => {
+            first.seat == 7
+                && second.seat == 8
+                && is_told(&first.reply, Told::Admitted(1, 2))
+                && is_told(&second.reply, Told::Duplicate)
+                && first.event.event().same(second.event.event())
+        }
+        _ => false,
+    }
 }
 
 #[test]
 fn a_duplicate_is_journaled(rt: HostRuntime) {
     let alloc = rt.alloc();
     let mut journaled = journaled(&rt, alloc, 1000);
-    let admitted = Reply::Admitted(1, 2);
-    replies(&rt, &mut journaled, 7, alloc, Given::Create, &admitted);
+    replies(
+        &rt,
+        &mut journaled,
+        7,
+        alloc,
+        Given::Create,
+        Told::Admitted(1, 2),
+    );
     replies(
         &rt,
         &mut journaled,
         8,
         alloc,
         Given::Create,
-        &Reply::Duplicate,
+        Told::Duplicate,
     );
-    let journal = journaled.journal();
-    assert_eq!(rt; journal.len(), 2);
-    assert_eq!(rt; (journal[0].seat, journal[1].seat), (7, 8));
-    assert!(rt; journal[0].reply.same(&admitted));
-    assert!(rt; journal[1].reply.same(&Reply::Duplicate));
-    assert!(rt; journal[0].event.event().same(journal[1].event.event()));
+    assert!(rt; is_twice(journaled.journal()));
 }
 
 static FURTHER: [Given; 4] = [
@@ -50,27 +84,26 @@ static FURTHER: [Given; 4] = [
     Given::Take(1),
 ];
 
+/// Whether the entity is as sixteen transactions left it, and the journal full.
+fn is_full(journaled: &Journaled<ListStore>) -> bool {
+    let core = journaled.core();
+    core.phase(id(1)) == Some(Phase::Receiving)
+        && core.phase(id(17)).is_none()
+        && core.spare() == 64
+        && journaled.journal().len() == 16
+}
+
 #[test]
 fn a_full_journal_takes_nothing(rt: HostRuntime) {
     let alloc = rt.alloc();
     let mut journaled = journaled(&rt, alloc, 16);
-    let admitted = Reply::Admitted(0, 0);
     for number in 1..=16u8 {
-        replies(
-            &rt,
-            &mut journaled,
-            0,
-            alloc,
-            Given::Bare(number),
-            &admitted,
-        );
+        let given = Given::Bare(number);
+        replies(&rt, &mut journaled, 0, alloc, given, Told::Admitted(0, 0));
     }
     for given in &FURTHER {
-        replies(&rt, &mut journaled, 0, alloc, *given, &Reply::JournalFull);
-        assert_eq!(rt; journaled.core().phase(id(1)), Some(Phase::Receiving));
-        assert_eq!(rt; journaled.core().phase(id(17)), None);
-        assert_eq!(rt; journaled.core().spare(), 64);
-        assert_eq!(rt; journaled.journal().len(), 16);
+        replies(&rt, &mut journaled, 0, alloc, *given, Told::JournalFull);
+        assert!(rt; is_full(&journaled));
     }
 }
 
@@ -137,34 +170,15 @@ fn seats(rt: &impl Abort, alloc: Global, one: Seat, two: Seat, from: usize) -> V
     seats
 }
 
-/// Closes, and gives the fault.
-fn fault_of(
-    rt: &impl Abort,
-    journaled: Journaled<ListStore>,
-    seats: Vec<Seat>,
-    entries: usize,
-) -> Option<Fault> {
-    let handed_in = seats.len();
+/// Closes with the seats: the fault, if any, and how many entries and seats are handed back.
+pub fn closed(journaled: Journaled<ListStore>, seats: Vec<Seat>) -> (Option<Fault>, usize, usize) {
     match close(journaled, seats) {
-        Ok(closed) => {
-            assert_eq!(rt;
-                (closed.journal.len(), closed.seats.len()),
-                (entries, handed_in)
-            );
-            None
-        }
-        Err(refused) => {
-            let NotClosed {
-                fault,
-                journaled,
-                seats,
-            } = refused;
-            assert_eq!(rt;
-                (journaled.journal().len(), seats.len()),
-                (entries, handed_in)
-            );
-            Some(fault)
-        }
+        Ok(closed) => (None, closed.journal.len(), closed.seats.len()),
+        Err(refused) => (
+            Some(refused.fault),
+            refused.journaled.journal().len(),
+            refused.seats.len(),
+        ),
     }
 }
 
@@ -180,8 +194,9 @@ fn closes(rt: &(impl Abort + Wait), alloc: Global, closing: &Closing) {
     let two = seat(rt, alloc, second, closing.second, Given::Bare(6));
     let entries = if closing.of_another { 1 } else { 2 };
     let seats = seats(rt, alloc, one, two, closing.from);
-    let fault = fault_of(rt, engine.into_journaled(), seats, entries);
-    assert_eq!(rt; fault, closing.fault);
+    let handed_in = seats.len();
+    let told = closed(engine.into_journaled(), seats);
+    assert!(rt; told == (closing.fault, entries, handed_in));
 }
 
 #[test]

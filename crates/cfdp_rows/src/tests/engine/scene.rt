@@ -3,7 +3,7 @@
 use cfdp_actions::{ListStore, Protected};
 use cfdp_engine::{Journaled, Message, Shared};
 use cfdp_paths::Memory;
-use cfdp_pdus::read_pdu;
+use cfdp_pdus::{Pdu, read_pdu};
 use cfdp_status::TransactionId;
 use cfdp_transactions::{Config, Core, Event, event_of};
 use crossbeam_channel::{Receiver, bounded};
@@ -59,11 +59,18 @@ pub fn id(number: u8) -> TransactionId {
     }
 }
 
+fn event_in_pdu(pdu: Pdu) -> Result<Event, Memory> {
+    match event_of(pdu) {
+        Ok(event) => Ok(event),
+        Err(_) => Err(AllocError),
+    }
+}
+
 /// The event of a PDU.
 fn event_in(alloc: Global, given: Given) -> Result<Event, Memory> {
     let octets = octets(alloc, given)?;
     match read_pdu(alloc, &octets) {
-        Ok(pdu) => event_of(pdu).map_err(|_| AllocError),
+        Ok(pdu) => event_in_pdu(pdu),
         Err(_) => Err(AllocError),
     }
 }

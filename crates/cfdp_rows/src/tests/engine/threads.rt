@@ -1,9 +1,10 @@
 //! Several workers at once.
 
+use super::calls::closed;
 use super::scene::{Given, inbox, message, shared};
 use super::workers::{Open, is_closed};
 use cfdp_actions::ListStore;
-use cfdp_engine::{Gate, Message, Seat, Shared, Worked, close, work};
+use cfdp_engine::{Gate, Journaled, Message, Seat, Shared, Worked, work};
 use cfdp_transactions::Reply;
 use crossbeam_channel::{Receiver, Sender, bounded};
 use std::alloc::Global;
@@ -75,25 +76,39 @@ fn two<R: Threads + Wait + Sync, G: Gate + Sync>(
     )
 }
 
-/// Whether the engine closes with two seats, and begins with an event of this one that was admitted.
-fn begins_with(
-    rt: &impl Abort,
-    alloc: Global,
-    engine: Shared<ListStore>,
-    one: Seat,
-    two: Seat,
-    seat: u8,
-) -> bool {
+/// Whether the journal begins with an event of this seat that was admitted.
+fn begins_with(journaled: &Journaled<ListStore>, seat: u8) -> bool {
+    match journaled.journal().first() {
+        Some(entry) => match &entry.reply {
+            Reply::Admitted(0, 0) => entry.seat == seat,
+            _ => false,
+        },
+        None => false,
+    }
+}
+
+/// Both seats in a list.
+fn both(rt: &impl Abort, alloc: Global, one: Seat, two: Seat) -> Vec<Seat> {
     let mut seats = Vec::with_capacity(alloc, 2).expect(rt, "memory");
     seats.push_reserved(one);
     seats.push_reserved(two);
-    match close(engine.into_journaled(), seats) {
-        Ok(closed) => match closed.journal.first() {
-            Some(entry) => entry.seat == seat && entry.reply.same(&Reply::Admitted(0, 0)),
-            None => false,
-        },
-        Err(_) => false,
-    }
+    seats
+}
+
+/// Whether the workers took all of one and two messages, and the engine closes with their seats and begins with the second.
+fn is_crossed(
+    rt: &impl Abort,
+    alloc: Global,
+    engine: Shared<ListStore>,
+    zero: Worked,
+    one: Worked,
+) -> bool {
+    let are_done = zero.stopped.is_none() && one.stopped.is_none();
+    let are_counted = zero.seat.receipts().len() == 1 && one.seat.receipts().len() == 2;
+    let journaled = engine.into_journaled();
+    let begins = begins_with(&journaled, 1);
+    let seats = both(rt, alloc, zero.seat, one.seat);
+    are_done && are_counted && begins && closed(journaled, seats).0.is_none()
 }
 
 #[test]
@@ -105,12 +120,7 @@ fn two_workers_are_at_work_at_once(rt: HostRuntime) {
     let one = inbox(&rt, alloc, &[Given::Bare(6), Given::End(6)]);
     let (zero, one) = two(&rt, alloc, &engine, &crossing, (0, zero), (1, one));
     assert!(rt; !crossing.gave_up.load(Ordering::SeqCst));
-    assert_eq!(rt; (zero.stopped, one.stopped), (None, None));
-    assert_eq!(rt;
-        (zero.seat.receipts().len(), one.seat.receipts().len()),
-        (1, 2)
-    );
-    assert!(rt; begins_with(&rt, alloc, engine, zero.seat, one.seat, 1));
+    assert!(rt; is_crossed(&rt, alloc, engine, zero, one));
 }
 
 /// How many messages each of four workers gets.
@@ -155,12 +165,8 @@ fn seat_of(rt: &impl Abort, worked: Worked) -> Seat {
         dropped,
         stopped,
     } = worked;
-    assert_eq!(rt; stopped, None);
-    assert_eq!(rt;
-        (taken.len(), dropped, seat.receipts().len()),
-        (1_000, 0, 1_000)
-    );
-    assert!(rt; are_in_turn(&seat));
+    assert!(rt; stopped.is_none() && taken.len() == 1_000 && dropped == 0);
+    assert!(rt; seat.receipts().len() == 1_000 && are_in_turn(&seat));
     seat
 }
 

@@ -1,8 +1,9 @@
 //! What a worker does.
 
+use super::calls::closed;
 use super::scene::{Given, inbox, shared};
 use cfdp_actions::ListStore;
-use cfdp_engine::{Gate, Seat, Shared, Stop, Worked, close, work};
+use cfdp_engine::{Gate, Seat, Shared, Stop, Worked, work};
 use cfdp_status::{Action, Status};
 use cfdp_transactions::Reply;
 use std::alloc::Global;
@@ -49,7 +50,7 @@ fn are_of_one_life(seat: &Seat) -> bool {
 
 /// That the receipts of the seats, for which there is room, are the journal.
 pub fn is_closed(shared: Shared<ListStore>, seats: Vec<Seat>) -> bool {
-    close(shared.into_journaled(), seats).is_ok()
+    closed(shared.into_journaled(), seats).0.is_none()
 }
 
 /// A seat alone, in a list that was made before.
@@ -72,7 +73,7 @@ fn work_on_one_life(rt: &(impl Wait + Abort), alloc: Global) -> Option<Stop> {
     } = worked;
     assert!(rt; are_of_one_life(&seat));
     if stopped.is_none() {
-        assert_eq!(rt; (seat.receipts().len(), taken.len(), dropped), (4, 6, 2));
+        assert!(rt; (seat.receipts().len(), taken.len(), dropped) == (4, 6, 2));
     }
     assert!(rt; is_closed(engine, alone(seats, seat)));
     stopped
@@ -80,13 +81,13 @@ fn work_on_one_life(rt: &(impl Wait + Abort), alloc: Global) -> Option<Stop> {
 
 #[test]
 fn a_worker_drops_what_is_no_event_and_steps(rt: HostRuntime) {
-    assert_eq!(rt; work_on_one_life(&rt, rt.alloc()), None);
+    assert!(rt; work_on_one_life(&rt, rt.alloc()).is_none());
 }
 
 #[test]
 fn a_worker_stops_where_memory_is_refused(rt: HostRuntime) {
     if let Some(stop) = work_on_one_life(&rt, rt.alloc()) {
-        assert_eq!(rt; stop, Stop::Memory);
+        assert!(rt; stop == Stop::Memory);
     }
 }
 
@@ -120,14 +121,23 @@ fn told(worked: &Worked) -> (usize, usize, Option<Stop>) {
     )
 }
 
+/// What a worker of this seat comes to with these messages.
+fn work_on(
+    rt: &(impl Wait + Abort),
+    alloc: Global,
+    engine: &Shared<ListStore>,
+    seat: u8,
+    given: &[Given],
+) -> (usize, usize, Option<Stop>) {
+    let inbox = inbox(rt, alloc, given);
+    told(&work(rt, alloc, engine, Seat::new(alloc, seat), inbox, &Open))
+}
+
 #[test]
 fn a_worker_stops_where_the_journal_is_full(rt: HostRuntime) {
-    let alloc = rt.alloc();
-    let engine = shared(&rt, alloc, 16);
-    let first = inbox(&rt, alloc, &SIXTEEN);
-    let first = work(&rt, alloc, &engine, Seat::new(alloc, 0), first, &Open);
-    assert_eq!(rt; told(&first), (16, 16, None));
-    let second = inbox(&rt, alloc, &ONE_MORE);
-    let second = work(&rt, alloc, &engine, Seat::new(alloc, 1), second, &Open);
-    assert_eq!(rt; told(&second), (0, 1, Some(Stop::JournalFull)));
+    let engine = shared(&rt, rt.alloc(), 16);
+    let first = work_on(&rt, rt.alloc(), &engine, 0, &SIXTEEN);
+    assert!(rt; first == (16, 16, None));
+    let second = work_on(&rt, rt.alloc(), &engine, 1, &ONE_MORE);
+    assert!(rt; second == (0, 1, Some(Stop::JournalFull)));
 }

@@ -1,7 +1,8 @@
 //! The leases as a plain list of grants, each of which is compared path by path with every footprint that is asked for;
 //! and lists made at random, on which both give the same answers.
 
-use super::{admit, id, path_of};
+use super::super::scene::path_of;
+use super::{admit, id};
 use cfdp_actions::Request;
 use cfdp_leases::{Footprint, Leases, footprint};
 use cfdp_paths::{Memory, Path};
@@ -76,45 +77,55 @@ impl Random {
     }
 
     /// One of 512 files, eight in each of 64 directories.
-    fn file(&mut self, rt: &impl Abort, alloc: Global) -> Result<Path, Memory> {
+    fn file(&mut self, alloc: Global) -> Result<Path, Memory> {
         let (top, middle, last) = (self.below(8), self.below(8), self.below(8));
         let name = format!(in alloc; "{top}/{middle}/{last}")?;
-        path_of(rt, alloc, name.as_bytes())
+        path_of(alloc, name.as_bytes())
     }
 
     /// One of those directories.
-    fn directory(&mut self, rt: &impl Abort, alloc: Global) -> Result<Path, Memory> {
+    fn directory(&mut self, alloc: Global) -> Result<Path, Memory> {
         let (top, middle) = (self.below(8), self.below(8));
         let name = format!(in alloc; "{top}/{middle}")?;
-        path_of(rt, alloc, name.as_bytes())
+        path_of(alloc, name.as_bytes())
+    }
+
+    /// What an action is done to.
+    fn first(&mut self, alloc: Global, action: Action) -> Result<Path, Memory> {
+        if action == Action::RemoveDirectory {
+            self.directory(alloc)
+        } else {
+            self.file(alloc)
+        }
+    }
+
+    /// The second file of an action that has one.
+    fn second(&mut self, alloc: Global, action: Action) -> Result<Option<Path>, Memory> {
+        if matches!(action, Action::RenameFile | Action::AppendFile) {
+            Ok(Some(self.file(alloc)?))
+        } else {
+            Ok(None)
+        }
     }
 
     /// A request on one or two of them.
-    fn request(&mut self, rt: &impl Abort, alloc: Global) -> Result<Option<Request>, Memory> {
+    fn request(&mut self, alloc: Global) -> Result<Option<Request>, Memory> {
         let action = match self.below(16) {
             0 => Action::RemoveDirectory,
             1 => Action::RenameFile,
             2 | 3 => Action::AppendFile,
             _ => Action::CreateFile,
         };
-        let first = if action == Action::RemoveDirectory {
-            self.directory(rt, alloc)?
-        } else {
-            self.file(rt, alloc)?
-        };
-        let second = if matches!(action, Action::RenameFile | Action::AppendFile) {
-            Some(self.file(rt, alloc)?)
-        } else {
-            None
-        };
+        let first = self.first(alloc, action)?;
+        let second = self.second(alloc, action)?;
         Ok(Request::new(action, first, second))
     }
 
     /// A list of one to three requests.
-    fn list(&mut self, rt: &impl Abort, alloc: Global) -> Result<Vec<Request>, Memory> {
+    fn list(&mut self, alloc: Global) -> Result<Vec<Request>, Memory> {
         let mut requests = Vec::new(alloc);
         for _ in 0..=self.below(3) {
-            if let Some(request) = self.request(rt, alloc)? {
+            if let Some(request) = self.request(alloc)? {
                 requests.push(request)?;
             }
         }
@@ -125,38 +136,77 @@ impl Random {
 /// How many transactions are live at most.
 const MOST: usize = 64;
 
+/// The leases and the plain list side by side, and how often as many transactions were live as there can be, and how often a
+/// list was refused.
+#[derive(Drop)]
+struct Beside {
+    leases: Leases,
+    plain: Plain,
+    full: u32,
+    refused: u32,
+}
+
+impl Beside {
+    /// The first transaction in the way of what is wanted. Both give the same answer.
+    fn conflict(&mut self, rt: &impl Abort, wanted: &Footprint) -> Option<TransactionId> {
+        let first = self.leases.conflict(wanted);
+        assert!(rt; first == self.plain.conflict(wanted));
+        if self.plain.grants.len() == MOST {
+            self.full = self.full.saturating_add(1);
+        }
+        if first.is_some() {
+            self.refused = self.refused.saturating_add(1);
+        }
+        first
+    }
+
+    /// Ends the transaction at a place of the plain list, if there is one.
+    fn end(&mut self, place: usize) {
+        if let Some((transaction, _)) = self.plain.grants.get(place) {
+            let transaction = *transaction;
+            self.leases.release(transaction);
+            self.plain.release(transaction);
+        }
+    }
+
+    /// Asks for what the requests use, and is granted it where nothing is in the way; else one transaction in four may end.
+    fn ask(
+        &mut self,
+        rt: &impl Abort,
+        alloc: Global,
+        random: &mut Random,
+        number: u64,
+        requests: &[Request],
+    ) -> Result<(), Memory> {
+        let wanted = footprint(alloc, requests, None)?;
+        let first = self.conflict(rt, &wanted);
+        if first.is_none() && self.plain.grants.len() < MOST {
+            admit(rt, &mut self.leases, number, wanted)?;
+            return self
+                .plain
+                .grant(id(number), footprint(alloc, requests, None)?);
+        }
+        if random.below(4) == 0 {
+            self.end(random.below(MOST as u64) as usize);
+        }
+        Ok(())
+    }
+}
+
 /// Both give the same answers, also while as many transactions are live as there can be.
 #[test]
 fn lists_at_random_get_the_answers_of_the_plain_list(rt: HostRuntime) -> Result<(), Memory> {
-    let alloc = rt.alloc();
     let mut random = Random { state: 1 };
-    let mut leases = Leases::new(alloc);
-    let mut plain = Plain::new(alloc);
-    let mut full = 0u32;
-    let mut refused = 0u32;
+    let mut beside = Beside {
+        leases: Leases::new(rt.alloc()),
+        plain: Plain::new(rt.alloc()),
+        full: 0,
+        refused: 0,
+    };
     for number in 0..2000 {
-        let requests = random.list(&rt, alloc)?;
-        let wanted = footprint(alloc, &requests, None)?;
-        let first = leases.conflict(&wanted);
-        assert_eq!(rt; first, plain.conflict(&wanted), "at {number}");
-        if plain.grants.len() == MOST {
-            full = full.saturating_add(1);
-        }
-        if first.is_some() {
-            refused = refused.saturating_add(1);
-        }
-        if first.is_none() && plain.grants.len() < MOST {
-            admit(&rt, &mut leases, number, wanted)?;
-            plain.grant(id(number), footprint(alloc, &requests, None)?)?;
-        } else if random.below(4) == 0 {
-            let place = random.below(MOST as u64) as usize;
-            if let Some((transaction, _)) = plain.grants.get(place) {
-                let transaction = *transaction;
-                leases.release(transaction);
-                plain.release(transaction);
-            }
-        }
+        let requests = random.list(rt.alloc())?;
+        beside.ask(&rt, rt.alloc(), &mut random, number, &requests)?;
     }
-    assert!(rt; full > 100 && refused > 100, "{full} {refused}");
+    assert!(rt; beside.full > 100 && beside.refused > 100);
     Ok(())
 }

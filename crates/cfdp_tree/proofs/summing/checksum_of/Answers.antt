@@ -1,7 +1,7 @@
 use Rattle.std.proofs.Common.{◌+◌, ◌%◌, ◌^◌, ◌≤◌, length, refl, sym, ap, ◌∙◌, arith}
 use Rattle.std.proofs.lemmas.List.{take_all}
 use Rattle.cfdp_checksum.specs.Checksum.{weighed_from, checksum}
-use Rattle.cfdp_actions.proofs.SummingLaws.{next_piece, still_long}
+use Rattle.cfdp_tree.proofs.SummingLaws.{next_piece, still_long}
 use Rattle.cfdp_tree.specs.Runs.{nth}
 use Rattle.cfdp_tree.specs.Contents.{contents_in}
 use Rattle.cfdp_tree.proofs.ContentsLaws.{length-contents}

@@ -1,0 +1,13 @@
+use Rattle.std.proofs.Common.{sym, ap, ◌∙◌, arith}
+use Rattle.cfdp_checksum.specs.Checksum.{checksum}
+use Rattle.cfdp_actions.specs.Filestore.{staged_in}
+use Rattle.cfdp_tree.proofs.SeenLaws.{seen_staged, slot_filled}
+use Rattle.cfdp_tree.proofs.tree_store.TreeStoreFilestore.staged_checksum.Goals as goal
+
+pub checksum_of-requires : goal.checksum_of-requires
+checksum_of-requires c = slot_filled _ _ _ _ c.self.invariant _ c.self.view_is c.from.result (omega (arith, c.from.ensures, c.requires)) c.index.result.now c.index.ensures
+
+pub returns : goal.returns
+returns c =
+    let octets = seen_staged _ _ _ _ c.self.invariant _ c.self.view_is c.from.result (omega (arith, c.from.ensures, c.requires)) c.index.result.now c.index.ensures in
+    c.checksum_of.ensures ∙ ap checksum (sym octets ∙ ap (staged_in c.args.self.now.filestore) c.from.ensures)
