@@ -1,5 +1,4 @@
 pub mod Chains
-pub mod Copies
 pub mod Heap
 pub mod Laws
 pub mod Rows

@@ -1,14 +1,17 @@
 -- A loop over the words of a line of hexadecimal: which are still to come.
-use Rattle.std.proofs.Common.{◌≡◌, refl, sym, ◌∙◌, ap, ℕ, List, [], ◌∷◌, ◌++◌, Option, Some, None, Result, Ok, Err, Bor, append_assoc}
-use Rattle.std.specs.Prelude.{IsOk, IsErr}
+use Rattle.std.proofs.Common.{◌<◌, ◌≤◌, ◌==◌, true, false, length, get_or, arith, ◌≡◌, refl, sym, ◌∙◌, ap, ℕ, List, [], ◌∷◌, ◌++◌, Option, Some, None, Result, Ok, Err, Bor, append_assoc}
+use Rattle.std.specs.Prelude.{IsOk, IsErr, OnOk}
 use Rattle.std.proofs.lemmas.Bool.{false≢true}
 use Rattle.std.proofs.lemmas.Iterator.{YieldsList}
 use Rattle.std.proofs.lemmas.List.{append-nil}
+use Rattle.std.proofs.lemmas.List.Elements.{All-from_get_or}
+use Rattle.std.proofs.lemmas.List.Splits.{slice_split_none}
 use Rattle.hex.specs.Hex.{decode_of}
 use Rattle.hex.specs.declared.error.FromHexError.{FromHexError}
 use Rattle.cfdp_sim.specs.Hexadecimal.{octets_before, octets_of_words, octets_in, hex_octets}
 use Rattle.std.specs.List.{slice_split}
 use Rattle.cfdp_sim.specs.Hexadecimal.{is_space}
+use Rattle.cfdp_sim.proofs.Feeding.{not_true}
 
 -- the octets so far, and what the words still to come spell, are what the line spells
 pub record ToDecode {S : Type 0} (steps : S → Option (Bor (List ℕ)) → S → Type 0) (s : S) (line octets : List ℕ) : Type 0 where
@@ -80,3 +83,24 @@ module _ {S : Type 0} {steps : S → Option (Bor (List ℕ)) → S → Type 0} w
       sym h.same
       ∙ ap (λ words. octets_before (Ok octets) (octets_of_words words)) (yields_end s t h.words h.left step)
       ∙ ap Some (append-nil octets)
+
+-- a line without a space is one word
+module _ (line : List ℕ) (none : (k : ℕ) → 0 ≤ k → k < length line → (get_or line k 0 == 32) ≡ true → ⊥) where
+  one_word : hex_octets line ≡ octets_before (decode_of line) (Some [])
+  one_word =
+      ap octets_of_words (slice_split_none is_space line
+      (All-from_get_or (λ (x : ℕ). is_space x ≡ false) line 0 (λ i lt. not_true (get_or line i 0 == 32) (none i (omega arith) lt))))
+
+  one_word-good : IsOk (decode_of line) → hex_octets line ≡ Some (octets_in (decode_of line))
+  one_word-good good =
+      one_word
+      ∙ ap (λ r. octets_before r (Some [])) (ok_octets (decode_of line) good)
+      ∙ ap Some (append-nil (octets_in (decode_of line)))
+
+  pub one_word-decoded : {E : Type 0} (r : Result (Unit {0}) E) (octets : List ℕ) → OnOk r (octets ≡ octets_in (decode_of line))
+      → OnOk r (IsOk (decode_of line)) → OnOk r (hex_octets line ≡ Some octets)
+  one_word-decoded (Ok done) octets same good = one_word-good good ∙ ap Some (sym same)
+  one_word-decoded (Err fault) octets same good = same
+
+  pub one_word-bad : IsErr (decode_of line) → hex_octets line ≡ None
+  one_word-bad bad = one_word ∙ octets_before-bad (decode_of line) (Some []) bad

@@ -11,7 +11,7 @@ use Rattle.cfdp_sim.specs.Streams.{Spills, LostWithin}
 use Rattle.cfdp_sim.proofs.Streaming.{Appends-none, Appends-more, Appends-more_or_lost}
 use Rattle.cfdp_sim.proofs.Moving.{Moves-none, Moves-then, Moves-then_stops, Moves-then_breaks, StopsBad-before, Breaks-none, Breaks-shorter, Moves-gather, Moves-newline, StopsBad-newline, StopsBad-overlong}
 
-not_true : (b : Bool) → (b ≡ true → ⊥) → b ≡ false
+pub not_true : (b : Bool) → (b ≡ true → ⊥) → b ≡ false
 not_true true h = absurd (h refl)
 not_true false h = refl
 

@@ -94,7 +94,7 @@ pub(crate) fn keyword_of(word: &[u8]) -> Option<Keyword>
 }
 
 /// A line without the spaces that it begins with.
-fn skip_spaces(line: &[u8]) -> &[u8]
+pub(crate) fn skip_spaces(line: &[u8]) -> &[u8]
     ensures words { words_of result.now ≡ words_of line.now }
     ensures first { 0 < length result.now → get_or result.now 0 0 ≢ 32 }
 {

@@ -1,11 +1,14 @@
 //! Hexadecimal in a line of a script, read and written.
-ghost use Rattle.std.specs.Prelude.{◌≡◌, ◌/◌, ◌++◌, ◌↔◌, length, Some, None, Err, IsOk, IsErr, OnOk, OnErr};
+ghost use Rattle.std.specs.Prelude.{◌≡◌, ◌/◌, ◌++◌, ◌↔◌, [], length, Some, None, Err, IsOk, IsErr, OnOk, OnErr};
 ghost use Rattle.hex.specs.Hex.{decode_of, encode_lower};
 ghost use Rattle.cfdp_sim.specs.Hexadecimal.{hex_octets, octets_in};
 ghost use Rattle.cfdp_sim.specs.declared.script.LineFault.TheVariants.{Bad};
 
 use crate::script::LineFault;
+use memchr::memchr;
 use std::alloc::AllocError;
+
+const SPACE: u8 = b' ';
 
 /// Decodes a word into room for as many octets as it has pairs of digits.
 fn decode_into(word: &[u8], room: &mut [u8]) -> Result<(), LineFault>
@@ -29,17 +32,29 @@ fn decode_word(word: &[u8], octets: &mut Vec<u8>) -> Result<(), LineFault>
     decode_into(word, room)
 }
 
+/// Appends the octets of the words of a line, with spaces between words, before and behind.
+fn decode_spaced(line: &[u8], octets: &mut Vec<u8>) -> Result<(), LineFault>
+    requires { octets.old.items ≡ [] }
+    ensures octets { OnOk result (hex_octets line.now ≡ Some octets.new.items) }
+    ensures bad { result ≡ Err Bad → hex_octets line.now ≡ None }
+{
+    for word in line.split(|octet| *octet == SPACE) {
+        decode_word(word, octets)?;
+    }
+    Ok(())
+}
+
 /// Puts the octets that a line of hexadecimal spells in the place of `octets`: pairs of digits in either case, with
-/// spaces between pairs, before and behind.
+/// spaces between pairs, before and behind. A line that is one word is not gone through octet by octet for its spaces.
 pub(crate) fn decode_line(line: &[u8], octets: &mut Vec<u8>) -> Result<(), LineFault>
     ensures octets { OnOk result (hex_octets line.now ≡ Some octets.new.items) }
     ensures bad { result ≡ Err Bad → hex_octets line.now ≡ None }
 {
     octets.clear();
-    for word in line.split(|octet| *octet == b' ') {
-        decode_word(word, octets)?;
+    match memchr(SPACE, line) {
+        None => decode_word(line, octets),
+        Some(_) => decode_spaced(line, octets),
     }
-    Ok(())
 }
 
 /// Appends octets in lower-case hexadecimal.

@@ -7,7 +7,9 @@ ghost use Rattle.cfdp_sim.specs.Stages.{stage_of};
 ghost use Rattle.cfdp_sim.specs.declared.commands.Keyword.TheVariants.{Run, List as ListAll};
 ghost use Rattle.cfdp_sim.specs.declared.script.LineFault.TheVariants.{Bad};
 
-use crate::commands::{Keyword, Local, id_in, is_end, keyword_of, next_word, numbers_of};
+use crate::commands::{
+    Keyword, Local, id_in, is_end, keyword_of, next_word, numbers_of, skip_spaces,
+};
 use crate::hexadecimal::decode_line;
 use crate::script::{LineFault, Script};
 use crate::stage::Stage;
@@ -18,7 +20,7 @@ pub(crate) fn decode_words(line: &[u8], octets: &mut Vec<u8>) -> Result<(), Line
     ensures octets { OnOk result (octets_of_words (words_of line.now) ≡ Some octets.new.items) }
     ensures bad { result ≡ Err Bad → octets_of_words (words_of line.now) ≡ None }
 {
-    decode_line(line, octets)
+    decode_line(skip_spaces(line), octets)
 }
 
 /// A script of `replay`, between two lines.

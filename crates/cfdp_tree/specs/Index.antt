@@ -10,7 +10,7 @@
 --     IsListed nodes out n k b   the node b stands in the list k of n lists, and is not the one that stands in none
 --     count_out out              how many nodes stand in no list
 --     IsIndex nodes heads out    each node stands in its list, but for the one that is out, and each list has just its nodes
-use Rattle.std.specs.Prelude.{◌≡◌, ◌≢◌, ℕ, ◌+◌, ◌*◌, ◌%◌, ◌<◌, ◌==◌, not, List, Option, Some, None, All, AllPairs, Contains, filter, fold, length, slice_index_or, sum_by}
+use Rattle.std.specs.Prelude.{◌≡◌, ◌≢◌, ℕ, ◌+◌, ◌*◌, ◌%◌, ◌^◌, ◌<◌, ◌==◌, not, List, Option, Some, None, All, AllPairs, Contains, filter, fold, length, slice_index_or, sum_by}
 use Rattle.cfdp_arena.specs.Arena.{Blocks, live_count}
 use Rattle.cfdp_paths.specs.Paths.{Name}
 use Rattle.cfdp_tree.specs.declared.index.Head.{Head}
@@ -21,12 +21,12 @@ abbrev pub Heads : Type 0
 Heads = List Head
 
 abbrev pub hash_step : ℕ → ℕ → ℕ
-hash_step hash octet = (31 * hash + octet) % 65521
+hash_step hash octet = ((hash * 401) % 2 ^ 32 + octet) % 2 ^ 32
 
 -- the root is 0
 abbrev pub hash_start : Option ℕ → ℕ
 hash_start None = 0
-hash_start (Some d) = d % 65521 + 1
+hash_start (Some d) = (d + 1) % 2 ^ 32
 
 abbrev pub hash_of : Option ℕ → Name → ℕ
 hash_of directory name = fold hash_step (hash_start directory) name

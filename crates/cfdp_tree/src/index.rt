@@ -29,19 +29,21 @@ impl Head {
     }
 }
 
-/// One more than the greatest hash.
-const HASHES: u32 = 65_521;
+/// By what each octet multiplies the hash so far: a prime above all octets.
+const HASH_FACTOR: u32 = 401;
 
 /// A number for a directory, `None` for the root, and a name in it.
 fn hash_of(directory: Option<BlockId>, name: &[u8]) -> u32
     ensures { result ≡ hash_of directory name.now }
 {
     let mut hash = match directory {
-        Some(directory) => directory.number() % HASHES + 1,
+        Some(directory) => directory.number().wrapping_add(1),
         None => 0,
     };
     for octet in name {
-        hash = (31 * hash + u32::from(*octet)) % HASHES;
+        hash = hash
+            .wrapping_mul(HASH_FACTOR)
+            .wrapping_add(u32::from(*octet));
     }
     hash
 }
