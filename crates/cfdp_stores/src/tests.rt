@@ -1,8 +1,10 @@
-//! Worked lists of requests, with the statuses, the ticks and the free blocks that they come to, on two stores; and what
-//! a store shows where memory is refused.
+//! Worked lists of requests, with the statuses, the ticks and the free blocks that they come to, on two stores; scripts made at
+//! random on both side by side; the store inside an arena at its limits; and what a store shows where memory is refused.
 
 mod calls;
 mod counted;
+mod limits;
 mod many;
+mod random;
 mod refused;
 mod worked;

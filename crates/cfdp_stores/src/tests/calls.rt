@@ -1,6 +1,7 @@
 //! Calls of a store that ask first whether what they need holds.
 
-ghost use Rattle.std.specs.Prelude.{◌<◌};
+ghost use Rattle.std.specs.Prelude.{◌≡◌, ◌<◌, ◌≤◌};
+ghost use Rattle.cfdp_actions.specs.Filestore.{blocks_of};
 
 use cfdp_actions::{Filestore, Kind, PAYLOAD_OCTETS, Request};
 use cfdp_paths::{Memory, Path};
@@ -74,11 +75,12 @@ pub fn put<S: Filestore>(store: &mut S, slot: u8, at: u64, octets: &[u8]) -> boo
 pub fn install<S: Filestore>(store: &mut S, slot: u8, path: &Path) -> Result<Option<u32>, Memory>
     requires { slot < 64 }
 {
-    if !store.parent_is_good(path) || store.free() == 0 {
+    if !store.parent_is_good(path) {
         return Ok(None);
     }
     match store.kind(path) {
         Some(Kind::Directory) => Ok(None),
+        None if store.free() == 0 => Ok(None),
         Some(Kind::File) | None => Ok(Some(store.install(slot, path)?)),
     }
 }
@@ -99,14 +101,63 @@ pub fn contents<S: Filestore>(
     }
 }
 
+/// So many octets of the file at the path, from the place `at` on; `None` where there are none.
+pub fn read<S: Filestore>(
+    store: &S,
+    alloc: Global,
+    path: &Path,
+    at: u64,
+    count: u64,
+) -> Result<Option<Vec<u8>>, Memory> {
+    if store.kind(path) != Some(Kind::File) {
+        return Ok(None);
+    }
+    let size = store.size(path);
+    if count > size || at > size - count {
+        return Ok(None);
+    }
+    let mut octets = vec![in alloc; 0; count as usize]?;
+    store.read(path, at, octets.as_mut_slice());
+    Ok(Some(octets))
+}
+
+/// So many octets of what is staged in the slot, from the place `at` on; `None` where there are none.
+pub fn read_staged<S: Filestore>(
+    store: &S,
+    alloc: Global,
+    slot: u8,
+    at: u64,
+    count: u64,
+) -> Result<Option<Vec<u8>>, Memory>
+    requires { slot < 64 }
+{
+    let size = store.staged_size(slot);
+    if count > size || at > size - count {
+        return Ok(None);
+    }
+    let mut octets = vec![in alloc; 0; count as usize]?;
+    store.read_staged(slot, at, octets.as_mut_slice());
+    Ok(Some(octets))
+}
+
+/// The blocks of so many octets, at most 65,536.
+#[tactic(auto, unfolding(cfdp_actions::specs::Filestore::blocks_of))]
+fn blocks_of(octets: u64) -> u64
+    requires { octets ≤ 7864320 }
+    ensures { result ≡ blocks_of octets }
+{
+    (octets + (PAYLOAD_OCTETS - 1)) / PAYLOAD_OCTETS
+}
+
 /// Extends what is staged in the slot; `None` where that does not fit into the free blocks.
 #[tactic(auto, unfolding(cfdp_actions::specs::Filestore::blocks_of))]
 pub fn extend<S: Filestore>(store: &mut S, slot: u8, size: u64) -> Result<Option<u32>, Memory>
     requires { slot < 64 }
 {
+    let staged = store.staged_size(slot);
     if size > 7864320
-        || store.staged_size(slot) > size
-        || (size + (PAYLOAD_OCTETS - 1)) / PAYLOAD_OCTETS > u64::from(store.free())
+        || staged > size
+        || blocks_of(size) - blocks_of(staged) > u64::from(store.free())
     {
         return Ok(None);
     }

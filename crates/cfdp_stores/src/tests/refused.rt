@@ -85,8 +85,8 @@ fn stand(alloc: Global, entries: &[Entry], rows: &[Stands]) -> Result<bool, Memo
     Ok(entries.len() == rows.len())
 }
 
-/// What a change of the store answers. Where it is refused memory, that is told by what it is, the store is as before,
-/// and the change is made once more.
+/// What a change of the store answers. Where it is refused memory, that is told by what it is, the store is as before and
+/// does not say that no change takes memory, and the change is made once more.
 fn changed<S: Filestore, T, N: Debug, R: Abort + Print, F: Fn(&mut S) -> Result<T, Memory>>(
     rt: &R,
     alloc: Global,
@@ -102,7 +102,7 @@ fn changed<S: Filestore, T, N: Debug, R: Abort + Print, F: Fn(&mut S) -> Result<
         Err(AllocError) => {
             let _ = println!(rt; "{what:?} was refused memory");
             let after = shown(rt, alloc, store)?;
-            assert!(rt; after == before);
+            assert!(rt; after == before && !store.takes_no_memory());
             change(store)
         }
     }
