@@ -4,8 +4,8 @@ ghost use Rattle.std.specs.List.{AllByRecursion};
 ghost use Rattle.cfdp_sim.specs.Lines.{input_limit};
 
 use super::fakes::Writer;
-use crate::{INPUT_LIMIT, LinkFault, Open, ScriptOut, links};
 use cfdp_engine::Gate;
+use cfdp_sim::{INPUT_LIMIT, LinkFault, Open, ScriptOut, links};
 use std::alloc::Global;
 use std::process::Abort;
 use std::sync::Wait;

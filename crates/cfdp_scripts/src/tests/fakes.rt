@@ -1,7 +1,7 @@
 //! Readers and writers that fail, or are slow, or take nothing. They tell no octets.
 ghost use Rattle.std.specs.Prelude.{None, IfOk, ◌≤◌};
 
-use crate::{Failed, ScriptIn, ScriptOut};
+use cfdp_sim::{Failed, ScriptIn, ScriptOut};
 use std::alloc::Global;
 use std::io;
 

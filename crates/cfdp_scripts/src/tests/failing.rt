@@ -2,7 +2,7 @@
 use super::fakes::{Call, Reader, Scripted, Writer};
 use super::runs::{Kind, run};
 use super::{REPLAY_REPORT, REPLAY_SCRIPT, REPORT, SCRIPT};
-use crate::{Failed, FromRead, RunFault, ScriptIn, ScriptOut, ToWrite};
+use cfdp_sim::{Failed, FromRead, RunFault, ScriptIn, ScriptOut, ToWrite};
 use std::process::Abort;
 
 /// A script of either kind, each line of which that is not empty is answered by a line.

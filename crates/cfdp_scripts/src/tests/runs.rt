@@ -1,7 +1,7 @@
 //! Runs of `plain` and of `replay` that are made once more where memory is refused (`rt try --test --fail-alloc N`). With every allocation
 //! granted each runs once.
 use super::fakes::{Reader, Writer};
-use crate::{RunFault, ScriptIn, ScriptOut, plain, plain_text, replay, replay_text};
+use cfdp_sim::{RunFault, ScriptIn, ScriptOut, plain, plain_text, replay, replay_text};
 use std::alloc::Global;
 use std::process::Abort;
 use std::test::Fail;

@@ -1,7 +1,7 @@
 //! What the program ends with: its status, and its line on standard error.
 use super::fakes::{Reader, Writer};
 use super::runs::{Kind, run};
-use crate::{ProgramEnd, RunFault};
+use cfdp_sim::{ProgramEnd, RunFault};
 use std::alloc::Global;
 use std::fmt::Display;
 use std::process::Abort;

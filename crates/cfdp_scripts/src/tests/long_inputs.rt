@@ -1,6 +1,6 @@
 //! Inputs as long as the input limit and longer, with a bad line within the limit or behind it.
 use super::fakes::Writer;
-use crate::{Failed, RunFault, ScriptIn, plain};
+use cfdp_sim::{Failed, RunFault, ScriptIn, plain};
 use std::alloc::Global;
 use std::process::Abort;
 

@@ -1,5 +1,5 @@
 //! The examples of the repository, `examples/first.plain` and `examples/actions.plain`, and what is written for them.
-use crate::plain_text;
+use cfdp_sim::plain_text;
 use std::test::Fail;
 
 /// The example, with its comments.

@@ -1,7 +1,7 @@
 //! Worked scripts of `replay`: PDUs that are none, the table of transactions, protected paths, bad lines.
 use super::replays::{Script, expect_all};
 use super::runs::{Kind, expect_text};
-use crate::RunFault;
+use cfdp_sim::RunFault;
 use std::test::Fail;
 
 static SCRIPTS: [Script; 7] = [

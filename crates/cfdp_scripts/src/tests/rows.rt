@@ -1,7 +1,7 @@
 //! Worked scripts of `plain`, and what they write.
 use super::runs::{Kind, expect_text};
 use super::{REPORT, SCRIPT};
-use crate::RunFault;
+use cfdp_sim::RunFault;
 use std::alloc::Global;
 use std::process::Abort;
 use std::test::Fail;

@@ -1,6 +1,6 @@
 //! Scripts of `replay` in tables.
 use super::runs::{Kind, expect_text};
-use crate::RunFault;
+use cfdp_sim::RunFault;
 use std::alloc::Global;
 use std::process::Abort;
 use std::test::Fail;

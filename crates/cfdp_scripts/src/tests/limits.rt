@@ -1,7 +1,7 @@
 //! The longest line, the longest input and the longest request.
 use super::fakes::Writer;
 use super::runs::{Kind, text_of};
-use crate::{Failed, RunFault, ScriptIn, plain};
+use cfdp_sim::{Failed, RunFault, ScriptIn, plain};
 use std::alloc::{AllocError, Global};
 use std::test::Fail;
 
