@@ -1,5 +1,5 @@
 //! Workers of `links` that are at work at once.
-use super::fakes::Writer;
+use super::fakes::{Stream, Writer};
 use super::links::run;
 use cfdp_engine::Gate;
 use std::sync::Wait;
@@ -20,14 +20,24 @@ const SECOND: &str = "\
 #[derive(Drop)]
 struct Cross<C: Clock + Drop> {
     clock: C,
-    came: [AtomicBool; 2],
+    zero_came: AtomicBool,
+    one_came_again: AtomicBool,
     gave_up: AtomicBool,
 }
 
 impl<C: Clock + Drop> Cross<C> {
-    fn wait_for(&self, other: usize) {
+    fn new(clock: C) -> Cross<C> {
+        Cross {
+            clock,
+            zero_came: AtomicBool::new(false),
+            one_came_again: AtomicBool::new(false),
+            gave_up: AtomicBool::new(false),
+        }
+    }
+
+    fn wait_for(&self, other: &AtomicBool) {
         for _look in 0..10_000 {
-            if self.came[other % 2].load(Ordering::SeqCst) {
+            if other.load(Ordering::SeqCst) {
                 return;
             }
             thread::sleep(&self.clock, Duration::from_millis(1));
@@ -38,35 +48,32 @@ impl<C: Clock + Drop> Cross<C> {
 
 impl<C: Clock + Drop> Gate for Cross<C> {
     fn pass<R: Wait>(&self, _rt: &R, seat: u8, turn: u64) {
-        if u64::from(seat) == turn {
-            self.came[usize::from(seat) % 2].store(true, Ordering::SeqCst);
-        }
-        if turn == 0 {
-            self.wait_for(usize::from(1 - seat % 2));
+        match (seat, turn) {
+            (0, 0) => {
+                self.zero_came.store(true, Ordering::SeqCst);
+                self.wait_for(&self.one_came_again);
+            }
+            (1, 0) => self.wait_for(&self.zero_came),
+            (1, 1) => self.one_came_again.store(true, Ordering::SeqCst),
+            _ => {}
         }
     }
 }
 
+/// The two scripts.
+static SCRIPTS: [&[&str]; 2] = [&[FIRST], &[SECOND]];
+
+/// How the text of their journal begins, and how it ends.
+static BEGIN: &[u8] = b"0 1 1/6 admitted blocks 0 steps 0\n";
+
+static END: &[u8] =
+    b"\nseat 0 1 dropped 0\nseat 1 2 dropped 0\njournal 3\nstore used 0 free 64 spare 63\n";
+
 #[test]
 fn two_workers_of_links_cross(rt: HostRuntime) {
-    let alloc = rt.alloc();
-    let mut writer = Writer::new(alloc, 100, None);
-    let gate = Cross {
-        clock: rt,
-        came: [AtomicBool::new(false), AtomicBool::new(false)],
-        gave_up: AtomicBool::new(false),
-    };
-    let end = run(&rt, alloc, &[&[FIRST], &[SECOND]], &gate, &mut writer);
-    assert_eq!(rt; end, Ok(()));
-    assert!(rt; !gate.gave_up.load(Ordering::SeqCst));
-    assert!(rt;
-        writer
-            .text
-            .starts_with(b"0 1 1/6 admitted blocks 0 steps 0\n")
-    );
-    assert!(rt;
-        writer.text.ends_with(
-            b"\nseat 0 1 dropped 0\nseat 1 2 dropped 0\njournal 3\nstore used 0 free 64 spare 63\n"
-        )
-    );
+    let mut writer = Writer::new(rt.alloc(), Stream::sound(100));
+    let gate = Cross::new(rt);
+    let end = run(&rt, rt.alloc(), &SCRIPTS, &gate, &mut writer);
+    assert!(rt; end == Ok(()) && !gate.gave_up.load(Ordering::SeqCst));
+    assert!(rt; writer.text.starts_with(BEGIN) && writer.text.ends_with(END));
 }

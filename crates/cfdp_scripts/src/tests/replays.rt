@@ -1,26 +1,19 @@
 //! Scripts of `replay` in tables.
-use super::runs::{Kind, expect_text};
-use cfdp_sim::RunFault;
+use super::Row;
+use super::runs::{End, Kind, comes_to};
 use std::alloc::Global;
 use std::process::Abort;
-use std::test::Fail;
 
 /// A script, what it writes, and how it ends.
 pub(super) struct Script {
     pub(super) lines: &'static str,
     pub(super) report: &'static str,
-    pub(super) end: Result<(), RunFault>,
+    pub(super) end: End,
 }
 
-/// Runs each script, and compares what is written.
-pub(super) fn expect_all<R: Abort + Print>(
-    rt: &R,
-    alloc: Global,
-    scripts: &[Script],
-) -> Result<(), Fail> {
-    for script in scripts {
-        let (lines, report) = (script.lines, script.report);
-        expect_text(rt, alloc, Kind::Replay, lines, report, script.end)?;
+impl Row for Script {
+    fn holds<R: Abort + Print>(&self, rt: &R, alloc: Global) -> bool {
+        let script = self.lines.as_bytes();
+        comes_to(rt, alloc, Kind::Replay, script, self.report, self.end)
     }
-    Ok(())
 }

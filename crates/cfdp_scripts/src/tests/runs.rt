@@ -1,79 +1,124 @@
 //! Runs of `plain` and of `replay` that are made once more where memory is refused (`rt try --test --fail-alloc N`). With every allocation
 //! granted each runs once.
-use super::fakes::{Reader, Writer};
+use super::fakes::{Reader, Stream, Writer};
 use cfdp_sim::{RunFault, ScriptIn, ScriptOut, plain, plain_text, replay, replay_text};
 use std::alloc::Global;
 use std::process::Abort;
-use std::test::Fail;
 
 /// What runs a script.
-#[derive(Clone, Copy, Debug, PartialEq, Eq)]
+#[derive(Clone, Copy)]
 pub(super) enum Kind {
     Plain,
     Replay,
 }
 
+/// How a run ends.
+pub(super) type End = Result<(), RunFault>;
+
 /// How a run ended, and its streams.
 #[derive(Drop)]
 pub(super) struct Ran<'a> {
-    pub(super) end: Result<(), RunFault>,
+    pub(super) end: End,
     pub(super) reader: Reader<'a>,
     pub(super) writer: Writer,
 }
 
-/// Runs a script from the reader to the writer.
-fn run_once<'a>(alloc: Global, kind: Kind, reader: Reader<'a>, writer: Writer) -> Ran<'a> {
-    let mut reader = reader;
-    let mut writer = writer;
-    let end = match kind {
-        Kind::Plain => plain(alloc, &mut reader, &mut writer),
-        Kind::Replay => replay(alloc, &mut reader, &mut writer),
-    };
-    Ran {
-        end,
-        reader,
-        writer,
+impl<'a> Ran<'a> {
+    /// How it ended, and whether its reader and its writer have failed.
+    pub(super) fn told(&self) -> (End, bool, bool) {
+        let writer_failed = self.writer.has_failed();
+        (self.end, self.reader.has_failed(), writer_failed)
+    }
+
+    /// Whether what was written is a beginning of the report.
+    pub(super) fn has_begun(&self, report: &str) -> bool {
+        report.as_bytes().starts_with(&self.writer.text)
+    }
+
+    /// Whether the run was refused memory, or its writer was.
+    fn was_refused(&self) -> bool {
+        self.writer.refused || self.end == Err(RunFault::Memory)
+    }
+
+    /// Whether that is told and nothing else has failed, and a beginning of the report was written, in whole lines unless
+    /// the writer was refused memory.
+    fn is_told_so(&self, report: &str) -> bool {
+        let refused = self.writer.refused;
+        let text = &self.writer.text;
+        let is_whole = refused || text.is_empty() || text.ends_with(b"\n");
+        let (_, reader_failed, writer_failed) = self.told();
+        is_whole && !reader_failed && writer_failed == refused && self.has_begun(report)
     }
 }
 
-/// Runs a script over these streams. Where memory is refused, to it or to the writer, that is told and
-/// nothing else has failed, what was written is a beginning of the report, in whole lines unless the writer was refused
-/// its own, and it runs once more over the streams made anew.
-pub(super) fn run<'a, R: Abort + Print, F: Fn() -> (Reader<'a>, Writer)>(
-    rt: &R,
-    alloc: Global,
-    kind: Kind,
-    report: &str,
-    streams: F,
-) -> Ran<'a>
-    requires { F.IsAlwaysCallable streams }
-{
-    let (reader, writer) = streams();
-    let ran = run_once(alloc, kind, reader, writer);
-    let of_the_writer = ran.writer.refused;
-    if ran.end != Err(RunFault::Memory) && !of_the_writer {
-        return ran;
+fn run_plain(alloc: Global, reader: &mut Reader<'_>, writer: &mut Writer) -> End {
+    plain(alloc, reader, writer)
+}
+
+fn run_replay(alloc: Global, reader: &mut Reader<'_>, writer: &mut Writer) -> End {
+    replay(alloc, reader, writer)
+}
+
+/// A script, what it writes where nothing fails, and the streams that it is run over.
+#[derive(Clone, Copy)]
+pub(super) struct Run<'a> {
+    pub(super) kind: Kind,
+    pub(super) script: &'a [u8],
+    pub(super) report: &'a str,
+    pub(super) reads: Stream,
+    pub(super) writes: Stream,
+}
+
+impl<'a> Run<'a> {
+    fn end(&self, alloc: Global, reader: &mut Reader<'_>, writer: &mut Writer) -> End {
+        match self.kind {
+            Kind::Plain => run_plain(alloc, reader, writer),
+            Kind::Replay => run_replay(alloc, reader, writer),
+        }
     }
-    let _ = println!(rt; "{kind:?} was refused memory, or its writer: {of_the_writer}");
-    assert!(rt; !ran.reader.has_failed());
-    assert_eq!(rt; ran.writer.has_failed(), of_the_writer);
-    let text = ran.writer.text.as_slice();
-    assert!(rt; report.as_bytes().starts_with(text));
-    assert!(rt; of_the_writer || text.is_empty() || text.ends_with(b"\n"));
-    let (reader, writer) = streams();
-    run_once(alloc, kind, reader, writer)
+
+    fn once(&self, alloc: Global) -> Ran<'a> {
+        let mut reader = Reader::new(self.script, self.reads);
+        let mut writer = Writer::new(alloc, self.writes);
+        let end = self.end(alloc, &mut reader, &mut writer);
+        Ran {
+            end,
+            reader,
+            writer,
+        }
+    }
+
+    /// Runs the script. Where memory is refused, to it or to the writer, that is told and it runs once more over streams
+    /// made anew.
+    pub(super) fn run<R: Abort + Print>(&self, rt: &R, alloc: Global) -> Ran<'a> {
+        let ran = self.once(alloc);
+        if !ran.was_refused() {
+            return ran;
+        }
+        let _ = println!(rt; "a run was refused memory, or its writer");
+        assert!(rt; ran.is_told_so(self.report));
+        self.once(alloc)
+    }
+}
+
+fn text_of_plain(alloc: Global, script: &[u8]) -> Result<Vec<u8>, RunFault> {
+    plain_text(alloc, script)
+}
+
+fn text_of_replay(alloc: Global, script: &[u8]) -> Result<Vec<u8>, RunFault> {
+    replay_text(alloc, script)
 }
 
 /// The text of a script in memory.
 fn text_once(alloc: Global, kind: Kind, script: &[u8]) -> Result<Vec<u8>, RunFault> {
     match kind {
-        Kind::Plain => plain_text(alloc, script),
-        Kind::Replay => replay_text(alloc, script),
+        Kind::Plain => text_of_plain(alloc, script),
+        Kind::Replay => text_of_replay(alloc, script),
     }
 }
 
 /// The text of a script in memory, made once more where memory is refused.
-pub(super) fn text_of<R: Abort + Print>(
+pub(super) fn text_of<R: Print>(
     rt: &R,
     alloc: Global,
     kind: Kind,
@@ -81,34 +126,57 @@ pub(super) fn text_of<R: Abort + Print>(
 ) -> Result<Vec<u8>, RunFault> {
     match text_once(alloc, kind, script) {
         Err(RunFault::Memory) => {
-            let _ = println!(rt; "{kind:?} was refused memory");
+            let _ = println!(rt; "a text was refused memory");
             text_once(alloc, kind, script)
         }
         answer => answer,
     }
 }
 
-/// Runs a script in memory, and once more octet by octet, and compares what is written.
-pub(super) fn expect_text<R: Abort + Print>(
+/// Whether a script in memory has the report for its text, or comes to the fault.
+pub(super) fn has_text<R: Print>(
     rt: &R,
     alloc: Global,
     kind: Kind,
-    script: &str,
+    script: &[u8],
     report: &str,
-    end: Result<(), RunFault>,
-) -> Result<(), Fail> {
-    let script = script.as_bytes();
+    end: End,
+) -> bool {
     match text_of(rt, alloc, kind, script) {
-        Ok(text) => {
-            assert_eq!(rt; end, Ok(()));
-            assert_eq!(rt; text.as_slice(), report.as_bytes());
-        }
-        Err(fault) => assert_eq!(rt; end, Err(fault)),
+        Ok(text) => end.is_ok() && text.as_slice() == report.as_bytes(),
+        Err(fault) => end == Err(fault),
     }
-    let ran = run(rt, alloc, kind, report, || {
-        (Reader::new(script, 1, None), Writer::new(alloc, 1, None))
-    });
-    assert_eq!(rt; ran.end, end);
-    assert_eq!(rt; ran.writer.text.as_slice(), report.as_bytes());
-    Ok(())
+}
+
+/// Whether a script that is run octet by octet writes the report and comes to the end.
+fn writes<R: Abort + Print>(
+    rt: &R,
+    alloc: Global,
+    kind: Kind,
+    script: &[u8],
+    report: &str,
+    end: End,
+) -> bool {
+    let run = Run {
+        kind,
+        script,
+        report,
+        reads: Stream::sound(1),
+        writes: Stream::sound(1),
+    };
+    let ran = run.run(rt, alloc);
+    ran.end == end && ran.writer.text.as_slice() == report.as_bytes()
+}
+
+/// Whether a script, in memory and then octet by octet, is answered by the report and comes to the end.
+pub(super) fn comes_to<R: Abort + Print>(
+    rt: &R,
+    alloc: Global,
+    kind: Kind,
+    script: &[u8],
+    report: &str,
+    end: End,
+) -> bool {
+    let is_text = has_text(rt, alloc, kind, script, report, end);
+    is_text && writes(rt, alloc, kind, script, report, end)
 }
