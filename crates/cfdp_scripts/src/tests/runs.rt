@@ -101,33 +101,36 @@ impl<'a> Run<'a> {
     }
 }
 
-fn text_of_plain(alloc: Global, script: &[u8]) -> Result<Vec<u8>, RunFault> {
-    plain_text(alloc, script)
+fn is_plain(alloc: Global, script: &[u8], report: &[u8]) -> Result<bool, RunFault> {
+    let text = plain_text(alloc, script)?;
+    Ok(text.as_slice() == report)
 }
 
-fn text_of_replay(alloc: Global, script: &[u8]) -> Result<Vec<u8>, RunFault> {
-    replay_text(alloc, script)
+fn is_replay(alloc: Global, script: &[u8], report: &[u8]) -> Result<bool, RunFault> {
+    let text = replay_text(alloc, script)?;
+    Ok(text.as_slice() == report)
 }
 
-/// The text of a script in memory.
-fn text_once(alloc: Global, kind: Kind, script: &[u8]) -> Result<Vec<u8>, RunFault> {
+/// Whether the text of a script in memory is the report.
+fn is_text(alloc: Global, kind: Kind, script: &[u8], report: &[u8]) -> Result<bool, RunFault> {
     match kind {
-        Kind::Plain => text_of_plain(alloc, script),
-        Kind::Replay => text_of_replay(alloc, script),
+        Kind::Plain => is_plain(alloc, script, report),
+        Kind::Replay => is_replay(alloc, script, report),
     }
 }
 
-/// The text of a script in memory, made once more where memory is refused.
-pub(super) fn text_of<R: Print>(
+/// Whether the text of a script in memory is the report, made once more where memory is refused.
+fn is_text_at_last<R: Print>(
     rt: &R,
     alloc: Global,
     kind: Kind,
     script: &[u8],
-) -> Result<Vec<u8>, RunFault> {
-    match text_once(alloc, kind, script) {
+    report: &[u8],
+) -> Result<bool, RunFault> {
+    match is_text(alloc, kind, script, report) {
         Err(RunFault::Memory) => {
             let _ = println!(rt; "a text was refused memory");
-            text_once(alloc, kind, script)
+            is_text(alloc, kind, script, report)
         }
         answer => answer,
     }
@@ -142,8 +145,8 @@ pub(super) fn has_text<R: Print>(
     report: &str,
     end: End,
 ) -> bool {
-    match text_of(rt, alloc, kind, script) {
-        Ok(text) => end.is_ok() && text.as_slice() == report.as_bytes(),
+    match is_text_at_last(rt, alloc, kind, script, report.as_bytes()) {
+        Ok(same) => same && end.is_ok(),
         Err(fault) => end == Err(fault),
     }
 }
