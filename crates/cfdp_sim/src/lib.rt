@@ -46,6 +46,3 @@ pub use replay_scripts::{replay, replay_text};
 pub use run::INPUT_LIMIT;
 pub use streams::{Failed, ScriptIn, ScriptOut};
 pub use to_write::ToWrite;
-
-#[cfg(test)]
-mod tests;

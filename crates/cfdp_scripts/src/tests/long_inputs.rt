@@ -1,6 +1,8 @@
 //! Inputs as long as the input limit and longer, with a bad line within the limit or behind it.
-use super::fakes::Writer;
-use crate::{Failed, RunFault, ScriptIn, plain};
+use super::fakes::{Stream, Writer};
+use super::runs::End;
+use super::{Row, all_hold};
+use cfdp_sim::{Failed, RunFault, ScriptIn, plain};
 use std::alloc::Global;
 use std::process::Abort;
 
@@ -57,59 +59,70 @@ impl<'a> ScriptIn for Comments<'a> {
     }
 }
 
-/// A bad line after comment lines of so many octets, with as many behind as the limit, ends so; nothing is written.
-fn bad_line(rt: &impl Abort, alloc: Global, before: usize, fault: RunFault) {
-    let mut reader = Comments {
-        before,
-        bad: b"0\n",
-        behind: LIMIT,
-    };
-    let mut writer = Writer::new(alloc, 1, None);
-    let end = plain(alloc, &mut reader, &mut writer);
-    assert_eq!(rt; end, Err(fault), "a bad line after {before} octets");
-    assert!(rt; writer.text.is_empty());
+/// Comment lines of so many octets, a bad line or nothing, comment lines of so many octets, and what the script ends with.
+/// Nothing is written.
+type Input = (usize, &'static [u8], usize, End);
+
+/// What `plain` ends with.
+fn end_of(alloc: Global, comments: &mut Comments<'_>, writer: &mut Writer) -> End {
+    plain(alloc, comments, writer)
 }
+
+impl Row for Input {
+    fn holds<R: Abort + Print>(&self, _rt: &R, alloc: Global) -> bool {
+        let (before, bad, behind, end) = *self;
+        let mut comments = Comments {
+            before,
+            bad,
+            behind,
+        };
+        let mut writer = Writer::new(alloc, Stream::sound(1));
+        end_of(alloc, &mut comments, &mut writer) == end && writer.text.is_empty()
+    }
+}
+
+/// A bad line.
+const BAD: &[u8] = b"0\n";
+
+static WITHIN: [Input; 2] = [
+    (0, BAD, LIMIT, Err(RunFault::BadLine(1))),
+    (LIMIT - 2, BAD, LIMIT, Err(RunFault::BadLine(4097))),
+];
 
 /// Of an input longer than the limit, a bad line is told that ends within the limit ..
 #[test]
 fn bad_lines_within(rt: HostRuntime) {
-    bad_line(&rt, rt.alloc(), 0, RunFault::BadLine(1));
-    bad_line(&rt, rt.alloc(), LIMIT - 2, RunFault::BadLine(4097));
+    all_hold(&rt, rt.alloc(), &WITHIN);
 }
+
+static ACROSS: [Input; 1] = [(LIMIT - 1, BAD, LIMIT, Err(RunFault::Read))];
 
 /// .. and none that ends behind it ..
 #[test]
 fn bad_line_across(rt: HostRuntime) {
-    bad_line(&rt, rt.alloc(), LIMIT - 1, RunFault::Read);
+    all_hold(&rt, rt.alloc(), &ACROSS);
 }
+
+static BEHIND: [Input; 1] = [(LIMIT, BAD, LIMIT, Err(RunFault::Read))];
 
 /// .. or begins there.
 #[test]
 fn bad_line_behind(rt: HostRuntime) {
-    bad_line(&rt, rt.alloc(), LIMIT, RunFault::Read);
+    all_hold(&rt, rt.alloc(), &BEHIND);
 }
 
-/// An input of so many octets in comment lines ends so; nothing is written.
-fn ends(rt: &impl Abort, alloc: Global, octets: usize, end: Result<(), RunFault>) {
-    let mut reader = Comments {
-        before: 0,
-        bad: b"",
-        behind: octets,
-    };
-    let mut writer = Writer::new(alloc, 1, None);
-    let found = plain(alloc, &mut reader, &mut writer);
-    assert_eq!(rt; found, end, "{octets} octets");
-    assert!(rt; writer.text.is_empty());
-}
+static AT_THE_LIMIT: [Input; 1] = [(0, b"", LIMIT, Ok(()))];
 
 /// An input of as many octets as the limit is taken ..
 #[test]
 fn ends_at_the_limit(rt: HostRuntime) {
-    ends(&rt, rt.alloc(), LIMIT, Ok(()));
+    all_hold(&rt, rt.alloc(), &AT_THE_LIMIT);
 }
+
+static BEHIND_THE_LIMIT: [Input; 1] = [(0, b"", LIMIT + 1, Err(RunFault::Read))];
 
 /// .. and none of one octet more.
 #[test]
 fn ends_behind_the_limit(rt: HostRuntime) {
-    ends(&rt, rt.alloc(), LIMIT + 1, Err(RunFault::Read));
+    all_hold(&rt, rt.alloc(), &BEHIND_THE_LIMIT);
 }

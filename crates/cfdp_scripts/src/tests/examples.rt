@@ -1,6 +1,18 @@
 //! The examples of the repository, `examples/first.plain` and `examples/actions.plain`, and what is written for them.
-use crate::plain_text;
-use std::test::Fail;
+use super::runs::{Kind, has_text};
+use super::{Row, all_hold};
+use std::alloc::Global;
+use std::process::Abort;
+
+/// An example, and what is written for it.
+type Example = (&'static str, &'static str);
+
+impl Row for Example {
+    fn holds<R: Abort + Print>(&self, rt: &R, alloc: Global) -> bool {
+        let (script, report) = *self;
+        has_text(rt, alloc, Kind::Plain, script.as_bytes(), report, Ok(()))
+    }
+}
 
 /// The example, with its comments.
 const SCRIPT: &str = "\
@@ -19,12 +31,12 @@ const SCRIPT: &str = "\
 /// What is written for it, `examples/first.out`.
 const REPORT: &str = "010400016100\n010401016100\n01041f016100\n010410016100\ndropped bad-action\n";
 
+static FIRST: [Example; 1] = [(SCRIPT, REPORT)];
+
 /// The first example gives its report.
 #[test]
-fn first(rt: HostRuntime) -> Result<(), Fail> {
-    let text = plain_text(rt.alloc(), SCRIPT.as_bytes()).map_err(|_| "the first example")?;
-    assert_eq!(rt; text.as_slice(), REPORT.as_bytes());
-    Ok(())
+fn first(rt: HostRuntime) {
+    all_hold(&rt, rt.alloc(), &FIRST);
 }
 
 /// All nine actions, `examples/actions.plain`.
@@ -69,10 +81,10 @@ const ANSWERS: &str = "\
     01061003652f7800\n\
     010823016503652f6600\n";
 
+static ALL_ACTIONS: [Example; 1] = [(ACTIONS, ANSWERS)];
+
 /// The example of all nine actions gives its report.
 #[test]
-fn actions(rt: HostRuntime) -> Result<(), Fail> {
-    let text = plain_text(rt.alloc(), ACTIONS.as_bytes()).map_err(|_| "the nine actions")?;
-    assert_eq!(rt; text.as_slice(), ANSWERS.as_bytes());
-    Ok(())
+fn actions(rt: HostRuntime) {
+    all_hold(&rt, rt.alloc(), &ALL_ACTIONS);
 }

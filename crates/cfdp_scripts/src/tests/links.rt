@@ -1,12 +1,12 @@
 //! Scripts of `links`: several files at once.
-ghost use Rattle.std.specs.Prelude.{◌↔◌, ◌≤◌, IsTrue, length};
+ghost use Rattle.std.specs.Prelude.{◌↔◌, ◌<◌, ◌≤◌, IsTrue, length};
 ghost use Rattle.std.specs.List.{AllByRecursion};
 ghost use Rattle.cfdp_sim.specs.Lines.{input_limit};
 
-use super::fakes::Writer;
-use crate::{INPUT_LIMIT, LinkFault, Open, ScriptOut, links};
+use super::fakes::{Stream, Writer};
 use cfdp_engine::Gate;
-use std::alloc::Global;
+use cfdp_sim::{INPUT_LIMIT, LinkFault, Open, ScriptOut, links};
+use std::alloc::{AllocError, Global};
 use std::process::Abort;
 use std::sync::Wait;
 use std::thread::Threads;
@@ -205,19 +205,22 @@ static REFUSED: [Linked; 12] = [
     },
 ];
 
-/// The octets of the files.
-fn octets_of<R: Abort>(rt: &R, alloc: Global, files: &[&[&str]]) -> Vec<Vec<u8>> {
+/// The octets of the pieces of a file.
+fn octets_of(alloc: Global, pieces: &[&str]) -> Result<Vec<u8>, AllocError> {
+    let mut script = Vec::new(alloc);
+    for piece in pieces {
+        script.extend_from_slice(piece.as_bytes())?;
+    }
+    Ok(script)
+}
+
+/// The octets of each file.
+fn scripts_of(alloc: Global, files: &[&[&str]]) -> Result<Vec<Vec<u8>>, AllocError> {
     let mut scripts = Vec::new(alloc);
     for pieces in files {
-        let mut script = Vec::new(alloc);
-        for piece in *pieces {
-            script
-                .extend_from_slice(piece.as_bytes())
-                .expect(rt, "memory");
-        }
-        scripts.push(script).expect(rt, "memory");
+        scripts.push(octets_of(alloc, pieces)?)?;
     }
-    scripts
+    Ok(scripts)
 }
 
 /// Whether these are as many scripts as `links` takes, four at most, and none is longer than a script may be.
@@ -232,6 +235,20 @@ fn are_linkable(scripts: &[Vec<u8>]) -> bool
     scripts.len() <= 4
 }
 
+/// Runs the scripts, which can be linked.
+fn link<R: Abort + Threads + Wait + Sync, G: Gate + Sync>(
+    rt: &R,
+    alloc: Global,
+    scripts: &[Vec<u8>],
+    gate: &G,
+    writer: &mut Writer,
+) -> Result<(), LinkFault> {
+    if !are_linkable(scripts) {
+        rt.abort();
+    }
+    links(rt, alloc, scripts, gate, writer)
+}
+
 /// Runs the files.
 pub(super) fn run<R: Abort + Threads + Wait + Sync, G: Gate + Sync>(
     rt: &R,
@@ -240,52 +257,69 @@ pub(super) fn run<R: Abort + Threads + Wait + Sync, G: Gate + Sync>(
     gate: &G,
     writer: &mut Writer,
 ) -> Result<(), LinkFault> {
-    let scripts = octets_of(rt, alloc, files);
-    if !are_linkable(&scripts) {
-        rt.abort();
-    }
-    links(rt, alloc, &scripts, gate, writer)
+    let scripts = scripts_of(alloc, files)?;
+    link(rt, alloc, &scripts, gate, writer)
 }
 
-/// Runs the files, and compares what is written.
-fn expect<R: Abort + Threads + Wait + Sync>(rt: &R, alloc: Global, linked: &Linked) {
-    let mut writer = Writer::new(alloc, 100, None);
-    let end = run(rt, alloc, linked.files, &Open, &mut writer);
-    match linked.written {
-        Written::Whole(text) => assert_eq!(rt; writer.text.as_slice(), text.as_bytes()),
-        Written::Ends(text) => assert!(rt; writer.text.ends_with(text.as_bytes())),
-        Written::Fault(fault) => assert_eq!(rt; (end, writer.text.len()), (Err(fault), 0)),
+/// Whether a run came to this end and wrote this text.
+fn is_written(written: &Written, end: Result<(), LinkFault>, text: &[u8]) -> bool {
+    match written {
+        Written::Whole(whole) => end == Ok(()) && text == whole.as_bytes(),
+        Written::Ends(ending) => end == Ok(()) && text.ends_with(ending.as_bytes()),
+        Written::Fault(fault) => end == Err(*fault) && text.is_empty(),
     }
-    if !matches!(linked.written, Written::Fault(_)) {
-        assert_eq!(rt; end, Ok(()));
+}
+
+/// Whether the run of the files writes that.
+fn is_linked<R: Abort + Threads + Wait + Sync>(rt: &R, alloc: Global, linked: &Linked) -> bool {
+    let mut writer = Writer::new(alloc, Stream::sound(100));
+    let end = run(rt, alloc, linked.files, &Open, &mut writer);
+    is_written(&linked.written, end, &writer.text)
+}
+
+/// Runs the files of each, and compares what is written.
+fn all_are_linked<R: Abort + Threads + Wait + Sync>(rt: &R, alloc: Global, table: &[Linked]) {
+    for (number, linked) in table.iter().enumerate() {
+        assert!(rt; is_linked(rt, alloc, linked), "row {number}");
     }
 }
 
 #[test]
 fn files_run_at_once(rt: HostRuntime) {
-    for linked in &LINKED {
-        expect(&rt, rt.alloc(), linked);
-    }
+    all_are_linked(&rt, rt.alloc(), &LINKED);
 }
 
 #[test]
 fn nothing_runs_after_a_fault(rt: HostRuntime) {
-    for linked in &REFUSED {
-        expect(&rt, rt.alloc(), linked);
-    }
+    all_are_linked(&rt, rt.alloc(), &REFUSED);
+}
+
+/// One file.
+static ONE: [&[&str]; 1] = [&[CREATED]];
+
+/// Whether of a text the pieces of 50 octets before the kth are written, where the writer failed at that.
+fn ends_at_write(end: Result<(), LinkFault>, writer: &Writer, text: &[u8], k: usize) -> bool
+    requires { k < 6 }
+{
+    let fails = 50 * k < text.len();
+    let wanted = if fails { Err(LinkFault::Write) } else { Ok(()) };
+    (end, writer.has_failed(), writer.text.len()) == (wanted, fails, (50 * k).min(text.len()))
+        && text.starts_with(&writer.text)
+}
+
+/// The same of a run of one file.
+fn fails_at_write<R: Abort + Threads + Wait + Sync>(rt: &R, alloc: Global, k: usize) -> bool
+    requires { k < 6 }
+{
+    let mut writer = Writer::new(alloc, Stream::failing(50, k));
+    let end = run(rt, alloc, &ONE, &Open, &mut writer);
+    ends_at_write(end, &writer, CREATED_TEXT.as_bytes(), k)
 }
 
 /// The kth write fails, of 50 octets each: what was written before is a beginning of the text.
 #[test]
 fn a_failing_writer_is_told(rt: HostRuntime) {
-    let text = CREATED_TEXT.as_bytes();
     for k in 0..6 {
-        let mut writer = Writer::new(rt.alloc(), 50, Some(k));
-        let end = run(&rt, rt.alloc(), &[&[CREATED]], &Open, &mut writer);
-        let fails = 50 * k < text.len();
-        assert_eq!(rt; end, if fails { Err(LinkFault::Write) } else { Ok(()) });
-        assert_eq!(rt; writer.has_failed(), fails);
-        assert!(rt; text.starts_with(&writer.text));
-        assert_eq!(rt; writer.text.len(), (50 * k).min(text.len()));
+        assert!(rt; fails_at_write(&rt, rt.alloc(), k), "the write {k}");
     }
 }

@@ -1,4 +1,5 @@
 //! What no clause says: worked scripts, the fakes' failures, limits and printed text.
+mod bad_lines;
 mod ends;
 mod examples;
 mod failing;
@@ -14,6 +15,22 @@ mod request_scripts;
 mod rows;
 mod runs;
 mod transfer_scripts;
+
+use std::alloc::Global;
+use std::process::Abort;
+
+/// A row of a table of worked cases.
+trait Row {
+    /// Whether all is as the row says.
+    fn holds<R: Abort + Print>(&self, rt: &R, alloc: Global) -> bool;
+}
+
+/// Each row holds. Of one that does not its number in the table is told, from 0.
+fn all_hold<R: Abort + Print, T: Row>(rt: &R, alloc: Global, rows: &[T]) {
+    for (number, row) in rows.iter().enumerate() {
+        assert!(rt; row.holds(rt, alloc), "row {number}");
+    }
+}
 
 /// Three lists of requests in which each of the nine actions succeeds at least once; rename moves a file.
 const SCRIPT: &str = "0003500164\n00050003642f78\n0003600164\n\n\

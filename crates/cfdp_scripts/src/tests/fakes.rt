@@ -1,30 +1,66 @@
 //! Readers and writers that fail, or are slow, or take nothing. They tell no octets.
-ghost use Rattle.std.specs.Prelude.{None, IfOk, ◌≤◌};
+ghost use Rattle.std.specs.Prelude.{None, IfOk, length, ◌≤◌};
 
-use crate::{Failed, ScriptIn, ScriptOut};
+use cfdp_sim::{Failed, ScriptIn, ScriptOut};
 use std::alloc::Global;
 use std::io;
 
-/// Gives its octets a few at a call, and fails at the call of this number, counted from 0, if there is one.
-#[derive(Drop)]
-pub(super) struct Reader<'a> {
-    pub(super) octets: &'a [u8],
+/// How many octets move at a call, and the number of the call that fails, counted from 0, if there is one.
+#[derive(Clone, Copy)]
+pub(super) struct Stream {
     pub(super) most: usize,
     pub(super) fails_at: Option<usize>,
-    pub(super) calls: usize,
-    pub(super) failed: bool,
+}
+
+impl Stream {
+    /// No call fails.
+    pub(super) fn sound(most: usize) -> Stream {
+        Stream {
+            most,
+            fails_at: None,
+        }
+    }
+
+    /// The call of this number fails.
+    pub(super) fn failing(most: usize, call: usize) -> Stream {
+        Stream {
+            most,
+            fails_at: Some(call),
+        }
+    }
+}
+
+/// Gives its octets a few at a call, and fails at a call, if the stream says so.
+#[derive(Drop)]
+pub(super) struct Reader<'a> {
+    octets: &'a [u8],
+    stream: Stream,
+    calls: usize,
+    failed: bool,
 }
 
 impl<'a> Reader<'a> {
-    pub(super) fn new(octets: &'a [u8], most: usize, fails_at: Option<usize>) -> Self {
+    pub(super) fn new(octets: &'a [u8], stream: Stream) -> Self {
         Reader {
             octets,
-            most,
-            fails_at,
+            stream,
             calls: 0,
             failed: false,
         }
     }
+}
+
+/// Moves the first octets to the front of the buffer, so many at most, and answers how many.
+fn fill(octets: &mut &[u8], most: usize, buffer: &mut [u8]) -> usize
+    ensures { result ≤ length buffer.new }
+{
+    let count = buffer.len().min(most).min(octets.len());
+    let (piece, rest) = octets.split_at(count);
+    for (place, octet) in buffer.iter_mut().zip(piece) {
+        *place = *octet;
+    }
+    *octets = rest;
+    count
 }
 
 impl<'a> ScriptIn for Reader<'a> {
@@ -33,16 +69,12 @@ impl<'a> ScriptIn for Reader<'a> {
     ghost failed = { λ s. s.failed };
 
     fn read(&mut self, buffer: &mut [u8]) -> Result<usize, Failed> {
-        if self.fails_at == Some(self.calls) {
+        if self.stream.fails_at == Some(self.calls) {
             self.failed = true;
             return Err(Failed);
         }
         self.calls = self.calls.saturating_add(1);
-        let count = buffer.len().min(self.most).min(self.octets.len());
-        let (piece, rest) = self.octets.split_at(count);
-        buffer[..count].copy_from_slice(piece);
-        self.octets = rest;
-        Ok(count)
+        Ok(fill(&mut self.octets, self.stream.most, buffer))
     }
 
     fn has_failed(&self) -> bool {
@@ -50,24 +82,22 @@ impl<'a> ScriptIn for Reader<'a> {
     }
 }
 
-/// Takes a few octets at a call, and fails at the call of this number, counted from 0, if there is one.
+/// Takes a few octets at a call, and fails at a call, if the stream says so.
 #[derive(Drop)]
 pub(super) struct Writer {
     pub(super) text: Vec<u8>,
-    pub(super) most: usize,
-    pub(super) fails_at: Option<usize>,
-    pub(super) calls: usize,
-    pub(super) failed: bool,
+    stream: Stream,
+    calls: usize,
+    failed: bool,
     /// Whether it failed since it was refused memory for its own text.
     pub(super) refused: bool,
 }
 
 impl Writer {
-    pub(super) fn new(alloc: Global, most: usize, fails_at: Option<usize>) -> Self {
+    pub(super) fn new(alloc: Global, stream: Stream) -> Self {
         Writer {
             text: Vec::new(alloc),
-            most,
-            fails_at,
+            stream,
             calls: 0,
             failed: false,
             refused: false,
@@ -81,9 +111,9 @@ impl ScriptOut for Writer {
     ghost failed = { λ s. s.failed };
 
     fn write(&mut self, octets: &[u8]) -> Result<usize, Failed> {
-        let count = octets.len().min(self.most.max(1));
+        let count = octets.len().min(self.stream.most.max(1));
         let (piece, _) = octets.split_at(count);
-        if self.fails_at == Some(self.calls) {
+        if self.stream.fails_at == Some(self.calls) {
             self.failed = true;
             return Err(Failed);
         }
@@ -102,7 +132,7 @@ impl ScriptOut for Writer {
 }
 
 /// What each call of std's reader or writer answers, in turn: so many octets, or an error.
-#[derive(Clone, Copy, Debug, PartialEq, Eq)]
+#[derive(Clone, Copy)]
 pub(super) enum Call {
     Moves,
     Nothing,
@@ -116,35 +146,39 @@ pub(super) struct Scripted<'a> {
     pub(super) calls: &'a [Call],
 }
 
+/// What a call answers for so many octets.
+fn answer(call: Call, len: usize) -> io::Result<usize>
+    ensures { IfOk result (λ n. n ≤ len) }
+{
+    match call {
+        Call::Moves => Ok(len.min(1)),
+        Call::Nothing => Ok(0),
+        Call::Interrupted => Err(io::Error::from(io::ErrorKind::Interrupted)),
+        Call::Broken => Err(io::Error::from(io::ErrorKind::BrokenPipe)),
+    }
+}
+
 impl<'a> Scripted<'a> {
-    fn next(&mut self, len: usize) -> io::Result<usize>
-        ensures { IfOk result (λ n. n ≤ len) }
-    {
-        let call = match self.calls {
+    fn next(&mut self) -> Call {
+        match self.calls {
             [call, rest @ ..] => {
                 self.calls = rest;
                 *call
             }
             [] => Call::Nothing,
-        };
-        match call {
-            Call::Moves => Ok(len.min(1)),
-            Call::Nothing => Ok(0),
-            Call::Interrupted => Err(io::Error::from(io::ErrorKind::Interrupted)),
-            Call::Broken => Err(io::Error::from(io::ErrorKind::BrokenPipe)),
         }
     }
 }
 
 impl<'a> io::Read for Scripted<'a> {
     fn read(&mut self, buffer: &mut [u8]) -> io::Result<usize> {
-        self.next(buffer.len())
+        answer(self.next(), buffer.len())
     }
 }
 
 impl<'a> io::Write for Scripted<'a> {
     fn write(&mut self, octets: &[u8]) -> io::Result<usize> {
-        self.next(octets.len())
+        answer(self.next(), octets.len())
     }
 
     fn flush(&mut self) -> io::Result<()> {

@@ -1,8 +1,10 @@
 //! Worked scripts of `replay`: PDUs that are none, the table of transactions, protected paths, bad lines.
-use super::replays::{Script, expect_all};
-use super::runs::{Kind, expect_text};
-use crate::RunFault;
-use std::test::Fail;
+use super::all_hold;
+use super::bad_lines::{Place, all_bad};
+use super::replays::Script;
+use super::runs::Kind;
+use cfdp_sim::RunFault;
+use std::alloc::AllocError;
 
 static SCRIPTS: [Script; 7] = [
     // Each reason for which octets are no PDU, and a PDU that is not for the receiver.
@@ -295,8 +297,8 @@ static SCRIPTS: [Script; 7] = [
 ];
 
 #[test]
-fn faults(rt: HostRuntime) -> Result<(), Fail> {
-    expect_all(&rt, rt.alloc(), &SCRIPTS)
+fn faults(rt: HostRuntime) {
+    all_hold(&rt, rt.alloc(), &SCRIPTS);
 }
 
 /// Lines that are bad behind an event.
@@ -330,14 +332,18 @@ static BAD_LINES: [&str; 27] = [
     "00",
 ];
 
+/// Between two events.
+static BETWEEN_EVENTS: Place = Place {
+    kind: Kind::Replay,
+    before: "# a\nstep 1 1\n",
+    behind: "\nstep 1 1\n",
+    report: "1/1 unknown\n",
+    number: 3,
+};
+
 #[test]
-fn bad_lines_of_replay(rt: HostRuntime) -> Result<(), Fail> {
-    for line in &BAD_LINES {
-        let script = format!(in rt.alloc(); "# a\nstep 1 1\n{line}\nstep 1 1\n")?;
-        let end = Err(RunFault::BadLine(3));
-        expect_text(&rt, rt.alloc(), Kind::Replay, &script, "1/1 unknown\n", end)?;
-    }
-    Ok(())
+fn bad_lines_of_replay(rt: HostRuntime) -> Result<(), AllocError> {
+    all_bad(&rt, rt.alloc(), &BETWEEN_EVENTS, &BAD_LINES)
 }
 
 /// First lines that are bad: configurations outside their limits, and what is no path.
@@ -358,14 +364,18 @@ static BAD_FIRST_LINES: [&str; 14] = [
     "protect 2e",
 ];
 
+/// Before an event.
+static BEFORE_AN_EVENT: Place = Place {
+    kind: Kind::Replay,
+    before: "",
+    behind: "\nstep 1 1\n",
+    report: "",
+    number: 1,
+};
+
 #[test]
-fn bad_first_lines(rt: HostRuntime) -> Result<(), Fail> {
-    for line in &BAD_FIRST_LINES {
-        let script = format!(in rt.alloc(); "{line}\nstep 1 1\n")?;
-        let end = Err(RunFault::BadLine(1));
-        expect_text(&rt, rt.alloc(), Kind::Replay, &script, "", end)?;
-    }
-    Ok(())
+fn bad_first_lines(rt: HostRuntime) -> Result<(), AllocError> {
+    all_bad(&rt, rt.alloc(), &BEFORE_AN_EVENT, &BAD_FIRST_LINES)
 }
 
 /// Spaces before, between and behind words, lines without words, numbers with zeros before them and the greatest.
@@ -386,6 +396,6 @@ static GOOD: [Script; 1] = [Script {
 }];
 
 #[test]
-fn good_lines(rt: HostRuntime) -> Result<(), Fail> {
-    expect_all(&rt, rt.alloc(), &GOOD)
+fn good_lines(rt: HostRuntime) {
+    all_hold(&rt, rt.alloc(), &GOOD);
 }

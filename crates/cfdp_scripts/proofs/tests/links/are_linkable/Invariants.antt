@@ -2,7 +2,7 @@ use Rattle.std.proofs.Common.{◌≤◌, drop, length}
 use Rattle.std.specs.List.{AllByRecursion}
 use Rattle.std.specs.Prelude.{◌↔◌}
 use Rattle.cfdp_sim.specs.Lines.{input_limit}
-use Rattle.cfdp_sim.proofs.tests.links.are_linkable.Given as goal
+use Rattle.cfdp_scripts.proofs.tests.links.are_linkable.Given as goal
 
 abbrev pub invariant-loop-script : goal.invariant-loop-script
 invariant-loop-script l = record {

@@ -1,0 +1,192 @@
+//! Reads and writes that fail in mid-stream, and std's streams that are interrupted.
+use super::fakes::{Call, Scripted, Stream};
+use super::runs::{Kind, Ran, Run};
+use super::{REPLAY_REPORT, REPLAY_SCRIPT, REPORT, Row, SCRIPT, all_hold};
+use cfdp_sim::{Failed, FromRead, RunFault, ScriptIn, ScriptOut, ToWrite};
+use std::alloc::Global;
+use std::process::Abort;
+
+/// A script of either kind, each line of which that is not empty is answered by a line.
+struct Example {
+    kind: Kind,
+    script: &'static str,
+    report: &'static str,
+}
+
+static EXAMPLES: [Example; 2] = [
+    Example {
+        kind: Kind::Plain,
+        script: SCRIPT,
+        report: REPORT,
+    },
+    Example {
+        kind: Kind::Replay,
+        script: REPLAY_SCRIPT,
+        report: REPLAY_REPORT,
+    },
+];
+
+/// How many lines of a script that begins with a request are requests.
+fn requests(octets: &[u8]) -> usize {
+    let mut count = 0usize;
+    let mut last = b'\n';
+    for octet in octets {
+        if *octet == b'\n' && last != b'\n' {
+            count = count.saturating_add(1);
+        }
+        last = *octet;
+    }
+    count
+}
+
+impl Example {
+    /// A run of it over these streams.
+    fn run(&self, reads: Stream, writes: Stream) -> Run<'static> {
+        Run {
+            kind: self.kind,
+            script: self.script.as_bytes(),
+            report: self.report,
+            reads,
+            writes,
+        }
+    }
+}
+
+/// Whether of a script the lines that were read are answered, and no other, where the reader failed at the kth read of one
+/// octet each.
+fn ends_at_read(ran: &Ran<'_>, example: &Example, k: usize) -> bool {
+    let script = example.script.as_bytes();
+    let fails = k <= script.len();
+    let end = if fails { Err(RunFault::Read) } else { Ok(()) };
+    let read = script.get(..k).unwrap_or(script);
+    ran.told() == (end, fails, false)
+        && ran.has_begun(example.report)
+        && requests(&ran.writer.text) == requests(read)
+}
+
+/// The kth read fails, of one octet each: the lines that were read before are answered, and no other.
+fn fail_reads<R: Abort + Print>(rt: &R, alloc: Global, example: &Example) {
+    for k in 0..example.script.len() + 2 {
+        let run = example.run(Stream::failing(1, k), Stream::sound(100));
+        let ran = run.run(rt, alloc);
+        assert!(rt; ends_at_read(&ran, example, k), "the read {k}");
+    }
+}
+
+/// Whether of a report the octets before the kth are written, at which the writer failed.
+fn ends_at_write(ran: &Ran<'_>, example: &Example, k: usize) -> bool {
+    let fails = k < example.report.len();
+    let end = if fails { Err(RunFault::Write) } else { Ok(()) };
+    ran.told() == (end, false, fails) && ran.has_begun(example.report) && ran.writer.text.len() == k
+}
+
+/// The kth write fails, of one octet each: the octets before it are a beginning of the report.
+fn fail_writes<R: Abort + Print>(rt: &R, alloc: Global, example: &Example) {
+    for k in 0..example.report.len() + 1 {
+        let run = example.run(Stream::sound(100), Stream::failing(1, k));
+        let ran = run.run(rt, alloc);
+        assert!(rt; ends_at_write(&ran, example, k), "the write {k}");
+    }
+}
+
+#[test]
+fn reads(rt: HostRuntime) {
+    for example in &EXAMPLES {
+        fail_reads(&rt, rt.alloc(), example);
+    }
+}
+
+#[test]
+fn writes(rt: HostRuntime) {
+    for example in &EXAMPLES {
+        fail_writes(&rt, rt.alloc(), example);
+    }
+}
+
+impl Row for Example {
+    fn holds<R: Abort + Print>(&self, rt: &R, alloc: Global) -> bool {
+        let run = self.run(Stream::sound(100), Stream::sound(100));
+        let ran = run.run(rt, alloc);
+        ran.end == Ok(()) && ran.writer.text.as_slice() == self.report.as_bytes()
+    }
+}
+
+/// Where memory is refused, it is told, and what was written is a beginning of the report; run once more, all is written.
+#[test]
+fn memory(rt: HostRuntime) {
+    all_hold(&rt, rt.alloc(), &EXAMPLES);
+}
+
+/// What calls of std's stream answer, and what the first read and the first write over it then answer.
+type Moved = (
+    &'static [Call],
+    Result<usize, Failed>,
+    Result<usize, Failed>,
+);
+
+/// A write that takes nothing has failed; an interrupted call is made again.
+static STREAMS: [Moved; 5] = [
+    (&[Call::Moves, Call::Moves], Ok(1), Ok(1)),
+    (&[Call::Nothing, Call::Moves], Ok(0), Err(Failed)),
+    (&[Call::Interrupted, Call::Moves], Ok(1), Ok(1)),
+    (&[Call::Interrupted, Call::Broken], Err(Failed), Err(Failed)),
+    (&[Call::Broken, Call::Moves], Err(Failed), Err(Failed)),
+];
+
+/// What is written.
+static OCTETS: [u8; 3] = *b"abc";
+
+/// What a read over the stream answers, and whether it had failed before and has failed then.
+fn read(calls: &[Call]) -> (Result<usize, Failed>, bool, bool) {
+    let mut reader = FromRead::new(Scripted { calls });
+    let before = reader.has_failed();
+    let answer = reader.read(&mut [0; 4]);
+    (answer, before, reader.has_failed())
+}
+
+/// The same of a write.
+fn written(calls: &[Call]) -> (Result<usize, Failed>, bool, bool) {
+    let mut writer = ToWrite::new(Scripted { calls });
+    let before = writer.has_failed();
+    let answer = writer.write(&OCTETS);
+    (answer, before, writer.has_failed())
+}
+
+impl Row for Moved {
+    fn holds<R: Abort + Print>(&self, _rt: &R, _alloc: Global) -> bool {
+        let (calls, wanted_read, wanted_write) = *self;
+        read(calls) == (wanted_read, false, wanted_read.is_err())
+            && written(calls) == (wanted_write, false, wanted_write.is_err())
+    }
+}
+
+#[test]
+fn std_streams(rt: HostRuntime) {
+    all_hold(&rt, rt.alloc(), &STREAMS);
+}
+
+/// A stream that fails once.
+static BROKEN_ONCE: [Call; 2] = [Call::Broken, Call::Moves];
+
+/// What two reads over a stream answer, and whether it has failed then.
+fn read_twice(calls: &[Call]) -> (Result<usize, Failed>, Result<usize, Failed>, bool) {
+    let mut reader = FromRead::new(Scripted { calls });
+    let first = reader.read(&mut [0; 4]);
+    let second = reader.read(&mut [0; 4]);
+    (first, second, reader.has_failed())
+}
+
+/// The same of two writes.
+fn written_twice(calls: &[Call]) -> (Result<usize, Failed>, Result<usize, Failed>, bool) {
+    let mut writer = ToWrite::new(Scripted { calls });
+    let first = writer.write(&OCTETS);
+    let second = writer.write(&OCTETS);
+    (first, second, writer.has_failed())
+}
+
+/// Once a stream has failed, it has failed from then on.
+#[test]
+fn from_then_on(rt: HostRuntime) {
+    assert!(rt; written_twice(&BROKEN_ONCE) == (Err(Failed), Ok(1), true));
+    assert!(rt; read_twice(&BROKEN_ONCE) == (Err(Failed), Ok(1), true));
+}

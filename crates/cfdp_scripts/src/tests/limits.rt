@@ -1,0 +1,155 @@
+//! The longest line, the longest input and the longest request.
+use super::fakes::{Stream, Writer};
+use super::runs::{End, Kind, has_text};
+use super::{Row, all_hold};
+use cfdp_sim::{Failed, RunFault, ScriptIn, plain};
+use std::alloc::{AllocError, Global};
+use std::process::Abort;
+
+/// So many of the octet behind others and before others.
+fn repeated(
+    alloc: Global,
+    before: &[u8],
+    octet: u8,
+    count: usize,
+    behind: &[u8],
+) -> Result<Vec<u8>, AllocError> {
+    let mut script = Vec::from_slice(alloc, before)?;
+    for _ in 0..count {
+        script.push(octet)?;
+    }
+    script.extend_from_slice(behind)?;
+    Ok(script)
+}
+
+/// A kind of script, a newline and a line of it, and what that line writes.
+type Line = (Kind, &'static str, &'static str);
+
+static LINES: [Line; 2] = [
+    (Kind::Plain, "\n0003000161", "010400016100\n"),
+    (Kind::Replay, "\nstep 1 1", "1/1 unknown\n"),
+];
+
+/// Whether 200,000 of the octet may stand in a line before this one.
+fn is_long_enough<R: Print>(
+    rt: &R,
+    alloc: Global,
+    line: &Line,
+    octet: u8,
+) -> Result<bool, AllocError> {
+    let (kind, behind, report) = *line;
+    let script = repeated(alloc, b"", octet, 200_000, behind.as_bytes())?;
+    Ok(has_text(rt, alloc, kind, &script, report, Ok(())))
+}
+
+/// Whether one more may not, in the second line.
+fn is_too_long<R: Print>(rt: &R, alloc: Global, kind: Kind, octet: u8) -> Result<bool, AllocError> {
+    let script = repeated(alloc, b"\n", octet, 200_001, b"")?;
+    let end = Err(RunFault::BadLine(2));
+    Ok(has_text(rt, alloc, kind, &script, "", end))
+}
+
+impl Row for Line {
+    fn holds<R: Abort + Print>(&self, rt: &R, alloc: Global) -> bool {
+        for octet in [b' ', b'#'] {
+            if is_long_enough(rt, alloc, self, octet) != Ok(true)
+                || is_too_long(rt, alloc, self.0, octet) != Ok(true)
+            {
+                return false;
+            }
+        }
+        true
+    }
+}
+
+/// A line has at most 200,000 octets, be it a comment or not.
+#[test]
+fn lines(rt: HostRuntime) {
+    all_hold(&rt, rt.alloc(), &LINES);
+}
+
+/// Short comment lines without end.
+#[derive(Drop)]
+struct Endless;
+
+impl ScriptIn for Endless {
+    ghost use Rattle.std.specs.Prelude.{None, false};
+
+    ghost remaining = { λ s. None };
+
+    ghost failed = { λ s. false };
+
+    fn read(&mut self, buffer: &mut [u8]) -> Result<usize, Failed> {
+        // What an earlier call left there serves again.
+        if buffer.first() != Some(&b'\n') {
+            buffer.fill(b'#');
+        }
+        if let Some(first) = buffer.first_mut() {
+            *first = b'\n';
+        }
+        Ok(buffer.len())
+    }
+
+    fn has_failed(&self) -> bool {
+        false
+    }
+}
+
+/// What it ends with.
+fn end_of_endless(alloc: Global, writer: &mut Writer) -> End {
+    plain(alloc, &mut Endless, writer)
+}
+
+/// An input has at most 268,435,456 octets: one that never ends is a read fault.
+#[test]
+fn inputs(rt: HostRuntime) {
+    let mut writer = Writer::new(rt.alloc(), Stream::sound(1));
+    let mut end = end_of_endless(rt.alloc(), &mut writer);
+    if end == Err(RunFault::Memory) {
+        let _ = println!(rt; "plain was refused memory");
+        end = end_of_endless(rt.alloc(), &mut writer);
+    }
+    assert!(rt; end == Err(RunFault::Read) && writer.text.is_empty());
+}
+
+/// The hexadecimal of a name of so many octets.
+fn hex_name(alloc: Global, len: usize) -> Result<String, AllocError> {
+    let mut name = String::new(alloc);
+    for _ in 0..len {
+        name.push_str("61")?;
+    }
+    Ok(name)
+}
+
+/// Two renames: with a value of 254 octets, and of 255.
+fn two_renames(alloc: Global, first: &str, second: &str) -> Result<String, AllocError> {
+    format!(in alloc; "00fe307e{first}7d{second}\n00ff307e{first}7e{first}\n")
+}
+
+/// What is written for them.
+fn two_answers(alloc: Global, first: &str, second: &str) -> Result<String, AllocError> {
+    format!(in alloc; "01ff337e{first}7d{second}00\ndropped request-too-long\n")
+}
+
+/// Whether two requests with these names are answered so.
+fn are_answered<R: Print>(
+    rt: &R,
+    alloc: Global,
+    first: &str,
+    second: &str,
+) -> Result<bool, AllocError> {
+    let script = two_renames(alloc, first, second)?;
+    let report = two_answers(alloc, first, second)?;
+    let octets = script.as_bytes();
+    Ok(has_text(rt, alloc, Kind::Plain, octets, &report, Ok(())))
+}
+
+/// A request value of 254 octets is answered by one of 255; one of 255 octets cannot be answered.
+#[test]
+fn values(rt: HostRuntime) -> Result<(), AllocError> {
+    let first = hex_name(rt.alloc(), 126)?;
+    let second = hex_name(rt.alloc(), 125)?;
+    let holds = are_answered(&rt, rt.alloc(), &first, &second)?;
+    assert!(rt; holds);
+    Ok(())
+}
