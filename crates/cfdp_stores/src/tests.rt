@@ -1,5 +1,5 @@
 //! Worked lists of requests, with the statuses, the ticks and the free blocks that they come to, on two stores; scripts made at
-//! random on both side by side; the store inside an arena at its limits; and what a store shows where memory is refused.
+//! random on both side by side; the store inside an arena at its limits; octets of sizes around those of blocks; and what a store shows where memory is refused.
 
 mod calls;
 mod counted;
@@ -7,4 +7,5 @@ mod limits;
 mod many;
 mod random;
 mod refused;
+mod sizes;
 mod worked;

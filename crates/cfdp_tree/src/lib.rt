@@ -34,5 +34,3 @@ mod walk;
 
 pub use tree_store::TreeStore;
 
-#[cfg(test)]
-mod tests;

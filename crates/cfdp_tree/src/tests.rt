@@ -1,4 +1,0 @@
-//! The layers below the tree, run.
-
-mod lists;
-mod nodes;
