@@ -13,9 +13,6 @@ use std::marker::Model;
 /// The octets of a block before its payload.
 const LINK_OCTETS: usize = 8;
 
-/// The octets of a block's payload.
-const PAYLOAD_OCTETS: usize = BLOCK_OCTETS - LINK_OCTETS;
-
 /// A fixed number of blocks of 128 octets, each of them free or live. A clause sees a list with an entry for each
 /// block: its octets where it is live.
 pub struct Arena {
@@ -132,7 +129,7 @@ impl Arena {
         requires to_within { to_at + len ≤ 120 }
         ensures target { self.new ≡ with_block self.old to (copied (octets_of self.old from) from_at (octets_of self.old to) to_at len) }
     {
-        let mut piece = [0; PAYLOAD_OCTETS];
+        let mut piece = [0; BLOCK_OCTETS];
         let piece = &mut piece[..len];
         let start = LINK_OCTETS + from_at;
         piece.copy_from_slice(&self.bytes(from)[start..start + len]);
