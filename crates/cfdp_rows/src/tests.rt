@@ -22,5 +22,6 @@ mod refused_views;
 mod requests;
 mod scene;
 mod settings;
+mod thrifty;
 mod transfers;
 mod views;

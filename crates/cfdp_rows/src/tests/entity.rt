@@ -1,6 +1,7 @@
 //! A receiving entity that is handed events one after another, what it replies, and what it says of itself in between.
 
-ghost use Rattle.std.specs.Prelude.{◌≡◌, ◌≤◌};
+ghost use Rattle.std.specs.Prelude.{◌≡◌, ◌≤◌, true, false, IfOk};
+ghost use Rattle.cfdp_actions.specs.Store.{empty_store};
 
 use super::scene::{path_of, protects};
 use cfdp_actions::{Entry, Filestore, Kind, ListStore, Protected};
@@ -8,6 +9,7 @@ use cfdp_paths::Memory;
 use cfdp_pdus::{FileData, Header, Pdu, read_pdu};
 use cfdp_status::{Action, Status, TransactionId};
 use cfdp_transactions::{Config, Core, Event, Outcome, Phase, Reply, event_of};
+use cfdp_tree::TreeStore;
 use cfdp_verifier::{Place, Refusal};
 use std::alloc::{AllocError, Global};
 use std::process::Abort;
@@ -274,22 +276,49 @@ fn protected_of(rt: &impl Abort, alloc: Global, names: &[&[u8]]) -> Result<Prote
     Ok(protected)
 }
 
-/// The entity 2 that has just begun. Its limits are good: only memory can be wanting.
+/// The entity 2 that has just begun, over an empty store. Its limits are good: only memory can be wanting.
+fn entity_over<S: Filestore>(
+    rt: &impl Abort,
+    alloc: Global,
+    limits: Limits,
+    store: S,
+) -> Result<Core<S>, Memory>
+    requires { S.state store ≡ empty_store limits.blocks (S.state store).takes_no_memory }
+{
+    let protected = protected_of(rt, alloc, limits.protected)?;
+    match Config::new(2, limits.blocks, limits.cap, 2, 1000, protected) {
+        Ok(config) => Core::new(alloc, config, store),
+        Err(_) => Err(AllocError),
+    }
+}
+
+/// An empty store of so many blocks in a list.
+fn lists_of(rt: &impl Abort, alloc: Global, blocks: u32) -> Result<ListStore, Memory>
+    ensures { IfOk result (λ store. store ≡ empty_store blocks false) }
+{
+    assert!(rt; 1 <= blocks && blocks <= 65_536);
+    ListStore::new(alloc, blocks)
+}
+
+/// An empty store of so many blocks inside an arena.
+fn tree_of(rt: &impl Abort, alloc: Global, blocks: u32) -> Result<TreeStore, Memory>
+    ensures { IfOk result (λ store. store ≡ empty_store blocks true) }
+{
+    assert!(rt; 1 <= blocks && blocks <= 65_536);
+    TreeStore::new(alloc, blocks)
+}
+
+/// The entity 2 that has just begun, over an empty store in a list.
 pub fn entity_of(
     rt: &impl Abort,
     alloc: Global,
     limits: Limits,
 ) -> Result<Core<ListStore>, Memory> {
-    assert!(rt; 1 <= limits.blocks && limits.blocks <= 65_536);
-    let protected = protected_of(rt, alloc, limits.protected)?;
-    match Config::new(2, limits.blocks, limits.cap, 2, 1000, protected) {
-        Ok(config) => Core::new(alloc, config, ListStore::new(alloc, limits.blocks)?),
-        Err(_) => Err(AllocError),
-    }
+    entity_over(rt, alloc, limits, lists_of(rt, alloc, limits.blocks)?)
 }
 
 /// The reply, by one call or by the one that gives it twice.
-fn apply(rt: &impl Abort, core: &mut Core<ListStore>, event: &Event, twice: bool) -> Reply {
+fn apply<S: Filestore>(rt: &impl Abort, core: &mut Core<S>, event: &Event, twice: bool) -> Reply {
     if !twice {
         return core.apply(event);
     }
@@ -299,16 +328,26 @@ fn apply(rt: &impl Abort, core: &mut Core<ListStore>, event: &Event, twice: bool
 }
 
 /// What an event must not change where memory is refused.
-fn summary(core: &Core<ListStore>) -> (u32, u32, Option<TransactionId>) {
+fn summary<S: Filestore>(core: &Core<S>) -> (u32, u32, Option<TransactionId>) {
     (core.spare(), core.store().free(), core.next_runnable())
 }
 
-/// The reply; where memory is refused nothing has changed, and the same event is handed in again.
-pub fn hand_in(rt: &impl Abort, core: &mut Core<ListStore>, event: &Event, twice: bool) -> Reply {
+/// Whether an event may be answered with want of memory: over a store that takes none only Metadata and Take may.
+fn may_want_memory<S: Filestore>(core: &Core<S>, event: &Event) -> bool {
+    !core.store().takes_no_memory() || matches!(event, Event::Metadata(..) | Event::Take(_))
+}
+
+/// The reply; where memory is refused, which may be, nothing has changed, and the same event is handed in again.
+pub fn hand_in<S: Filestore>(
+    rt: &impl Abort,
+    core: &mut Core<S>,
+    event: &Event,
+    twice: bool,
+) -> Reply {
     let before = summary(core);
     let reply = apply(rt, core, event, twice);
     if let Reply::Memory = reply {
-        assert!(rt; summary(core) == before);
+        assert!(rt; summary(core) == before && may_want_memory(core, event));
         return apply(rt, core, event, twice);
     }
     reply
@@ -333,16 +372,16 @@ fn are_standing(alloc: Global, listing: &[Entry], expected: &[Standing]) -> Resu
 }
 
 /// Whether what stands is what is expected, in path order.
-fn stands(alloc: Global, store: &ListStore, expected: &[Standing]) -> Result<bool, Memory> {
+fn stands<S: Filestore>(alloc: Global, store: &S, expected: &[Standing]) -> Result<bool, Memory> {
     let listing = store.listing(alloc)?;
     are_standing(alloc, &listing, expected)
 }
 
 /// Whether the reply to an event is the one that is told.
-fn replies(
+fn replies<S: Filestore>(
     rt: &impl Abort,
     alloc: Global,
-    core: &mut Core<ListStore>,
+    core: &mut Core<S>,
     given: Given,
     told: Told,
     twice: bool,
@@ -353,12 +392,12 @@ fn replies(
 }
 
 /// Whether so many blocks are free, and so many of them were granted to nobody.
-fn has_free(core: &Core<ListStore>, free: u32, spare: u32) -> bool {
+fn has_free<S: Filestore>(core: &Core<S>, free: u32, spare: u32) -> bool {
     core.store().free() == free && core.spare() == spare
 }
 
 /// Whether this is what is missing of a transaction's file.
-fn has_gaps(core: &Core<ListStore>, number: u8, expected: &[(u64, u64)]) -> bool {
+fn has_gaps<S: Filestore>(core: &Core<S>, number: u8, expected: &[(u64, u64)]) -> bool {
     match core.gaps(id(number)) {
         None => expected.is_empty(),
         Some(gaps) => gaps.as_slice() == expected,
@@ -366,12 +405,12 @@ fn has_gaps(core: &Core<ListStore>, number: u8, expected: &[(u64, u64)]) -> bool
 }
 
 /// Whether a transaction spent so many blocks and steps.
-fn has_spent(core: &Core<ListStore>, number: u8, blocks: i64, steps: u32) -> bool {
+fn has_spent<S: Filestore>(core: &Core<S>, number: u8, blocks: i64, steps: u32) -> bool {
     core.blocks_spent(id(number)) == Some(blocks) && core.steps_spent(id(number)) == Some(steps)
 }
 
 /// Whether the entity says of itself what a row expects, where that is neither a reply nor what stands.
-fn holds(core: &Core<ListStore>, row: Row) -> bool {
+fn holds<S: Filestore>(core: &Core<S>, row: Row) -> bool {
     match row {
         Row::Store(free, spare) => has_free(core, free, spare),
         Row::Gaps(number, expected) => has_gaps(core, number, expected),
@@ -383,10 +422,10 @@ fn holds(core: &Core<ListStore>, row: Row) -> bool {
 }
 
 /// Whether a row holds.
-fn is_met(
+fn is_met<S: Filestore>(
     rt: &impl Abort,
     alloc: Global,
-    core: &mut Core<ListStore>,
+    core: &mut Core<S>,
     row: Row,
     twice: bool,
 ) -> Result<bool, Memory> {
@@ -399,8 +438,17 @@ fn is_met(
     Ok(holds(core, row))
 }
 
-fn try_case(rt: &impl Abort, alloc: Global, case: &Case, twice: bool) -> Result<(), Memory> {
-    let mut core = entity_of(rt, alloc, case.0)?;
+/// Hands the rows of a case to an entity that has just begun, over an empty store.
+fn try_case<S: Filestore>(
+    rt: &impl Abort,
+    alloc: Global,
+    case: &Case,
+    twice: bool,
+    store: S,
+) -> Result<(), Memory>
+    requires { S.state store ≡ empty_store case.now.0.blocks (S.state store).takes_no_memory }
+{
+    let mut core = entity_over(rt, alloc, case.0, store)?;
     for (place, row) in case.1.iter().enumerate() {
         let met = is_met(rt, alloc, &mut core, *row, twice)?;
         assert!(rt; met, "at row {place}");
@@ -408,14 +456,45 @@ fn try_case(rt: &impl Abort, alloc: Global, case: &Case, twice: bool) -> Result<
     Ok(())
 }
 
-/// Hands the rows of each case to an entity that has just begun, and to another one whose replies are given twice. Where
-/// memory is refused beside the events all is tried once more: `rt try --test --fail-alloc N` refuses one growth.
+fn try_on_lists(rt: &impl Abort, alloc: Global, case: &Case, twice: bool) -> Result<(), Memory> {
+    let store = lists_of(rt, alloc, case.0.blocks)?;
+    try_case(rt, alloc, case, twice, store)
+}
+
+fn try_on_tree(rt: &impl Abort, alloc: Global, case: &Case, twice: bool) -> Result<(), Memory> {
+    let store = tree_of(rt, alloc, case.0.blocks)?;
+    try_case(rt, alloc, case, twice, store)
+}
+
+/// Hands the rows of a case to an entity over a store in a list, whose replies may be given twice. Where memory is refused beside
+/// the events all is tried once more: `rt try --test --fail-alloc N` refuses one growth.
+fn check_on_lists(rt: &impl Abort, alloc: Global, case: &Case, twice: bool) -> Result<(), Memory> {
+    match try_on_lists(rt, alloc, case, twice) {
+        Ok(()) => Ok(()),
+        Err(_) => try_on_lists(rt, alloc, case, twice),
+    }
+}
+
+/// The same over a store inside an arena.
+pub fn check_on_tree(
+    rt: &impl Abort,
+    alloc: Global,
+    case: &Case,
+    twice: bool,
+) -> Result<(), Memory> {
+    match try_on_tree(rt, alloc, case, twice) {
+        Ok(()) => Ok(()),
+        Err(_) => try_on_tree(rt, alloc, case, twice),
+    }
+}
+
+/// Hands the rows of each case to an entity that has just begun, and to another one whose replies are given twice, over a store
+/// of each kind.
 pub fn check_all(rt: &impl Abort, alloc: Global, cases: &[Case]) -> Result<(), Memory> {
     for case in cases {
         for twice in [false, true] {
-            if try_case(rt, alloc, case, twice).is_err() {
-                try_case(rt, alloc, case, twice)?;
-            }
+            check_on_lists(rt, alloc, case, twice)?;
+            check_on_tree(rt, alloc, case, twice)?;
         }
     }
     Ok(())

@@ -192,7 +192,7 @@ const WHAT_IS_GIVEN_BACK_STAYS_WITH_ITS_TRANSACTION: &[Row] = &[
     ]),
 ];
 
-const A_CANCELLED_LIST: &[Row] = &[
+pub const A_CANCELLED_LIST: &[Row] = &[
     Row::On(
         Given::Pdu("24001700010c020740000000000000000300016100030001620003000163"),
         Told::Admitted(3, 6),

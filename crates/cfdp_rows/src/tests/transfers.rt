@@ -4,7 +4,7 @@ use super::entity::{Case, DEFAULT, Given, Limits, Row, Told, check_all};
 use cfdp_paths::Memory;
 use cfdp_transactions::Phase;
 
-const A_FILE_IN_TWO_PIECES: &[Row] = &[
+pub const A_FILE_IN_TWO_PIECES: &[Row] = &[
     Row::On(
         Given::Pdu("24000a00010a0207400000000f01730166"),
         Told::Admitted(2, 2),
@@ -36,7 +36,7 @@ const A_FILE_IN_TWO_PIECES: &[Row] = &[
     Row::Standing(&[(b"f", Some((15, 0x181c2015)))]),
 ];
 
-const A_WRONG_CHECKSUM: &[Row] = &[
+pub const A_WRONG_CHECKSUM: &[Row] = &[
     Row::On(
         Given::Pdu("24000a00010a0207400000000f01730166"),
         Told::Admitted(2, 2),
@@ -55,7 +55,7 @@ const A_WRONG_CHECKSUM: &[Row] = &[
     ),
 ];
 
-const CHECKS_UP_TO_THE_LIMIT: &[Row] = &[
+pub const CHECKS_UP_TO_THE_LIMIT: &[Row] = &[
     Row::On(
         Given::Pdu("24000a00010b0207400000000f01730166"),
         Told::Admitted(2, 2),
@@ -72,7 +72,7 @@ const CHECKS_UP_TO_THE_LIMIT: &[Row] = &[
     Row::On(Given::Take(11), Told::Finished("2c000500010b0205a4060102")),
 ];
 
-const OCTETS_BEHIND_THE_EOF: &[Row] = &[
+pub const OCTETS_BEHIND_THE_EOF: &[Row] = &[
     Row::On(
         Given::Pdu("24000a00010b0207400000000f01730166"),
         Told::Admitted(2, 2),
@@ -125,7 +125,7 @@ const A_FILE_OF_THE_CAP: &[Row] = &[
     ),
 ];
 
-const A_FILE_APPENDED_TO_ITSELF: &[Row] = &[
+pub const A_FILE_APPENDED_TO_ITSELF: &[Row] = &[
     Row::On(
         Given::Pdu("240011000132020740000000780173016100053001610161"),
         Told::Admitted(3, 5),
@@ -142,7 +142,7 @@ const A_FILE_APPENDED_TO_ITSELF: &[Row] = &[
     Row::Standing(&[(b"a", Some((240, 0x3c3c3c3c)))]),
 ];
 
-const A_FILE_OF_119_OCTETS_APPENDED_TO_ITSELF: &[Row] = &[
+pub const A_FILE_OF_119_OCTETS_APPENDED_TO_ITSELF: &[Row] = &[
     Row::On(
         Given::Pdu("240011000132020740000000770173016100053001610161"),
         Told::Admitted(3, 5),

@@ -6,7 +6,7 @@ ghost use Rattle.std.specs.Prelude.{◌≤◌};
 use super::calls::{
     checksum, contents, deepest, deliver, extend, install, parsed, put, read, read_staged, request,
 };
-use cfdp_actions::{Filestore, Kind, Performed, Protected, perform};
+use cfdp_actions::{Entry, Filestore, Kind, Performed, Protected, Standing, perform};
 use cfdp_paths::{Memory, Path};
 use cfdp_status::{Action, Status};
 use cfdp_tree::TreeStore;
@@ -298,22 +298,45 @@ fn rename_long(rt: &impl Abort, alloc: Global, store: &mut TreeStore) -> Result<
     Ok(())
 }
 
-/// Just the directories and the file stand, each path with one name more, the file with its octets.
-fn has_long(rt: &impl Abort, alloc: Global, store: &TreeStore, first: u8) -> Result<(), Memory> {
+/// Whether both tell of what stands at a path of so many names: of a directory, or with eight names of the file.
+fn is_long(
+    alloc: Global,
+    first: u8,
+    names: usize,
+    entry: &Entry,
+    found: &Standing,
+) -> Result<bool, Memory> {
+    let path = long(alloc, first, names)?;
+    let kind = if names < 8 {
+        Kind::Directory
+    } else {
+        Kind::File
+    };
+    Ok(
+        entry.path.text(alloc)? == path
+            && found.path == entry.path
+            && entry.kind == kind
+            && found.kind == kind
+            && entry.size == found.size,
+    )
+}
+
+/// Just the directories and the file stand, each path with one name more.
+fn stand_long(rt: &impl Abort, alloc: Global, store: &TreeStore, first: u8) -> Result<(), Memory> {
+    let top = parsed(alloc, &long(alloc, first, 1)?)?;
     let listing = store.listing(alloc)?;
-    assert!(rt; listing.len() == 8);
-    for (names, entry) in (1..9).zip(&listing) {
-        let path = long(alloc, first, names)?;
-        assert!(rt; entry.path.text(alloc)?.as_slice() == path.as_slice());
-        assert!(rt;
-            entry.kind
-                == if names < 8 {
-                    Kind::Directory
-                } else {
-                    Kind::File
-                }
-        );
+    let standing = store.standing(alloc, &top)?;
+    assert!(rt; listing.len() == 8 && standing.len() == 8);
+    for (names, (entry, found)) in (1..9).zip(listing.iter().zip(&standing)) {
+        let holds = is_long(alloc, first, names, entry, found)?;
+        assert!(rt; holds, "{names} names");
     }
+    Ok(())
+}
+
+/// The same, and the file has its octets.
+fn has_long(rt: &impl Abort, alloc: Global, store: &TreeStore, first: u8) -> Result<(), Memory> {
+    stand_long(rt, alloc, store, first)?;
     let file = parsed(alloc, &long(alloc, first, 8)?)?;
     let found = contents(store, alloc, &file)?;
     assert!(rt; found.as_deref() == Some(b"octets"));
