@@ -2,7 +2,7 @@
 
 mod plain;
 
-use super::scene::path_of;
+use super::scene::{hold, path_of};
 use cfdp_actions::Request;
 use cfdp_leases::*;
 use cfdp_paths::{Memory, Path};
@@ -40,17 +40,6 @@ fn footprint_of(alloc: Global, named: Named) -> Result<Footprint, Memory> {
     footprint(alloc, &[request], None)
 }
 
-fn admit(
-    rt: &impl Abort,
-    leases: &mut Leases,
-    number: u64,
-    footprint: Footprint,
-) -> Result<(), Memory> {
-    let transaction = id(number);
-    assert!(rt; leases.conflict(&footprint).is_none() && !leases.holds(transaction));
-    leases.grant(transaction, footprint)
-}
-
 /// Grants the request's footprint twice over: in the leases and in the plain list.
 fn grant(
     rt: &impl Abort,
@@ -60,7 +49,7 @@ fn grant(
     number: u64,
     named: Named,
 ) -> Result<(), Memory> {
-    admit(rt, leases, number, footprint_of(alloc, named)?)?;
+    hold(rt, leases, id(number), footprint_of(alloc, named)?)?;
     plain.grant(id(number), footprint_of(alloc, named)?)?;
     assert!(rt; leases.holds(id(number)));
     Ok(())
@@ -100,13 +89,23 @@ fn happen(
     Ok(())
 }
 
+fn happen_all(
+    rt: &impl Abort,
+    alloc: Global,
+    leases: &mut Leases,
+    plain: &mut Plain,
+    events: &[Event],
+) -> Result<(), Memory> {
+    for event in events {
+        happen(rt, alloc, leases, plain, *event)?;
+    }
+    Ok(())
+}
+
 fn try_events(rt: &impl Abort, alloc: Global, events: &[Event]) -> Result<(), Memory> {
     let mut leases = Leases::new(alloc);
     let mut plain = Plain::new(alloc);
-    for event in events {
-        happen(rt, alloc, &mut leases, &mut plain, *event)?;
-    }
-    Ok(())
+    happen_all(rt, alloc, &mut leases, &mut plain, events)
 }
 
 /// Goes through the events on leases of nothing, and on the plain list. Where memory is refused all is tried once more.
@@ -171,12 +170,26 @@ static COVERED: [(&[u8], Option<Lease>); 12] = [
     (b"newer", None),
 ];
 
+/// Its requests.
+static THREE_KINDS: [Named; 2] = [
+    (Action::AppendFile, b"a/b", b"c/d/e"),
+    (Action::RenameFile, b"old", b"new"),
+];
+
+/// Requests by their actions and names.
+fn requests(alloc: Global, all: &[Named]) -> Result<Vec<Request>, Memory> {
+    let mut requests = Vec::new(alloc);
+    for named in all {
+        requests.push(request(alloc, *named)?)?;
+    }
+    Ok(requests)
+}
+
 /// That footprint.
 fn three_kinds(alloc: Global) -> Result<Footprint, Memory> {
-    let append = request(alloc, (Action::AppendFile, b"a/b", b"c/d/e"))?;
-    let rename = request(alloc, (Action::RenameFile, b"old", b"new"))?;
+    let requests = requests(alloc, &THREE_KINDS)?;
     let destination = path_of(alloc, b"in/file")?;
-    footprint(alloc, &[append, rename], Some(&destination))
+    footprint(alloc, &requests, Some(&destination))
 }
 
 /// Whether it holds the path so.
@@ -190,13 +203,18 @@ fn is_covered(
     Ok(covers(held, &path) == lease)
 }
 
-fn try_covers(rt: &impl Abort, alloc: Global) -> Result<(), Memory> {
-    let held = three_kinds(alloc)?;
+/// Compares how it holds each path.
+fn compare(rt: &impl Abort, alloc: Global, held: &Footprint) -> Result<(), Memory> {
     for (name, lease) in &COVERED {
-        let holds = is_covered(alloc, &held, name, *lease)?;
+        let holds = is_covered(alloc, held, name, *lease)?;
         assert!(rt; holds, "on {name:?}");
     }
     Ok(())
+}
+
+fn try_covers(rt: &impl Abort, alloc: Global) -> Result<(), Memory> {
+    let held = three_kinds(alloc)?;
+    compare(rt, alloc, &held)
 }
 
 #[test]
@@ -266,24 +284,42 @@ fn grant_one(
     asked: &Asked,
 ) {
     let before = answers(leases, &asked.probes, &asked.paths);
-    if admit(rt, leases, number, footprint).is_err() {
+    if hold(rt, leases, id(number), footprint).is_err() {
         assert!(rt; answers(leases, &asked.probes, &asked.paths) == before);
-        assert!(rt; admit(rt, leases, number, again).is_ok());
+        assert!(rt; hold(rt, leases, id(number), again).is_ok());
     }
     assert!(rt; leases.holds(id(number)));
+}
+
+/// Grants the footprints one after another.
+fn grant_each(
+    rt: &impl Abort,
+    leases: &mut Leases,
+    footprints: Vec<Footprint>,
+    again: Vec<Footprint>,
+    asked: &Asked,
+) {
+    let wanted = footprints.into_iter().zip(again);
+    for (number, (footprint, again)) in (1..=5u64).zip(wanted) {
+        grant_one(rt, leases, number, footprint, again, asked);
+    }
+}
+
+/// Whether the first of them is in the way of a removal of all, and the last in the way of one of its file.
+fn are_all_granted(leases: &Leases, asked: &Asked) -> bool {
+    leases.conflict(&asked.probes[0]) == Some(id(1))
+        && leases.conflict(&asked.probes[1]) == Some(id(5))
 }
 
 /// Five grants one after another. All else that takes memory comes before them, so that only a grant can be refused
 /// from then on.
 fn grant_five(rt: &impl Abort, alloc: Global) -> Result<(), Memory> {
     let asked = make_asked(alloc)?;
-    let wanted = five(alloc)?.into_iter().zip(five(alloc)?);
+    let footprints = five(alloc)?;
+    let again = five(alloc)?;
     let mut leases = Leases::new(alloc);
-    for (number, (footprint, again)) in (1..=5u64).zip(wanted) {
-        grant_one(rt, &mut leases, number, footprint, again, &asked);
-    }
-    assert!(rt; leases.conflict(&asked.probes[0]) == Some(id(1)));
-    assert!(rt; leases.conflict(&asked.probes[1]) == Some(id(5)));
+    grant_each(rt, &mut leases, footprints, again, &asked);
+    assert!(rt; are_all_granted(&leases, &asked));
     Ok(())
 }
 
@@ -344,12 +380,8 @@ fn each_path_stands_once(rt: HostRuntime) -> Result<(), Memory> {
 /// Grants the footprints of all numbers below 64.
 fn grant_deep(rt: &impl Abort, alloc: Global, leases: &mut Leases) -> Result<(), Memory> {
     for number in 0..64u8 {
-        admit(
-            rt,
-            leases,
-            u64::from(number),
-            deep_footprint(alloc, number)?,
-        )?;
+        let footprint = deep_footprint(alloc, number)?;
+        hold(rt, leases, id(u64::from(number)), footprint)?;
     }
     Ok(())
 }

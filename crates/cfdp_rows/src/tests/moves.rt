@@ -70,12 +70,16 @@ fn apply_often(rt: &impl Abort, view: &mut View<'_>, requests: &[Request]) -> Re
     Ok(())
 }
 
-#[test]
-fn many_entries_move_often(rt: HostRuntime) -> Result<(), Memory> {
-    let alloc = rt.alloc();
-    let scene = filled(&rt, alloc)?;
+/// Moves it on a view of the store.
+fn move_often(rt: &impl Abort, alloc: Global, scene: &Scene) -> Result<(), Memory> {
     let requests = requests(alloc, &MOVES)?;
     let leased = footprint(alloc, &requests, None)?;
     let mut view = View::of(alloc, &scene.store, &scene.protected, &leased)?;
-    apply_often(&rt, &mut view, &requests)
+    apply_often(rt, &mut view, &requests)
+}
+
+#[test]
+fn many_entries_move_often(rt: HostRuntime) -> Result<(), Memory> {
+    let scene = filled(&rt, rt.alloc())?;
+    move_often(&rt, rt.alloc(), &scene)
 }

@@ -2,7 +2,7 @@
 
 use super::scene::{Before, Scene, path_of};
 use super::views::{Item, Row, requests, run};
-use cfdp_actions::{Entry, Filestore, Kind, Standing};
+use cfdp_actions::{Entry, Filestore, Kind, ListStore, Protected, Standing};
 use cfdp_leases::footprint;
 use cfdp_paths::{Memory, Path};
 use cfdp_states::View;
@@ -143,19 +143,43 @@ static IN_TREE: Row = (
 /// The store does not tell of this one.
 static OUTSIDE: [Item; 1] = [(Action::DeleteFile, b"other", b"", 0x10)];
 
+/// Whether the store gives no listing.
+fn has_no_listing(alloc: Global, store: &OneTree<ListStore>) -> bool {
+    store.listing(alloc).is_err()
+}
+
+/// Whether there is no view of what it does not tell of.
+fn is_hidden(
+    alloc: Global,
+    store: &OneTree<ListStore>,
+    protected: &Protected,
+) -> Result<bool, Memory> {
+    let requests = requests(alloc, &OUTSIDE)?;
+    let leased = footprint(alloc, &requests, None)?;
+    Ok(View::of(alloc, store, protected, &leased).is_err())
+}
+
+fn look_at(
+    rt: &impl Abort,
+    alloc: Global,
+    store: &OneTree<ListStore>,
+    protected: &Protected,
+) -> Result<(), Memory> {
+    run(rt, alloc, store, protected, &IN_TREE)?;
+    let hidden = is_hidden(alloc, store, protected)?;
+    assert!(rt; hidden && has_no_listing(alloc, store));
+    Ok(())
+}
+
 fn look(rt: &impl Abort, alloc: Global) -> Result<(), Memory> {
+    let root = path_of(alloc, b"d")?;
     let Scene {
         store,
         protected,
         ..
     } = Scene::new(rt, alloc, 64, &BEFORE)?;
-    let root = path_of(alloc, b"d")?;
     let store = OneTree { inner: store, root };
-    assert!(rt; store.listing(alloc).is_err());
-    run(rt, alloc, &store, &protected, &IN_TREE)?;
-    let leased = footprint(alloc, &requests(alloc, &OUTSIDE)?, None)?;
-    assert!(rt; View::of(alloc, &store, &protected, &leased).is_err());
-    Ok(())
+    look_at(rt, alloc, &store, &protected)
 }
 
 /// The view can be made, whatever else stands in the store.

@@ -3,7 +3,7 @@
 use super::entity::{Case, DEFAULT, Given, Row, Told, check_all, entity_of, hand_in, is_told};
 use cfdp_actions::ListStore;
 use cfdp_paths::Memory;
-use cfdp_transactions::{Core, Reply};
+use cfdp_transactions::{Core, Event};
 use std::alloc::Global;
 use std::process::Abort;
 
@@ -128,19 +128,47 @@ static PHASES: [Phase; 7] = [
     ),
 ];
 
-/// The reply to what is handed in.
-fn handed_in(
+/// Hands something in.
+fn hand_over(
     rt: &impl Abort,
     alloc: Global,
     core: &mut Core<ListStore>,
     given: Given,
-    twice: bool,
-) -> Result<Reply, Memory> {
+) -> Result<(), Memory> {
     let event = given.event(rt, alloc)?;
-    Ok(hand_in(rt, core, &event, twice))
+    let _reply = hand_in(rt, core, &event, false);
+    Ok(())
 }
 
-/// Whether this is the reply to an event behind what came before.
+/// Whether the reply to an event is the one that is told.
+pub fn is_reply_to(
+    rt: &impl Abort,
+    alloc: Global,
+    core: &mut Core<ListStore>,
+    event: &Event,
+    told: Told,
+) -> Result<bool, Memory> {
+    let reply = hand_in(rt, core, event, true);
+    is_told(rt, alloc, &reply, told)
+}
+
+/// Whether it is so behind what came before.
+fn replies_behind(
+    rt: &impl Abort,
+    alloc: Global,
+    core: &mut Core<ListStore>,
+    before: &[Given],
+    event: Given,
+    told: Told,
+) -> Result<bool, Memory> {
+    for given in before {
+        hand_over(rt, alloc, core, *given)?;
+    }
+    let event = event.event(rt, alloc)?;
+    is_reply_to(rt, alloc, core, &event, told)
+}
+
+/// Whether an entity that has just begun replies so to an event behind what came before.
 fn is_reply(
     rt: &impl Abort,
     alloc: Global,
@@ -149,11 +177,7 @@ fn is_reply(
     told: Told,
 ) -> Result<bool, Memory> {
     let mut core = entity_of(rt, alloc, DEFAULT)?;
-    for given in before {
-        let _reply = handed_in(rt, alloc, &mut core, *given, false)?;
-    }
-    let reply = handed_in(rt, alloc, &mut core, event, true)?;
-    is_told(rt, alloc, &reply, told)
+    replies_behind(rt, alloc, &mut core, before, event, told)
 }
 
 /// The same; where memory is refused it is asked for once more.
@@ -163,30 +187,28 @@ fn is_reply_at_last(
     before: &[Given],
     event: Given,
     told: Told,
-) -> Result<bool, Memory> {
-    match is_reply(rt, alloc, before, event, told) {
-        Ok(same) => Ok(same),
-        Err(_) => is_reply(rt, alloc, before, event, told),
+) -> bool {
+    let mut same = is_reply(rt, alloc, before, event, told);
+    if same.is_err() {
+        same = is_reply(rt, alloc, before, event, told);
     }
+    same == Ok(true)
 }
 
 /// The replies in one phase. Of an event with another one the number is told, from 0.
-fn compare(rt: &impl Abort, alloc: Global, phase: &Phase) -> Result<(), Memory> {
-    let (before, replies) = phase;
+fn compare(rt: &impl Abort, alloc: Global, before: &[Given], replies: &[Told]) {
     assert!(rt; replies.len() == EVENTS.len());
-    for (place, (event, told)) in EVENTS.iter().zip(*replies).enumerate() {
-        let same = is_reply_at_last(rt, alloc, before, *event, *told)?;
-        assert!(rt; same, "event {place} behind {} others", before.len());
+    for (place, (event, told)) in EVENTS.iter().zip(replies).enumerate() {
+        let same = is_reply_at_last(rt, alloc, before, *event, *told);
+        assert!(rt; same, "event {place}");
     }
-    Ok(())
 }
 
 #[test]
-fn each_event_in_each_phase(rt: HostRuntime) -> Result<(), Memory> {
-    for phase in &PHASES {
-        compare(&rt, rt.alloc(), phase)?;
+fn each_event_in_each_phase(rt: HostRuntime) {
+    for (before, replies) in &PHASES {
+        compare(&rt, rt.alloc(), before, replies);
     }
-    Ok(())
 }
 
 const PDUS_OF_ANOTHER_ENTITY: &[Row] = &[

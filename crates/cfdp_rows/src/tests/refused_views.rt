@@ -24,8 +24,16 @@ static ITEMS: [Item; 4] = [
     (Action::DeleteFile, b"e/b", b"", 0x10),
 ];
 
+/// The need, the steps, and the bounds of three paths.
+type Answers = (u32, u32, [Option<u64>; 3]);
+
+/// Before the first item, and after the last.
+const AT_FIRST: Answers = (0, 0, [None, Some(0), None]);
+
+const AT_LAST: Answers = (4, 10, [Some(120), None, Some(120)]);
+
 /// What a view answers.
-fn answers(view: &View<'_>, paths: &[Path; 3]) -> (u32, u32, [Option<u64>; 3]) {
+fn answers(view: &View<'_>, paths: &[Path; 3]) -> Answers {
     let bounds = [
         view.bound(&paths[0]),
         view.bound(&paths[1]),
@@ -34,13 +42,18 @@ fn answers(view: &View<'_>, paths: &[Path; 3]) -> (u32, u32, [Option<u64>; 3]) {
     (view.need(), view.steps(), bounds)
 }
 
+/// Whether a view answers this.
+fn tells(view: &View<'_>, paths: &[Path; 3], told: Answers) -> bool {
+    answers(view, paths) == told
+}
+
 /// Installs `x`: where there is no memory nothing has changed, and it is tried once more.
 fn install(rt: &impl Abort, view: &mut View<'_>, paths: &[Path; 3]) -> Result<bool, Memory> {
     let before = answers(view, paths);
     match view.install(&paths[0], 120) {
         Ok(installed) => Ok(installed),
         Err(_) => {
-            assert!(rt; answers(view, paths) == before);
+            assert!(rt; tells(view, paths, before));
             view.install(&paths[0], 120)
         }
     }
@@ -57,7 +70,7 @@ fn apply(
     match view.apply(request) {
         Ok(told) => Ok(told),
         Err(_) => {
-            assert!(rt; answers(view, paths) == before);
+            assert!(rt; tells(view, paths, before));
             view.apply(request)
         }
     }
@@ -71,15 +84,20 @@ fn asked(alloc: Global) -> Result<[Path; 3], Memory> {
     Ok([installed, before, moved])
 }
 
-/// Installs `x` and applies the requests.
-fn try_items(rt: &impl Abort, view: &mut View<'_>, paths: &[Path; 3], requests: &[Request]) {
-    assert!(rt; answers(view, paths) == (0, 0, [None, Some(0), None]));
-    assert!(rt; install(rt, view, paths) == Ok(true));
+/// Applies the requests.
+fn apply_all(rt: &impl Abort, view: &mut View<'_>, paths: &[Path; 3], requests: &[Request]) {
     for (place, (request, (_, _, _, status))) in requests.iter().zip(&ITEMS).enumerate() {
         let told = apply(rt, view, paths, request);
         assert!(rt; told.map(Status::octet) == Ok(*status), "request {place}");
     }
-    assert!(rt; answers(view, paths) == (4, 10, [Some(120), None, Some(120)]));
+}
+
+/// Installs `x` and applies the requests.
+fn try_items(rt: &impl Abort, view: &mut View<'_>, paths: &[Path; 3], requests: &[Request]) {
+    assert!(rt; tells(view, paths, AT_FIRST));
+    assert!(rt; install(rt, view, paths) == Ok(true));
+    apply_all(rt, view, paths, requests);
+    assert!(rt; tells(view, paths, AT_LAST));
 }
 
 /// All else that takes memory comes before the install and the requests, so that only one of these can be refused from

@@ -3,12 +3,12 @@
 ghost use Rattle.std.specs.Prelude.{◌≡◌, ◌<◌, ◌≤◌, IfNone};
 
 use cfdp_actions::{Filestore, Kind, ListStore, Protected, Request, perform};
-use cfdp_leases::Leases;
+use cfdp_leases::{Footprint, Leases};
 use cfdp_paths::{Memory, Path};
 use cfdp_quota::Quota;
 use cfdp_status::{Action, TransactionId};
 use cfdp_tlv::{FILESTORE_REQUEST, FilestoreRequest, read_request, read_tlv};
-use cfdp_verifier::{Place, Proposal, Refusal, Verdict, verify};
+use cfdp_verifier::{Grant, Place, Proposal, Refusal, Verdict, verify};
 use std::alloc::{AllocError, Global};
 use std::process::Abort;
 
@@ -188,6 +188,17 @@ pub fn protects(alloc: Global, protected: &mut Protected, name: &[u8]) -> Result
     Ok(protected.add(path).is_ok())
 }
 
+/// Grants a footprint, with which none conflicts, to a transaction that has none.
+pub fn hold(
+    rt: &impl Abort,
+    leases: &mut Leases,
+    transaction: TransactionId,
+    footprint: Footprint,
+) -> Result<(), Memory> {
+    assert!(rt; leases.conflict(&footprint).is_none() && !leases.holds(transaction));
+    leases.grant(transaction, footprint)
+}
+
 impl Scene {
     pub fn new(
         rt: &impl Abort,
@@ -271,14 +282,17 @@ impl Scene {
     ) -> Result<(), Memory> {
         let verdict = self.judge(rt, alloc, None, tlvs)?;
         assert!(rt; Told::of(rt, &verdict) == told);
-        if let Verdict::Grant(grant) = verdict {
-            let transaction = id(number);
-            assert!(rt;
-                self.leases.conflict(&grant.footprint).is_none() && !self.leases.holds(transaction)
-            );
-            self.leases.grant(transaction, grant.footprint)?;
-            self.reserves[slot_of(rt, number)] = Some(grant.blocks);
+        match verdict {
+            Verdict::Grant(grant) => self.hold(rt, number, grant),
+            Verdict::Refuse(_) => Ok(()),
         }
+    }
+
+    /// Lets a transaction hold this.
+    fn hold(&mut self, rt: &impl Abort, number: u8, grant: Grant) -> Result<(), Memory> {
+        let reserve = grant.blocks;
+        hold(rt, &mut self.leases, id(number), grant.footprint)?;
+        self.reserves[slot_of(rt, number)] = Some(reserve);
         Ok(())
     }
 
@@ -388,6 +402,18 @@ pub fn check_all(rt: &impl Abort, alloc: Global, cases: &[Case]) -> Result<(), M
     Ok(())
 }
 
+/// Whether this is the verdict on a list without a file.
+fn is_judged(
+    rt: &impl Abort,
+    alloc: Global,
+    scene: &Scene,
+    tlvs: &[&[u8]],
+    told: Told,
+) -> Result<bool, Memory> {
+    let verdict = scene.judge(rt, alloc, None, tlvs)?;
+    Ok(Told::of(rt, &verdict) == told)
+}
+
 fn try_list(
     rt: &impl Abort,
     alloc: Global,
@@ -395,8 +421,9 @@ fn try_list(
     tlvs: &[&[u8]],
     told: Told,
 ) -> Result<(), Memory> {
-    let verdict = Scene::new(rt, alloc, blocks, &[])?.judge(rt, alloc, None, tlvs)?;
-    assert!(rt; Told::of(rt, &verdict) == told);
+    let scene = Scene::new(rt, alloc, blocks, &[])?;
+    let judged = is_judged(rt, alloc, &scene, tlvs, told)?;
+    assert!(rt; judged);
     Ok(())
 }
 

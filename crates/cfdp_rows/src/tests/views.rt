@@ -113,6 +113,13 @@ pub fn run<S: Filestore>(
     Ok(())
 }
 
+fn run_all(rt: &impl Abort, alloc: Global, scene: &Scene, rows: &[Row]) -> Result<(), Memory> {
+    for row in rows {
+        run(rt, alloc, &scene.store, &scene.protected, row)?;
+    }
+    Ok(())
+}
+
 fn try_rows(
     rt: &impl Abort,
     alloc: Global,
@@ -121,10 +128,7 @@ fn try_rows(
     rows: &[Row],
 ) -> Result<(), Memory> {
     let scene = Scene::new(rt, alloc, blocks, before)?;
-    for row in rows {
-        run(rt, alloc, &scene.store, &scene.protected, row)?;
-    }
-    Ok(())
+    run_all(rt, alloc, &scene, rows)
 }
 
 /// Runs each row on a view of a store of so many blocks, after the events. Where memory is refused all is tried once more.
@@ -273,14 +277,24 @@ fn is_refused_at(
     is_refused(&mut view, &path, &allowed)
 }
 
-fn install_refused(rt: &impl Abort, alloc: Global) -> Result<(), Memory> {
-    let scene = Scene::new(rt, alloc, 64, PROTECTED)?;
-    let kept = requests(alloc, KEPT)?;
+/// Tries an install at each path.
+fn refuse_all(
+    rt: &impl Abort,
+    alloc: Global,
+    scene: &Scene,
+    kept: &[Request],
+) -> Result<(), Memory> {
     for name in &REFUSED {
-        let holds = is_refused_at(alloc, &scene, &kept, name)?;
+        let holds = is_refused_at(alloc, scene, kept, name)?;
         assert!(rt; holds, "on {name:?}");
     }
     Ok(())
+}
+
+fn install_refused(rt: &impl Abort, alloc: Global) -> Result<(), Memory> {
+    let scene = Scene::new(rt, alloc, 64, PROTECTED)?;
+    let kept = requests(alloc, KEPT)?;
+    refuse_all(rt, alloc, &scene, &kept)
 }
 
 /// In place of a protected file, of a directory, and where there is no parent; the view then goes on.
@@ -320,13 +334,18 @@ fn bounds(alloc: Global, scene: &Scene, item: Item) -> Result<(Option<u64>, Opti
     ))
 }
 
-fn see(rt: &impl Abort, alloc: Global) -> Result<(), Memory> {
-    let scene = Scene::new(rt, alloc, 64, &DIRECTORY)?;
+/// Compares what a view of each tells.
+fn compare(rt: &impl Abort, alloc: Global, scene: &Scene) -> Result<(), Memory> {
     for (item, file, directory) in &BOUNDS {
-        let told = bounds(alloc, &scene, *item)?;
+        let told = bounds(alloc, scene, *item)?;
         assert!(rt; told == (*file, *directory));
     }
     Ok(())
+}
+
+fn see(rt: &impl Abort, alloc: Global) -> Result<(), Memory> {
+    let scene = Scene::new(rt, alloc, 64, &DIRECTORY)?;
+    compare(rt, alloc, &scene)
 }
 
 #[test]

@@ -2,8 +2,8 @@
 
 use super::scene::{Given, event, id, journaled, shared};
 use cfdp_actions::ListStore;
-use cfdp_engine::{Entry, Fault, Journaled, Seat, Shared, close};
-use cfdp_transactions::{Phase, Reply};
+use cfdp_engine::{Closed, Entry, Fault, Journaled, NotClosed, Seat, Shared, close};
+use cfdp_transactions::{Core, Phase, Reply};
 use std::alloc::Global;
 use std::process::Abort;
 use std::sync::Wait;
@@ -54,27 +54,24 @@ fn is_twice(journal: &[Entry]) -> bool {
     }
 }
 
+/// The seat, what it hands in, and the reply.
+static TWICE: [(u8, Given, Told); 2] = [
+    (7, Given::Create, Told::Admitted(1, 2)),
+    (8, Given::Create, Told::Duplicate),
+];
+
+/// Hands in an event from two seats, and looks at the journal.
+fn hand_in_twice(rt: &impl Abort, alloc: Global, journaled: &mut Journaled<ListStore>) {
+    for (seat, given, told) in &TWICE {
+        replies(rt, journaled, *seat, alloc, *given, *told);
+    }
+    assert!(rt; is_twice(journaled.journal()));
+}
+
 #[test]
 fn a_duplicate_is_journaled(rt: HostRuntime) {
-    let alloc = rt.alloc();
-    let mut journaled = journaled(&rt, alloc, 1000);
-    replies(
-        &rt,
-        &mut journaled,
-        7,
-        alloc,
-        Given::Create,
-        Told::Admitted(1, 2),
-    );
-    replies(
-        &rt,
-        &mut journaled,
-        8,
-        alloc,
-        Given::Create,
-        Told::Duplicate,
-    );
-    assert!(rt; is_twice(journaled.journal()));
+    let mut journaled = journaled(&rt, rt.alloc(), 1000);
+    hand_in_twice(&rt, rt.alloc(), &mut journaled);
 }
 
 static FURTHER: [Given; 4] = [
@@ -84,27 +81,51 @@ static FURTHER: [Given; 4] = [
     Given::Take(1),
 ];
 
+/// What sixteen transactions left.
+const LEFT: (Option<Phase>, Option<Phase>, u32) = (Some(Phase::Receiving), None, 64);
+
+fn phase_of(core: &Core<ListStore>, number: u8) -> Option<Phase> {
+    core.phase(id(number))
+}
+
+/// How far the first of them and one more are, and how many blocks are to spare.
+fn left(core: &Core<ListStore>) -> (Option<Phase>, Option<Phase>, u32) {
+    (phase_of(core, 1), phase_of(core, 17), core.spare())
+}
+
 /// Whether the entity is as sixteen transactions left it, and the journal full.
 fn is_full(journaled: &Journaled<ListStore>) -> bool {
-    let core = journaled.core();
-    core.phase(id(1)) == Some(Phase::Receiving)
-        && core.phase(id(17)).is_none()
-        && core.spare() == 64
-        && journaled.journal().len() == 16
+    journaled.journal().len() == 16 && left(journaled.core()) == LEFT
+}
+
+/// Fills a journal of sixteen entries, and hands in more.
+fn fill(rt: &impl Abort, alloc: Global, journaled: &mut Journaled<ListStore>) {
+    for number in 1..=16u8 {
+        let given = Given::Bare(number);
+        replies(rt, journaled, 0, alloc, given, Told::Admitted(0, 0));
+    }
+    for given in &FURTHER {
+        replies(rt, journaled, 0, alloc, *given, Told::JournalFull);
+        assert!(rt; is_full(journaled));
+    }
 }
 
 #[test]
 fn a_full_journal_takes_nothing(rt: HostRuntime) {
-    let alloc = rt.alloc();
-    let mut journaled = journaled(&rt, alloc, 16);
-    for number in 1..=16u8 {
-        let given = Given::Bare(number);
-        replies(&rt, &mut journaled, 0, alloc, given, Told::Admitted(0, 0));
-    }
-    for given in &FURTHER {
-        replies(&rt, &mut journaled, 0, alloc, *given, Told::JournalFull);
-        assert!(rt; is_full(&journaled));
-    }
+    let mut journaled = journaled(&rt, rt.alloc(), 16);
+    fill(&rt, rt.alloc(), &mut journaled);
+}
+
+/// Whether a seat that has none has one receipt, once it handed in this.
+fn has_handed_in(
+    rt: &(impl Abort + Wait),
+    alloc: Global,
+    shared: &Shared<ListStore>,
+    seat: &mut Seat,
+    given: Given,
+) -> bool {
+    let taken = shared.accept(rt, seat, event(rt, alloc, given)).is_ok();
+    taken && seat.receipts().len() == 1
 }
 
 /// A seat with this number, which handed in a PDU.
@@ -116,11 +137,8 @@ fn seat(
     given: Given,
 ) -> Seat {
     let mut seat = Seat::new(alloc, number);
-    let taken = shared
-        .accept(rt, &mut seat, event(rt, alloc, given))
-        .is_ok();
+    let taken = has_handed_in(rt, alloc, shared, &mut seat, given);
     assert!(rt; taken);
-    assert_eq!(rt; seat.receipts().len(), 1);
     seat
 }
 
@@ -170,15 +188,23 @@ fn seats(rt: &impl Abort, alloc: Global, one: Seat, two: Seat, from: usize) -> V
     seats
 }
 
-/// Closes with the seats: the fault, if any, and how many entries and seats are handed back.
-pub fn closed(journaled: Journaled<ListStore>, seats: Vec<Seat>) -> (Option<Fault>, usize, usize) {
+/// The fault, if any, and how many entries and seats are handed back.
+type HandedBack = (Option<Fault>, usize, usize);
+
+fn told_of_closed(closed: &Closed<ListStore>) -> HandedBack {
+    (None, closed.journal.len(), closed.seats.len())
+}
+
+fn told_of_refused(refused: &NotClosed<ListStore>) -> HandedBack {
+    let entries = refused.journaled.journal().len();
+    (Some(refused.fault), entries, refused.seats.len())
+}
+
+/// Closes with the seats.
+pub fn closed(journaled: Journaled<ListStore>, seats: Vec<Seat>) -> HandedBack {
     match close(journaled, seats) {
-        Ok(closed) => (None, closed.journal.len(), closed.seats.len()),
-        Err(refused) => (
-            Some(refused.fault),
-            refused.journaled.journal().len(),
-            refused.seats.len(),
-        ),
+        Ok(closed) => told_of_closed(&closed),
+        Err(refused) => told_of_refused(&refused),
     }
 }
 

@@ -6,7 +6,7 @@ use cfdp_paths::Memory;
 use cfdp_pdus::{Pdu, read_pdu};
 use cfdp_status::TransactionId;
 use cfdp_transactions::{Config, Core, Event, event_of};
-use crossbeam_channel::{Receiver, bounded};
+use crossbeam_channel::{Receiver, Sender, bounded};
 use std::alloc::{AllocError, Global};
 use std::process::Abort;
 use std::sync::{Arc, Wait};
@@ -76,12 +76,17 @@ fn event_in(alloc: Global, given: Given) -> Result<Event, Memory> {
 }
 
 /// What is handed in as an event.
+fn given_event(alloc: Global, given: Given) -> Result<Event, Memory> {
+    match given {
+        Given::Cancel(number) => Ok(Event::Cancel(id(number))),
+        Given::Take(number) => Ok(Event::Take(id(number))),
+        _ => event_in(alloc, given),
+    }
+}
+
+/// The same, to be shared.
 pub fn event(rt: &impl Abort, alloc: Global, given: Given) -> Arc<Event, Global> {
-    let event = match given {
-        Given::Cancel(number) => Event::Cancel(id(number)),
-        Given::Take(number) => Event::Take(id(number)),
-        _ => event_in(alloc, given).expect(rt, "an event"),
-    };
+    let event = given_event(alloc, given).expect(rt, "an event");
     Arc::new(alloc, event).expect(rt, "memory")
 }
 
@@ -94,6 +99,23 @@ pub fn message(rt: &impl Abort, alloc: Global, given: Given) -> Message {
     }
 }
 
+/// Sends a message.
+pub fn send(rt: &(impl Abort + Wait), to: &Sender<Message, Global>, message: Message) {
+    let sent = to.send(rt, message).is_ok();
+    assert!(rt; sent);
+}
+
+fn send_all(
+    rt: &(impl Abort + Wait),
+    alloc: Global,
+    to: &Sender<Message, Global>,
+    given: &[Given],
+) {
+    for given in given {
+        send(rt, to, message(rt, alloc, *given));
+    }
+}
+
 /// A closed inbox of at most 16 messages.
 pub fn inbox(
     rt: &(impl Abort + Wait),
@@ -101,10 +123,7 @@ pub fn inbox(
     given: &[Given],
 ) -> Receiver<Message, Global> {
     let (to, inbox) = bounded(alloc, 16).expect(rt, "memory");
-    for given in given {
-        let sent = to.send(rt, message(rt, alloc, *given)).is_ok();
-        assert!(rt; sent);
-    }
+    send_all(rt, alloc, &to, given);
     inbox
 }
 

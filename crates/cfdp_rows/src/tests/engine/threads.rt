@@ -1,7 +1,7 @@
 //! Several workers at once.
 
 use super::calls::closed;
-use super::scene::{Given, inbox, message, shared};
+use super::scene::{Given, inbox, message, send, shared};
 use super::workers::{Open, is_closed};
 use cfdp_actions::ListStore;
 use cfdp_engine::{Gate, Journaled, Message, Seat, Shared, Worked, work};
@@ -60,6 +60,18 @@ impl<C: Clock + Drop> Gate for Crossing<C> {
     }
 }
 
+/// A worker with this number and inbox.
+fn work_as<R: Wait, G: Gate>(
+    rt: &R,
+    alloc: Global,
+    shared: &Shared<ListStore>,
+    gate: &G,
+    number: u8,
+    inbox: Receiver<Message, Global>,
+) -> Worked {
+    work(rt, alloc, shared, Seat::new(alloc, number), inbox, gate)
+}
+
 /// Two workers at once, with these numbers and inboxes.
 fn two<R: Threads + Wait + Sync, G: Gate + Sync>(
     rt: &R,
@@ -71,8 +83,8 @@ fn two<R: Threads + Wait + Sync, G: Gate + Sync>(
 ) -> (Worked, Worked) {
     thread::join(
         rt,
-        || work(rt, alloc, shared, Seat::new(alloc, one), ones, gate),
-        || work(rt, alloc, shared, Seat::new(alloc, other), others, gate),
+        || work_as(rt, alloc, shared, gate, one, ones),
+        || work_as(rt, alloc, shared, gate, other, others),
     )
 }
 
@@ -139,9 +151,7 @@ fn in_turn(worker: u8, number: u32) -> Given {
 fn feed(rt: &(impl Wait + Abort), alloc: Global, workers: Vec<Sender<Message, Global>>) {
     for number in 0..EACH {
         for (worker, to) in (0..4u8).zip(workers.iter()) {
-            let message = message(rt, alloc, in_turn(worker, number));
-            let sent = to.send(rt, message).is_ok();
-            assert!(rt; sent);
+            send(rt, to, message(rt, alloc, in_turn(worker, number)));
         }
     }
 }

@@ -1,8 +1,8 @@
 //! The leases as a plain list of grants, each of which is compared path by path with every footprint that is asked for;
 //! and lists made at random, on which both give the same answers.
 
-use super::super::scene::path_of;
-use super::{admit, id};
+use super::super::scene::{hold, path_of};
+use super::id;
 use cfdp_actions::Request;
 use cfdp_leases::{Footprint, Leases, footprint};
 use cfdp_paths::{Memory, Path};
@@ -181,7 +181,7 @@ impl Beside {
         let wanted = footprint(alloc, requests, None)?;
         let first = self.conflict(rt, &wanted);
         if first.is_none() && self.plain.grants.len() < MOST {
-            admit(rt, &mut self.leases, number, wanted)?;
+            hold(rt, &mut self.leases, id(number), wanted)?;
             return self
                 .plain
                 .grant(id(number), footprint(alloc, requests, None)?);
