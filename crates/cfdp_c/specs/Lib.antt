@@ -1,0 +1,6 @@
+pub mod Ownership
+pub mod Answers
+pub mod Told
+pub mod Making
+pub mod Calls
+pub mod Reads
