@@ -14,8 +14,8 @@
  *    No call comes from a signal handler, nor from the forked child of a process with threads.
  *
  * MEMORY comes from rattle_alloc, rattle_realloc and rattle_dealloc (docs/C.md). It is asked for by cfdp_new, by cfdp_receive for
- * a Metadata PDU and for a Finished PDU (which no receiver gets), by cfdp_take, and by the calls that name a path or list
- * entries; by nothing else. So no file that arrives and no request that is performed takes memory.
+ * a Metadata PDU and for a Finished PDU (which no receiver gets), by cfdp_take, and by the calls that name a path; by
+ * nothing else. So no file that arrives and no request that is performed takes memory.
  */
 #ifndef CFDP_H
 #define CFDP_H
@@ -43,10 +43,10 @@ enum cfdp_answer {
     CFDP_NO_MEMORY = 3,             /* memory was refused; the same call can be made again */
     CFDP_TOO_SHORT = 4,             /* what was asked for does not fit in the buffer */
     CFDP_NOTHING = 5,               /* there is no such thing */
+    CFDP_BAD_PATH = 6,              /* the octets of a path spell none */
     CFDP_BAD_BLOCKS = 16,           /* the filestore has not 16 to 65536 blocks */
     CFDP_BAD_CAP = 17,              /* the cap is above 7864320 octets */
     CFDP_BAD_CHECKS = 18,           /* the check limit is not 1 to 1000 */
-    CFDP_BAD_PREFIX = 19,           /* a protected prefix is no path */
     CFDP_TOO_MANY_PREFIXES = 20,    /* more than 8 prefixes are to be protected */
     CFDP_NOT_OURS = 32,             /* the PDU is not for the receiver of a file */
     CFDP_TRUNCATED = 33,            /* the octets end before the PDU does */
@@ -183,6 +183,23 @@ struct cfdp_blocks {
     uint32_t spare;
 };
 
+/* Octets of a file that are missing: from `start` up to, and without, `end`. */
+struct cfdp_gap {
+    uint64_t start;
+    uint64_t end;
+};
+
+/* What stands at a path of the filestore. A directory's checksum and size are 0. */
+enum cfdp_entry_kind {
+    CFDP_FILE = 1,
+    CFDP_DIRECTORY = 2
+};
+struct cfdp_entry {
+    uint32_t kind;
+    uint32_t checksum;      /* a file's modular checksum (4.2.2) */
+    uint64_t size;          /* in octets */
+};
+
 /* These tell, and change nothing of the engine: the first transaction, in order of admission, whose items are being performed; how
  * far a transaction is; what was granted to it; the blocks that it took less those that it gave back; the steps that it
  * spent; the blocks. They answer CFDP_DONE, with what is asked for; CFDP_NOTHING where there is no such transaction; or
@@ -193,6 +210,19 @@ uint32_t cfdp_grant(struct cfdp_engine *engine, uint64_t source, uint64_t number
 uint32_t cfdp_blocks_spent(struct cfdp_engine *engine, uint64_t source, uint64_t number, int64_t *blocks);
 uint32_t cfdp_steps_spent(struct cfdp_engine *engine, uint64_t source, uint64_t number, uint32_t *steps);
 uint32_t cfdp_blocks(struct cfdp_engine *engine, struct cfdp_blocks *blocks);
+
+/* What is missing of a transaction's file (4.6.4.3): the gap of this place, from 0, in order; there are at most 33. Answers CFDP_DONE,
+ * CFDP_NOTHING where there is no such gap or no such transaction, or CFDP_NO_ENGINE. */
+uint32_t cfdp_gap(struct cfdp_engine *engine, uint64_t source, uint64_t number, size_t place, struct cfdp_gap *gap);
+
+/* What stands at a path. Answers CFDP_DONE, CFDP_NOTHING, CFDP_BAD_PATH, CFDP_NO_MEMORY (for the path), or CFDP_NO_ENGINE. Cost: one
+ * pass over a file's octets, for its checksum. */
+uint32_t cfdp_look_up(struct cfdp_engine *engine, const struct cfdp_path *path, struct cfdp_entry *entry);
+
+/* Copies a file's octets from the place `at` on to the beginning of `out`: as many as there are and as fit in `room`; `*count` says how
+ * many. Answers CFDP_DONE; CFDP_NOTHING where no file stands at the path; CFDP_BAD_PATH, CFDP_NO_MEMORY (for the path), or
+ * CFDP_NO_ENGINE. */
+uint32_t cfdp_read(struct cfdp_engine *engine, const struct cfdp_path *path, uint64_t at, uint8_t *out, size_t room, size_t *count);
 
 /* sizeof(struct cfdp_engine), as the library has it: 16. */
 size_t cfdp_engine_octets(void);

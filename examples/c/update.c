@@ -84,6 +84,24 @@ static void take(uint64_t source, uint64_t number) {
     printf("\n");
 }
 
+static void show_gaps(uint64_t source, uint64_t number) {
+    struct cfdp_gap gap;
+    for (size_t place = 0; cfdp_gap(&engine, source, number, place, &gap) == CFDP_DONE; place++)
+        printf("missing %" PRIu64 " to %" PRIu64 "\n", gap.start, gap.end);
+}
+
+/* The file at a path, read in pieces of 10 octets. */
+static void show_file(const struct cfdp_path *path) {
+    struct cfdp_entry entry;
+    expect(cfdp_look_up(&engine, path, &entry), CFDP_DONE);
+    printf("file %.*s %" PRIu64 " %08" PRIx32 ": ", (int)path->length, (const char *)path->octets, entry.size, entry.checksum);
+    uint8_t piece[10];
+    size_t count = 0;
+    for (uint64_t at = 0; cfdp_read(&engine, path, at, piece, sizeof piece, &count) == CFDP_DONE && count > 0; at += count)
+        printf("%.*s", (int)count, (const char *)piece);
+    printf("\n");
+}
+
 int main(void) {
     const struct cfdp_config config = {.entity = 2, .cap = 2400, .blocks = 64, .checks = 2};
     const struct cfdp_path boot = {.length = 4, .octets = "boot"};
@@ -96,7 +114,7 @@ int main(void) {
     expect(cfdp_new(&engine, &(struct cfdp_config){.entity = 2, .cap = 2400, .blocks = 15, .checks = 2}, &boot, 1), CFDP_BAD_BLOCKS);
     expect(cfdp_new(&engine, &(struct cfdp_config){.entity = 2, .cap = 7864321, .blocks = 16, .checks = 2}, &boot, 1), CFDP_BAD_CAP);
     expect(cfdp_new(&engine, &(struct cfdp_config){.entity = 2, .cap = 7864320, .blocks = 16, .checks = 0}, &boot, 1), CFDP_BAD_CHECKS);
-    expect(cfdp_new(&engine, &config, &(struct cfdp_path){.length = 2, .octets = ".."}, 1), CFDP_BAD_PREFIX);
+    expect(cfdp_new(&engine, &config, &(struct cfdp_path){.length = 2, .octets = ".."}, 1), CFDP_BAD_PATH);
     expect(cfdp_new(&engine, &config, &boot, 1), CFDP_DONE);
     expect(cfdp_new(&engine, &config, &boot, 1), CFDP_HAS_ENGINE);
 
@@ -118,9 +136,12 @@ int main(void) {
     RECEIVE(file_eof);
     expect(cfdp_check(&engine, 1, 2, &reply), CFDP_DONE);
     show(&reply);
+    show_gaps(1, 2);
     RECEIVE(second_piece);
     struct cfdp_phase phase;
     struct cfdp_grant grant;
+    struct cfdp_gap gap;
+    expect(cfdp_gap(&engine, 1, 2, 0, &gap), CFDP_NOTHING);
     expect(cfdp_phase(&engine, 1, 2, &phase), CFDP_DONE);
     expect(cfdp_grant(&engine, 1, 2, &grant), CFDP_DONE);
     printf("phase %" PRIu32 " item %" PRIu32 ", granted blocks %" PRIu32 " steps %" PRIu32 "\n", phase.phase, phase.detail, grant.blocks, grant.steps);
@@ -133,6 +154,12 @@ int main(void) {
     take(1, 2);
     expect(cfdp_phase(&engine, 1, 2, &phase), CFDP_NOTHING);
 
+    show_file(&(struct cfdp_path){.length = 8, .octets = "app/prog"});
+    struct cfdp_entry entry;
+    expect(cfdp_look_up(&engine, &(struct cfdp_path){.length = 7, .octets = "app/new"}, &entry), CFDP_NOTHING);
+    expect(cfdp_look_up(&engine, &(struct cfdp_path){.length = 777, .octets = "app"}, &entry), CFDP_BAD_PATH);
+    expect(cfdp_look_up(&engine, &(struct cfdp_path){.length = 3, .octets = "app"}, &entry), CFDP_DONE);
+    printf("app is of kind %" PRIu32 "\n", entry.kind);
     struct cfdp_blocks blocks;
     expect(cfdp_blocks(&engine, &blocks), CFDP_DONE);
     printf("free %" PRIu32 " spare %" PRIu32 "\n", blocks.free, blocks.spare);

@@ -4,3 +4,4 @@ pub mod Told
 pub mod Making
 pub mod Calls
 pub mod Reads
+pub mod Stored

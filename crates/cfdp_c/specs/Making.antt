@@ -11,7 +11,7 @@ use Rattle.cfdp_transactions.specs.declared.config.ConfigFault.{ConfigFault}
 use Rattle.cfdp_transactions.specs.World.{World, start}
 use Rattle.cfdp_c.specs.Answers.{code_of, config_answer}
 use Rattle.cfdp_c.specs.declared.answer.Answer.{Answer}
-use Rattle.cfdp_c.specs.declared.answer.Answer.TheVariants.{Done, HasEngine, Memory, BadPrefix, TooManyPrefixes}
+use Rattle.cfdp_c.specs.declared.answer.Answer.TheVariants.{Done, HasEngine, Memory, BadPath, TooManyPrefixes}
 use Rattle.cfdp_c.specs.declared.fields.ConfigFields.{ConfigFields}
 use Rattle.cfdp_c.specs.declared.fields.PathFields.{PathFields}
 
@@ -19,7 +19,7 @@ abbrev pub path_in : PathFields → Option Path
 path_in fields = if nat_le fields.length 776 then path_of (take fields.length fields.octets) else None
 
 abbrev pub with_path : List Path → Option Path → Result (List Path) Answer
-with_path protected None = Err BadPrefix
+with_path protected None = Err BadPath
 with_path protected (Some path) = if length protected == 8 then Err TooManyPrefixes else Ok (protected ++ path ∷ [])
 
 abbrev pub and_then : Result (List Path) Answer → (List Path → Result (List Path) Answer) → Result (List Path) Answer

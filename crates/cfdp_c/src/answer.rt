@@ -27,8 +27,8 @@ pub(crate) enum Answer {
     BadCap,
     /// The check limit is not 1 to 1,000.
     BadChecks,
-    /// A protected prefix is no path.
-    BadPrefix,
+    /// The octets of a path spell none.
+    BadPath,
     /// More than eight prefixes are to be protected.
     TooManyPrefixes,
     /// The PDU is not for the receiver of a file.
@@ -64,7 +64,7 @@ impl Answer {
             Answer::BadBlocks => 16,
             Answer::BadCap => 17,
             Answer::BadChecks => 18,
-            Answer::BadPrefix => 19,
+            Answer::BadPath => 6,
             Answer::TooManyPrefixes => 20,
             Answer::NotOurs => 32,
             Answer::Truncated => 33,

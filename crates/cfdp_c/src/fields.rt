@@ -76,3 +76,15 @@ pub struct BlocksFields {
     /// Those that nobody was granted.
     pub spare: u32,
 }
+
+/// A C `struct cfdp_entry`: what stands at a path of the filestore.
+#[derive(Clone, Copy, Debug, PartialEq, Eq)]
+#[repr(C)]
+pub struct EntryFields {
+    /// Whether it is a file or a directory.
+    pub kind: u32,
+    /// A file's modular checksum (CCSDS 727.0-B-5 §4.2.2); 0 for a directory.
+    pub checksum: u32,
+    /// How many octets a file has; 0 for a directory.
+    pub size: u64,
+}

@@ -11,12 +11,16 @@ mod events;
 mod fields;
 mod handle;
 mod making;
+mod paths;
 mod reads;
 mod reply;
 mod slot;
+mod store;
 
 pub use events::{cfdp_cancel, cfdp_check, cfdp_receive, cfdp_step, cfdp_take};
 pub use making::{cfdp_engine_octets, cfdp_free, cfdp_new};
 pub use reads::{
-    cfdp_blocks, cfdp_blocks_spent, cfdp_grant, cfdp_next_runnable, cfdp_phase, cfdp_steps_spent,
+    cfdp_blocks, cfdp_blocks_spent, cfdp_gap, cfdp_grant, cfdp_next_runnable, cfdp_phase,
+    cfdp_steps_spent,
 };
+pub use store::{cfdp_look_up, cfdp_read};

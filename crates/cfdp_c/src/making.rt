@@ -1,38 +1,22 @@
 //! Making an engine, and freeing it.
-ghost use Rattle.std.specs.Prelude.{◌≡◌, ◌≢◌, None, Some, OnOk, IfOk, IfErr, Ok, Err};
+ghost use Rattle.std.specs.Prelude.{◌≡◌, ◌≢◌, None, OnOk, IfOk, IfErr, Ok, Err};
 ghost use Rattle.cfdp_transactions.specs.World.{start};
 ghost use Rattle.cfdp_c.specs.Calls.{Frees};
-ghost use Rattle.cfdp_c.specs.Making.{Opens, configured, path_in, protected_by};
-ghost use Rattle.cfdp_c.specs.declared.answer.Answer.TheVariants.{BadPrefix, Memory};
+ghost use Rattle.cfdp_c.specs.Making.{Opens, configured, protected_by};
+ghost use Rattle.cfdp_c.specs.declared.answer.Answer.TheVariants.{Memory};
 ghost use Rattle.cfdp_transactions.specs.Config.{Config as ConfigOf};
 
 use crate::answer::Answer;
-use crate::fields::{ConfigFields, PATH_OCTETS, PathFields};
+use crate::fields::{ConfigFields, PathFields};
 use crate::handle::Handle;
+use crate::paths::path_of;
 use cfdp_actions::Protected;
 use cfdp_entity::Entity;
-use cfdp_paths::{Path, PathFault};
 use cfdp_transactions::Config;
 use std::alloc::Global;
 
 /// The entries of the journal that a configuration has to name. No call from C keeps one.
 const JOURNAL: u32 = 16;
-
-/// The path that is given as a struct.
-fn path_of(alloc: Global, fields: &PathFields) -> Result<Path, Answer>
-    ensures ok { IfOk result (λ path. path_in fields.now ≡ Some path) }
-    ensures err { IfErr result (λ answer. answer ≢ Memory → (answer ≡ BadPrefix) × (path_in fields.now ≡ None)) }
-{
-    let length = fields.length as usize;
-    if length > PATH_OCTETS {
-        return Err(Answer::BadPrefix);
-    }
-    match Path::parse(alloc, &fields.octets[..length]) {
-        Ok(path) => Ok(path),
-        Err(PathFault::Memory) => Err(Answer::Memory),
-        Err(_) => Err(Answer::BadPrefix),
-    }
-}
 
 /// Protects more prefixes. It calls itself at most nine times, since eight can be protected.
 fn protect(alloc: Global, prefixes: &[PathFields], protected: &mut Protected) -> Result<(), Answer>

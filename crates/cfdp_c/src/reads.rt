@@ -2,16 +2,18 @@
 ghost use Rattle.std.specs.Prelude.{◌≡◌};
 ghost use Rattle.std.specs.Option.{option_map};
 ghost use Rattle.cfdp_transactions.specs.Engine.{read_of};
+ghost use Rattle.cfdp_transactions.specs.Entry.{gaps};
 ghost use Rattle.cfdp_transactions.specs.World.{next_runnable};
 ghost use Rattle.cfdp_c.specs.Calls.{named};
-ghost use Rattle.cfdp_c.specs.Reads.{Reads, blocks_fields, grant_fields, name_fields, phase_fields};
+ghost use Rattle.cfdp_c.specs.Reads.{Reads, blocks_fields, gap_fields, gap_of, grant_fields, name_fields, phase_fields};
 
 use crate::answer::Answer;
-use crate::fields::{BlocksFields, GrantFields, NameFields, PhaseFields};
+use crate::fields::{BlocksFields, GapFields, GrantFields, NameFields, PhaseFields};
 use crate::handle::Handle;
 use cfdp_actions::Filestore;
 use cfdp_status::TransactionId;
-use cfdp_transactions::Phase;
+use cfdp_transactions::{Core, Phase};
+use cfdp_tree::TreeStore;
 use std::alloc::Global;
 
 /// A phase as a struct.
@@ -27,6 +29,15 @@ fn phase_fields(phase: Phase) -> PhaseFields
         Phase::Ended(condition) => (6, u32::from(condition)),
     };
     PhaseFields { phase, detail }
+}
+
+/// The gap of this place in a transaction's file.
+fn gap_at(core: &Core<TreeStore>, id: TransactionId, place: usize) -> Option<GapFields>
+    ensures { result ≡ option_map gap_fields (gap_of (read_of gaps core.now.world id) place) }
+{
+    let gaps = core.gaps(id)?;
+    let (start, end) = *gaps.as_slice().get(place)?;
+    Some(GapFields { start, end })
 }
 
 /// The first transaction, in order of admission, whose items are being performed.
@@ -176,4 +187,31 @@ pub extern "C" fn cfdp_blocks(alloc: Global, engine: &mut Handle, blocks: &mut B
     };
     engine.put(entity);
     Answer::Done.code()
+}
+
+/// What is missing of a transaction's file: the gap of this place, from 0.
+#[unsafe(no_mangle)]
+pub extern "C" fn cfdp_gap(
+    alloc: Global,
+    engine: &mut Handle,
+    source: u64,
+    number: u64,
+    place: usize,
+    gap: &mut GapFields,
+) -> u32
+    ensures read { Reads (λ W. option_map gap_fields (gap_of (read_of gaps W (named source number)) place)) engine.old.slot.engine gap.old gap.new result }
+    ensures kept { engine.new.slot.engine ≡ engine.old.slot.engine }
+{
+    let Some(entity) = engine.take(alloc) else {
+        return Answer::NoEngine.code();
+    };
+    let answer = match gap_at(entity.core(), TransactionId { source, number }, place) {
+        None => Answer::Nothing,
+        Some(found) => {
+            *gap = found;
+            Answer::Done
+        }
+    };
+    engine.put(entity);
+    answer.code()
 }
