@@ -14,3 +14,4 @@ pub mod PduSteps
 pub mod WriteSteps
 pub mod CanonicalSteps
 pub mod SoundSteps
+pub mod DirectiveSteps

@@ -49,6 +49,36 @@ impl Eq for FileData {
     ghost laws = { file_data_equiv };
 }
 
+/// A File Data PDU's data field (CCSDS 727.0-B-5 §5.3), whose octets lie where they were read. A contract sees the same of
+/// it as of [`FileData`].
+#[derive(Debug, Drop)]
+pub struct Piece<'a> {
+    /// Where the octets stand in the file, from 0.
+    pub offset: u64,
+    /// The octets, which may be none.
+    pub octets: &'a [u8],
+}
+
+impl<'a> Model for Piece<'a> {
+    ghost use Rattle.cfdp_pdus.specs.Values.{FileDataFields};
+
+    ghost Value = { FileDataFields };
+
+    ghost view = { λ p. record { offset = p.offset; octets = p.octets.now } };
+}
+
+impl FileData {
+    /// The same, with the octets where they lie. Costs nothing.
+    pub fn piece(&self) -> Piece<'_>
+        ensures { result ≡ self.now }
+    {
+        Piece {
+            offset: self.offset,
+            octets: &self.octets,
+        }
+    }
+}
+
 /// What stands behind the continuation state and the segment metadata, where there are any.
 #[tactic(auto, unfolding(crate::specs::First::behind_segment))]
 fn skip_segment(segment_metadata: bool, octets: &[u8]) -> Result<&[u8], PduFault>
@@ -67,8 +97,17 @@ fn skip_segment(segment_metadata: bool, octets: &[u8]) -> Result<&[u8], PduFault
     Ok(&rest[len..])
 }
 
-/// A File Data PDU's data field.
+/// A File Data PDU's data field, whose octets stay where they are.
 #[tactic(auto, unfolding(crate::specs::First::file_data_at))]
+pub fn find_piece(large: bool, segment_metadata: bool, octets: &[u8]) -> Result<Piece<'_>, PduFault>
+    ensures { Answers (λ piece. piece) result (file_data_at large segment_metadata octets.now) }
+{
+    let rest = skip_segment(segment_metadata, octets)?;
+    let (offset, octets) = read_number(rest, size_len(large), PduFault::LengthMismatch)?;
+    Ok(Piece { offset, octets })
+}
+
+/// A File Data PDU's data field.
 pub fn read_file_data(
     alloc: Global,
     large: bool,
@@ -77,11 +116,10 @@ pub fn read_file_data(
 ) -> Result<FileData, PduFault>
     ensures { Gives OutOfMemory (λ file_data. file_data) result (file_data_at large segment_metadata octets.now) }
 {
-    let rest = skip_segment(segment_metadata, octets)?;
-    let (offset, rest) = read_number(rest, size_len(large), PduFault::LengthMismatch)?;
+    let piece = find_piece(large, segment_metadata, octets)?;
     Ok(FileData {
-        offset,
-        octets: Vec::from_slice(alloc, rest)?,
+        offset: piece.offset,
+        octets: Vec::from_slice(alloc, piece.octets)?,
     })
 }
 

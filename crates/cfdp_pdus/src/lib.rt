@@ -2,7 +2,8 @@
 //! modular checksum.
 //!
 //! [`read_pdu`] answers the PDU exactly where the octets spell one, and otherwise the first fault;
-//! `specs/Grammar.antt` says what spells what. It judges the whole PDU before it asks for memory. A writer appends the one canonical spelling of
+//! `specs/Grammar.antt` says what spells what. It judges the whole PDU before it asks for memory; [`read_piece`] reads a File Data
+//! PDU where it lies, without any. A writer appends the one canonical spelling of
 //! `specs/Canonical.antt`, or answers [`WriteFault::TooLong`] exactly where a length does not fit. It
 //! asks for room once, for the whole PDU, before it writes.
 #![tactic(auto)]
@@ -24,9 +25,9 @@ mod read;
 pub use cfdp_checksum::modular_checksum;
 pub use eof::{Eof, write_eof};
 pub use fault::{PduFault, WriteFault};
-pub use file_data::{FileData, write_file_data};
+pub use file_data::{FileData, Piece, write_file_data};
 pub use finished::{Finished, write_finished};
 pub use header::Header;
 pub use metadata::{Metadata, write_metadata};
 pub use pdu::Pdu;
-pub use read::read_pdu;
+pub use read::{read_pdu, read_piece};

@@ -1,20 +1,21 @@
 //! Reading a whole PDU.
 
-ghost use Rattle.std.specs.Prelude.{◌≡◌, ◌⊎◌, IfOk, Ok, Err};
+ghost use Rattle.std.specs.Prelude.{◌≡◌, ◌⊎◌, IfOk, IfNone, IfSome, Ok, Err};
 ghost use Rattle.cfdp_tlv.specs.Reading.{Gives};
 ghost use Rattle.cfdp_pdus.specs.First.{directive_at, field_at, pdu_at};
 ghost use Rattle.cfdp_pdus.specs.Grammar.{SpellsPdu};
-ghost use Rattle.cfdp_pdus.specs.Sound.{IsSound, IsLean, GivesLean};
+ghost use Rattle.cfdp_pdus.specs.Sound.{IsSound, IsLean, GivesLean, IsNoFileData};
 ghost use Rattle.cfdp_pdus.specs.declared.pdu.Pdu.{Pdu as PduValue};
+ghost use Rattle.cfdp_pdus.specs.declared.pdu.Pdu.TheVariants.{FileData as FileDataCame};
 ghost use Rattle.cfdp_pdus.specs.declared.fault.PduFault.TheVariants.{Memory};
 
 use crate::directive::{ACK, EOF, FINISHED, KEEP_ALIVE, METADATA, NAK, PROMPT};
 use crate::eof::read_eof;
-use crate::file_data::read_file_data;
+use crate::file_data::{find_piece, read_file_data};
 use crate::finished::read_finished;
 use crate::header::{Start, read_start};
 use crate::metadata::read_metadata;
-use crate::{Header, Pdu, PduFault};
+use crate::{Header, Pdu, PduFault, Piece};
 use std::alloc::Global;
 
 /// A directive's data field.
@@ -48,6 +49,25 @@ fn read_field(alloc: Global, start: &Start<'_>) -> Result<Pdu, PduFault>
         return Ok(Pdu::FileData(header, file_data));
     }
     read_directive(alloc, header, start.field)
+}
+
+/// The header and the data field of a File Data PDU, where its octets lie; `None` exactly where the octets spell another PDU,
+/// or none (CCSDS 727.0-B-5 §5.3). Takes no memory, and looks at no octet of the file.
+#[tactic(auto, unfolding(crate::specs::First::field_at))]
+pub fn read_piece(octets: &[u8]) -> Option<(Header, Piece<'_>)>
+    ensures found { IfSome result (λ found. pdu_at octets.now ≡ Ok (FileDataCame found.0 found.1)) }
+    ensures none { IfNone result (IsNoFileData (pdu_at octets.now)) }
+{
+    let Ok(start) = read_start(octets) else {
+        return None;
+    };
+    if !start.file_data {
+        return None;
+    }
+    match find_piece(start.header.large, start.segment_metadata, start.field) {
+        Ok(piece) => Some((start.header, piece)),
+        Err(_) => None,
+    }
 }
 
 /// What [`read_pdu`] answers.

@@ -1,7 +1,6 @@
 pub mod Answering
 pub mod Decoding
 pub mod Feeding
-pub mod Fitting
 pub mod Hearing
 pub mod LineLemmas
 pub mod Moving

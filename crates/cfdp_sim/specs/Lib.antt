@@ -1,7 +1,6 @@
 pub mod Adapters
 pub mod Commands
 pub mod Ends
-pub mod Fitting
 pub mod Hexadecimal
 pub mod JournalTexts
 pub mod Lines

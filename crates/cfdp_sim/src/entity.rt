@@ -7,7 +7,7 @@ ghost use Rattle.cfdp_pdus.specs.First.{pdu_at};
 ghost use Rattle.cfdp_transactions.specs.Next.{next, replies, run};
 ghost use Rattle.cfdp_transactions.specs.World.{start};
 ghost use Rattle.cfdp_transactions.specs.Writable.{IsReadable};
-ghost use Rattle.cfdp_sim.specs.Fitting.{OnlyWritable, only_writable_prop};
+ghost use Rattle.cfdp_transactions.specs.Fitting.{OnlyWritable, only_writable_prop};
 ghost use Rattle.cfdp_sim.specs.Replay.{Running, most_runs, read_told, steps_from};
 ghost use Rattle.cfdp_sim.specs.Replies.{listing_text, reply_line, told_lines};
 

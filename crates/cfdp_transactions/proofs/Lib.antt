@@ -71,3 +71,4 @@ pub mod Installed
 pub mod Keys
 pub mod InstallReplies
 pub mod BesideExamples
+pub mod Fitting

@@ -3,7 +3,8 @@
 --     Engine                    the world, and whether its store takes no memory
 --     IsWhole s b               a sound world, and books that say what it says: what is true of the core at all times
 --     read_of f W id            what is read of an entry, where the transaction is there
-use Rattle.std.specs.Prelude.{Bool, Option}
+--     outcome_in W id           the outcome of a transaction, where it is there and over
+use Rattle.std.specs.Prelude.{Bool, if◌then◌else◌, Option, Some, None}
 use Rattle.std.specs.Coded.{Coded, coded_list, coded_ℕ}
 use Rattle.std.specs.FinMap as finite
 use Rattle.cfdp_paths.specs.Paths.{path_cmp}
@@ -12,7 +13,9 @@ use Rattle.cfdp_actions.specs.Codes.{node_code}
 use Rattle.std.specs.Option.{option_map}
 use Rattle.cfdp_status.specs.declared.transaction.TransactionId.{TransactionId}
 use Rattle.cfdp_actions.specs.Store.{Store}
-use Rattle.cfdp_transactions.specs.Entry.{Entry}
+use Rattle.cfdp_transactions.specs.Entry.{Entry, is_live}
+use Rattle.cfdp_transactions.specs.Events.{Outcome}
+use Rattle.cfdp_transactions.specs.Outcome.{outcome_of}
 use Rattle.cfdp_transactions.specs.World.{World, entry_of}
 use Rattle.cfdp_transactions.specs.Sound.{Sound}
 use Rattle.cfdp_transactions.specs.Books.{IsBooked, world_of}
@@ -34,3 +37,13 @@ pub record IsWhole (s : Store) (b : Books) : Type 0 where
 
 abbrev pub read_of : {X : Type 0} → (Entry → X) → World → TransactionId → Option X
 read_of f W id = option_map f (entry_of W id)
+
+abbrev pub outcome_when_over : Entry → Option Outcome
+outcome_when_over e = if is_live e.phase then None else Some (outcome_of e)
+
+abbrev pub where_any : Option (Option Outcome) → Option Outcome
+where_any None = None
+where_any (Some outcome) = outcome
+
+abbrev pub outcome_in : World → TransactionId → Option Outcome
+outcome_in W id = where_any (read_of outcome_when_over W id)

@@ -28,3 +28,4 @@ pub mod Items
 pub mod Taking
 pub mod Engine
 pub mod Beside
+pub mod Fitting

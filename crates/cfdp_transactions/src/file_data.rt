@@ -19,7 +19,7 @@ use crate::keeping::keep;
 use crate::{Config, Phase, Reply};
 use cfdp_actions::Filestore;
 use cfdp_paths::Memory;
-use cfdp_pdus::FileData;
+use cfdp_pdus::Piece;
 
 /// File data of the transaction at a place. Where memory is refused, nothing has changed. Costs by its octets and the pieces
 /// that they touch, and, where no octet is missing any more behind an EOF PDU, the checksum of what is staged.
@@ -27,7 +27,7 @@ pub(crate) fn receive<S: Filestore>(
     store: &mut S,
     books: &mut Books,
     place: usize,
-    piece: &FileData,
+    piece: &Piece<'_>,
 ) -> Reply
     requires laws { LowerLaws }
     requires sound { Sound (world_of (S.state store.old) books.old) }
@@ -90,7 +90,7 @@ fn stage<S: Filestore>(
     store: &mut S,
     books: &mut Books,
     place: usize,
-    piece: &FileData,
+    piece: &Piece<'_>,
 ) -> Result<(), Memory>
     requires laws { LowerLaws }
     requires sound { Sound (world_of (S.state store.old) books.old) }
@@ -106,13 +106,7 @@ fn stage<S: Filestore>(
 {
     let entry = books.table.at(place);
     let slot = entry.slot();
-    let taken = keep(
-        store,
-        slot,
-        entry.ranges(),
-        piece.offset,
-        piece.octets.as_slice(),
-    )?;
+    let taken = keep(store, slot, entry.ranges(), piece.offset, piece.octets)?;
     books.quota.took(slot, taken);
     let end = piece.offset + piece.octets.len() as u64;
     books.table.store(place, piece.offset, end, taken);

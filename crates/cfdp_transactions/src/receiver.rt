@@ -9,20 +9,21 @@ ghost use Rattle.cfdp_transactions.specs.Needs.{Follows, may_want_memory};
 ghost use Rattle.cfdp_transactions.specs.Books.{IsAnswered};
 ghost use Rattle.cfdp_transactions.specs.Entry.{gaps};
 ghost use Rattle.std.specs.Option.{option_map};
-ghost use Rattle.cfdp_transactions.specs.Engine.{read_of};
+ghost use Rattle.cfdp_transactions.specs.Engine.{outcome_in, read_of};
 
 use crate::books::Books;
 use crate::entry::name_of;
 use crate::ranges::{MOST_GAPS, Range};
 use crate::table::Table;
 use crate::{
-    Config, Event, Phase, Reply, admission, closing, delivery, file_data, laws, step, taking,
+    Config, Event, Outcome, Phase, Reply, admission, closing, delivery, file_data, laws, step,
+    taking,
 };
 use arrayvec::ArrayVec;
 use cfdp_actions::Filestore;
 use cfdp_leases::Leases;
 use cfdp_paths::Memory;
-use cfdp_pdus::{Eof, FileData, Header, Metadata};
+use cfdp_pdus::{Eof, Header, Metadata, Piece};
 use cfdp_quota::Quota;
 use cfdp_status::TransactionId;
 use std::alloc::Global;
@@ -144,6 +145,24 @@ impl<S: Filestore> Core<S> {
         Some(entry.gaps())
     }
 
+    /// The outcome of a transaction that is over, as it will be handed out when it is taken: `None` where the transaction is
+    /// live or not known.
+    ///
+    /// # Errors
+    ///
+    /// Want of memory. Cost: a copy of its requests' names.
+    pub fn outcome(&self, id: TransactionId) -> Result<Option<Outcome>, Memory>
+        ensures { IfOk result (λ outcome. outcome ≡ outcome_in self.now.world id) }
+    {
+        let Some(entry) = self.books.table.get(id) else {
+            return Ok(None);
+        };
+        if entry.phase().is_live() {
+            return Ok(None);
+        }
+        Ok(Some(taking::make_outcome(self.alloc, entry)?))
+    }
+
     /// The free blocks that nobody was granted.
     pub fn spare(&self) -> u32
         ensures { result ≡ spare self.now.world }
@@ -189,7 +208,7 @@ impl<S: Filestore> Core<S> {
     {
         match event {
             Event::Metadata(header, metadata) => self.metadata(header, metadata),
-            Event::Data(header, piece) => self.file_data(header, piece),
+            Event::Data(header, data) => self.file_data(header, &data.piece()),
             Event::Eof(header, eof) => self.eof(header, *eof),
             Event::Step(id) => self.step(*id),
             Event::Cancel(id) => self.cancel(*id),
@@ -230,8 +249,10 @@ impl<S: Filestore> Core<S> {
         }
     }
 
-    /// A File Data PDU came (§5.3 and §4.6.1).
-    fn file_data(&mut self, header: &Header, piece: &FileData) -> Reply
+    /// A File Data PDU came (CCSDS 727.0-B-5 §5.3 and §4.6.1), whose octets lie where they were read: what
+    /// [`apply`](Core::apply) does with its event, without a copy of them. Over a store that takes no memory it is never
+    /// answered with want of it. Cost: its octets and the pieces that they touch.
+    pub fn file_data(&mut self, header: &Header, piece: &Piece<'_>) -> Reply
         ensures follows { Follows self.old.world (DataCame header.now piece.now) result self.new.world }
         ensures answered { IsTrue self.old.takes_no_memory → IsAnswered result }
         ensures steady { self.new.takes_no_memory ≡ self.old.takes_no_memory }

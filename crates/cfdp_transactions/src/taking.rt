@@ -70,7 +70,7 @@ fn make_handles(alloc: Global, entry: &Entry) -> Result<(SharedOutcome, SharedOu
 }
 
 /// The outcome of a transaction that is over.
-fn make_outcome(alloc: Global, entry: &Entry) -> Result<Outcome, Memory>
+pub(crate) fn make_outcome(alloc: Global, entry: &Entry) -> Result<Outcome, Memory>
     ensures { IfOk result (λ outcome. (F : Files) → outcome ≡ outcome_of (entry_in F entry.now)) }
 {
     let header = entry.header();

@@ -1,4 +1,4 @@
-use Rattle.std.proofs.Common.{◌≡◌, ◌∙◌, ap, arith}
+use Rattle.std.proofs.Common.{◌≡◌, ap, arith}
 use Rattle.std.specs.Prelude.{length, ◌+◌}
 use Rattle.cfdp_pdus.specs.Values.{FileDataFields}
 use Rattle.cfdp_transactions.proofs.DataStored.{live, kept_is, pieces_here, zeros_here, room, reserved, can_store, stored_at, stored_sound, stored_booked}
@@ -25,7 +25,7 @@ keep-requires-clause-some g c =
     let at = c.at-entry.ensures in
     let p = c.args.piece.now in
     let offset : c.piece.inside.offset ≡ p.offset = ap (λ (q : FileDataFields). q.offset) c.piece.view_is in
-    let octets : c.as_slice.result.now ≡ p.octets = c.as_slice.ensures.value ∙ ap (λ (q : FileDataFields). q.octets) c.piece.view_is in
+    let octets : c.piece.inside.octets.now ≡ p.octets = ap (λ (q : FileDataFields). q.octets) c.piece.view_is in
     rw octets c.requires.taken.2.some
 
 pub keep-requires-clause-within : goal.keep-requires-clause-within
@@ -37,7 +37,7 @@ keep-requires-clause-within g c =
     let at = c.at-entry.ensures in
     let p = c.args.piece.now in
     let offset : c.piece.inside.offset ≡ p.offset = ap (λ (q : FileDataFields). q.offset) c.piece.view_is in
-    let octets : c.as_slice.result.now ≡ p.octets = c.as_slice.ensures.value ∙ ap (λ (q : FileDataFields). q.octets) c.piece.view_is in
+    let octets : c.piece.inside.octets.now ≡ p.octets = ap (λ (q : FileDataFields). q.octets) c.piece.view_is in
     rw (offset, octets) c.requires.fits
 
 pub keep-requires-clause-pieces : goal.keep-requires-clause-pieces
@@ -69,7 +69,7 @@ keep-requires-clause-room g c =
     let at = c.at-entry.ensures in
     let p = c.args.piece.now in
     let offset : c.piece.inside.offset ≡ p.offset = ap (λ (q : FileDataFields). q.offset) c.piece.view_is in
-    let octets : c.as_slice.result.now ≡ p.octets = c.as_slice.ensures.value ∙ ap (λ (q : FileDataFields). q.octets) c.piece.view_is in
+    let octets : c.piece.inside.octets.now ≡ p.octets = ap (λ (q : FileDataFields). q.octets) c.piece.view_is in
     rw (c.slot-slot.ensures, offset, octets) (room s b c.requires.sound c.requires.booked k r at p c.requires.taken)
 
 pub took-requires-clause-slot : goal.took-requires-clause-slot
@@ -91,7 +91,7 @@ took-requires-clause-reserved g c =
     let at = c.at-entry.ensures in
     let p = c.args.piece.now in
     let offset : c.piece.inside.offset ≡ p.offset = ap (λ (q : FileDataFields). q.offset) c.piece.view_is in
-    let octets : c.as_slice.result.now ≡ p.octets = c.as_slice.ensures.value ∙ ap (λ (q : FileDataFields). q.octets) c.piece.view_is in
+    let octets : c.piece.inside.octets.now ≡ p.octets = ap (λ (q : FileDataFields). q.octets) c.piece.view_is in
     let whole = kept_is s b c.requires.sound c.requires.booked k r at p c.requires.taken in
     let taken = rw whole at (rw (c.slot-slot.ensures, c.ranges-2.ensures, offset, octets) at c.in_ok-taken.ensures.taken) in
     rw c.slot-slot.ensures (reserved s b c.requires.sound c.requires.booked k r at p c.requires.taken _ taken)
@@ -105,8 +105,8 @@ overflow_add-end g c =
     let at = c.at-entry.ensures in
     let p = c.args.piece.now in
     let offset : c.piece.inside.offset ≡ p.offset = ap (λ (q : FileDataFields). q.offset) c.piece.view_is in
-    let octets : c.as_slice.result.now ≡ p.octets = c.as_slice.ensures.value ∙ ap (λ (q : FileDataFields). q.octets) c.piece.view_is in
-    let to : c.piece.inside.offset + c.len.result ≡ p.offset + length p.octets = omega (arith, offset, c.len.ensures, ap (λ (q : FileDataFields). length q.octets) c.piece.view_is) in
+    let octets : c.piece.inside.octets.now ≡ p.octets = ap (λ (q : FileDataFields). q.octets) c.piece.view_is in
+    let to : c.piece.inside.offset + length c.piece.inside.octets.now ≡ p.offset + length p.octets = omega (arith, offset, ap (λ (q : FileDataFields). length q.octets) c.piece.view_is) in
     omega (arith, to, c.requires.fits)
 
 pub store-requires-clause-fits : goal.store-requires-clause-fits
@@ -118,8 +118,8 @@ store-requires-clause-fits g c =
     let at = c.at-entry.ensures in
     let p = c.args.piece.now in
     let offset : c.piece.inside.offset ≡ p.offset = ap (λ (q : FileDataFields). q.offset) c.piece.view_is in
-    let octets : c.as_slice.result.now ≡ p.octets = c.as_slice.ensures.value ∙ ap (λ (q : FileDataFields). q.octets) c.piece.view_is in
-    let to : c.piece.inside.offset + c.len.result ≡ p.offset + length p.octets = omega (arith, offset, c.len.ensures, ap (λ (q : FileDataFields). length q.octets) c.piece.view_is) in
+    let octets : c.piece.inside.octets.now ≡ p.octets = ap (λ (q : FileDataFields). q.octets) c.piece.view_is in
+    let to : c.piece.inside.offset + length c.piece.inside.octets.now ≡ p.offset + length p.octets = omega (arith, offset, ap (λ (q : FileDataFields). length q.octets) c.piece.view_is) in
     rw (at, to, offset) ((can_store s b c.requires.sound c.requires.booked k r at p c.requires.taken))
 
 pub returns-clause-stored : goal.returns-clause-stored
@@ -131,12 +131,12 @@ returns-clause-stored g c =
     let at = c.at-entry.ensures in
     let p = c.args.piece.now in
     let offset : c.piece.inside.offset ≡ p.offset = ap (λ (q : FileDataFields). q.offset) c.piece.view_is in
-    let octets : c.as_slice.result.now ≡ p.octets = c.as_slice.ensures.value ∙ ap (λ (q : FileDataFields). q.octets) c.piece.view_is in
+    let octets : c.piece.inside.octets.now ≡ p.octets = ap (λ (q : FileDataFields). q.octets) c.piece.view_is in
     let whole = kept_is s b c.requires.sound c.requires.booked k r at p c.requires.taken in
     let taken = rw whole at (rw (c.slot-slot.ensures, c.ranges-2.ensures, offset, octets) at c.in_ok-taken.ensures.taken) in
     let state = rw whole at (rw (c.slot-slot.ensures, c.ranges-2.ensures, offset, octets) at c.in_ok-taken.ensures.kept) in
     let ranges = rw whole at (rw (c.slot-slot.ensures, c.ranges-2.ensures, offset, octets) at c.in_ok-taken.ensures.ranges) in
-    let to : c.piece.inside.offset + c.len.result ≡ p.offset + length p.octets = omega (arith, offset, c.len.ensures, ap (λ (q : FileDataFields). length q.octets) c.piece.view_is) in
+    let to : c.piece.inside.offset + length c.piece.inside.octets.now ≡ p.offset + length p.octets = omega (arith, offset, ap (λ (q : FileDataFields). length q.octets) c.piece.view_is) in
     rw (c.store.ensures r at, to, offset) (stored_at s b c.requires.sound c.requires.booked k r at p c.requires.taken (g.S.Filestore.state c.keep.new.store) c.in_ok-taken.taken state ranges taken c.took.new.self)
 
 pub returns-clause-sound : goal.returns-clause-sound
@@ -148,12 +148,12 @@ returns-clause-sound g c =
     let at = c.at-entry.ensures in
     let p = c.args.piece.now in
     let offset : c.piece.inside.offset ≡ p.offset = ap (λ (q : FileDataFields). q.offset) c.piece.view_is in
-    let octets : c.as_slice.result.now ≡ p.octets = c.as_slice.ensures.value ∙ ap (λ (q : FileDataFields). q.octets) c.piece.view_is in
+    let octets : c.piece.inside.octets.now ≡ p.octets = ap (λ (q : FileDataFields). q.octets) c.piece.view_is in
     let whole = kept_is s b c.requires.sound c.requires.booked k r at p c.requires.taken in
     let taken = rw whole at (rw (c.slot-slot.ensures, c.ranges-2.ensures, offset, octets) at c.in_ok-taken.ensures.taken) in
     let state = rw whole at (rw (c.slot-slot.ensures, c.ranges-2.ensures, offset, octets) at c.in_ok-taken.ensures.kept) in
     let ranges = rw whole at (rw (c.slot-slot.ensures, c.ranges-2.ensures, offset, octets) at c.in_ok-taken.ensures.ranges) in
-    let to : c.piece.inside.offset + c.len.result ≡ p.offset + length p.octets = omega (arith, offset, c.len.ensures, ap (λ (q : FileDataFields). length q.octets) c.piece.view_is) in
+    let to : c.piece.inside.offset + length c.piece.inside.octets.now ≡ p.offset + length p.octets = omega (arith, offset, ap (λ (q : FileDataFields). length q.octets) c.piece.view_is) in
     rw (c.store.ensures r at, to, offset) (stored_sound s b c.requires.sound c.requires.booked k r at p c.requires.taken (g.S.Filestore.state c.keep.new.store) c.in_ok-taken.taken state ranges taken c.requires.laws c.took.new.self)
 
 pub returns-clause-booked : goal.returns-clause-booked
@@ -165,12 +165,12 @@ returns-clause-booked g c =
     let at = c.at-entry.ensures in
     let p = c.args.piece.now in
     let offset : c.piece.inside.offset ≡ p.offset = ap (λ (q : FileDataFields). q.offset) c.piece.view_is in
-    let octets : c.as_slice.result.now ≡ p.octets = c.as_slice.ensures.value ∙ ap (λ (q : FileDataFields). q.octets) c.piece.view_is in
+    let octets : c.piece.inside.octets.now ≡ p.octets = ap (λ (q : FileDataFields). q.octets) c.piece.view_is in
     let whole = kept_is s b c.requires.sound c.requires.booked k r at p c.requires.taken in
     let taken = rw whole at (rw (c.slot-slot.ensures, c.ranges-2.ensures, offset, octets) at c.in_ok-taken.ensures.taken) in
     let state = rw whole at (rw (c.slot-slot.ensures, c.ranges-2.ensures, offset, octets) at c.in_ok-taken.ensures.kept) in
     let ranges = rw whole at (rw (c.slot-slot.ensures, c.ranges-2.ensures, offset, octets) at c.in_ok-taken.ensures.ranges) in
-    let to : c.piece.inside.offset + c.len.result ≡ p.offset + length p.octets = omega (arith, offset, c.len.ensures, ap (λ (q : FileDataFields). length q.octets) c.piece.view_is) in
+    let to : c.piece.inside.offset + length c.piece.inside.octets.now ≡ p.offset + length p.octets = omega (arith, offset, ap (λ (q : FileDataFields). length q.octets) c.piece.view_is) in
     rw (c.store.ensures r at, to, offset) (stored_booked s b c.requires.sound c.requires.booked k r at p c.requires.taken (g.S.Filestore.state c.keep.new.store) c.in_ok-taken.taken state ranges taken c.took.new.self (rw c.slot-slot.ensures at c.took.ensures.taken) c.took.ensures.spare)
 
 pub store-requires-clause-within : goal.store-requires-clause-within

@@ -1,4 +1,4 @@
-use Rattle.cfdp_sim.proofs.Fitting.{writable_after, fits_reply}
+use Rattle.cfdp_transactions.proofs.Fitting.{writable_after, fits_reply}
 use Rattle.cfdp_sim.proofs.entity.Entity.tell.Goals as goal
 
 pub invariant_of-self : goal.invariant_of-self

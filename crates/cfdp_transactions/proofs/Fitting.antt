@@ -1,4 +1,4 @@
--- Outcomes that a script can always write.
+-- Outcomes that can always be written.
 use Rattle.std.proofs.Common.{[], ◌∷◌, ap, sym, subst}
 use Rattle.cfdp_transactions.specs.declared.event.Event.{Event}
 use Rattle.cfdp_transactions.specs.declared.reply.Reply.{Reply}
@@ -7,7 +7,7 @@ use Rattle.cfdp_transactions.specs.Needs.{Follows}
 use Rattle.cfdp_transactions.specs.Next.{next}
 use Rattle.cfdp_transactions.specs.World.{World}
 use Rattle.cfdp_transactions.specs.Writable.{IsReadable, FitsReply}
-use Rattle.cfdp_sim.specs.Fitting.{OnlyWritable}
+use Rattle.cfdp_transactions.specs.Fitting.{OnlyWritable}
 
 writable_next : (W : World) (event : Event) → OnlyWritable W → IsReadable event → OnlyWritable (next W event).0
 writable_next W event h r = λ events rs. (h (event ∷ events) (r, rs)).1

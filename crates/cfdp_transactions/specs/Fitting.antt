@@ -1,4 +1,4 @@
--- What is true of each world that a script comes to: whatever comes next that was read, its outcomes can be written.
+-- What is true of each world that an entity comes to: whatever comes next that was read, its outcomes can be written.
 --
 --   OnlyWritable W          from events that may have been read, only outcomes come that fit a Finished PDU
 --                           (CCSDS 727.0-B-5 §5.2.3)

@@ -1,0 +1,45 @@
+-- The machine value of a slot: its pointer alone. Assumes `Logic`.
+use Rattle.std.proofs.Common.{◌≡◌, List, [], ◌∷◌, ◌++◌, refl, ◌∙◌, subst, lit<}
+use Rattle.std.specs.Prelude.{Option, Some, None, IsSome, Bool, not, T}
+use Rattle.cfdp_transactions.specs.World.{World}
+use seplogic.Ra.Ura.{Ura}
+use mir.Syntax.{ty_ptr, ty_struct, tcons, tnil}
+use mir.Val.{Val, vstruct, vcons, vnil, of_list}
+use base.Logic.{ent, emp}
+use base.Fml.{Fml}
+use types.Logic.{Logic, sem}
+use denote.RawPtr.{Ptr, RawPtr, block_ptr, null_ptr, ptr_val}
+use denote.Shadow.{shadow, makes_shadow}
+use denote.Struct.Struct.{Struct}
+use Rattle.core.proofs.cell.Inside.{Good}
+
+pub ptr_typed : (p : Ptr) → Good ty_ptr (ptr_val p)
+ptr_typed (block_ptr b o) = (tt, tt)
+ptr_typed null_ptr = (tt, record { fits = lit< tt })
+
+abbrev pub slot_val : Ptr → Val
+slot_val p = vstruct (vcons (ptr_val p) vnil)
+
+-- what the field owns
+abbrev pub field_own : Ptr → List Val → Fml
+field_own p = (Struct (record { name = []; args = []; types = []; fields = RawPtr ∷ [] })).own_val (p, tt)
+
+pub slot_told : (p : Ptr) (vs : List Val) → shadow (field_own p vs) → vs ≡ slot_val p ∷ []
+slot_told p vs s = s.1.0 ∙ (λ i. vstruct (of_list (s.1.1.0 i ++ [])) ∷ [])
+
+pub slot_made : {M : Type 1} {𝓤 : Ura M} (𝓛 : Logic 𝓤) (p : Ptr) → ent 𝓤 (emp 𝓤) (sem 𝓛 (field_own p (slot_val p ∷ [])))
+slot_made 𝓛 p = makes_shadow 𝓛 (field_own p (slot_val p ∷ [])) (λ _. (tt, (tt, tt))) ((ptr_val p ∷ [], tt), (refl, (refl, tt)))
+
+pub slot_typed : (p : Ptr) → Good (ty_struct [] (tcons ty_ptr tnil)) (slot_val p)
+slot_typed (block_ptr b o) = (tt, (tt, tt))
+slot_typed null_ptr = (tt, (record { fits = lit< tt }, tt))
+
+-- the engine of a slot that has one
+pub engine_of : (e : Option World) → IsSome e → World
+engine_of (Some t) s = t
+engine_of None s = absurd (subst (λ (b : Bool). T (not b)) s tt)
+
+pub engine_is : (e : Option World) (s : IsSome e) → e ≡ Some (engine_of e s)
+unfolding engine_of
+engine_is (Some t) s = refl
+engine_is None s = absurd (subst (λ (b : Bool). T (not b)) s tt)

@@ -1,0 +1,25 @@
+-- A slot may go to another thread, as its engine may. Assumes `Logic`.
+use Rattle.std.specs.Prelude.{Option, Some, None}
+use Rattle.cfdp_transactions.specs.World.{World}
+use Rattle.cfdp_entity.specs.contracts.entity.Entity as T
+use Rattle.cfdp_entity.proofs.entity.Entity.TheSendSync.{the_send}
+use Rattle.std_alloc.proofs.SendSync.{quiet, lies}
+use Rattle.std.proofs.Crossing.{frees}
+use Rattle.cfdp_c.specs.Ownership.{slot_owns, the_heap}
+use Rattle.cfdp_c.specs.contracts.slot.Slot as C
+use base.Shift.{Keyless}
+use denote.Memory.{lone}
+use denote.Param.Send.{IsSend, AllSend, owning_send, struct_send, sendable}
+use denote.RawPtr.{Ptr}
+use denote.Struct.Struct.{exits_of}
+use denote.Struct.Owning.{shape, fields, to}
+use mir.Raw.{raw}
+
+slot-keyless : (p : Ptr) (e : Option World) → Keyless (slot_owns p e)
+slot-keyless p None = tt
+slot-keyless p (Some t) = (lies T.the_row the_send p t, frees.frees the_heap (raw (lone (T.the_row).mir)) p)
+
+pub send : IsSend C.the_row
+send =
+    let O = C.the_type in let all : AllSend (fields O) = (search sendable, tt) in
+    owning_send O all (λ d. slot-keyless d.at d.engine) (λ k. quiet (to O) (exits_of k (fields O)) ((struct_send (shape O) all).leaving k))

@@ -1,0 +1,55 @@
+-- What calls from C answer.
+--   code_of answer      the number of an answer
+--   config_answer       what is answered of a number of the configuration outside its limits
+--   fault_answer        what is answered of octets that are no PDU;  unheard_answer: of any that got no reply
+use Rattle.std.specs.Prelude.{ℕ}
+use Rattle.cfdp_pdus.specs.declared.fault.PduFault.{PduFault}
+use Rattle.cfdp_pdus.specs.declared.fault.PduFault.TheVariants as pdu
+use Rattle.cfdp_transactions.specs.declared.config.ConfigFault.{ConfigFault}
+use Rattle.cfdp_transactions.specs.declared.config.ConfigFault.TheVariants as config
+use Rattle.cfdp_entity.specs.declared.fault.NotHeard.{NotHeard}
+use Rattle.cfdp_entity.specs.declared.fault.NotHeard.TheVariants as unheard
+use Rattle.cfdp_c.specs.declared.answer.Answer.{Answer}
+use Rattle.cfdp_c.specs.declared.answer.Answer.TheVariants as answer
+
+abbrev pub code_of : Answer → ℕ
+code_of answer.Done = 0
+code_of answer.NoEngine = 1
+code_of answer.HasEngine = 2
+code_of answer.Memory = 3
+code_of answer.TooShort = 4
+code_of answer.Nothing = 5
+code_of answer.BadBlocks = 16
+code_of answer.BadCap = 17
+code_of answer.BadChecks = 18
+code_of answer.BadPath = 6
+code_of answer.TooManyPrefixes = 20
+code_of answer.NotOurs = 32
+code_of answer.Truncated = 33
+code_of answer.BadVersion = 34
+code_of answer.CrcNotSupported = 35
+code_of answer.LengthMismatch = 36
+code_of answer.BadDirective = 37
+code_of answer.BadTlv = 38
+code_of answer.RequestTooLong = 39
+
+-- a journal is no part of the engine
+abbrev pub config_answer : ConfigFault → Answer
+config_answer config.BadBlocks = answer.BadBlocks
+config_answer config.BadCap = answer.BadCap
+config_answer config.BadChecks = answer.BadChecks
+config_answer config.BadJournal = answer.BadChecks
+
+abbrev pub fault_answer : PduFault → Answer
+fault_answer pdu.Truncated = answer.Truncated
+fault_answer pdu.BadVersion = answer.BadVersion
+fault_answer pdu.CrcNotSupported = answer.CrcNotSupported
+fault_answer pdu.LengthMismatch = answer.LengthMismatch
+fault_answer pdu.BadDirective = answer.BadDirective
+fault_answer pdu.BadTlv = answer.BadTlv
+fault_answer pdu.RequestTooLong = answer.RequestTooLong
+fault_answer pdu.Memory = answer.Memory
+
+abbrev pub unheard_answer : NotHeard → Answer
+unheard_answer (unheard.Fault fault) = fault_answer fault
+unheard_answer unheard.NotOurs = answer.NotOurs

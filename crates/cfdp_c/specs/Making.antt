@@ -1,0 +1,54 @@
+-- The configuration that C gives.
+--   path_in fields            the path that the octets of a struct spell, where there are so many
+--   protected_by prefixes protected    the protected paths, after more prefixes, or what is wrong with the first bad one
+--   config_by fields protected         the configuration of these numbers, or what is wrong with the first bad one
+--   configured fields prefixes         the whole configuration
+--   Opens fields prefixes     what making an engine does to a handle
+use Rattle.std.specs.Prelude.{◌≡◌, ◌⊎◌, ℕ, ◌==◌, nat_le, if◌then◌else◌, List, [], ◌∷◌, ◌++◌, length, take, Option, Some, None, Result, Ok, Err}
+use Rattle.cfdp_paths.specs.Paths.{Path, path_of}
+use Rattle.cfdp_transactions.specs.Config.{Config, first_fault}
+use Rattle.cfdp_transactions.specs.declared.config.ConfigFault.{ConfigFault}
+use Rattle.cfdp_transactions.specs.World.{World, start}
+use Rattle.cfdp_c.specs.Answers.{code_of, config_answer}
+use Rattle.cfdp_c.specs.declared.answer.Answer.{Answer}
+use Rattle.cfdp_c.specs.declared.answer.Answer.TheVariants.{Done, HasEngine, Memory, BadPath, TooManyPrefixes}
+use Rattle.cfdp_c.specs.declared.fields.ConfigFields.{ConfigFields}
+use Rattle.cfdp_c.specs.declared.fields.PathFields.{PathFields}
+
+abbrev pub path_in : PathFields → Option Path
+path_in fields = if nat_le fields.length 776 then path_of (take fields.length fields.octets) else None
+
+abbrev pub with_path : List Path → Option Path → Result (List Path) Answer
+with_path protected None = Err BadPath
+with_path protected (Some path) = if length protected == 8 then Err TooManyPrefixes else Ok (protected ++ path ∷ [])
+
+abbrev pub and_then : Result (List Path) Answer → (List Path → Result (List Path) Answer) → Result (List Path) Answer
+and_then (Ok protected) next = next protected
+and_then (Err answer) next = Err answer
+
+abbrev pub protected_by : List PathFields → List Path → Result (List Path) Answer
+protected_by [] protected = Ok protected
+protected_by (prefix ∷ prefixes) protected = and_then (with_path protected (path_in prefix)) (protected_by prefixes)
+
+abbrev pub numbers_in : ConfigFields → List Path → Config
+numbers_in fields protected =
+    record { entity = fields.entity; blocks = fields.blocks; cap = fields.cap; checks = fields.checks; journal = 16; prefixes = protected }
+
+abbrev pub config_by : ConfigFields → List Path → Option ConfigFault → Result Config Answer
+config_by fields protected None = Ok (numbers_in fields protected)
+config_by fields protected (Some fault) = Err (config_answer fault)
+
+abbrev pub with_protected : ConfigFields → Result (List Path) Answer → Result Config Answer
+with_protected fields (Ok protected) = config_by fields protected (first_fault fields.blocks fields.cap fields.checks 16)
+with_protected fields (Err answer) = Err answer
+
+abbrev pub configured : ConfigFields → List PathFields → Result Config Answer
+configured fields prefixes = with_protected fields (protected_by prefixes [])
+
+abbrev pub Makes : Result Config Answer → Option World → ℕ → Type 0
+Makes (Err fault) after answer = (after ≡ None) × (answer ≡ code_of fault)
+Makes (Ok config) after answer = (after ≡ Some (start config)) × (answer ≡ code_of Done)
+
+abbrev pub Opens : ConfigFields → List PathFields → Option World → Option World → ℕ → Type 0
+Opens fields prefixes (Some W) after answer = (after ≡ Some W) × (answer ≡ code_of HasEngine)
+Opens fields prefixes None after answer = Makes (configured fields prefixes) after answer ⊎ ((after ≡ None) × (answer ≡ code_of Memory))

@@ -1,0 +1,57 @@
+-- What the calls from C tell of the filestore.
+--   node_fields node          a directory or a file as a struct;  looked F p: what stands at a path
+--   LooksUp path handle old new answer    it is told; or the octets spell no path, nothing stands there, or there is no memory
+--   Copies at octets out written count    a file's octets from a place on, as many as there are and as fit
+--   CopiesFile, ReadsFile     these are copied where the path is a file's
+use Rattle.std.specs.Prelude.{◌≡◌, ◌⊎◌, ℕ, ◌+◌, ◌-◌, min, List, ◌++◌, drop, length, slice_range, Option, Some, None}
+use Rattle.std.specs.Option.{option_map}
+use Rattle.cfdp_paths.specs.Paths.{Path}
+use Rattle.cfdp_actions.specs.Filestore.{Filestore, Node, Directory, File, node_at}
+use Rattle.cfdp_checksum.specs.Checksum.{checksum}
+use Rattle.cfdp_transactions.specs.World.{World}
+use Rattle.cfdp_c.specs.Answers.{code_of}
+use Rattle.cfdp_c.specs.Making.{path_in}
+use Rattle.cfdp_c.specs.Reads.{Found}
+use Rattle.cfdp_c.specs.declared.answer.Answer.TheVariants.{Done, NoEngine, Memory, Nothing, BadPath}
+use Rattle.cfdp_c.specs.declared.fields.EntryFields.{EntryFields}
+use Rattle.cfdp_c.specs.declared.fields.PathFields.{PathFields}
+
+abbrev pub node_fields : Node → EntryFields
+node_fields Directory = record { kind = 2; checksum = 0; size = 0 }
+node_fields (File octets) = record { kind = 1; checksum = checksum octets; size = length octets }
+
+abbrev pub looked : Filestore → Path → Option EntryFields
+looked F p = option_map node_fields (node_at F p)
+
+abbrev pub Looks : Option Path → World → EntryFields → EntryFields → ℕ → Type 0
+Looks None W old new answer = (new ≡ old) × (answer ≡ code_of BadPath)
+Looks (Some path) W old new answer = Found (looked W.filestore path) old new answer
+
+abbrev pub LooksUp : PathFields → Option World → EntryFields → EntryFields → ℕ → Type 0
+LooksUp path None old new answer = (new ≡ old) × (answer ≡ code_of NoEngine)
+LooksUp path (Some W) old new answer = Looks (path_in path) W old new answer ⊎ ((new ≡ old) × (answer ≡ code_of Memory))
+
+-- where the copy begins, and how many octets there are from there on, and fit
+abbrev pub beginning : ℕ → List ℕ → ℕ
+beginning at octets = min at (length octets)
+
+abbrev pub fitting : ℕ → List ℕ → List ℕ → ℕ
+fitting at octets out = min (length octets - beginning at octets) (length out)
+
+abbrev pub Copies : ℕ → List ℕ → List ℕ → List ℕ → ℕ → Type 0
+Copies at octets out written count =
+    (count ≡ fitting at octets out)
+    × (written ≡ slice_range octets (beginning at octets) (beginning at octets + fitting at octets out) ++ drop (fitting at octets out) out)
+
+abbrev pub CopiesFile : Option Node → ℕ → List ℕ → List ℕ → ℕ → ℕ → ℕ → Type 0
+CopiesFile (Some (File octets)) at out written before count answer = Copies at octets out written count × (answer ≡ code_of Done)
+CopiesFile there at out written before count answer = (written ≡ out) × (count ≡ before) × (answer ≡ code_of Nothing)
+
+abbrev pub CopiesPath : Option Path → World → ℕ → List ℕ → List ℕ → ℕ → ℕ → ℕ → Type 0
+CopiesPath None W at out written before count answer = (written ≡ out) × (count ≡ before) × (answer ≡ code_of BadPath)
+CopiesPath (Some path) W at out written before count answer = CopiesFile (node_at W.filestore path) at out written before count answer
+
+abbrev pub ReadsFile : PathFields → Option World → ℕ → List ℕ → List ℕ → ℕ → ℕ → ℕ → Type 0
+ReadsFile path None at out written before count answer = (written ≡ out) × (count ≡ before) × (answer ≡ code_of NoEngine)
+ReadsFile path (Some W) at out written before count answer =
+    CopiesPath (path_in path) W at out written before count answer ⊎ ((written ≡ out) × (count ≡ before) × (answer ≡ code_of Memory))

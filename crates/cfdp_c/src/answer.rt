@@ -1,0 +1,117 @@
+//! What a call from C answers.
+ghost use Rattle.std.specs.Prelude.{◌≡◌};
+ghost use Rattle.cfdp_c.specs.Answers.{code_of, config_answer, fault_answer, unheard_answer};
+
+use cfdp_entity::NotHeard;
+use cfdp_pdus::PduFault;
+use cfdp_transactions::ConfigFault;
+
+/// What a call answers. After any other than `Done` nothing has changed, but for what the call's own text says.
+#[derive(Clone, Copy, Debug, PartialEq, Eq)]
+pub(crate) enum Answer {
+    /// The call was done.
+    Done,
+    /// There is no engine: it was not yet made, or was freed.
+    NoEngine,
+    /// There is an engine already.
+    HasEngine,
+    /// There was no memory.
+    Memory,
+    /// What was asked for does not fit in the buffer.
+    TooShort,
+    /// There is no such thing.
+    Nothing,
+    /// The filestore has not 16 to 65,536 blocks.
+    BadBlocks,
+    /// The cap is above 7,864,320 octets.
+    BadCap,
+    /// The check limit is not 1 to 1,000.
+    BadChecks,
+    /// The octets of a path spell none.
+    BadPath,
+    /// More than eight prefixes are to be protected.
+    TooManyPrefixes,
+    /// The PDU is not for the receiver of a file.
+    NotOurs,
+    /// The octets end before the PDU does.
+    Truncated,
+    /// The version is not 001.
+    BadVersion,
+    /// The PDU says that it has a CRC.
+    CrcNotSupported,
+    /// Octets stand after the data field, or it is shorter than its fixed part.
+    LengthMismatch,
+    /// No directive has this code.
+    BadDirective,
+    /// A TLV field is cut, or its value is not what its type asks for.
+    BadTlv,
+    /// A filestore request has a value of 255 octets, which no response can repeat.
+    RequestTooLong,
+}
+
+impl Answer {
+    /// Its number in C.
+    pub(crate) fn code(self) -> u32
+        ensures { result ≡ code_of self }
+    {
+        match self {
+            Answer::Done => 0,
+            Answer::NoEngine => 1,
+            Answer::HasEngine => 2,
+            Answer::Memory => 3,
+            Answer::TooShort => 4,
+            Answer::Nothing => 5,
+            Answer::BadBlocks => 16,
+            Answer::BadCap => 17,
+            Answer::BadChecks => 18,
+            Answer::BadPath => 6,
+            Answer::TooManyPrefixes => 20,
+            Answer::NotOurs => 32,
+            Answer::Truncated => 33,
+            Answer::BadVersion => 34,
+            Answer::CrcNotSupported => 35,
+            Answer::LengthMismatch => 36,
+            Answer::BadDirective => 37,
+            Answer::BadTlv => 38,
+            Answer::RequestTooLong => 39,
+        }
+    }
+
+    /// What is answered of a number outside its limits. There is no journal behind the calls from C, so its length is always
+    /// within its limits.
+    pub(crate) fn of_config(fault: ConfigFault) -> Answer
+        ensures { result ≡ config_answer fault }
+    {
+        match fault {
+            ConfigFault::BadBlocks => Answer::BadBlocks,
+            ConfigFault::BadCap => Answer::BadCap,
+            ConfigFault::BadChecks | ConfigFault::BadJournal => Answer::BadChecks,
+        }
+    }
+
+    /// What is answered of a fault of reading.
+    fn of_fault(fault: PduFault) -> Answer
+        ensures { result ≡ fault_answer fault }
+    {
+        match fault {
+            PduFault::Truncated => Answer::Truncated,
+            PduFault::BadVersion => Answer::BadVersion,
+            PduFault::CrcNotSupported => Answer::CrcNotSupported,
+            PduFault::LengthMismatch => Answer::LengthMismatch,
+            PduFault::BadDirective => Answer::BadDirective,
+            PduFault::BadTlv => Answer::BadTlv,
+            PduFault::RequestTooLong => Answer::RequestTooLong,
+            PduFault::Memory => Answer::Memory,
+        }
+    }
+
+    /// What is answered of octets that got no reply.
+    pub(crate) fn of_unheard(why: NotHeard) -> Answer
+        ensures { result ≡ unheard_answer why }
+    {
+        match why {
+            NotHeard::Fault(fault) => Answer::of_fault(fault),
+            NotHeard::NotOurs => Answer::NotOurs,
+        }
+    }
+}

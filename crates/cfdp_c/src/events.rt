@@ -1,0 +1,128 @@
+//! The events of an engine: PDUs that came, and events of its own.
+ghost use Rattle.std.specs.Prelude.{◌≡◌};
+ghost use Rattle.cfdp_transactions.specs.declared.event.Event.TheVariants.{Cancel, Check, Step};
+ghost use Rattle.cfdp_c.specs.Calls.{Does, Receives, Takes, named};
+
+use crate::answer::Answer;
+use crate::handle::Handle;
+use crate::reply::ReplyFields;
+use cfdp_entity::NotTaken;
+use cfdp_status::TransactionId;
+use std::alloc::Global;
+
+/// Takes the octets of a PDU.
+#[unsafe(no_mangle)]
+pub extern "C" fn cfdp_receive(
+    alloc: Global,
+    engine: &mut Handle,
+    octets: &[u8],
+    reply: &mut ReplyFields,
+) -> u32
+    ensures { Receives octets.now engine.old.slot.engine engine.new.slot.engine reply.old reply.new result }
+{
+    let Some(mut entity) = engine.take(alloc) else {
+        return Answer::NoEngine.code();
+    };
+    let answer = match entity.receive(alloc, octets) {
+        Ok((id, told)) => {
+            *reply = ReplyFields::of(id, &told);
+            Answer::Done
+        }
+        Err(why) => Answer::of_unheard(why),
+    };
+    engine.put(entity);
+    answer.code()
+}
+
+/// The next item of a transaction is performed.
+#[unsafe(no_mangle)]
+pub extern "C" fn cfdp_step(
+    alloc: Global,
+    engine: &mut Handle,
+    source: u64,
+    number: u64,
+    reply: &mut ReplyFields,
+) -> u32
+    ensures { Does (Step (named source number)) engine.old.slot.engine engine.new.slot.engine reply.old reply.new result }
+{
+    let Some(mut entity) = engine.take(alloc) else {
+        return Answer::NoEngine.code();
+    };
+    let id = TransactionId { source, number };
+    *reply = ReplyFields::of(id, &entity.step(id));
+    engine.put(entity);
+    Answer::Done.code()
+}
+
+/// A transaction is cancelled.
+#[unsafe(no_mangle)]
+pub extern "C" fn cfdp_cancel(
+    alloc: Global,
+    engine: &mut Handle,
+    source: u64,
+    number: u64,
+    reply: &mut ReplyFields,
+) -> u32
+    ensures { Does (Cancel (named source number)) engine.old.slot.engine engine.new.slot.engine reply.old reply.new result }
+{
+    let Some(mut entity) = engine.take(alloc) else {
+        return Answer::NoEngine.code();
+    };
+    let id = TransactionId { source, number };
+    *reply = ReplyFields::of(id, &entity.cancel(id));
+    engine.put(entity);
+    Answer::Done.code()
+}
+
+/// A transaction's check timer expired.
+#[unsafe(no_mangle)]
+pub extern "C" fn cfdp_check(
+    alloc: Global,
+    engine: &mut Handle,
+    source: u64,
+    number: u64,
+    reply: &mut ReplyFields,
+) -> u32
+    ensures { Does (Check (named source number)) engine.old.slot.engine engine.new.slot.engine reply.old reply.new result }
+{
+    let Some(mut entity) = engine.take(alloc) else {
+        return Answer::NoEngine.code();
+    };
+    let id = TransactionId { source, number };
+    *reply = ReplyFields::of(id, &entity.check(id));
+    engine.put(entity);
+    Answer::Done.code()
+}
+
+/// The outcome of a transaction is taken, and its Finished PDU written into `out`, where it is to be sent.
+#[unsafe(no_mangle)]
+pub extern "C" fn cfdp_take(
+    alloc: Global,
+    engine: &mut Handle,
+    source: u64,
+    number: u64,
+    out: &mut [u8],
+    count: &mut usize,
+    reply: &mut ReplyFields,
+) -> u32
+    ensures { Takes (named source number) engine.old.slot.engine engine.new.slot.engine out.old out.new count.old count.new reply.old reply.new result }
+{
+    let Some(mut entity) = engine.take(alloc) else {
+        return Answer::NoEngine.code();
+    };
+    let id = TransactionId { source, number };
+    let answer = match entity.take(alloc, id, out) {
+        Ok((told, written)) => {
+            *reply = ReplyFields::of(id, &told);
+            *count = written;
+            Answer::Done
+        }
+        Err(NotTaken::TooShort(needed)) => {
+            *count = needed;
+            Answer::TooShort
+        }
+        Err(NotTaken::Memory) => Answer::Memory,
+    };
+    engine.put(entity);
+    answer.code()
+}

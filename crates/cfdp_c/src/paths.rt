@@ -1,0 +1,25 @@
+//! Paths that C gives.
+ghost use Rattle.std.specs.Prelude.{◌≡◌, ◌≢◌, None, Some, IfOk, IfErr};
+ghost use Rattle.cfdp_c.specs.Making.{path_in};
+ghost use Rattle.cfdp_c.specs.declared.answer.Answer.TheVariants.{BadPath, Memory};
+
+use crate::answer::Answer;
+use crate::fields::{PATH_OCTETS, PathFields};
+use cfdp_paths::{Path, PathFault};
+use std::alloc::Global;
+
+/// The path that is given as a struct.
+pub(crate) fn path_of(alloc: Global, fields: &PathFields) -> Result<Path, Answer>
+    ensures ok { IfOk result (λ path. path_in fields.now ≡ Some path) }
+    ensures err { IfErr result (λ answer. answer ≢ Memory → (answer ≡ BadPath) × (path_in fields.now ≡ None)) }
+{
+    let length = fields.length as usize;
+    if length > PATH_OCTETS {
+        return Err(Answer::BadPath);
+    }
+    match Path::parse(alloc, &fields.octets[..length]) {
+        Ok(path) => Ok(path),
+        Err(PathFault::Memory) => Err(Answer::Memory),
+        Err(_) => Err(Answer::BadPath),
+    }
+}

@@ -1,0 +1,217 @@
+//! What an engine tells of its transactions and its blocks. Nothing here takes memory or changes anything.
+ghost use Rattle.std.specs.Prelude.{◌≡◌};
+ghost use Rattle.std.specs.Option.{option_map};
+ghost use Rattle.cfdp_transactions.specs.Engine.{read_of};
+ghost use Rattle.cfdp_transactions.specs.Entry.{gaps};
+ghost use Rattle.cfdp_transactions.specs.World.{next_runnable};
+ghost use Rattle.cfdp_c.specs.Calls.{named};
+ghost use Rattle.cfdp_c.specs.Reads.{Reads, blocks_fields, gap_fields, gap_of, grant_fields, name_fields, phase_fields};
+
+use crate::answer::Answer;
+use crate::fields::{BlocksFields, GapFields, GrantFields, NameFields, PhaseFields};
+use crate::handle::Handle;
+use cfdp_actions::Filestore;
+use cfdp_status::TransactionId;
+use cfdp_transactions::{Core, Phase};
+use cfdp_tree::TreeStore;
+use std::alloc::Global;
+
+/// A phase as a struct.
+fn phase_fields(phase: Phase) -> PhaseFields
+    ensures { result ≡ phase_fields phase }
+{
+    let (phase, detail) = match phase {
+        Phase::Receiving => (1, 0),
+        Phase::Awaiting(checks) => (2, checks),
+        Phase::Executing(item) => (3, u32::from(item)),
+        Phase::Refused => (4, 0),
+        Phase::Done => (5, 0),
+        Phase::Ended(condition) => (6, u32::from(condition)),
+    };
+    PhaseFields { phase, detail }
+}
+
+/// The gap of this place in a transaction's file.
+fn gap_at(core: &Core<TreeStore>, id: TransactionId, place: usize) -> Option<GapFields>
+    ensures { result ≡ option_map gap_fields (gap_of (read_of gaps core.now.world id) place) }
+{
+    let gaps = core.gaps(id)?;
+    let (start, end) = *gaps.as_slice().get(place)?;
+    Some(GapFields { start, end })
+}
+
+/// The first transaction, in order of admission, whose items are being performed.
+#[unsafe(no_mangle)]
+pub extern "C" fn cfdp_next_runnable(
+    alloc: Global,
+    engine: &mut Handle,
+    transaction: &mut NameFields,
+) -> u32
+    ensures read { Reads (λ W. option_map name_fields (next_runnable W.table)) engine.old.slot.engine transaction.old transaction.new result }
+    ensures kept { engine.new.slot.engine ≡ engine.old.slot.engine }
+{
+    let Some(entity) = engine.take(alloc) else {
+        return Answer::NoEngine.code();
+    };
+    let answer = match entity.core().next_runnable() {
+        None => Answer::Nothing,
+        Some(id) => {
+            *transaction = NameFields {
+                source: id.source,
+                number: id.number,
+            };
+            Answer::Done
+        }
+    };
+    engine.put(entity);
+    answer.code()
+}
+
+/// How far a transaction is.
+#[unsafe(no_mangle)]
+pub extern "C" fn cfdp_phase(
+    alloc: Global,
+    engine: &mut Handle,
+    source: u64,
+    number: u64,
+    phase: &mut PhaseFields,
+) -> u32
+    ensures read { Reads (λ W. option_map phase_fields (read_of (λ e. e.phase) W (named source number))) engine.old.slot.engine phase.old phase.new result }
+    ensures kept { engine.new.slot.engine ≡ engine.old.slot.engine }
+{
+    let Some(entity) = engine.take(alloc) else {
+        return Answer::NoEngine.code();
+    };
+    let answer = match entity.core().phase(TransactionId { source, number }) {
+        None => Answer::Nothing,
+        Some(told) => {
+            *phase = phase_fields(told);
+            Answer::Done
+        }
+    };
+    engine.put(entity);
+    answer.code()
+}
+
+/// What was granted to a transaction.
+#[unsafe(no_mangle)]
+pub extern "C" fn cfdp_grant(
+    alloc: Global,
+    engine: &mut Handle,
+    source: u64,
+    number: u64,
+    grant: &mut GrantFields,
+) -> u32
+    ensures read { Reads (λ W. option_map grant_fields (read_of (λ e. (e.blocks_granted, e.steps_granted)) W (named source number))) engine.old.slot.engine grant.old grant.new result }
+    ensures kept { engine.new.slot.engine ≡ engine.old.slot.engine }
+{
+    let Some(entity) = engine.take(alloc) else {
+        return Answer::NoEngine.code();
+    };
+    let answer = match entity.core().grant(TransactionId { source, number }) {
+        None => Answer::Nothing,
+        Some((blocks, steps)) => {
+            *grant = GrantFields { blocks, steps };
+            Answer::Done
+        }
+    };
+    engine.put(entity);
+    answer.code()
+}
+
+/// The blocks that a transaction took less those that it gave back.
+#[unsafe(no_mangle)]
+pub extern "C" fn cfdp_blocks_spent(
+    alloc: Global,
+    engine: &mut Handle,
+    source: u64,
+    number: u64,
+    blocks: &mut i64,
+) -> u32
+    ensures read { Reads (λ W. read_of (λ e. e.blocks_spent) W (named source number)) engine.old.slot.engine blocks.old blocks.new result }
+    ensures kept { engine.new.slot.engine ≡ engine.old.slot.engine }
+{
+    let Some(entity) = engine.take(alloc) else {
+        return Answer::NoEngine.code();
+    };
+    let answer = match entity.core().blocks_spent(TransactionId { source, number }) {
+        None => Answer::Nothing,
+        Some(spent) => {
+            *blocks = spent;
+            Answer::Done
+        }
+    };
+    engine.put(entity);
+    answer.code()
+}
+
+/// The steps that a transaction spent.
+#[unsafe(no_mangle)]
+pub extern "C" fn cfdp_steps_spent(
+    alloc: Global,
+    engine: &mut Handle,
+    source: u64,
+    number: u64,
+    steps: &mut u32,
+) -> u32
+    ensures read { Reads (λ W. read_of (λ e. e.steps_spent) W (named source number)) engine.old.slot.engine steps.old steps.new result }
+    ensures kept { engine.new.slot.engine ≡ engine.old.slot.engine }
+{
+    let Some(entity) = engine.take(alloc) else {
+        return Answer::NoEngine.code();
+    };
+    let answer = match entity.core().steps_spent(TransactionId { source, number }) {
+        None => Answer::Nothing,
+        Some(spent) => {
+            *steps = spent;
+            Answer::Done
+        }
+    };
+    engine.put(entity);
+    answer.code()
+}
+
+/// The free blocks, and the spare ones.
+#[unsafe(no_mangle)]
+pub extern "C" fn cfdp_blocks(alloc: Global, engine: &mut Handle, blocks: &mut BlocksFields) -> u32
+    ensures read { Reads blocks_fields engine.old.slot.engine blocks.old blocks.new result }
+    ensures kept { engine.new.slot.engine ≡ engine.old.slot.engine }
+{
+    let Some(entity) = engine.take(alloc) else {
+        return Answer::NoEngine.code();
+    };
+    let core = entity.core();
+    *blocks = BlocksFields {
+        free: core.store().free(),
+        spare: core.spare(),
+    };
+    engine.put(entity);
+    Answer::Done.code()
+}
+
+/// What is missing of a transaction's file: the gap of this place, from 0.
+#[unsafe(no_mangle)]
+pub extern "C" fn cfdp_gap(
+    alloc: Global,
+    engine: &mut Handle,
+    source: u64,
+    number: u64,
+    place: usize,
+    gap: &mut GapFields,
+) -> u32
+    ensures read { Reads (λ W. option_map gap_fields (gap_of (read_of gaps W (named source number)) place)) engine.old.slot.engine gap.old gap.new result }
+    ensures kept { engine.new.slot.engine ≡ engine.old.slot.engine }
+{
+    let Some(entity) = engine.take(alloc) else {
+        return Answer::NoEngine.code();
+    };
+    let answer = match gap_at(entity.core(), TransactionId { source, number }, place) {
+        None => Answer::Nothing,
+        Some(found) => {
+            *gap = found;
+            Answer::Done
+        }
+    };
+    engine.put(entity);
+    answer.code()
+}

@@ -1,0 +1,36 @@
+-- The outcome that an entity tells of before it is taken can be written.
+use Rattle.std.proofs.Common.{◌≡◌, ℕ, [], ◌∷◌, Bool, true, false, Option, Some, sym, subst}
+use Rattle.std.specs.Prelude.{⊤, None, if◌then◌else◌, remove}
+use Rattle.std.specs.Option.{option_map}
+use Rattle.cfdp_status.specs.declared.transaction.TransactionId.{TransactionId}
+use Rattle.cfdp_transactions.specs.declared.outcome.Outcome.{Outcome}
+use Rattle.cfdp_transactions.specs.declared.reply.Reply.{Reply}
+use Rattle.cfdp_transactions.specs.declared.reply.Reply.TheVariants as replied
+use Rattle.cfdp_transactions.specs.declared.event.Event.TheVariants.{Take}
+use Rattle.cfdp_transactions.specs.Entry.{Entry, is_live}
+use Rattle.cfdp_transactions.specs.World.{World, index_of, entry_of}
+use Rattle.cfdp_transactions.specs.Outcome.{outcome_of}
+use Rattle.cfdp_transactions.specs.Ending.{taken_out}
+use Rattle.cfdp_transactions.specs.Engine.{outcome_when_over, where_any, outcome_in}
+use Rattle.cfdp_transactions.specs.Writable.{FitsReply, IsWritable}
+use Rattle.cfdp_transactions.specs.Fitting.{OnlyWritable}
+
+abbrev Fits : Option Outcome → Type 0
+Fits None = ⊤
+Fits (Some outcome) = IsWritable outcome
+
+abbrev answered : Bool → World → World → Outcome → World × Reply
+answered live W V o = if live then (W, replied.Idle) else (V, replied.Taken o)
+
+fits_by : (live : Bool) (W V : World) (o : Outcome) →
+    FitsReply (answered live W V o).1 → Fits (if live then None else Some o)
+fits_by true W V o fits = tt
+fits_by false W V o fits = fits
+
+fits_of : (W : World) (k : ℕ) (e : Option Entry) → FitsReply (taken_out W k e).1 → Fits (where_any (option_map outcome_when_over e))
+fits_of W k None fits = tt
+fits_of W k (Some e) fits = fits_by (is_live e.phase) W (record W { table = remove W.table k }) (outcome_of e) fits
+
+-- an outcome can be written
+pub some_fits : (W : World) (id : TransactionId) (o : Outcome) → OnlyWritable W → Some o ≡ outcome_in W id → IsWritable o
+some_fits W id o only some = subst Fits (sym some) (fits_of W (index_of W id) (entry_of W id) (only (Take id ∷ []) (tt, tt)).0)

@@ -1,0 +1,36 @@
+-- What octets that came bring to a receiving entity (CCSDS 727.0-B-5 §5.1 to §5.3).
+--   heard octets            the event of the PDU that they spell, or why there is none
+--   IsUnheard octets why    why there was no reply: that there is none, or want of memory
+--   MayWantMemory octets    they spell a Metadata PDU or a Finished PDU: only these are copied
+use Rattle.std.specs.Prelude.{◌≡◌, ◌⊎◌, ⊤, ℕ, List, Option, Some, None, Result, Ok, Err}
+use Rattle.cfdp_pdus.specs.First.{pdu_at}
+use Rattle.cfdp_pdus.specs.declared.pdu.Pdu.{Pdu}
+use Rattle.cfdp_pdus.specs.declared.pdu.Pdu.TheVariants as pdus
+use Rattle.cfdp_pdus.specs.declared.fault.PduFault.{PduFault}
+use Rattle.cfdp_pdus.specs.declared.fault.PduFault.TheVariants.{Memory}
+use Rattle.cfdp_transactions.specs.Events.{event_of}
+use Rattle.cfdp_transactions.specs.declared.event.Event.{Event}
+use Rattle.cfdp_entity.specs.declared.fault.NotHeard.{NotHeard}
+use Rattle.cfdp_entity.specs.declared.fault.NotHeard.TheVariants.{Fault, NotOurs}
+
+abbrev pub brought : Option Event → Result Event NotHeard
+brought None = Err NotOurs
+brought (Some event) = Ok event
+
+abbrev pub heard_in : Result Pdu PduFault → Result Event NotHeard
+heard_in (Ok pdu) = brought (event_of pdu)
+heard_in (Err fault) = Err (Fault fault)
+
+abbrev pub heard : List ℕ → Result Event NotHeard
+heard octets = heard_in (pdu_at octets)
+
+abbrev pub IsCopied : Result Pdu PduFault → Type 0
+IsCopied (Ok (pdus.Metadata header metadata)) = ⊤
+IsCopied (Ok (pdus.Finished header finished)) = ⊤
+IsCopied read = ⊥
+
+abbrev pub MayWantMemory : List ℕ → Type 0
+MayWantMemory octets = IsCopied (pdu_at octets)
+
+abbrev pub IsUnheard : List ℕ → NotHeard → Type 0
+IsUnheard octets why = (heard octets ≡ Err why) ⊎ ((why ≡ Fault Memory) × MayWantMemory octets)

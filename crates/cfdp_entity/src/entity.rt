@@ -1,0 +1,257 @@
+//! The receiving entity.
+ghost use Rattle.std.specs.Prelude.{◌≡◌, ◌<◌, ◌++◌, ℕ, List, drop, length, true, IsFalse, IfOk, IfErr, OnErr, Ok, Err, Some, None};
+ghost use Rattle.cfdp_actions.specs.Filestore.{File, node_at};
+ghost use Rattle.cfdp_pdus.specs.First.{pdu_at};
+ghost use Rattle.cfdp_pdus.specs.Sound.{IsNoFileData};
+ghost use Rattle.cfdp_pdus.specs.Canonical.{IsHeader};
+ghost use Rattle.cfdp_pdus.specs.declared.fault.PduFault.TheVariants.{Memory as OutOfMemory};
+ghost use Rattle.cfdp_transactions.specs.Entry.{gaps, id_of};
+ghost use Rattle.cfdp_transactions.specs.Engine.{read_of};
+ghost use Rattle.cfdp_transactions.specs.Events.{about};
+ghost use Rattle.cfdp_transactions.specs.declared.event.Event.{Event as EventOf};
+ghost use Rattle.cfdp_transactions.specs.declared.event.Event.TheVariants.{Data as DataCame, Cancel as CancelCame, Check as CheckCame, Step as StepCame, Take as TakeCame};
+ghost use Rattle.cfdp_transactions.specs.Fitting.{OnlyWritable, only_writable_prop};
+ghost use Rattle.cfdp_transactions.specs.Next.{next};
+ghost use Rattle.cfdp_transactions.specs.World.{start};
+ghost use Rattle.cfdp_transactions.specs.Needs.{Follows, may_want_memory};
+ghost use Rattle.cfdp_transactions.specs.Writable.{FitsReply, IsReadable, IsWritable};
+ghost use Rattle.cfdp_transactions.specs.Books.{IsAnswered};
+ghost use Rattle.cfdp_entity.specs.Hearing.{IsUnheard, heard};
+ghost use Rattle.cfdp_entity.specs.Sending.{IsUntaken, finished_octets, sent};
+ghost use Rattle.cfdp_entity.specs.declared.fault.NotHeard.TheVariants.{Fault};
+ghost use Rattle.cfdp_entity.specs.declared.fault.NotTaken.TheVariants.{Memory as NoMemory, TooShort};
+
+use crate::{NotHeard, NotTaken};
+use cfdp_paths::Memory;
+use cfdp_pdus::{Header, PduFault, Piece, WriteFault, read_pdu, read_piece, write_finished};
+use cfdp_status::TransactionId;
+use cfdp_transactions::{Config, Core, Event, Outcome, Reply, event_of, laws};
+use cfdp_tree::TreeStore;
+use std::alloc::{AllocError, Global};
+use std::marker::Model;
+
+/// The transaction that a PDU belongs to.
+fn id_of(header: &Header) -> TransactionId
+    ensures { result ≡ id_of header.now }
+{
+    TransactionId {
+        source: header.source,
+        number: header.number,
+    }
+}
+
+/// The transaction that an event is about.
+fn about(event: &Event) -> TransactionId
+    ensures { result ≡ about event.now }
+{
+    match event {
+        Event::Metadata(header, _) | Event::Data(header, _) | Event::Eof(header, _) => {
+            id_of(header)
+        }
+        Event::Step(id) | Event::Cancel(id) | Event::Check(id) | Event::Take(id) => *id,
+    }
+}
+
+/// A receiving entity (CCSDS 727.0-B-5 §4.6) over a filestore inside an arena.
+///
+/// Contracts see its world. All its events come from PDUs that were read, so each of its outcomes fits a Finished PDU.
+#[derive(Drop)]
+pub struct Entity {
+    core: Core<TreeStore>,
+    ghost writable: { OnlyWritable core.world } by { only_writable_prop core.world },
+    ghost thrifty: { core.takes_no_memory ≡ true },
+}
+
+impl Model for Entity {
+    ghost use Rattle.cfdp_transactions.specs.World.{World};
+    ghost use Rattle.cfdp_transactions.specs.Engine.{nodes_code};
+    ghost use Rattle.std.specs.Coded.{codes};
+
+    ghost Value = { World };
+
+    ghost coded = { Prim.hlevel (codes, nodes_code) };
+
+    ghost view = { λ e. e.core.world };
+}
+
+impl Entity {
+    /// An entity that has just begun, over an empty filestore.
+    ///
+    /// # Errors
+    ///
+    /// Want of memory. Cost: 128 octets for each block of the filestore, the heads of its index, and the room of 64
+    /// transactions.
+    pub fn new(alloc: Global, config: Config) -> Result<Entity, Memory>
+        ensures { IfOk result (λ entity. entity ≡ start config) }
+    {
+        laws::outcomes_fit();
+        let store = TreeStore::new(alloc, config.blocks())?;
+        let core = Core::new(alloc, config, store)?;
+        Ok(Entity { core })
+    }
+
+    /// The core, for what it tells of transactions, and for its filestore. Costs nothing.
+    pub fn core(&self) -> &Core<TreeStore>
+        ensures { result.now.world ≡ self.now }
+    {
+        &self.core
+    }
+
+    /// Takes an event that may have come from a PDU that was read.
+    fn apply(&mut self, event: &Event) -> Reply
+        requires { IsReadable event.now }
+        ensures follows { Follows self.old event.now result self.new }
+        ensures fits { FitsReply result }
+        ensures answered { IsFalse (may_want_memory true event.now) → IsAnswered result }
+    {
+        self.core.apply(event)
+    }
+
+    /// Takes an event that never wants memory.
+    fn tell(&mut self, event: &Event) -> Reply
+        requires readable { IsReadable event.now }
+        requires lean { IsFalse (may_want_memory true event.now) }
+        ensures { next self.old event.now ≡ (self.new, result) }
+    {
+        self.apply(event)
+    }
+
+    /// The next item of a transaction is performed (CCSDS 727.0-B-5 §4.9): the file is installed, or a request is performed.
+    /// Takes no memory. Cost: what the request says.
+    pub fn step(&mut self, id: TransactionId) -> Reply
+        ensures { next self.old (StepCame id) ≡ (self.new, result) }
+    {
+        self.tell(&Event::Step(id))
+    }
+
+    /// A transaction is cancelled (§4.11). Takes no memory.
+    pub fn cancel(&mut self, id: TransactionId) -> Reply
+        ensures { next self.old (CancelCame id) ≡ (self.new, result) }
+    {
+        self.tell(&Event::Cancel(id))
+    }
+
+    /// A transaction's check timer expired (§4.6.4). Takes no memory.
+    pub fn check(&mut self, id: TransactionId) -> Reply
+        ensures { next self.old (CheckCame id) ≡ (self.new, result) }
+    {
+        self.tell(&Event::Check(id))
+    }
+
+    /// Takes a File Data PDU, where its octets lie.
+    fn keep(&mut self, header: &Header, piece: &Piece<'_>) -> Reply
+        requires { IsHeader header.now }
+        ensures { next self.old (DataCame header.now piece.now) ≡ (self.new, result) }
+    {
+        self.core.file_data(header, piece)
+    }
+
+    /// Takes a PDU that is no File Data PDU.
+    fn hear(&mut self, alloc: Global, octets: &[u8]) -> Result<(TransactionId, Reply), NotHeard>
+        requires { IsNoFileData (pdu_at octets.now) }
+        ensures ok { IfOk result (λ told. (event : EventOf) × (heard octets.now ≡ Ok event) × (told.0 ≡ about event) × (next self.old event ≡ (self.new, told.1))) }
+        ensures err { IfErr result (IsUnheard octets.now) }
+        ensures unchanged { OnErr result (self.new ≡ self.old) }
+    {
+        laws::what_was_read_is_readable();
+        let pdu = match read_pdu(alloc, octets) {
+            Ok(pdu) => pdu,
+            Err(fault) => return Err(NotHeard::Fault(fault)),
+        };
+        let Ok(event) = event_of(pdu) else {
+            return Err(NotHeard::NotOurs);
+        };
+        let id = about(&event);
+        match self.apply(&event) {
+            Reply::Memory => Err(NotHeard::Fault(PduFault::Memory)),
+            reply => Ok((id, reply)),
+        }
+    }
+
+    /// Takes the octets of a PDU: whose transaction it is about, and the reply.
+    ///
+    /// # Errors
+    ///
+    /// Why the octets bring no event; or want of memory, for a Metadata PDU or a Finished PDU alone. The entity is as before.
+    ///
+    /// Cost: a pass over the octets, and that of the event. The octets of a File Data PDU are copied once, into the filestore.
+    pub fn receive(
+        &mut self,
+        alloc: Global,
+        octets: &[u8],
+    ) -> Result<(TransactionId, Reply), NotHeard>
+        ensures ok { IfOk result (λ told. (event : EventOf) × (heard octets.now ≡ Ok event) × (told.0 ≡ about event) × (next self.old event ≡ (self.new, told.1))) }
+        ensures err { IfErr result (IsUnheard octets.now) }
+        ensures unchanged { OnErr result (self.new ≡ self.old) }
+    {
+        let Some((header, piece)) = read_piece(octets) else {
+            return self.hear(alloc, octets);
+        };
+        if header.toward_sender {
+            return Err(NotHeard::NotOurs);
+        }
+        Ok((id_of(&header), self.keep(&header, &piece)))
+    }
+
+    /// The octets of the Finished PDU that is to be sent of an outcome, if any is.
+    fn finished_octets(alloc: Global, outcome: &Outcome) -> Result<Vec<u8>, Memory>
+        requires { IsWritable outcome.now }
+        ensures { IfOk result (λ octets. octets.items ≡ finished_octets outcome.now) }
+    {
+        let mut octets = Vec::new(alloc);
+        if !outcome.send {
+            return Ok(octets);
+        }
+        match write_finished(&outcome.header, &outcome.finished, &mut octets) {
+            Ok(()) => Ok(octets),
+            Err(WriteFault::Memory) => Err(AllocError),
+            Err(WriteFault::TooLong) => unreachable!(),
+        }
+    }
+
+    /// The octets that are to be sent of a transaction's outcome once it is taken: none where there is no outcome.
+    fn octets_to_send(&self, alloc: Global, id: TransactionId) -> Result<Vec<u8>, Memory>
+        ensures { IfOk result (λ octets. octets.items ≡ sent (next self.now (TakeCame id)).1) }
+    {
+        match self.core.outcome(id)? {
+            None => Ok(Vec::new(alloc)),
+            Some(outcome) => Entity::finished_octets(alloc, &outcome),
+        }
+    }
+
+    /// The outcome of a transaction is taken, with which it is forgotten (CCSDS 727.0-B-5 §4.6.1): the reply, and how many
+    /// octets at the beginning of `out` are the Finished PDU, none where it is not to be sent or there is no outcome. The
+    /// octets behind them are as before.
+    ///
+    /// # Errors
+    ///
+    /// [`NotTaken::TooShort`] where the Finished PDU does not fit in `out`, with its length, and want of memory. The entity and
+    /// `out` are as before.
+    ///
+    /// Cost: three copies of the requests' names.
+    pub fn take(
+        &mut self,
+        alloc: Global,
+        id: TransactionId,
+        out: &mut [u8],
+    ) -> Result<(Reply, usize), NotTaken>
+        ensures ok { IfOk result (λ taken. next self.old (TakeCame id) ≡ (self.new, taken.0)) }
+        ensures len { IfOk result (λ taken. taken.1 ≡ length (sent taken.0)) }
+        ensures written { IfOk result (λ taken. out.new ≡ sent taken.0 ++ drop (length (sent taken.0)) out.old) }
+        ensures short { IfErr result (IsUntaken self.old id out.old) }
+        ensures unchanged { OnErr result (self.new ≡ self.old) }
+        ensures unwritten { OnErr result (out.new ≡ out.old) }
+    {
+        let octets = self.octets_to_send(alloc, id)?;
+        if out.len() < octets.len() {
+            return Err(NotTaken::TooShort(octets.len()));
+        }
+        match self.apply(&Event::Take(id)) {
+            Reply::Memory => Err(NotTaken::Memory),
+            reply => {
+                out[..octets.len()].copy_from_slice(&octets);
+                Ok((reply, octets.len()))
+            }
+        }
+    }
+}

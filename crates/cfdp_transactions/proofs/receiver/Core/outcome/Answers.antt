@@ -1,0 +1,28 @@
+use Rattle.std.proofs.Common.{◌≡◌, ◌∙◌, refl, sym, ap, true, false}
+use Rattle.std.specs.Prelude.{Some}
+use Rattle.cfdp_transactions.specs.Entry.{is_live}
+use Rattle.cfdp_transactions.specs.Engine.{outcome_when_over}
+use Rattle.cfdp_transactions.specs.declared.outcome.Outcome.{Outcome}
+use Rattle.cfdp_transactions.proofs.RowWorld.{read_in}
+use Rattle.cfdp_transactions.proofs.receiver.Core.outcome.Goals as goal
+
+pub returns-in_default : goal.returns-in_default
+returns-in_default g c =
+    let F = (g.S.Filestore.state c.self.inside.store).filestore in
+    let rows = c.self.inside.books.table in
+    rw (← c.self.view_is, read_in outcome_when_over F c.args.id rows, ← c.get.ensures, c.in_default.is) refl
+
+pub returns-then-is_live : goal.returns-then-is_live
+returns-then-is_live g c =
+    let F = (g.S.Filestore.state c.self.inside.store).filestore in
+    let rows = c.self.inside.books.table in
+    let live : is_live c.in-Some.entry.now.phase ≡ true = rw c.phase.ensures at (sym c.is_live.ensures ∙ c.if-is_live.true) in
+    rw (← c.self.view_is, read_in outcome_when_over F c.args.id rows, ← c.get.ensures, c.in-Some.is, live) refl
+
+pub returns : goal.returns
+returns g c =
+    let F = (g.S.Filestore.state c.self.inside.store).filestore in
+    let rows = c.self.inside.books.table in
+    let over : is_live c.in-Some.entry.now.phase ≡ false = rw c.phase.ensures at (sym c.is_live.ensures ∙ c.if-is_live.false) in
+    rw (← c.self.view_is, read_in outcome_when_over F c.args.id rows, ← c.get.ensures, c.in-Some.is, over)
+    (ap (λ (outcome : Outcome). Some outcome) (c.in_ok-make_outcome.ensures F))

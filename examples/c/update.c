@@ -1,0 +1,169 @@
+/* The update of a file on the spacecraft, from octets in this source: each reply is printed, and then the file as it was delivered.
+ * The events are those of examples/update.replay. */
+#include "../../include/cfdp.h"
+#include <inttypes.h>
+#include <stdio.h>
+
+#define PDU(name, ...) static const uint8_t name[] = {__VA_ARGS__}
+
+/* Transaction 1/1: create directory 'app', create file 'app/prog' (the old image). It brings no file. */
+PDU(list_metadata, 0x24, 0x00, 0x1b, 0x00, 0x01, 0x01, 0x02, 0x07, 0x40, 0x00, 0x00, 0x00, 0x00, 0x00, 0x00, 0x00, 0x05, 0x50, 0x03, 'a', 'p', 'p',
+    0x00, 0x0a, 0x00, 0x08, 'a', 'p', 'p', '/', 'p', 'r', 'o', 'g');
+PDU(list_eof, 0x24, 0x00, 0x0a, 0x00, 0x01, 0x01, 0x02, 0x04, 0x00, 0x00, 0x00, 0x00, 0x00, 0x00, 0x00, 0x00, 0x00);
+/* Transaction 1/2: a file of 24 octets for 'app/new'; delete file 'app/prog', rename 'app/new' to 'app/prog'. */
+PDU(file_metadata, 0x24, 0x00, 0x34, 0x00, 0x01, 0x02, 0x02, 0x07, 0x40, 0x00, 0x00, 0x00, 0x18, 0x05, 'i', 'm', 'a', 'g', 'e', 0x07, 'a', 'p', 'p',
+    '/', 'n', 'e', 'w', 0x00, 0x0a, 0x10, 0x08, 'a', 'p', 'p', '/', 'p', 'r', 'o', 'g', 0x00, 0x12, 0x20, 0x07, 'a', 'p', 'p', '/', 'n', 'e', 'w',
+    0x08, 'a', 'p', 'p', '/', 'p', 'r', 'o', 'g');
+/* Transaction 1/3 wants to create 'app/prog', which is leased to 1/2. */
+PDU(other_metadata, 0x24, 0x00, 0x14, 0x00, 0x01, 0x03, 0x02, 0x07, 0x40, 0x00, 0x00, 0x00, 0x00, 0x00, 0x00, 0x00, 0x0a, 0x10, 0x08, 'a', 'p', 'p',
+    '/', 'p', 'r', 'o', 'g');
+/* The file in pieces of 8 octets. */
+PDU(third_piece, 0x34, 0x00, 0x0c, 0x00, 0x01, 0x02, 0x02, 0x00, 0x00, 0x00, 0x10, 'o', 'd', 'a', 'y', ',', ' ', 'v', '2');
+PDU(first_piece, 0x34, 0x00, 0x0c, 0x00, 0x01, 0x02, 0x02, 0x00, 0x00, 0x00, 0x00, 'C', 'e', 'z', 'h', 'u', 't', 'a', 'l');
+PDU(second_piece, 0x34, 0x00, 0x0c, 0x00, 0x01, 0x02, 0x02, 0x00, 0x00, 0x00, 0x08, ' ', 'f', 'l', 'i', 'e', 's', ' ', 't');
+PDU(file_eof, 0x24, 0x00, 0x0a, 0x00, 0x01, 0x02, 0x02, 0x04, 0x00, 0xda, 0x38, 0x40, 0x5c, 0x00, 0x00, 0x00, 0x18);
+
+static struct cfdp_engine engine = CFDP_ENGINE_EMPTY;
+static int failed;
+
+static void expect(uint32_t answer, uint32_t wanted) {
+    if (answer != wanted) {
+        printf("answer %" PRIu32 ", and not %" PRIu32 "\n", answer, wanted);
+        failed = 1;
+    }
+}
+
+static void show(const struct cfdp_reply *reply) {
+    static const char *const kinds[] = {"none", "admitted", "refused", "stored", "dropped", "complete", "waiting", "faulted", "performed",
+        "installed", "done", "cancelled", "taken", "duplicate", "unknown", "idle", "not-for-us", "table-full"};
+    printf("%" PRIu64 "/%" PRIu64 " %s", reply->source, reply->number, kinds[reply->kind]);
+    switch (reply->kind) {
+    case CFDP_ADMITTED:
+        printf(" blocks %" PRIu32 " steps %" PRIu32, reply->blocks, reply->steps);
+        break;
+    case CFDP_REFUSED:
+        if (reply->refusal == CFDP_CONFLICT) printf(" conflict %" PRIu64 "/%" PRIu64, reply->other_source, reply->other_number);
+        break;
+    case CFDP_PERFORMED:
+        printf(" %02" PRIx32, reply->status);
+        break;
+    case CFDP_TAKEN:
+        printf(" condition %" PRIu32, reply->condition);
+        break;
+    }
+    printf("\n");
+}
+
+static void receive(const uint8_t *octets, size_t length) {
+    struct cfdp_reply reply = {0};
+    expect(cfdp_receive(&engine, octets, length, &reply), CFDP_DONE);
+    show(&reply);
+}
+#define RECEIVE(pdu) receive(pdu, sizeof pdu)
+
+static void run(void) {
+    struct cfdp_transaction next;
+    while (cfdp_next_runnable(&engine, &next) == CFDP_DONE) {
+        struct cfdp_reply reply = {0};
+        expect(cfdp_step(&engine, next.source, next.number, &reply), CFDP_DONE);
+        show(&reply);
+    }
+}
+
+static void take(uint64_t source, uint64_t number) {
+    struct cfdp_reply reply = {0};
+    uint8_t pdu[64];
+    size_t count = 0;
+    /* A buffer that is too short: the length that is needed, and nothing has changed. */
+    expect(cfdp_take(&engine, source, number, pdu, 1, &count, &reply), CFDP_TOO_SHORT);
+    printf("needs %zu octets\n", count);
+    expect(cfdp_take(&engine, source, number, pdu, sizeof pdu, &count, &reply), CFDP_DONE);
+    show(&reply);
+    printf("finished ");
+    for (size_t i = 0; i < count; i++) printf("%02x", pdu[i]);
+    printf("\n");
+}
+
+static void show_gaps(uint64_t source, uint64_t number) {
+    struct cfdp_gap gap;
+    for (size_t place = 0; cfdp_gap(&engine, source, number, place, &gap) == CFDP_DONE; place++)
+        printf("missing %" PRIu64 " to %" PRIu64 "\n", gap.start, gap.end);
+}
+
+/* The file at a path, read in pieces of 10 octets. */
+static void show_file(const struct cfdp_path *path) {
+    struct cfdp_entry entry;
+    expect(cfdp_look_up(&engine, path, &entry), CFDP_DONE);
+    printf("file %.*s %" PRIu64 " %08" PRIx32 ": ", (int)path->length, (const char *)path->octets, entry.size, entry.checksum);
+    uint8_t piece[10];
+    size_t count = 0;
+    for (uint64_t at = 0; cfdp_read(&engine, path, at, piece, sizeof piece, &count) == CFDP_DONE && count > 0; at += count)
+        printf("%.*s", (int)count, (const char *)piece);
+    printf("\n");
+}
+
+int main(void) {
+    const struct cfdp_config config = {.entity = 2, .cap = 2400, .blocks = 64, .checks = 2};
+    const struct cfdp_path boot = {.length = 4, .octets = "boot"};
+    struct cfdp_reply reply = {0};
+
+    if (cfdp_engine_octets() != sizeof engine) return 1;
+    /* Misuse that the handle can see is an answer. */
+    expect(cfdp_receive(&engine, list_eof, sizeof list_eof, &reply), CFDP_NO_ENGINE);
+    expect(cfdp_free(&engine), CFDP_NO_ENGINE);
+    expect(cfdp_new(&engine, &(struct cfdp_config){.entity = 2, .cap = 2400, .blocks = 15, .checks = 2}, &boot, 1), CFDP_BAD_BLOCKS);
+    expect(cfdp_new(&engine, &(struct cfdp_config){.entity = 2, .cap = 7864321, .blocks = 16, .checks = 2}, &boot, 1), CFDP_BAD_CAP);
+    expect(cfdp_new(&engine, &(struct cfdp_config){.entity = 2, .cap = 7864320, .blocks = 16, .checks = 0}, &boot, 1), CFDP_BAD_CHECKS);
+    expect(cfdp_new(&engine, &config, &(struct cfdp_path){.length = 2, .octets = ".."}, 1), CFDP_BAD_PATH);
+    expect(cfdp_new(&engine, &config, &boot, 1), CFDP_DONE);
+    expect(cfdp_new(&engine, &config, &boot, 1), CFDP_HAS_ENGINE);
+
+    /* Octets that bring no event. */
+    expect(cfdp_receive(&engine, list_eof, 0, &reply), CFDP_TRUNCATED);
+    expect(cfdp_receive(&engine, list_eof, sizeof list_eof - 1, &reply), CFDP_TRUNCATED);
+    expect(cfdp_receive(&engine, (const uint8_t[]){0x44}, 1, &reply), CFDP_BAD_VERSION);
+    expect(cfdp_receive(&engine, (const uint8_t[]){0x26}, 1, &reply), CFDP_CRC_NOT_SUPPORTED);
+
+    RECEIVE(list_metadata);
+    RECEIVE(list_eof);
+    run();
+    take(1, 1);
+
+    RECEIVE(file_metadata);
+    RECEIVE(other_metadata);
+    RECEIVE(third_piece);
+    RECEIVE(first_piece);
+    RECEIVE(file_eof);
+    expect(cfdp_check(&engine, 1, 2, &reply), CFDP_DONE);
+    show(&reply);
+    show_gaps(1, 2);
+    RECEIVE(second_piece);
+    struct cfdp_phase phase;
+    struct cfdp_grant grant;
+    struct cfdp_gap gap;
+    expect(cfdp_gap(&engine, 1, 2, 0, &gap), CFDP_NOTHING);
+    expect(cfdp_phase(&engine, 1, 2, &phase), CFDP_DONE);
+    expect(cfdp_grant(&engine, 1, 2, &grant), CFDP_DONE);
+    printf("phase %" PRIu32 " item %" PRIu32 ", granted blocks %" PRIu32 " steps %" PRIu32 "\n", phase.phase, phase.detail, grant.blocks, grant.steps);
+    run();
+    int64_t blocks_spent = 0;
+    uint32_t steps_spent = 0;
+    expect(cfdp_blocks_spent(&engine, 1, 2, &blocks_spent), CFDP_DONE);
+    expect(cfdp_steps_spent(&engine, 1, 2, &steps_spent), CFDP_DONE);
+    printf("spent blocks %" PRId64 " steps %" PRIu32 "\n", blocks_spent, steps_spent);
+    take(1, 2);
+    expect(cfdp_phase(&engine, 1, 2, &phase), CFDP_NOTHING);
+
+    show_file(&(struct cfdp_path){.length = 8, .octets = "app/prog"});
+    struct cfdp_entry entry;
+    expect(cfdp_look_up(&engine, &(struct cfdp_path){.length = 7, .octets = "app/new"}, &entry), CFDP_NOTHING);
+    expect(cfdp_look_up(&engine, &(struct cfdp_path){.length = 777, .octets = "app"}, &entry), CFDP_BAD_PATH);
+    expect(cfdp_look_up(&engine, &(struct cfdp_path){.length = 3, .octets = "app"}, &entry), CFDP_DONE);
+    printf("app is of kind %" PRIu32 "\n", entry.kind);
+    struct cfdp_blocks blocks;
+    expect(cfdp_blocks(&engine, &blocks), CFDP_DONE);
+    printf("free %" PRIu32 " spare %" PRIu32 "\n", blocks.free, blocks.spare);
+    expect(cfdp_free(&engine), CFDP_DONE);
+    expect(cfdp_free(&engine), CFDP_NO_ENGINE);
+    return failed;
+}
