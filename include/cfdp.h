@@ -148,7 +148,7 @@ uint32_t cfdp_check(struct cfdp_engine *engine, uint64_t source, uint64_t number
  * octets are written to the beginning of `out`, which has room for `room`, and `*count` says how many they are; it is 0 where
  * none is to be sent. Answers CFDP_DONE with the reply (CFDP_TAKEN, CFDP_UNKNOWN, or CFDP_IDLE while the transaction is live);
  * CFDP_TOO_SHORT with the length needed in `*count`, and all else as before; CFDP_NO_MEMORY, or CFDP_NO_ENGINE.
- * A Finished PDU has at most 65562 octets. */
+ * A Finished PDU has at most 65563 octets. */
 uint32_t cfdp_take(struct cfdp_engine *engine, uint64_t source, uint64_t number, uint8_t *out, size_t room, size_t *count, struct cfdp_reply *reply);
 
 /* The name of a transaction (5.1): its source entity ID and its transaction sequence number. */
