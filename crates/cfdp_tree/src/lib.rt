@@ -33,4 +33,3 @@ mod tree_store;
 mod walk;
 
 pub use tree_store::TreeStore;
-
