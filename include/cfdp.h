@@ -1,8 +1,8 @@
 /* The receiving side of the CCSDS File Delivery Protocol (CFDP, CCSDS 727.0-B-5) as a C library.
  *
  * A receiving entity is fed the octets of PDUs and a few events of its own. To each it has one reply, and it keeps files and
- * directories in a filestore of its own, in memory. Each function is proved to do what its text here says; docs/C.md says what
- * of it is proved, what is trusted, and how to link it.
+ * directories in a filestore of its own, in memory. Each function has a contract that is proved; docs/C.md says what that covers,
+ * what is trusted, and how to link it.
  *
  * THE CALLER PROMISES
  *  - A `struct cfdp_engine` begins as CFDP_ENGINE_EMPTY, and is then only passed to these functions: it is not copied, written
