@@ -1,0 +1,36 @@
+//! Why a soak ends before its last event.
+
+use std::alloc::AllocError;
+use thiserror::Error;
+
+/// What is not as it has to be.
+#[derive(Clone, Copy, Debug, Error)]
+pub enum Wrong {
+    #[error("the configuration is refused")]
+    Config,
+    #[error("the entities reply differently")]
+    Replies,
+    #[error("a step failed")]
+    Step,
+    #[error("the spare blocks are not the free ones less the reserves")]
+    Spare,
+    #[error("other things stand in the filestores")]
+    Listings,
+    #[error("not each kind of reply came")]
+    Tame,
+}
+
+/// Why a soak ends before its last event.
+#[derive(Drop)]
+pub enum Fault {
+    /// Something is wrong.
+    Wrong(Wrong),
+    /// There was no memory, or nothing could be printed.
+    Memory,
+}
+
+impl From<AllocError> for Fault {
+    fn from(_refused: AllocError) -> Fault {
+        Fault::Memory
+    }
+}

@@ -1,0 +1,117 @@
+//! `cfdp_soak EVENTS SEED`: so many events at random, over a filestore inside an arena and over a plain list side by side.
+//!
+//! After each event both entities have given the same reply, no step has failed, and in each the spare blocks are those that are
+//! free, less what is granted to live transactions and not yet taken; after each thousandth, and after the last, the same files
+//! and directories stand in both. Where it is otherwise the program says so, with the number of the event, and its exit status is
+//! 1. How often each kind of reply came is told on standard error.
+#![tactic(auto)]
+
+mod counts;
+mod events;
+mod fault;
+mod pair;
+mod random;
+
+use counts::Counts;
+use fault::{Fault, Wrong};
+use pair::Pair;
+use random::Random;
+use std::alloc::Global;
+use std::env;
+use std::process::ExitCode;
+use std::rt::Env;
+
+/// After how many events all that stands is compared.
+const STRIDE: u64 = 1_000;
+
+fn main(rt: HostRuntime) -> ExitCode {
+    let Some((events, seed)) = read_words(&rt) else {
+        let _ = eprintln!(rt; "cfdp_soak EVENTS SEED: two numbers");
+        return ExitCode::from(2);
+    };
+    let mut soak = match Soak::new(rt.alloc(), seed) {
+        Ok(soak) => soak,
+        Err(_) => return ExitCode::from(1),
+    };
+    let ran = soak.run(rt.alloc(), events);
+    let _ = eprintln!(rt; "{}", soak.counts);
+    match ran {
+        Ok(()) => {
+            let _ = println!(rt;
+                "{events} events: each reply and all that stands are equal, and no step failed"
+            );
+            ExitCode::SUCCESS
+        }
+        Err(Fault::Memory) => {
+            let _ = eprintln!(rt; "cfdp_soak: out of memory");
+            ExitCode::from(1)
+        }
+        Err(Fault::Wrong(wrong)) => {
+            let _ = println!(rt; "event {}: {wrong}", soak.handed_in);
+            ExitCode::from(1)
+        }
+    }
+}
+
+/// The two numbers of the command line, where it has two and no more.
+fn read_words<R: AllocGlobal + Env>(rt: &R) -> Option<(u64, u64)> {
+    let words: Vec<String> = env::args(rt).ok()?.collect(rt.alloc()).ok()?;
+    match words.as_slice() {
+        [_, events, seed] => Some((number_of(events.as_str())?, number_of(seed.as_str())?)),
+        _ => None,
+    }
+}
+
+fn number_of(word: &str) -> Option<u64> {
+    match word.parse::<u64>() {
+        Ok(number) => Some(number),
+        Err(_) => None,
+    }
+}
+
+/// Two entities, the events to come, and what was replied.
+#[derive(Drop)]
+struct Soak {
+    random: Random,
+    pair: Pair,
+    counts: Counts,
+    /// How many events were handed in.
+    handed_in: u64,
+}
+
+impl Soak {
+    /// Before the first event of this seed.
+    fn new(alloc: Global, seed: u64) -> Result<Soak, Fault> {
+        Ok(Soak {
+            random: Random::new(seed),
+            pair: Pair::new(alloc)?,
+            counts: Counts::new(),
+            handed_in: 0,
+        })
+    }
+
+    /// Hands in so many events, and compares at the end.
+    fn run(&mut self, alloc: Global, events: u64) -> Result<(), Fault> {
+        for _ in 0..events {
+            self.turn(alloc)?;
+        }
+        self.pair.compare(alloc)?;
+        if self.counts.are_all_met() {
+            Ok(())
+        } else {
+            Err(Fault::Wrong(Wrong::Tame))
+        }
+    }
+
+    /// Hands in the next event.
+    fn turn(&mut self, alloc: Global) -> Result<(), Fault> {
+        let event = self.random.event(alloc, self.pair.plain())?;
+        self.handed_in = self.handed_in.saturating_add(1);
+        let reply = self.pair.apply(&event)?;
+        self.counts.count(&reply);
+        if self.handed_in % STRIDE == 0 {
+            self.pair.compare(alloc)?;
+        }
+        Ok(())
+    }
+}

@@ -1,0 +1,116 @@
+//! Two entities side by side, alike but for their filestores.
+use crate::events::{TRANSACTIONS, id, path_of};
+use crate::fault::{Fault, Wrong};
+use cfdp_actions::{Filestore, ListStore, Protected};
+use cfdp_paths::Memory;
+use cfdp_status::TransactionId;
+use cfdp_transactions::{Config, Core, Event, Reply};
+use cfdp_tree::TreeStore;
+use std::alloc::Global;
+
+/// How many blocks each filestore has: too few for all that is asked for.
+const BLOCKS: u32 = 160;
+
+/// An entity over a filestore inside an arena, and one over a plain list.
+#[derive(Drop)]
+pub struct Pair {
+    tree: Core<TreeStore>,
+    list: Core<ListStore>,
+}
+
+/// What is protected: all below `sys`.
+fn protected(alloc: Global) -> Result<Protected, Memory> {
+    let mut protected = Protected::new();
+    match protected.add(path_of(alloc, b"sys")?) {
+        Ok(()) | Err(_) => Ok(protected),
+    }
+}
+
+/// The configuration of both: entity 2, files of unbounded size of at most 900 octets, and two checks.
+fn config(alloc: Global) -> Result<Config, Fault> {
+    Config::new(2, BLOCKS, 900, 2, 16, protected(alloc)?).map_err(|_| Fault::Wrong(Wrong::Config))
+}
+
+/// The blocks that are granted to live transactions and not yet taken.
+fn reserves<S: Filestore>(core: &Core<S>) -> i64 {
+    let mut sum = 0_i64;
+    for number in 0..TRANSACTIONS {
+        sum = sum.saturating_add(reserve(core, id(number)));
+    }
+    sum
+}
+
+/// Those of one transaction: none where it is not live.
+fn reserve<S: Filestore>(core: &Core<S>, id: TransactionId) -> i64 {
+    match (core.phase(id), core.grant(id), core.blocks_spent(id)) {
+        (Some(phase), Some((blocks, _)), Some(spent)) if phase.is_live() => {
+            i64::from(blocks).saturating_sub(spent)
+        }
+        _ => 0,
+    }
+}
+
+/// Whether the spare blocks are those that are free, less the reserves.
+fn is_balanced<S: Filestore>(core: &Core<S>) -> bool {
+    i64::from(core.spare()) == i64::from(core.store().free()).saturating_sub(reserves(core))
+}
+
+/// Whether what was replied to the event is no failure of a step.
+fn went_well(event: &Event, reply: &Reply) -> bool {
+    match reply {
+        Reply::Performed(status) => status.is_successful(),
+        Reply::Faulted(_) => !matches!(event, Event::Step(_)),
+        _ => true,
+    }
+}
+
+impl Pair {
+    /// Two that have just begun.
+    pub fn new(alloc: Global) -> Result<Pair, Fault> {
+        Ok(Pair {
+            tree: tree(alloc)?,
+            list: list(alloc)?,
+        })
+    }
+
+    /// The entity over a plain list.
+    pub fn plain(&self) -> &Core<ListStore> {
+        &self.list
+    }
+
+    /// Hands the event to both, and tells the reply.
+    pub fn apply(&mut self, event: &Event) -> Result<Reply, Fault> {
+        let reply = self.tree.apply(event);
+        if !self.list.apply(event).same(&reply) {
+            return Err(Fault::Wrong(Wrong::Replies));
+        }
+        if !went_well(event, &reply) {
+            return Err(Fault::Wrong(Wrong::Step));
+        }
+        if !is_balanced(&self.tree) || !is_balanced(&self.list) {
+            return Err(Fault::Wrong(Wrong::Spare));
+        }
+        Ok(reply)
+    }
+
+    /// Compares all that stands in both filestores.
+    pub fn compare(&self, alloc: Global) -> Result<(), Fault> {
+        let listed = self.list.store().listing(alloc)?;
+        if self.tree.store().listing(alloc)? != listed {
+            return Err(Fault::Wrong(Wrong::Listings));
+        }
+        Ok(())
+    }
+}
+
+fn tree(alloc: Global) -> Result<Core<TreeStore>, Fault> {
+    let config = config(alloc)?;
+    let store = TreeStore::new(alloc, config.blocks())?;
+    Ok(Core::new(alloc, config, store)?)
+}
+
+fn list(alloc: Global) -> Result<Core<ListStore>, Fault> {
+    let config = config(alloc)?;
+    let store = ListStore::new(alloc, config.blocks())?;
+    Ok(Core::new(alloc, config, store)?)
+}
