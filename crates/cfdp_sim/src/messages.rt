@@ -1,8 +1,9 @@
 //! Messages to workers, copied and compared.
 ghost use Rattle.std.specs.Prelude.{◌≡◌, map, IfOk, IsTrue};
-ghost use Rattle.cfdp_sim.specs.Links.{said_of};
+ghost use Rattle.cfdp_sim.specs.Links.{Came, Happened, said_of};
 
 use cfdp_engine::Message;
+use cfdp_transactions::Event;
 use std::alloc::{AllocError, Global};
 use std::sync::Arc;
 
@@ -17,15 +18,34 @@ pub(crate) fn copy_of(alloc: Global, message: &Message) -> Result<Message, Alloc
     }
 }
 
+/// Whether a message is a PDU of these octets.
+fn is_pdu(message: &Message, octets: &[u8]) -> bool
+    ensures { IsTrue result → said_of message.now ≡ Came octets.now }
+{
+    match message {
+        Message::Pdu(others) => others.as_slice() == octets,
+        _ => false,
+    }
+}
+
+/// Whether a message is this event.
+fn is_event(message: &Message, event: &Event) -> bool
+    ensures { IsTrue result → said_of message.now ≡ Happened event.now }
+{
+    match message {
+        Message::Event(other) => event.same(other),
+        _ => false,
+    }
+}
+
 /// Whether two messages say the same.
 fn is_same(taken: &Message, due: &Message) -> bool
     ensures { IsTrue result → said_of taken.now ≡ said_of due.now }
 {
-    match (taken, due) {
-        (Message::Pdu(octets), Message::Pdu(others)) => octets.as_slice() == others.as_slice(),
-        (Message::Event(event), Message::Event(other)) => event.same(other),
-        (Message::Run, Message::Run) => true,
-        _ => false,
+    match taken {
+        Message::Pdu(octets) => is_pdu(due, octets),
+        Message::Event(event) => is_event(due, event),
+        Message::Run => matches!(due, Message::Run),
     }
 }
 

@@ -49,7 +49,9 @@ fn copy_prefixes(alloc: Global, protected: &Protected) -> Result<Protected, Allo
         let Some(prefix) = protected.get(place) else {
             return Err(AllocError);
         };
-        copy.add(prefix.copy(alloc)?).map_err(|_| AllocError)?;
+        if copy.add(prefix.copy(alloc)?).is_err() {
+            return Err(AllocError);
+        }
     }
     Ok(copy)
 }
@@ -82,7 +84,10 @@ fn config_of(
     ) else {
         return Err(LineFault::Bad);
     };
-    Config::new(entity, blocks, cap, checks, journal, Protected::new()).map_err(|_| LineFault::Bad)
+    match Config::new(entity, blocks, cap, checks, journal, Protected::new()) {
+        Ok(config) => Ok(config),
+        Err(_) => Err(LineFault::Bad),
+    }
 }
 
 /// The entity of this configuration, over an empty store.

@@ -40,11 +40,7 @@ fn work_as<R: Wait, G: Gate>(
 
 /// How many messages the longest file has.
 fn longest(files: &[Vec<Message>]) -> usize {
-    let mut most = 0;
-    for file in files {
-        most = most.max(file.len());
-    }
-    most
+    files.iter().map(Vec::len).max().unwrap_or(0)
 }
 
 /// Sends the workers what their files say, a message to each in turn, and closes their inboxes. A message for a worker that has

@@ -1,7 +1,6 @@
 //! A table with as many transactions, and a file in as many pieces, as there may be.
 
-use super::entity::{DEFAULT, Given, Told, entity_of, header, id};
-use super::phases::is_reply_to;
+use super::entity::{DEFAULT, Given, Told, entity_of, header, id, is_reply_to, replies};
 use cfdp_actions::ListStore;
 use cfdp_paths::Memory;
 use cfdp_pdus::Metadata;
@@ -39,19 +38,7 @@ fn begins(
     number: u8,
     told: Told,
 ) -> Result<bool, Memory> {
-    is_reply_to(rt, alloc, core, &nothing_to_do(alloc, number), told)
-}
-
-/// Whether this is the reply to what is handed in.
-fn replies(
-    rt: &impl Abort,
-    alloc: Global,
-    core: &mut Core<ListStore>,
-    given: Given,
-    told: Told,
-) -> Result<bool, Memory> {
-    let event = given.event(rt, alloc)?;
-    is_reply_to(rt, alloc, core, &event, told)
+    is_reply_to(rt, alloc, core, &nothing_to_do(alloc, number), told, true)
 }
 
 /// Whether the reply is that of the turn.
@@ -63,7 +50,7 @@ fn is_met(
 ) -> Result<bool, Memory> {
     match turn {
         Turn::Begin(number, told) => begins(rt, alloc, core, number, told),
-        Turn::On(given, told) => replies(rt, alloc, core, given, told),
+        Turn::On(given, told) => replies(rt, alloc, core, given, told, true),
     }
 }
 
@@ -136,7 +123,7 @@ static BEHIND: [Turn; 3] = [
 /// Whether every other octet is stored, 32 in all.
 fn are_stored(rt: &impl Abort, alloc: Global, core: &mut Core<ListStore>) -> Result<bool, Memory> {
     for place in 0..32 {
-        if !replies(rt, alloc, core, octet_at(2 * place), Told::Stored)? {
+        if !replies(rt, alloc, core, octet_at(2 * place), Told::Stored, true)? {
             return Ok(false);
         }
     }

@@ -378,7 +378,20 @@ fn stands<S: Filestore>(alloc: Global, store: &S, expected: &[Standing]) -> Resu
 }
 
 /// Whether the reply to an event is the one that is told.
-fn replies<S: Filestore>(
+pub fn is_reply_to<S: Filestore>(
+    rt: &impl Abort,
+    alloc: Global,
+    core: &mut Core<S>,
+    event: &Event,
+    told: Told,
+    twice: bool,
+) -> Result<bool, Memory> {
+    let reply = hand_in(rt, core, event, twice);
+    is_told(rt, alloc, &reply, told)
+}
+
+/// Whether the reply to what is handed in is the one that is told.
+pub fn replies<S: Filestore>(
     rt: &impl Abort,
     alloc: Global,
     core: &mut Core<S>,
@@ -387,8 +400,7 @@ fn replies<S: Filestore>(
     twice: bool,
 ) -> Result<bool, Memory> {
     let event = given.event(rt, alloc)?;
-    let reply = hand_in(rt, core, &event, twice);
-    is_told(rt, alloc, &reply, told)
+    is_reply_to(rt, alloc, core, &event, told, twice)
 }
 
 /// Whether so many blocks are free, and so many of them were granted to nobody.

@@ -1,9 +1,9 @@
 //! Each event in each phase, and PDUs of another entity.
 
-use super::entity::{Case, DEFAULT, Given, Row, Told, check_all, entity_of, hand_in, is_told};
+use super::entity::{Case, DEFAULT, Given, Row, Told, check_all, entity_of, hand_in, replies};
 use cfdp_actions::ListStore;
 use cfdp_paths::Memory;
-use cfdp_transactions::{Core, Event};
+use cfdp_transactions::Core;
 use std::alloc::Global;
 use std::process::Abort;
 
@@ -140,19 +140,7 @@ fn hand_over(
     Ok(())
 }
 
-/// Whether the reply to an event is the one that is told.
-pub fn is_reply_to(
-    rt: &impl Abort,
-    alloc: Global,
-    core: &mut Core<ListStore>,
-    event: &Event,
-    told: Told,
-) -> Result<bool, Memory> {
-    let reply = hand_in(rt, core, event, true);
-    is_told(rt, alloc, &reply, told)
-}
-
-/// Whether it is so behind what came before.
+/// Whether the reply to an event is the one that is told, behind what came before.
 fn replies_behind(
     rt: &impl Abort,
     alloc: Global,
@@ -164,8 +152,7 @@ fn replies_behind(
     for given in before {
         hand_over(rt, alloc, core, *given)?;
     }
-    let event = event.event(rt, alloc)?;
-    is_reply_to(rt, alloc, core, &event, told)
+    replies(rt, alloc, core, event, told, true)
 }
 
 /// Whether an entity that has just begun replies so to an event behind what came before.

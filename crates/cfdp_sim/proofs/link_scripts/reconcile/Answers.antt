@@ -1,4 +1,4 @@
-use Rattle.std.proofs.Common.{rules, ◌≡◌}
+use Rattle.std.proofs.Common.{◌≡◌}
 use Rattle.cfdp_sim.proofs.SameConfig.{config_same}
 use Rattle.cfdp_sim.proofs.link_scripts.reconcile.Goals as goal
 
@@ -6,6 +6,6 @@ pub returns-in-Ok-clause-config : goal.returns-in-Ok-clause-config
 returns-in-Ok-clause-config c =
     let same : c.config.result.now ≡ c.args.config.now = config_same c.config.result.now c.args.config.now c.if-ne.ensures in
     let kept : c.in-Ok.closed.core ≡ c.args.journaled.core = c.in-Ok.ensures.core in
-    let lent : c.core.result.now ≡ c.args.journaled.core = search rules in
-    let told : c.config.result.now ≡ c.core.result.now.world.config = search rules in
+    let lent : c.core.result.now ≡ c.args.journaled.core = c.core.ensures in
+    let told : c.config.result.now ≡ c.core.result.now.world.config = c.config.ensures in
     cc
