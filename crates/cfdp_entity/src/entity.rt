@@ -17,17 +17,17 @@ ghost use Rattle.cfdp_transactions.specs.Needs.{Follows, may_want_memory};
 ghost use Rattle.cfdp_transactions.specs.Writable.{FitsReply, IsReadable, IsWritable};
 ghost use Rattle.cfdp_transactions.specs.Books.{IsAnswered};
 ghost use Rattle.cfdp_entity.specs.Hearing.{IsUnheard, heard};
-ghost use Rattle.cfdp_entity.specs.Sending.{IsUntaken, finished_octets, sent};
+ghost use Rattle.cfdp_entity.specs.Sending.{IsUntaken, sent};
 ghost use Rattle.cfdp_entity.specs.declared.fault.NotHeard.TheVariants.{Fault};
 ghost use Rattle.cfdp_entity.specs.declared.fault.NotTaken.TheVariants.{Memory as NoMemory, TooShort};
 
 use crate::{NotHeard, NotTaken};
 use cfdp_paths::Memory;
-use cfdp_pdus::{Header, PduFault, Piece, WriteFault, read_pdu, read_piece, write_finished};
+use cfdp_pdus::{Header, PduFault, Piece, read_pdu, read_piece};
 use cfdp_status::TransactionId;
-use cfdp_transactions::{Config, Core, Event, Outcome, Reply, event_of, laws};
+use cfdp_transactions::{Config, Core, Event, Reply, event_of, laws};
 use cfdp_tree::TreeStore;
-use std::alloc::{AllocError, Global};
+use std::alloc::Global;
 use std::marker::Model;
 
 /// The transaction that a PDU belongs to.
@@ -194,22 +194,6 @@ impl Entity {
         Ok((id_of(&header), self.keep(&header, &piece)))
     }
 
-    /// The octets of the Finished PDU that is to be sent of an outcome, if any is.
-    fn finished_octets(alloc: Global, outcome: &Outcome) -> Result<Vec<u8>, Memory>
-        requires { IsWritable outcome.now }
-        ensures { IfOk result (λ octets. octets.items ≡ finished_octets outcome.now) }
-    {
-        let mut octets = Vec::new(alloc);
-        if !outcome.send {
-            return Ok(octets);
-        }
-        match write_finished(&outcome.header, &outcome.finished, &mut octets) {
-            Ok(()) => Ok(octets),
-            Err(WriteFault::Memory) => Err(AllocError),
-            Err(WriteFault::TooLong) => unreachable!(),
-        }
-    }
-
     /// The octets that are to be sent of a transaction's outcome once it is taken: none where there is no outcome.
     fn octets_to_send(&self, alloc: Global, id: TransactionId) -> Result<Vec<u8>, Memory>
         ensures octets { IfOk result (λ octets. octets.items ≡ sent (next self.now (TakeCame id)).1) }
@@ -218,7 +202,7 @@ impl Entity {
     {
         match self.core.outcome(id)? {
             None => Ok(Vec::new(alloc)),
-            Some(outcome) => Entity::finished_octets(alloc, &outcome),
+            Some(outcome) => outcome.octets(alloc),
         }
     }
 
