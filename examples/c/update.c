@@ -33,31 +33,26 @@ static void expect(uint32_t answer, uint32_t wanted) {
     }
 }
 
-static void show(const struct cfdp_reply *reply) {
-    static const char *const kinds[] = {"none", "admitted", "refused", "stored", "dropped", "complete", "waiting", "faulted", "performed",
-        "installed", "done", "cancelled", "taken", "duplicate", "unknown", "idle", "not-for-us", "table-full"};
-    printf("%" PRIu64 "/%" PRIu64 " %s", reply->source, reply->number, kinds[reply->kind]);
-    switch (reply->kind) {
-    case CFDP_ADMITTED:
-        printf(" blocks %" PRIu32 " steps %" PRIu32, reply->blocks, reply->steps);
-        break;
-    case CFDP_REFUSED:
-        if (reply->refusal == CFDP_CONFLICT) printf(" conflict %" PRIu64 "/%" PRIu64, reply->other_source, reply->other_number);
-        break;
-    case CFDP_PERFORMED:
-        printf(" %02" PRIx32, reply->status);
-        break;
-    case CFDP_TAKEN:
-        printf(" condition %" PRIu32, reply->condition);
-        break;
-    }
-    printf("\n");
+/* The line of a reply, and of the Finished PDU that cfdp_take wrote beside it. */
+static void show(const struct cfdp_reply *reply, const uint8_t *octets, size_t length) {
+    uint8_t line[256];
+    size_t count = 0;
+    expect(cfdp_reply_text(reply, octets, length, line, sizeof line, &count), CFDP_DONE);
+    printf("%.*s", (int)count, (const char *)line);
+}
+
+/* The line of octets that brought no event, by what was answered of them. */
+static void show_answer(uint32_t answer) {
+    uint8_t line[32];
+    size_t count = 0;
+    expect(cfdp_answer_text(answer, line, sizeof line, &count), CFDP_DONE);
+    printf("%.*s", (int)count, (const char *)line);
 }
 
 static void receive(const uint8_t *octets, size_t length) {
     struct cfdp_reply reply = {0};
     expect(cfdp_receive(&engine, octets, length, &reply), CFDP_DONE);
-    show(&reply);
+    show(&reply, octets, 0);
 }
 #define RECEIVE(pdu) receive(pdu, sizeof pdu)
 
@@ -65,8 +60,9 @@ static void run(void) {
     struct cfdp_transaction next;
     while (cfdp_next_runnable(&engine, &next) == CFDP_DONE) {
         struct cfdp_reply reply = {0};
+        uint8_t none[1] = {0};
         expect(cfdp_step(&engine, next.source, next.number, &reply), CFDP_DONE);
-        show(&reply);
+        show(&reply, none, 0);
     }
 }
 
@@ -78,10 +74,7 @@ static void take(uint64_t source, uint64_t number) {
     expect(cfdp_take(&engine, source, number, pdu, 1, &count, &reply), CFDP_TOO_SHORT);
     printf("needs %zu octets\n", count);
     expect(cfdp_take(&engine, source, number, pdu, sizeof pdu, &count, &reply), CFDP_DONE);
-    show(&reply);
-    printf("finished ");
-    for (size_t i = 0; i < count; i++) printf("%02x", pdu[i]);
-    printf("\n");
+    show(&reply, pdu, count);
 }
 
 static void show_gaps(uint64_t source, uint64_t number) {
@@ -123,6 +116,14 @@ int main(void) {
     expect(cfdp_receive(&engine, list_eof, sizeof list_eof - 1, &reply), CFDP_TRUNCATED);
     expect(cfdp_receive(&engine, (const uint8_t[]){0x44}, 1, &reply), CFDP_BAD_VERSION);
     expect(cfdp_receive(&engine, (const uint8_t[]){0x26}, 1, &reply), CFDP_CRC_NOT_SUPPORTED);
+    show_answer(CFDP_CRC_NOT_SUPPORTED);
+    /* A text that does not fit, and one that there is not. */
+    uint8_t line[24];
+    size_t count = 0;
+    expect(cfdp_answer_text(CFDP_TRUNCATED, line, 21, &count), CFDP_TOO_SHORT);
+    expect((uint32_t)count, 22);
+    expect(cfdp_answer_text(CFDP_NO_ENGINE, line, sizeof line, &count), CFDP_NOTHING);
+    expect(cfdp_reply_text(&(struct cfdp_reply){.kind = 18}, list_eof, 0, line, sizeof line, &count), CFDP_NOTHING);
 
     RECEIVE(list_metadata);
     RECEIVE(list_eof);
@@ -135,7 +136,7 @@ int main(void) {
     RECEIVE(first_piece);
     RECEIVE(file_eof);
     expect(cfdp_check(&engine, 1, 2, &reply), CFDP_DONE);
-    show(&reply);
+    show(&reply, file_eof, 0);
     show_gaps(1, 2);
     RECEIVE(second_piece);
     struct cfdp_phase phase;

@@ -4,10 +4,11 @@
 --   Receives octets            octets that came: likewise, or why there is no reply, with all as before
 --   Frees                      the engine is freed
 --   Takes id                   a request for the outcome, with the buffer before and after, and the count of octets
-use Rattle.std.specs.Prelude.{◌≡◌, ◌⊎◌, ℕ, ◌<◌, ◌++◌, drop, length, List, Option, Some, None, Result, Ok, Err}
+use Rattle.std.specs.Prelude.{◌≡◌, ◌⊎◌, ℕ, ◌<◌, ◌++◌, drop, length, List, Option, Some, None, IsSome, Result, Ok, Err}
 use Rattle.cfdp_status.specs.declared.transaction.TransactionId.{TransactionId}
 use Rattle.cfdp_transactions.specs.declared.event.Event.{Event}
 use Rattle.cfdp_transactions.specs.declared.event.Event.TheVariants.{Take}
+use Rattle.cfdp_transactions.specs.Engine.{outcome_in}
 use Rattle.cfdp_transactions.specs.Events.{about}
 use Rattle.cfdp_transactions.specs.Next.{next}
 use Rattle.cfdp_transactions.specs.World.{World}
@@ -48,7 +49,7 @@ abbrev pub Frees : Option World → ℕ → Type 0
 Frees None answer = answer ≡ code_of NoEngine
 Frees (Some W) answer = answer ≡ code_of Done
 
--- the outcome of a transaction is taken: the Finished PDU is written, or does not fit, or there is no memory
+-- the outcome of a transaction is taken: the Finished PDU is written, or does not fit, or there is an outcome and no memory for it
 abbrev pub Hands : World → TransactionId → Option World → List ℕ → List ℕ → ℕ → ReplyFields → ℕ → Type 0
 Hands W id after out written count reply answer =
     Follows W (Take id) after reply answer × (written ≡ sent (next W (Take id)).1 ++ drop (length (sent (next W (Take id)).1)) out)
@@ -63,4 +64,4 @@ Takes id None after out written before count old new answer =
     (after ≡ None) × (written ≡ out) × (count ≡ before) × (new ≡ old) × (answer ≡ code_of NoEngine)
 Takes id (Some W) after out written before count old new answer =
     Hands W id after out written count new answer ⊎ FallsShort W id after out written count old new answer
-    ⊎ (Stays W after old new × (written ≡ out) × (count ≡ before) × (answer ≡ code_of Memory))
+    ⊎ (IsSome (outcome_in W id) × Stays W after old new × (written ≡ out) × (count ≡ before) × (answer ≡ code_of Memory))

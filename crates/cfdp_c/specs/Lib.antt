@@ -5,3 +5,4 @@ pub mod Making
 pub mod Calls
 pub mod Reads
 pub mod Stored
+pub mod Shown

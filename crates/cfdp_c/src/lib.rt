@@ -16,6 +16,7 @@ mod reads;
 mod reply;
 mod slot;
 mod store;
+mod texts;
 
 pub use events::{cfdp_cancel, cfdp_check, cfdp_receive, cfdp_step, cfdp_take};
 pub use making::{cfdp_engine_octets, cfdp_free, cfdp_new};
@@ -24,3 +25,4 @@ pub use reads::{
     cfdp_steps_spent,
 };
 pub use store::{cfdp_look_up, cfdp_read};
+pub use texts::{cfdp_answer_text, cfdp_reply_text};

@@ -1,12 +1,12 @@
 //! The receiving entity.
-ghost use Rattle.std.specs.Prelude.{◌≡◌, ◌<◌, ◌++◌, ℕ, List, drop, length, true, IsFalse, IfOk, IfErr, OnErr, Ok, Err, Some, None};
+ghost use Rattle.std.specs.Prelude.{◌≡◌, ◌<◌, ◌++◌, ℕ, List, [], drop, length, true, IsFalse, IsNone, IsOk, IfOk, IfErr, OnErr, Ok, Err, Some, None};
 ghost use Rattle.cfdp_actions.specs.Filestore.{File, node_at};
 ghost use Rattle.cfdp_pdus.specs.First.{pdu_at};
 ghost use Rattle.cfdp_pdus.specs.Sound.{IsNoFileData};
 ghost use Rattle.cfdp_pdus.specs.Canonical.{IsHeader};
 ghost use Rattle.cfdp_pdus.specs.declared.fault.PduFault.TheVariants.{Memory as OutOfMemory};
 ghost use Rattle.cfdp_transactions.specs.Entry.{gaps, id_of};
-ghost use Rattle.cfdp_transactions.specs.Engine.{read_of};
+ghost use Rattle.cfdp_transactions.specs.Engine.{AsksForNone, outcome_in, read_of};
 ghost use Rattle.cfdp_transactions.specs.Events.{about};
 ghost use Rattle.cfdp_transactions.specs.declared.event.Event.{Event as EventOf};
 ghost use Rattle.cfdp_transactions.specs.declared.event.Event.TheVariants.{Data as DataCame, Cancel as CancelCame, Check as CheckCame, Step as StepCame, Take as TakeCame};
@@ -17,17 +17,17 @@ ghost use Rattle.cfdp_transactions.specs.Needs.{Follows, may_want_memory};
 ghost use Rattle.cfdp_transactions.specs.Writable.{FitsReply, IsReadable, IsWritable};
 ghost use Rattle.cfdp_transactions.specs.Books.{IsAnswered};
 ghost use Rattle.cfdp_entity.specs.Hearing.{IsUnheard, heard};
-ghost use Rattle.cfdp_entity.specs.Sending.{IsUntaken, finished_octets, sent};
+ghost use Rattle.cfdp_entity.specs.Sending.{IsUntaken, sent};
 ghost use Rattle.cfdp_entity.specs.declared.fault.NotHeard.TheVariants.{Fault};
 ghost use Rattle.cfdp_entity.specs.declared.fault.NotTaken.TheVariants.{Memory as NoMemory, TooShort};
 
 use crate::{NotHeard, NotTaken};
 use cfdp_paths::Memory;
-use cfdp_pdus::{Header, PduFault, Piece, WriteFault, read_pdu, read_piece, write_finished};
+use cfdp_pdus::{Header, PduFault, Piece, read_pdu, read_piece};
 use cfdp_status::TransactionId;
-use cfdp_transactions::{Config, Core, Event, Outcome, Reply, event_of, laws};
+use cfdp_transactions::{Config, Core, Event, Reply, event_of, laws};
 use cfdp_tree::TreeStore;
-use std::alloc::{AllocError, Global};
+use std::alloc::Global;
 use std::marker::Model;
 
 /// The transaction that a PDU belongs to.
@@ -103,6 +103,7 @@ impl Entity {
         ensures follows { Follows self.old event.now result self.new }
         ensures fits { FitsReply result }
         ensures answered { IsFalse (may_want_memory true event.now) → IsAnswered result }
+        ensures lean { AsksForNone self.old event.now → IsAnswered result }
     {
         self.core.apply(event)
     }
@@ -193,29 +194,15 @@ impl Entity {
         Ok((id_of(&header), self.keep(&header, &piece)))
     }
 
-    /// The octets of the Finished PDU that is to be sent of an outcome, if any is.
-    fn finished_octets(alloc: Global, outcome: &Outcome) -> Result<Vec<u8>, Memory>
-        requires { IsWritable outcome.now }
-        ensures { IfOk result (λ octets. octets.items ≡ finished_octets outcome.now) }
-    {
-        let mut octets = Vec::new(alloc);
-        if !outcome.send {
-            return Ok(octets);
-        }
-        match write_finished(&outcome.header, &outcome.finished, &mut octets) {
-            Ok(()) => Ok(octets),
-            Err(WriteFault::Memory) => Err(AllocError),
-            Err(WriteFault::TooLong) => unreachable!(),
-        }
-    }
-
     /// The octets that are to be sent of a transaction's outcome once it is taken: none where there is no outcome.
     fn octets_to_send(&self, alloc: Global, id: TransactionId) -> Result<Vec<u8>, Memory>
-        ensures { IfOk result (λ octets. octets.items ≡ sent (next self.now (TakeCame id)).1) }
+        ensures octets { IfOk result (λ octets. octets.items ≡ sent (next self.now (TakeCame id)).1) }
+        ensures lean { IsNone (outcome_in self.now id) → IsOk result }
+        ensures none { IfOk result (λ octets. IsNone (outcome_in self.now id) → octets.items ≡ []) }
     {
         match self.core.outcome(id)? {
             None => Ok(Vec::new(alloc)),
-            Some(outcome) => Entity::finished_octets(alloc, &outcome),
+            Some(outcome) => outcome.octets(alloc),
         }
     }
 
@@ -225,8 +212,8 @@ impl Entity {
     ///
     /// # Errors
     ///
-    /// [`NotTaken::TooShort`] where the Finished PDU does not fit in `out`, with its length, and want of memory. The entity and
-    /// `out` are as before.
+    /// [`NotTaken::TooShort`] where the Finished PDU does not fit in `out`, with its length, and want of memory. Neither comes
+    /// where the transaction is live or not known. The entity and `out` are as before.
     ///
     /// Cost: three copies of the requests' names.
     pub fn take(
@@ -239,6 +226,7 @@ impl Entity {
         ensures len { IfOk result (λ taken. taken.1 ≡ length (sent taken.0)) }
         ensures written { IfOk result (λ taken. out.new ≡ sent taken.0 ++ drop (length (sent taken.0)) out.old) }
         ensures short { IfErr result (IsUntaken self.old id out.old) }
+        ensures lean { IsNone (outcome_in self.old id) → IsOk result }
         ensures unchanged { OnErr result (self.new ≡ self.old) }
         ensures unwritten { OnErr result (out.new ≡ out.old) }
     {

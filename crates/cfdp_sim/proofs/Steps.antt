@@ -7,7 +7,7 @@ use Rattle.cfdp_transactions.specs.Events.{about}
 use Rattle.cfdp_transactions.specs.Next.{next, replies, run}
 use Rattle.cfdp_transactions.specs.World.{World, next_runnable}
 use Rattle.cfdp_sim.specs.Replay.{steps_by, steps_from}
-use Rattle.cfdp_sim.specs.Replies.{reply_line, told_lines}
+use Rattle.cfdp_texts.specs.Replies.{reply_line, told_lines}
 
 -- so many steps are left: they end and write what all of them do
 pub record Steps (left : ℕ) (start W : World) (all : ℕ) (before text : List ℕ) : Type 0 where

@@ -11,7 +11,7 @@ use Rattle.cfdp_transactions.specs.Events.{about}
 use Rattle.cfdp_transactions.specs.World.{World}
 use Rattle.cfdp_engine.specs.declared.entry.Entry.{Entry}
 use Rattle.cfdp_engine.specs.Seats.{Seated}
-use Rattle.cfdp_sim.specs.Replies.{number_text, labelled, word, line, reply_line, listing_text}
+use Rattle.cfdp_texts.specs.Replies.{number_text, labelled, word, line, reply_line, listing_text}
 
 abbrev pub entry_text : ℕ → Entry → List ℕ
 entry_text place entry = number_text place ++ labelled (codes " ") entry.seat ++ word (reply_line (about entry.event) entry.reply)

@@ -10,7 +10,6 @@ pub mod Outcome
 pub mod Places
 pub mod Plain
 pub mod Replay
-pub mod Replies
 pub mod Report
 pub mod RequestLines
 pub mod Session

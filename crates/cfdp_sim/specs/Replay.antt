@@ -31,7 +31,7 @@ use Rattle.cfdp_sim.specs.Commands.{words_of, numbers_of, id_by, keyword_of, loc
 use Rattle.cfdp_sim.specs.declared.commands.Keyword.{Keyword}
 use Rattle.cfdp_sim.specs.declared.commands.Keyword.TheVariants as keyword
 use Rattle.cfdp_sim.specs.Hexadecimal.{octets_of_words}
-use Rattle.cfdp_sim.specs.Replies.{told_lines, fault_line, not_ours, listing_text}
+use Rattle.cfdp_texts.specs.Replies.{told_lines, fault_line, not_ours, listing_text}
 use Rattle.cfdp_sim.specs.Report.{Report, script_report}
 
 pub data Stage : Type 0 where

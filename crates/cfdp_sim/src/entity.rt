@@ -9,21 +9,17 @@ ghost use Rattle.cfdp_transactions.specs.World.{start};
 ghost use Rattle.cfdp_transactions.specs.Writable.{IsReadable};
 ghost use Rattle.cfdp_transactions.specs.Fitting.{OnlyWritable, only_writable_prop};
 ghost use Rattle.cfdp_sim.specs.Replay.{Running, most_runs, read_told, steps_from};
-ghost use Rattle.cfdp_sim.specs.Replies.{listing_text, reply_line, told_lines};
+ghost use Rattle.cfdp_texts.specs.Replies.{listing_text, reply_line, told_lines};
 
-use crate::listing::write_listing;
-use crate::replies::{fault_line, write_reply};
 use cfdp_actions::Filestore;
 use cfdp_pdus::{Header, PduFault, read_pdu};
 use cfdp_status::TransactionId;
+use cfdp_texts::{fault_line, not_ours_line, write_listing, write_reply};
 use cfdp_transactions::{Config, Core, Event, Reply, event_of, laws};
 use std::alloc::{AllocError, Global};
 
 /// How many steps `run` takes at most.
 const MOST_RUNS: u32 = 4_224;
-
-/// The line of a PDU that is not for the receiver.
-const NOT_OURS: &[u8] = b"pdu not-ours\n";
 
 /// The transaction that a PDU belongs to.
 fn id_of(header: &Header) -> TransactionId
@@ -101,7 +97,7 @@ impl<S: Filestore> Entity<S> {
         };
         match event_of(pdu) {
             Ok(event) => self.tell(alloc, &event, text),
-            Err(_) => text.extend_from_slice(NOT_OURS),
+            Err(_) => text.extend_from_slice(not_ours_line()),
         }
     }
 

@@ -1,12 +1,11 @@
-//! Hexadecimal in a line of a script, read and written.
+//! Hexadecimal in a line of a script.
 ghost use Rattle.std.specs.Prelude.{◌≡◌, ◌/◌, ◌++◌, ◌↔◌, [], length, Some, None, Err, IsOk, IsErr, OnOk, OnErr};
-ghost use Rattle.hex.specs.Hex.{decode_of, encode_lower};
+ghost use Rattle.hex.specs.Hex.{decode_of};
 ghost use Rattle.cfdp_sim.specs.Hexadecimal.{hex_octets, octets_in};
 ghost use Rattle.cfdp_sim.specs.declared.script.LineFault.TheVariants.{Bad};
 
 use crate::script::LineFault;
 use memchr::memchr;
-use std::alloc::AllocError;
 
 const SPACE: u8 = b' ';
 
@@ -55,18 +54,4 @@ pub(crate) fn decode_line(line: &[u8], octets: &mut Vec<u8>) -> Result<(), LineF
         None => decode_word(line, octets),
         Some(_) => decode_spaced(line, octets),
     }
-}
-
-/// Appends octets in lower-case hexadecimal.
-pub(crate) fn encode(octets: &[u8], out: &mut Vec<u8>) -> Result<(), AllocError>
-    ensures ok { OnOk result (out.new.items ≡ out.old.items ++ encode_lower octets.now) }
-    ensures kept { OnErr result (out.new.items ≡ out.old.items) }
-{
-    let start = out.len();
-    let digits = octets.len().checked_mul(2).ok_or(AllocError)?;
-    let len = start.checked_add(digits).ok_or(AllocError)?;
-    out.resize(len, 0)?;
-    let room = &mut out.as_mut_slice()[start..];
-    hex::encode_to_slice(octets, room).unwrap();
-    Ok(())
 }

@@ -4,13 +4,12 @@ ghost use Rattle.std.specs.List.{AllByRecursion};
 ghost use Rattle.cfdp_transactions.specs.Writable.{FitsReply};
 ghost use Rattle.cfdp_engine.specs.Journal.{replies_of};
 ghost use Rattle.cfdp_sim.specs.JournalTexts.{entry_text, entry_texts, journal_text, seat_text, seat_texts};
-ghost use Rattle.cfdp_sim.specs.Replies.{labelled, line};
+ghost use Rattle.cfdp_texts.specs.Replies.{labelled, line};
 
 use crate::entity::about;
-use crate::listing::write_listing;
-use crate::replies::{push_labelled, push_number, write_reply};
 use cfdp_actions::Filestore;
 use cfdp_engine::{Entry, Seat};
+use cfdp_texts::{push_labelled, push_number, write_listing, write_reply};
 use cfdp_transactions::Core;
 use std::alloc::{AllocError, Global};
 

@@ -8,8 +8,8 @@ ghost use Rattle.cfdp_sim.specs.declared.dropped.Dropped.{Dropped};
 ghost use Rattle.cfdp_sim.specs.declared.request_lines.NoRequest.TheVariants as no;
 
 use crate::dropped::Dropped;
-use crate::hexadecimal::encode;
 use cfdp_status::Status;
+use cfdp_texts::encode;
 use cfdp_tlv::{
     FILESTORE_REQUEST, FilestoreRequest, MAX_ANSWERABLE_LEN, TlvFault, read_tlv, request_parts,
     write_response,

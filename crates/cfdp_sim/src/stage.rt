@@ -5,7 +5,7 @@ ghost use Rattle.cfdp_transactions.specs.World.{start};
 ghost use Rattle.cfdp_transactions.specs.Writable.{IsReadable};
 ghost use Rattle.cfdp_pdus.specs.First.{pdu_at};
 ghost use Rattle.cfdp_sim.specs.Replay.{Running as IsRunning, at_first, configured, default_config, most_runs, protected, read_told, steps_from, told, world_of};
-ghost use Rattle.cfdp_sim.specs.Replies.{listing_text};
+ghost use Rattle.cfdp_texts.specs.Replies.{listing_text};
 ghost use Rattle.cfdp_sim.specs.Stages.{stage_of};
 ghost use Rattle.cfdp_sim.specs.declared.script.LineFault.TheVariants.{Bad};
 

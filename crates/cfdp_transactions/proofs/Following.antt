@@ -1,17 +1,19 @@
 -- From an event of the entry at a place to the next world.
 use Rattle.std.proofs.Common.{◌≡◌, ℕ, zero, suc, ◌<◌, List, [], ◌∷◌, length, refl, sym, ◌∙◌, arith}
-use Rattle.std.specs.Prelude.{true, ◌==◌, Option, Some, None, slice_get}
+use Rattle.std.specs.Prelude.{Bool, true, false, ◌==◌, if◌then◌else◌, Option, Some, None, IsNone, IsTrue, slice_get}
 use Rattle.cfdp_status.specs.declared.transaction.TransactionId.{TransactionId}
 use Rattle.cfdp_pdus.specs.declared.header.Header.{Header}
 use Rattle.cfdp_actions.specs.Store.{Store}
-use Rattle.cfdp_transactions.specs.Entry.{Entry}
+use Rattle.cfdp_transactions.specs.Entry.{Entry, is_live}
 use Rattle.cfdp_transactions.specs.Events.{Event, Reply}
 use Rattle.cfdp_transactions.specs.World.{World, index_of, entry_of}
 use Rattle.cfdp_transactions.specs.Next.{for_us, next}
 use Rattle.cfdp_transactions.specs.Needs.{Follows, FollowsIsSound}
+use Rattle.cfdp_transactions.specs.Outcome.{outcome_of}
+use Rattle.cfdp_transactions.specs.declared.outcome.Outcome.{Outcome}
 use Rattle.cfdp_transactions.specs.Rows.{entry_in, row_place}
-use Rattle.cfdp_transactions.specs.Books.{AnswersAt, Carries, IsBooked, world_of}
-use Rattle.cfdp_transactions.specs.Engine.{IsWhole}
+use Rattle.cfdp_transactions.specs.Books.{AnswersAt, Carries, IsBooked, IsLiveAt, world_of}
+use Rattle.cfdp_transactions.specs.Engine.{IsWhole, outcome_in}
 use Rattle.cfdp_transactions.specs.declared.books.Books.{Books}
 use Rattle.cfdp_transactions.proofs.RowWorld.{place_in, get_in, row_at}
 
@@ -46,11 +48,25 @@ module _ (s : Store) (b : Books) (id : TransactionId) where
   pub absent_entry : row_place id b.table ≡ length b.table → entry_of W id ≡ None
   absent_entry gone = rw (index_is, gone, get_in s.filestore b.table (length b.table), get_past b.table) refl
 
+-- a transaction that is there and has no outcome is live
+live_by : (live : Bool) (o : Outcome) → IsNone (if live then None else Some o) → IsTrue live
+live_by true o none = refl
+live_by false o none = absurd cc
+
+pub live_where_none : (W : World) (id : TransactionId) (e : Entry) → entry_of W id ≡ Some e → IsNone (outcome_in W id) → IsTrue (is_live e.phase)
+live_where_none W id e there none = live_by (is_live e.phase) (outcome_of e) (rw there at none)
+
 module _ (s : Store) (b : Books) (id : TransactionId) where
   pub found_entry : (place : ℕ) → place ≡ row_place id b.table → place < length b.table → (e : Entry) × (entry_of (world_of s b) id ≡ Some e)
   found_entry place is within =
       let here = get_at b.table place within in
       (entry_in s.filestore here.0, rw (index_is s b id ∙ sym is) (row_at s.filestore b.table place here.0 here.1))
+
+  pub live_place : (place : ℕ) → place ≡ row_place id b.table → place < length b.table → IsNone (outcome_in (world_of s b) id) → IsLiveAt (world_of s b) place
+  live_place place is within none =
+      let here = get_at b.table place within in
+      let at = row_at s.filestore b.table place here.0 here.1 in
+      (entry_in s.filestore here.0, at, live_where_none (world_of s b) id (entry_in s.filestore here.0) (rw (index_is s b id ∙ sym is) at) none)
 
 pub still_whole : FollowsIsSound → (s t : Store) (b d : Books) (event : Event) (reply : Reply) → IsWhole s b → Follows (world_of s b) event reply (world_of t d) → IsBooked t d → IsWhole t d
 still_whole law s t b d event reply whole follows booked = record { sound = law (world_of s b) event reply (world_of t d) whole.sound follows; booked = booked }

@@ -4,7 +4,8 @@
 --     IsWhole s b               a sound world, and books that say what it says: what is true of the core at all times
 --     read_of f W id            what is read of an entry, where the transaction is there
 --     outcome_in W id           the outcome of a transaction, where it is there and over
-use Rattle.std.specs.Prelude.{Bool, if◌then◌else◌, Option, Some, None}
+--     AsksForNone W event       a request for the outcome of a transaction that is live or not there
+use Rattle.std.specs.Prelude.{Bool, if◌then◌else◌, Option, Some, None, IsNone}
 use Rattle.std.specs.Coded.{Coded, coded_list, coded_ℕ}
 use Rattle.std.specs.FinMap as finite
 use Rattle.cfdp_paths.specs.Paths.{path_cmp}
@@ -14,7 +15,7 @@ use Rattle.std.specs.Option.{option_map}
 use Rattle.cfdp_status.specs.declared.transaction.TransactionId.{TransactionId}
 use Rattle.cfdp_actions.specs.Store.{Store}
 use Rattle.cfdp_transactions.specs.Entry.{Entry, is_live}
-use Rattle.cfdp_transactions.specs.Events.{Outcome}
+use Rattle.cfdp_transactions.specs.Events.{Event, Outcome, Take}
 use Rattle.cfdp_transactions.specs.Outcome.{outcome_of}
 use Rattle.cfdp_transactions.specs.World.{World, entry_of}
 use Rattle.cfdp_transactions.specs.Sound.{Sound}
@@ -47,3 +48,7 @@ where_any (Some outcome) = outcome
 
 abbrev pub outcome_in : World → TransactionId → Option Outcome
 outcome_in W id = where_any (read_of outcome_when_over W id)
+
+abbrev pub AsksForNone : World → Event → Type 0
+AsksForNone W (Take id) = IsNone (outcome_in W id)
+AsksForNone W event = ⊥

@@ -1,10 +1,11 @@
 //! The outcome of a transaction.
 
 ghost use Rattle.std.specs.Prelude.{◌≡◌, IfOk};
+ghost use Rattle.cfdp_transactions.specs.Writable.{IsWritable, finished_octets};
 
 use cfdp_paths::Memory;
-use cfdp_pdus::{Finished, Header};
-use std::alloc::Global;
+use cfdp_pdus::{Finished, Header, WriteFault, write_finished};
+use std::alloc::{AllocError, Global};
 use std::marker::Model;
 use std::sync::Arc;
 
@@ -17,6 +18,28 @@ pub struct Outcome {
     pub finished: Finished,
     /// Whether it is sent: always in acknowledged mode, and in unacknowledged mode where closure was requested.
     pub send: bool,
+}
+
+impl Outcome {
+    /// The octets of its Finished PDU (CCSDS 727.0-B-5 §5.2.3), none where it is not sent.
+    ///
+    /// # Errors
+    ///
+    /// Want of memory. Cost: an allocation of their length, where there are any, and a copy of the requests' names.
+    pub fn octets(&self, alloc: Global) -> Result<Vec<u8>, Memory>
+        requires { IsWritable self.now }
+        ensures { IfOk result (λ octets. octets.items ≡ finished_octets self.now) }
+    {
+        let mut octets = Vec::new(alloc);
+        if !self.send {
+            return Ok(octets);
+        }
+        match write_finished(&self.header, &self.finished, &mut octets) {
+            Ok(()) => Ok(octets),
+            Err(WriteFault::Memory) => Err(AllocError),
+            Err(WriteFault::TooLong) => unreachable!(),
+        }
+    }
 }
 
 /// An outcome that several holders share. Contracts see it as the outcome.

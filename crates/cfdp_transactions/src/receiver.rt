@@ -1,6 +1,6 @@
 //! The core of a receiving entity.
 
-ghost use Rattle.std.specs.Prelude.{◌≡◌, ◌∷◌, [], IfOk, IsTrue, IsFalse};
+ghost use Rattle.std.specs.Prelude.{◌≡◌, ◌∷◌, [], IfOk, IsOk, IsNone, IsTrue, IsFalse};
 ghost use Rattle.cfdp_actions.specs.Store.{empty_store};
 ghost use Rattle.cfdp_transactions.specs.Sound.{Sound};
 ghost use Rattle.cfdp_transactions.specs.World.{leases_of, next_runnable, spare, start};
@@ -9,7 +9,7 @@ ghost use Rattle.cfdp_transactions.specs.Needs.{Follows, may_want_memory};
 ghost use Rattle.cfdp_transactions.specs.Books.{IsAnswered};
 ghost use Rattle.cfdp_transactions.specs.Entry.{gaps};
 ghost use Rattle.std.specs.Option.{option_map};
-ghost use Rattle.cfdp_transactions.specs.Engine.{outcome_in, read_of};
+ghost use Rattle.cfdp_transactions.specs.Engine.{AsksForNone, outcome_in, read_of};
 
 use crate::books::Books;
 use crate::entry::name_of;
@@ -150,9 +150,10 @@ impl<S: Filestore> Core<S> {
     ///
     /// # Errors
     ///
-    /// Want of memory. Cost: a copy of its requests' names.
+    /// Want of memory, where there is an outcome. Cost: a copy of its requests' names.
     pub fn outcome(&self, id: TransactionId) -> Result<Option<Outcome>, Memory>
-        ensures { IfOk result (λ outcome. outcome ≡ outcome_in self.now.world id) }
+        ensures outcome { IfOk result (λ outcome. outcome ≡ outcome_in self.now.world id) }
+        ensures lean { IsNone (outcome_in self.now.world id) → IsOk result }
     {
         let Some(entry) = self.books.table.get(id) else {
             return Ok(None);
@@ -196,7 +197,7 @@ impl<S: Filestore> Core<S> {
     ///
     /// Where memory is refused the reply is [`Reply::Memory`] and the world is as before: the event can be handed in again.
     /// Over a store that takes no memory that is the reply to Metadata and Take alone; an EOF PDU, a request to cancel and a
-    /// check never get it. Journal-full is no reply of the core.
+    /// check never get it, nor does Take of a transaction that is live or not known. Journal-full is no reply of the core.
     ///
     /// Cost: that of what the event brings. Metadata costs what [`verify`](cfdp_verifier::verify) does and one copy of it;
     /// file data its octets and the pieces that they touch; an EOF PDU with a file one pass over what is staged; a step what
@@ -204,6 +205,7 @@ impl<S: Filestore> Core<S> {
     pub fn apply(&mut self, event: &Event) -> Reply
         ensures follows { Follows self.old.world event.now result self.new.world }
         ensures answered { IsFalse (may_want_memory self.old.takes_no_memory event.now) → IsAnswered result }
+        ensures lean { AsksForNone self.old.world event.now → IsAnswered result }
         ensures steady { self.new.takes_no_memory ≡ self.old.takes_no_memory }
     {
         match event {
@@ -223,6 +225,7 @@ impl<S: Filestore> Core<S> {
         ensures follows { Follows self.old.world event.now result.0 self.new.world }
         ensures same { result.1 ≡ result.0 }
         ensures answered { IsFalse (may_want_memory self.old.takes_no_memory event.now) → IsAnswered result.0 }
+        ensures lean { AsksForNone self.old.world event.now → IsAnswered result.0 }
         ensures steady { self.new.takes_no_memory ≡ self.old.takes_no_memory }
     {
         if let Event::Take(id) = event {
@@ -287,6 +290,7 @@ impl<S: Filestore> Core<S> {
     /// The outcome of a transaction is asked for, with which it is forgotten: the reply, twice.
     fn take(&mut self, id: TransactionId) -> (Reply, Reply)
         ensures follows { Follows self.old.world (Take id) result.0 self.new.world }
+        ensures lean { IsNone (outcome_in self.old.world id) → IsAnswered result.0 }
         ensures same { result.1 ≡ result.0 }
         ensures steady { self.new.takes_no_memory ≡ self.old.takes_no_memory }
     {

@@ -3,7 +3,7 @@
 ghost use Rattle.std.specs.Prelude.{◌≡◌, ℕ, ◌<◌, ◌≤◌, IfOk, length, Some, None};
 ghost use Rattle.cfdp_actions.specs.Filestore.{Filestore as Files};
 ghost use Rattle.cfdp_status.specs.Codes.{action_of};
-ghost use Rattle.cfdp_transactions.specs.Books.{AnswersAt, IsBooked, world_of};
+ghost use Rattle.cfdp_transactions.specs.Books.{AnswersAt, IsAnswered, IsBooked, IsLiveAt, world_of};
 ghost use Rattle.cfdp_transactions.specs.Ending.{taken_out};
 ghost use Rattle.cfdp_transactions.specs.Entry.{has_file};
 ghost use Rattle.cfdp_transactions.specs.Outcome.{condition_of, outcome_of, responses_of};
@@ -45,6 +45,7 @@ pub(crate) fn take<S: Filestore>(
     requires within { place < length books.old.table }
     ensures answer { let W = world_of (S.state store.now) books.old in
         AnswersAt W (world_of (S.state store.now) books.new) place (taken_out W place) result.0 }
+    ensures lean { IsLiveAt (world_of (S.state store.now) books.old) place → IsAnswered result.0 }
     ensures same { result.1 ≡ result.0 }
     ensures booked { IsBooked (S.state store.now) books.new }
 {

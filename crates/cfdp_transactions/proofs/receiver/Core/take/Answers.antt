@@ -2,7 +2,7 @@ use Rattle.std.proofs.Common.{refl}
 use Rattle.cfdp_transactions.specs.Events.{Take}
 use Rattle.cfdp_transactions.specs.Ending.{taken_out}
 use Rattle.cfdp_transactions.specs.Books.{world_of}
-use Rattle.cfdp_transactions.proofs.Following.{carries_follows, found_carries, absent_entry, still_whole}
+use Rattle.cfdp_transactions.proofs.Following.{carries_follows, found_carries, absent_entry, live_place, still_whole}
 use Rattle.cfdp_transactions.proofs.receiver.Core.take.Goals as goal
 
 pub invariant_of-self : goal.invariant_of-self
@@ -31,3 +31,9 @@ returns-in_default-clause-follows g c =
     let b = c.self.inside.books in
     let none = absent_entry s b c.args.id (rw c.in_default.is at c.find.ensures.absent) in
     rw (← c.self.view_is, none) refl
+
+pub returns-clause-lean : goal.returns-clause-lean
+returns-clause-lean g c = λ none.
+    let s = g.S.Filestore.state c.self.inside.store in
+    let b = c.self.inside.books in
+    c.take.ensures.lean (live_place s b c.args.id c.in-Some.place c.in-Some.ensures.found c.in-Some.ensures.within (rw (← c.self.view_is) at none))

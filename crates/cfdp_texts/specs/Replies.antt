@@ -8,7 +8,8 @@
 --   place_text       which name is no path: the destination's, or that of a request
 --   failure_text     which request would fail, and with which status
 --   refusal_text     why a list of requests was refused
---   finished_text    the Finished PDU in hexadecimal where it is sent, and else the condition code (CCSDS 727.0-B-5 §5.2.3)
+--   taken_text       the octets of a Finished PDU in hexadecimal (CCSDS 727.0-B-5 §5.2.3), or, where there are none, a condition code
+--   finished_text    that of an outcome: the Finished PDU where it is sent, and else the condition code
 --   grant_text       what was granted to a transaction
 --   reply_text       what is written of a reply
 --   reply_line       the line of a reply: whose transaction it is about, and the text
@@ -21,7 +22,7 @@
 --   entry_line       the line of what stands at a path
 --   blocks_line      the blocks in use, those that are free, and those of them that nobody was granted
 --   listing_text     that line and those of all that stands, in path order
-use Rattle.std.specs.Prelude.{ℕ, ◌==◌, Bool, false, not, ◌&&◌, nat_le, if◌then◌else◌, List, [], ◌∷◌, ◌++◌, codes, decimal, flat_map}
+use Rattle.std.specs.Prelude.{ℕ, ◌==◌, Bool, not, ◌&&◌, nat_le, if◌then◌else◌, List, [], ◌∷◌, ◌++◌, codes, decimal, flat_map}
 use Rattle.byteorder.specs.Endian.{big_bytes}
 use Rattle.hex.specs.Hex.{encode_lower}
 use Rattle.cfdp_status.specs.Codes.{octet_of}
@@ -38,7 +39,6 @@ use Rattle.cfdp_verifier.specs.declared.refusal.Place.{Place}
 use Rattle.cfdp_verifier.specs.declared.refusal.Place.TheVariants.{Destination, Request}
 use Rattle.cfdp_verifier.specs.declared.refusal.Refusal.{Refusal}
 use Rattle.cfdp_verifier.specs.declared.refusal.Refusal.TheVariants.{TooManyRequests, BadPath, Conflict, DestinationNotAllowed, WouldFail, TooLong, NoRoom}
-use Rattle.cfdp_pdus.specs.Canonical.{pdu_octets, finished_field}
 use Rattle.cfdp_pdus.specs.declared.fault.PduFault.{PduFault}
 use Rattle.cfdp_pdus.specs.declared.fault.PduFault.TheVariants as pdu
 use Rattle.cfdp_transactions.specs.Events.{about}
@@ -47,6 +47,7 @@ use Rattle.cfdp_transactions.specs.declared.outcome.Outcome.{Outcome}
 use Rattle.cfdp_transactions.specs.declared.reply.Reply.{Reply}
 use Rattle.cfdp_transactions.specs.declared.reply.Reply.TheVariants as replied
 use Rattle.cfdp_transactions.specs.World.{World, free, spare}
+use Rattle.cfdp_transactions.specs.Writable.{finished_octets}
 
 abbrev pub word : List ℕ → List ℕ
 word text = 32 ∷ text
@@ -79,10 +80,12 @@ refusal_text (WouldFail number status) = failure_text number status
 refusal_text (TooLong steps) = labelled (codes "too-long ") steps
 refusal_text (NoRoom wanted spare) = labelled (codes "no-room ") wanted ++ labelled (codes " ") spare
 
+abbrev pub taken_text : List ℕ → ℕ → List ℕ
+taken_text [] condition = labelled (codes "ended ") condition
+taken_text octets condition = codes "finished " ++ encode_lower octets
+
 abbrev pub finished_text : Outcome → List ℕ
-finished_text outcome =
-    if outcome.send then codes "finished " ++ encode_lower (pdu_octets false outcome.header (finished_field outcome.header outcome.finished))
-    else labelled (codes "ended ") outcome.finished.condition
+finished_text outcome = taken_text (finished_octets outcome) outcome.finished.condition
 
 abbrev pub grant_text : ℕ → ℕ → List ℕ
 grant_text blocks steps = codes "admitted " ++ labelled (codes "blocks ") blocks ++ labelled (codes " steps ") steps

@@ -1,13 +1,12 @@
 //! The lines that `replay` writes of replies, and of PDUs that are no events.
-ghost use Rattle.std.specs.Prelude.{◌≡◌, ◌++◌, IfOk, OnOk, false};
+ghost use Rattle.std.specs.Prelude.{◌≡◌, ◌++◌, OnOk};
 ghost use Rattle.cfdp_status.specs.Codes.{octet_of};
 ghost use Rattle.cfdp_status.specs.Transaction.{name_of};
 ghost use Rattle.cfdp_transactions.specs.Writable.{FitsReply, IsWritable};
-ghost use Rattle.cfdp_pdus.specs.Canonical.{finished_field, pdu_octets};
-ghost use Rattle.cfdp_sim.specs.Replies.{failure_text, fault_line, finished_text, grant_text, labelled, number_text, place_text, refusal_text, reply_line, reply_text, two_digits};
+ghost use Rattle.cfdp_texts.specs.Replies.{failure_text, fault_line, finished_text, grant_text, labelled, line, not_ours, number_text, place_text, refusal_text, reply_line, reply_text, taken_text, two_digits, word};
 
-use crate::hexadecimal::encode;
-use cfdp_pdus::{PduFault, WriteFault, write_finished};
+use crate::digits::encode;
+use cfdp_pdus::PduFault;
 use cfdp_status::{Status, TransactionId};
 use cfdp_transactions::{Outcome, Reply};
 use cfdp_verifier::{Place, Refusal};
@@ -15,8 +14,12 @@ use itoa::Buffer;
 use std::alloc::{AllocError, Global};
 
 /// Appends a number in decimal.
+///
+/// # Errors
+///
+/// Want of memory.
 #[tactic(auto, unfolding(crate::specs::Replies::number_text))]
-pub(crate) fn push_number(number: u64, text: &mut Vec<u8>) -> Result<(), AllocError>
+pub fn push_number(number: u64, text: &mut Vec<u8>) -> Result<(), AllocError>
     ensures { OnOk result (text.new.items ≡ text.old.items ++ number_text number) }
 {
     let mut buffer = Buffer::new();
@@ -24,8 +27,12 @@ pub(crate) fn push_number(number: u64, text: &mut Vec<u8>) -> Result<(), AllocEr
 }
 
 /// Appends a label, and a number in decimal.
+///
+/// # Errors
+///
+/// Want of memory.
 #[tactic(auto, unfolding(crate::specs::Replies::labelled))]
-pub(crate) fn push_labelled(label: &[u8], number: u64, text: &mut Vec<u8>) -> Result<(), AllocError>
+pub fn push_labelled(label: &[u8], number: u64, text: &mut Vec<u8>) -> Result<(), AllocError>
     ensures { OnOk result (text.new.items ≡ text.old.items ++ labelled label.now number) }
 {
     text.extend_from_slice(label)?;
@@ -99,30 +106,27 @@ fn push_refusal(refusal: Refusal, text: &mut Vec<u8>) -> Result<(), AllocError>
     }
 }
 
-/// The Finished PDU of an outcome, which can be written.
-fn finished_pdu(alloc: Global, outcome: &Outcome) -> Result<Vec<u8>, AllocError>
-    requires { IsWritable outcome.now }
-    ensures { IfOk result (λ octets. octets.items
-        ≡ pdu_octets false outcome.now.header (finished_field outcome.now.header outcome.now.finished)) }
+/// Appends the octets of a Finished PDU in hexadecimal, or, where there are none, the condition code.
+fn push_taken(octets: &[u8], condition: u64, text: &mut Vec<u8>) -> Result<(), AllocError>
+    ensures { OnOk result (text.new.items ≡ text.old.items ++ taken_text octets.now condition) }
 {
-    let mut octets = Vec::new(alloc);
-    match write_finished(&outcome.header, &outcome.finished, &mut octets) {
-        Ok(()) => Ok(octets),
-        Err(WriteFault::Memory) => Err(AllocError),
-        Err(WriteFault::TooLong) => unreachable!(),
+    if octets.is_empty() {
+        return push_labelled(b"ended ", condition, text);
     }
+    text.extend_from_slice(b"finished ")?;
+    encode(octets, text)
 }
 
-/// Appends the Finished PDU of an outcome in hexadecimal, where it is sent, and else the condition code.
+/// Appends what is written of an outcome, which can be written.
 fn push_outcome(alloc: Global, outcome: &Outcome, text: &mut Vec<u8>) -> Result<(), AllocError>
     requires { IsWritable outcome.now }
     ensures { OnOk result (text.new.items ≡ text.old.items ++ finished_text outcome.now) }
 {
-    if outcome.send {
-        text.extend_from_slice(b"finished ")?;
-        return encode(&finished_pdu(alloc, outcome)?, text);
-    }
-    push_labelled(b"ended ", u64::from(outcome.finished.condition), text)
+    push_taken(
+        &outcome.octets(alloc)?,
+        u64::from(outcome.finished.condition),
+        text,
+    )
 }
 
 /// Appends what is written of a reply.
@@ -161,8 +165,12 @@ fn push_reply(alloc: Global, reply: &Reply, text: &mut Vec<u8>) -> Result<(), Al
     }
 }
 
-/// Appends the line of a reply about a transaction.
-pub(crate) fn write_reply(
+/// Appends the line of a reply about a transaction, whose outcome, if it brings one, can be written.
+///
+/// # Errors
+///
+/// Want of memory: a beginning of the line may have been appended.
+pub fn write_reply(
     alloc: Global,
     id: TransactionId,
     reply: &Reply,
@@ -177,8 +185,28 @@ pub(crate) fn write_reply(
     Ok(text.push(b'\n')?)
 }
 
+/// Appends the line of an outcome that was handed out, from the octets of its Finished PDU, none where it is not sent, and its
+/// condition code.
+///
+/// # Errors
+///
+/// Want of memory: a beginning of the line may have been appended.
+pub fn write_taken(
+    id: TransactionId,
+    octets: &[u8],
+    condition: u64,
+    text: &mut Vec<u8>,
+) -> Result<(), AllocError>
+    ensures { OnOk result (text.new.items ≡ text.old.items ++ line (name_of id ++ word (taken_text octets.now condition))) }
+{
+    push_name(id, text)?;
+    text.push(b' ')?;
+    push_taken(octets, condition, text)?;
+    Ok(text.push(b'\n')?)
+}
+
 /// The line of octets that are no PDU.
-pub(crate) fn fault_line(fault: PduFault) -> &'static [u8]
+pub fn fault_line(fault: PduFault) -> &'static [u8]
     ensures { result.now ≡ fault_line fault }
 {
     match fault {
@@ -191,4 +219,11 @@ pub(crate) fn fault_line(fault: PduFault) -> &'static [u8]
         PduFault::RequestTooLong => b"pdu dropped request-too-long\n",
         PduFault::Memory => b"pdu dropped out-of-memory\n",
     }
+}
+
+/// The line of a PDU that is not for the receiver of a file.
+pub fn not_ours_line() -> &'static [u8]
+    ensures { result.now ≡ not_ours }
+{
+    b"pdu not-ours\n"
 }

@@ -1,9 +1,9 @@
 //! The lines that `replay` writes of all that stands in the filestore.
 ghost use Rattle.std.specs.Prelude.{◌≡◌, ◌++◌, OnOk};
 ghost use Rattle.cfdp_actions.specs.Filestore.{blocks};
-ghost use Rattle.cfdp_sim.specs.Replies.{blocks_line, entry_line, is_plain, listing_text, shown_octet, shown_path};
+ghost use Rattle.cfdp_texts.specs.Replies.{blocks_line, entry_line, is_plain, listing_text, shown_octet, shown_path};
 
-use crate::hexadecimal::encode;
+use crate::digits::encode;
 use crate::replies::push_labelled;
 use cfdp_actions::{Entry, Filestore, Kind};
 use cfdp_paths::Path;
@@ -78,7 +78,7 @@ fn push_blocks<S: Filestore>(core: &Core<S>, text: &mut Vec<u8>) -> Result<(), A
 }
 
 /// Appends the line of the blocks, and those of all that stands, in path order. Cost: one pass over the filestore's octets.
-pub(crate) fn write_listing<S: Filestore>(
+pub fn write_listing<S: Filestore>(
     alloc: Global,
     core: &Core<S>,
     text: &mut Vec<u8>,

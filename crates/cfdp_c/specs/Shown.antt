@@ -1,0 +1,119 @@
+-- The text of a reply that C has as numbers: the line that `replay` writes of it.
+--   small n                   a number that is an octet
+--   status_in, refusal_in, reply_in    the status, the refusal and the reply of these numbers, where there is one; an outcome is none of them
+--   shown fields octets       the line of a reply, where there is such a reply; that of an outcome with the octets of its Finished PDU
+--   answer_line answer        the line of octets that brought no event, by what was answered of them
+--   Puts text                 a text is written to the beginning of a buffer, and its length told; or it does not fit
+--   Writes text               likewise, where there is a text, or there is no memory for it
+--   IsTold reply              a reply that goes to C, and whose numbers are octets where they are to be
+--   ShownAsReplayed           each such reply is shown as `replay` writes it
+use Rattle.std.specs.Prelude.{◌≡◌, ◌⊎◌, ⊤, ℕ, ◌<◌, ◌≤◌, ◌==◌, nat_lt, if◌then◌else◌, List, [], ◌∷◌, ◌++◌, drop, length, Option, Some, None}
+use Rattle.std.specs.Option.{option_map, option_and_then, option_flatten}
+use Rattle.cfdp_status.specs.Codes.{beside, statuses}
+use Rattle.cfdp_status.specs.Transaction.{name_of}
+use Rattle.cfdp_status.specs.declared.status.Status.{Status}
+use Rattle.cfdp_status.specs.declared.transaction.TransactionId.{TransactionId}
+use Rattle.cfdp_pdus.specs.declared.fault.PduFault.TheVariants as fault
+use Rattle.cfdp_verifier.specs.declared.refusal.Place.TheVariants as place
+use Rattle.cfdp_verifier.specs.declared.refusal.Refusal.{Refusal}
+use Rattle.cfdp_verifier.specs.declared.refusal.Refusal.TheVariants as refusal
+use Rattle.cfdp_transactions.specs.declared.reply.Reply.{Reply}
+use Rattle.cfdp_transactions.specs.declared.reply.Reply.TheVariants as reply
+use Rattle.cfdp_texts.specs.Replies.{fault_line, line, not_ours, reply_line, taken_text, word}
+use Rattle.cfdp_entity.specs.Sending.{sent}
+use Rattle.cfdp_c.specs.Answers.{code_of}
+use Rattle.cfdp_c.specs.Calls.{named}
+use Rattle.cfdp_c.specs.Told.{told}
+use Rattle.cfdp_c.specs.declared.answer.Answer.TheVariants.{Done, Memory, Nothing, TooShort}
+use Rattle.cfdp_c.specs.declared.reply.ReplyFields.{ReplyFields}
+
+abbrev pub small : ℕ → Option ℕ
+small n = if nat_lt n 256 then Some n else None
+
+abbrev pub status_in : ℕ → Option Status
+status_in n = option_and_then (beside statuses) (small n)
+
+abbrev pub failure_in : ReplyFields → Option Refusal
+failure_in fields = option_and_then (λ request. option_map (λ status. refusal.WouldFail request status) (status_in fields.status)) (small fields.request)
+
+abbrev pub refusals : ReplyFields → List (ℕ × Option Refusal)
+refusals fields =
+    (1, Some refusal.TooManyRequests)
+    ∷ (2, Some (refusal.BadPath place.Destination))
+    ∷ (3, option_map (λ request. refusal.BadPath (place.Request request)) (small fields.request))
+    ∷ (4, Some (refusal.Conflict (named fields.other_source fields.other_number)))
+    ∷ (5, Some refusal.DestinationNotAllowed)
+    ∷ (6, failure_in fields)
+    ∷ (7, Some (refusal.TooLong fields.steps))
+    ∷ (8, Some (refusal.NoRoom fields.blocks fields.spare))
+    ∷ []
+
+abbrev pub refusal_in : ReplyFields → Option Refusal
+refusal_in fields = option_flatten (beside (refusals fields) fields.refusal)
+
+abbrev pub replies : ReplyFields → List (ℕ × Option Reply)
+replies fields =
+    (1, Some (reply.Admitted fields.blocks fields.steps))
+    ∷ (2, option_map (λ why. reply.Refused why) (refusal_in fields))
+    ∷ (3, Some reply.Stored)
+    ∷ (4, Some reply.Dropped)
+    ∷ (5, Some reply.Complete)
+    ∷ (6, Some reply.Waiting)
+    ∷ (7, option_map (λ condition. reply.Faulted condition) (small fields.condition))
+    ∷ (8, option_map (λ status. reply.Performed status) (status_in fields.status))
+    ∷ (9, Some reply.Installed)
+    ∷ (10, Some reply.Done)
+    ∷ (11, Some reply.Cancelled)
+    ∷ (13, Some reply.Duplicate)
+    ∷ (14, Some reply.Unknown)
+    ∷ (15, Some reply.Idle)
+    ∷ (16, Some reply.NotForUs)
+    ∷ (17, Some reply.TableFull)
+    ∷ []
+
+abbrev pub reply_in : ReplyFields → Option Reply
+reply_in fields = option_flatten (beside (replies fields) fields.kind)
+
+abbrev pub shown : ReplyFields → List ℕ → Option (List ℕ)
+shown fields octets =
+    if fields.kind == 12 then Some (line (name_of (named fields.source fields.number) ++ word (taken_text octets fields.condition)))
+    else option_map (reply_line (named fields.source fields.number)) (reply_in fields)
+
+abbrev pub answer_line : ℕ → Option (List ℕ)
+answer_line answer =
+    beside
+    ((32, not_ours)
+    ∷ (33, fault_line fault.Truncated)
+    ∷ (34, fault_line fault.BadVersion)
+    ∷ (35, fault_line fault.CrcNotSupported)
+    ∷ (36, fault_line fault.LengthMismatch)
+    ∷ (37, fault_line fault.BadDirective)
+    ∷ (38, fault_line fault.BadTlv)
+    ∷ (39, fault_line fault.RequestTooLong)
+    ∷ [])
+    answer
+
+abbrev pub Puts : List ℕ → List ℕ → List ℕ → ℕ → ℕ → Type 0
+Puts text out written count answer =
+    ((length text ≤ length out) × (written ≡ text ++ drop (length text) out) × (count ≡ length text) × (answer ≡ code_of Done))
+    ⊎ ((length out < length text) × (written ≡ out) × (count ≡ length text) × (answer ≡ code_of TooShort))
+
+abbrev pub PutsAny : Option (List ℕ) → List ℕ → List ℕ → ℕ → ℕ → ℕ → Type 0
+PutsAny None out written before count answer = (written ≡ out) × (count ≡ before) × (answer ≡ code_of Nothing)
+PutsAny (Some text) out written before count answer = Puts text out written count answer
+
+abbrev pub Writes : Option (List ℕ) → List ℕ → List ℕ → ℕ → ℕ → ℕ → Type 0
+Writes None out written before count answer = (written ≡ out) × (count ≡ before) × (answer ≡ code_of Nothing)
+Writes (Some text) out written before count answer =
+    Puts text out written count answer ⊎ ((written ≡ out) × (count ≡ before) × (answer ≡ code_of Memory))
+
+abbrev pub IsTold : Reply → Type 0
+IsTold (reply.Refused (refusal.BadPath (place.Request request))) = request < 256
+IsTold (reply.Refused (refusal.WouldFail request status)) = request < 256
+IsTold (reply.Faulted condition) = condition < 256
+IsTold reply.Memory = ⊥
+IsTold reply.JournalFull = ⊥
+IsTold told = ⊤
+
+abbrev pub ShownAsReplayed : Type 0
+ShownAsReplayed = (id : TransactionId) (reply : Reply) → IsTold reply → shown (told id reply) (sent reply) ≡ Some (reply_line id reply)

@@ -1,0 +1,172 @@
+//! The lines that `replay` writes, of replies and of octets that brought none.
+ghost use Rattle.std.specs.Prelude.{◌≡◌, Some, IfOk, IsErr, IsSome};
+ghost use Rattle.std.specs.Option.{option_copied, option_map};
+ghost use Rattle.cfdp_status.specs.Codes.{beside, statuses};
+ghost use Rattle.cfdp_c.specs.Answers.{code_of};
+ghost use Rattle.cfdp_c.specs.Shown.{Puts, PutsAny, ShownAsReplayed, Writes, answer_line, failure_in, refusal_in, reply_in, shown, small, status_in};
+
+use crate::answer::Answer;
+use crate::reply::ReplyFields;
+use cfdp_pdus::PduFault;
+use cfdp_status::{Status, TransactionId};
+use cfdp_texts::{fault_line, not_ours_line, write_reply, write_taken};
+use cfdp_transactions::Reply;
+use cfdp_verifier::{Place, Refusal};
+use std::alloc::{AllocError, Global};
+
+/// The kind of a reply that hands out an outcome.
+const TAKEN: u32 = 12;
+
+/// A number that is an octet.
+fn small(number: u32) -> Option<u8>
+    ensures { result ≡ small number }
+{
+    u8::try_from(number).ok()
+}
+
+/// The status of a number.
+fn status_of(number: u32) -> Option<Status>
+    ensures { result ≡ status_in number }
+{
+    Status::of_octet(small(number)?)
+}
+
+/// The refusal of a request that would fail.
+fn failure_of(fields: &ReplyFields) -> Option<Refusal>
+    ensures { result ≡ failure_in fields.now }
+{
+    let request = small(fields.request)?;
+    let status = status_of(fields.status)?;
+    Some(Refusal::WouldFail(request, status))
+}
+
+/// The refusal of a struct's numbers.
+fn refusal_of(fields: &ReplyFields) -> Option<Refusal>
+    ensures { result ≡ refusal_in fields.now }
+{
+    match fields.refusal {
+        1 => Some(Refusal::TooManyRequests),
+        2 => Some(Refusal::BadPath(Place::Destination)),
+        3 => Some(Refusal::BadPath(Place::Request(small(fields.request)?))),
+        4 => Some(Refusal::Conflict(TransactionId {
+            source: fields.other_source,
+            number: fields.other_number,
+        })),
+        5 => Some(Refusal::DestinationNotAllowed),
+        6 => failure_of(fields),
+        7 => Some(Refusal::TooLong(fields.steps)),
+        8 => Some(Refusal::NoRoom(fields.blocks, fields.spare)),
+        _ => None,
+    }
+}
+
+/// The reply of a struct's numbers, but for one that hands out an outcome.
+fn reply_of(fields: &ReplyFields) -> Option<Reply>
+    ensures { result ≡ reply_in fields.now }
+{
+    match fields.kind {
+        1 => Some(Reply::Admitted(fields.blocks, fields.steps)),
+        2 => Some(Reply::Refused(refusal_of(fields)?)),
+        3 => Some(Reply::Stored),
+        4 => Some(Reply::Dropped),
+        5 => Some(Reply::Complete),
+        6 => Some(Reply::Waiting),
+        7 => Some(Reply::Faulted(small(fields.condition)?)),
+        8 => Some(Reply::Performed(status_of(fields.status)?)),
+        9 => Some(Reply::Installed),
+        10 => Some(Reply::Done),
+        11 => Some(Reply::Cancelled),
+        13 => Some(Reply::Duplicate),
+        14 => Some(Reply::Unknown),
+        15 => Some(Reply::Idle),
+        16 => Some(Reply::NotForUs),
+        17 => Some(Reply::TableFull),
+        _ => None,
+    }
+}
+
+/// The line of a reply, if there is such a reply.
+fn line_of(
+    alloc: Global,
+    fields: &ReplyFields,
+    octets: &[u8],
+) -> Result<Option<Vec<u8>>, AllocError>
+    ensures line { IfOk result (λ line. option_map (λ line. line.items) line ≡ shown fields.now octets.now) }
+    ensures lean { IsErr result → IsSome (shown fields.now octets.now) }
+{
+    let id = TransactionId {
+        source: fields.source,
+        number: fields.number,
+    };
+    let mut line = Vec::new(alloc);
+    if fields.kind == TAKEN {
+        write_taken(id, octets, u64::from(fields.condition), &mut line)?;
+        return Ok(Some(line));
+    }
+    let Some(reply) = reply_of(fields) else {
+        return Ok(None);
+    };
+    write_reply(alloc, id, &reply, &mut line)?;
+    Ok(Some(line))
+}
+
+/// Writes a text to the beginning of a buffer, and tells its length; or tells only that, where it does not fit.
+fn put(text: &[u8], out: &mut [u8], count: &mut usize) -> Answer
+    ensures { Puts text.now out.old out.new count.new (code_of result) }
+{
+    *count = text.len();
+    if out.len() < text.len() {
+        return Answer::TooShort;
+    }
+    out[..text.len()].copy_from_slice(text);
+    Answer::Done
+}
+
+/// The line that `replay` writes of a reply.
+#[tactic(auto, using(crate::proofs::Shown::shown_as_replayed))]
+#[unsafe(no_mangle)]
+pub extern "C" fn cfdp_reply_text(
+    alloc: Global,
+    reply: &ReplyFields,
+    octets: &[u8],
+    out: &mut [u8],
+    count: &mut usize,
+) -> u32
+    ensures text { Writes (shown reply.now octets.now) out.old out.new count.old count.new result }
+    ensures as_replay { ShownAsReplayed }
+{
+    match line_of(alloc, reply, octets) {
+        Err(_) => Answer::Memory.code(),
+        Ok(None) => Answer::Nothing.code(),
+        Ok(Some(line)) => put(&line, out, count).code(),
+    }
+}
+
+/// The line of octets that bring no event, by the answer to them.
+fn answer_line(answer: u32) -> Option<&'static [u8]>
+    ensures { option_copied result ≡ answer_line answer }
+{
+    match answer {
+        32 => Some(not_ours_line()),
+        33 => Some(fault_line(PduFault::Truncated)),
+        34 => Some(fault_line(PduFault::BadVersion)),
+        35 => Some(fault_line(PduFault::CrcNotSupported)),
+        36 => Some(fault_line(PduFault::LengthMismatch)),
+        37 => Some(fault_line(PduFault::BadDirective)),
+        38 => Some(fault_line(PduFault::BadTlv)),
+        39 => Some(fault_line(PduFault::RequestTooLong)),
+        _ => None,
+    }
+}
+
+/// The line that `replay` writes of octets that bring no event.
+#[unsafe(no_mangle)]
+pub extern "C" fn cfdp_answer_text(answer: u32, out: &mut [u8], count: &mut usize) -> u32
+    ensures { PutsAny (answer_line answer) out.old out.new count.old count.new result }
+{
+    let answer = match answer_line(answer) {
+        None => Answer::Nothing,
+        Some(line) => put(line, out, count),
+    };
+    answer.code()
+}

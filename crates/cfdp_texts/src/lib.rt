@@ -1,0 +1,13 @@
+//! The texts of a receiving entity: the line of a reply to a PDU or a local event (CCSDS 727.0-B-5 §4.6), that of octets that bring
+//! no event, and those of what stands in the filestore. `docs/FORMATS.md` lists them, and `specs/Replies.antt` defines them.
+#![tactic(auto)]
+
+mod digits;
+mod listing;
+mod replies;
+
+pub use digits::encode;
+pub use listing::write_listing;
+pub use replies::{
+    fault_line, not_ours_line, push_labelled, push_number, write_reply, write_taken,
+};
