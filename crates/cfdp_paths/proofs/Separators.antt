@@ -3,10 +3,11 @@
 --     path_cmp-names_of, same_path-names_of            the order by names is the order of the buffers
 --     at_or_below-names_of, rest_below, other_beginning, behind     what is at or below a path begins with its octets, up to a separator
 --     names_of-cut, cut_there, cut_nowhere             the names before and behind a separator
+--     names_of-next, names_of-last                     the first name, up to the first separator;  the last one, where there is none
 --     text-names_of, names_of-parsed                   octets with `/` in place of each separator, and the other way round
 --     replace_more                                     one more octet is replaced
 --     rebased-names_of                                 what follows the octets of a path, behind those of another
-use Rattle.std.proofs.Common.{◌≡◌, ◌≢◌, refl, sym, ◌∙◌, ap, cond, ℕ, zero, suc, ◌+◌, ◌≤◌, ◌<◌, ◌==◌, nat_eq, Bool, true, false, ◌&&◌, List, [], ◌∷◌, ◌++◌, map, length, take, drop, get_or, set, add-one, arith, All, take-append-drop}
+use Rattle.std.proofs.Common.{◌≡◌, ◌≢◌, refl, sym, ◌∙◌, ap, cond, ℕ, zero, suc, ◌+◌, ◌≤◌, ◌<◌, ◌==◌, nat_eq, Bool, true, false, ◌&&◌, List, [], ◌∷◌, ◌++◌, map, length, take, drop, get_or, set, add-one, arith, All, take-append-drop, length-take, length-drop, ◌-◌}
 use Rattle.std.specs.List.{slice_split, onto_first, count_by}
 use Rattle.std.specs.Cmp.{nat_cmp_is}
 use Rattle.std.specs.Cmp.Lexicographic.{slice_cmp, pointwise, texts_ties, bytes_decides}
@@ -14,11 +15,11 @@ use Rattle.std.specs.Ordering.{ordering_then, nat_cmp, is_eq}
 use Rattle.std.specs.declared.cmp.Ordering.{Ordering}
 use Rattle.std.specs.declared.cmp.Ordering.TheVariants.{Less, Equal, Greater}
 use Rattle.std.proofs.Math.Bool.{and_assoc}
-use Rattle.std.proofs.lemmas.Bool.{and_parts, cond-false, eqb-true, eqb-false, ne_eqb}
+use Rattle.std.proofs.lemmas.Bool.{and_parts, false_from_ne_true, cond-false, eqb-true, eqb-false, ne_eqb}
 use Rattle.std.proofs.Math.Seq.{drop-cons}
-use Rattle.std.proofs.lemmas.List.{take_all, take_at, append-nil}
-use Rattle.std.proofs.lemmas.List.Elements.{All-weaker, All-head, All-tail, All-cons}
-use Rattle.std.proofs.lemmas.List.Splits.{length-slice_split}
+use Rattle.std.proofs.lemmas.List.{take_all, take_at, append-nil, get_or-take}
+use Rattle.std.proofs.lemmas.List.Elements.{All-weaker, All-head, All-tail, All-cons, All-from_get_or}
+use Rattle.std.proofs.lemmas.List.Splits.{length-slice_split, slice_split_none}
 use Rattle.cfdp_paths.specs.Paths.{Name, Path, IsName, is_separator, names_of, path_cmp, same_name, same_path, is_at_or_below, slash, is_slash, joined, rebased}
 use Rattle.cfdp_paths.proofs.Below.{rebased-append}
 
@@ -233,6 +234,25 @@ pub cut_nowhere : (octets : List ℕ) (place count left : ℕ) → length octets
 cut_nowhere octets place count left past passed some =
     let all : count_by is_separator (take place octets) ≡ count_by is_separator octets = ap (count_by is_separator) (take_all place octets past) in
     sym (take_all count (names_of octets) (omega (arith, depth-names_of octets)))
+
+-- ---- the first name
+
+pub names_of-last : (octets : List ℕ) → ((k : ℕ) → 0 ≤ k → k < length octets → is_separator (get_or octets k 0) ≡ true → ⊥) → names_of octets ≡ octets ∷ []
+names_of-last octets none =
+    slice_split_none is_separator octets
+    (All-from_get_or (λ x. is_separator x ≡ false) octets 0 (λ i less. false_from_ne_true (is_separator (get_or octets i 0)) (none i (omega arith) less)))
+
+pub names_of-next : (octets : List ℕ) (place behind : ℕ) → behind ≡ place + 1 → place < length octets
+    → ((k : ℕ) → 0 ≤ k → k < place → is_separator (get_or octets k 0) ≡ true → ⊥) → is_separator (get_or octets place 0) ≡ true
+    → names_of octets ≡ take place octets ∷ names_of (take (length octets - behind) (drop behind octets))
+names_of-next octets place behind e within none here =
+    let whole : take place octets ++ 0 ∷ drop (suc place) octets ≡ octets =
+    ap (λ x. take place octets ++ x ∷ drop (suc place) octets) (sym (eqb-true (get_or octets place 0) 0 here)) ∙ ap (λ o. take place octets ++ o) (sym (drop-cons octets place 0 within)) ∙ take-append-drop place octets in
+    let alone = names_of-last (take place octets) (λ k low less at.
+    (let inside : k < place = omega (arith, less, length-take place octets) in none k low inside (ap is_separator (sym (get_or-take place octets k 0 inside)) ∙ at))) in
+    let rest : drop (suc place) octets ≡ take (length octets - behind) (drop behind octets) =
+    (let next : suc place ≡ behind = omega (arith, e) in ap (λ n. drop n octets) next ∙ sym (take_all (length octets - behind) (drop behind octets) (omega (arith, length-drop behind octets)))) in
+    ap names_of (sym whole) ∙ names_of-cut (take place octets) (drop (suc place) octets) ∙ ap (λ p. p ++ names_of (drop (suc place) octets)) alone ∙ ap (λ o. take place octets ∷ names_of o) rest
 
 -- ---- what follows the octets of a path
 

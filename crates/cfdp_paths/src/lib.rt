@@ -7,12 +7,14 @@
 mod buffers;
 mod fault;
 pub mod laws;
+mod names;
 mod parsing;
 mod path_map;
 mod paths;
 mod relocating;
 
 pub use fault::PathFault;
+pub use names::Names;
 pub use path_map::PathMap;
 pub use paths::Path;
 

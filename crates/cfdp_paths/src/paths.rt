@@ -12,6 +12,7 @@ ghost use Rattle.cfdp_paths.specs.Paths.{Name, IsPath, Spells, ancestors, is_at_
 use crate::Memory;
 use crate::buffers::{SEPARATOR, count_separators, first_names, replaced};
 use crate::fault::PathFault;
+use crate::names::Names;
 use crate::parsing::{find_fault, strip_slash};
 use std::alloc::Global;
 use std::cmp::Ordering;
@@ -28,17 +29,19 @@ pub struct Path {
     /// The names in order, with [`SEPARATOR`] between them: so the order of paths is the order of their octets, what is
     /// below a path begins with its octets, and a copy is one allocation.
     octets: Vec<u8>,
+    /// How many names these are.
+    depth: usize,
 }
 
 impl Model for Path {
-    ghost use Rattle.std.specs.Prelude.{ℕ, List};
+    ghost use Rattle.std.specs.Prelude.{◌≡◌, ℕ, List, length};
     ghost use Rattle.cfdp_paths.specs.Paths.{IsPath, names_of};
 
     ghost Value = { List (List ℕ) };
 
     ghost view = { λ path. names_of path.octets.items };
 
-    ghost invariant = { λ path. IsPath (names_of path.octets.items) };
+    ghost invariant = { λ path. IsPath (names_of path.octets.items) × (path.depth ≡ length (names_of path.octets.items)) };
 }
 
 impl Path {
@@ -63,15 +66,26 @@ impl Path {
             return Err(fault);
         }
         let octets = replaced(alloc, strip_slash(octets), b'/', SEPARATOR)?;
-        Ok(Path { octets })
+        let depth = count_separators(&octets) + 1;
+        Ok(Path { octets, depth })
     }
 
-    /// How many names the path has. Takes no memory. Cost: one pass over its octets.
+    /// How many names the path has. Takes no memory. In constant time.
     pub fn depth(&self) -> usize
         ensures depth { result ≡ length self.now }
         ensures within { IsPath self.now }
     {
-        count_separators(&self.octets) + 1
+        self.depth
+    }
+
+    /// The names in order, lent. Takes no memory. In constant time; [`Names`] says what going through them costs.
+    pub fn names(&self) -> Names<'_>
+        ensures names { result ≡ self.now }
+        ensures within { IsPath self.now }
+    {
+        Names {
+            octets: Some(&self.octets),
+        }
     }
 
     /// The name at the index, where the first name has the index 0; no octets where the path has no such name. Takes no
@@ -80,10 +94,7 @@ impl Path {
         ensures name { result.now ≡ slice_index_or self.now index [] }
         ensures short { length result.now ≤ 96 }
     {
-        self.octets
-            .split(|octet| *octet == SEPARATOR)
-            .nth(index)
-            .unwrap_or(&[])
+        self.names().nth(index).unwrap_or(&[])
     }
 
     /// Whether `other` is a prefix of this path, or this path itself. Takes no memory. Cost: one comparison of
@@ -162,7 +173,7 @@ impl Path {
         ensures { IfOk result (λ path. path ≡ take depth self.now) }
     {
         let octets = Vec::from_slice(alloc, first_names(&self.octets, depth))?;
-        Ok(Path { octets })
+        Ok(Path { octets, depth })
     }
 
     /// This path without its last name, or `None` where that is the root, which takes no memory.
@@ -210,7 +221,8 @@ impl Path {
         ensures { IfOk result (λ path. path ≡ self.now) }
     {
         let octets = Vec::from_slice(alloc, &self.octets)?;
-        Ok(Path { octets })
+        let depth = self.depth;
+        Ok(Path { octets, depth })
     }
 
     /// The octets that spell this path, with no `/` at the start: at most 775.
@@ -240,7 +252,8 @@ impl Path {
         let mut octets = Vec::with_capacity(alloc, to.octets.len() + rest.len())?;
         octets.extend_from_slice(&to.octets)?;
         octets.extend_from_slice(rest)?;
-        Ok(Path { octets })
+        let depth = self.depth + to.depth - from.depth;
+        Ok(Path { octets, depth })
     }
 }
 

@@ -45,6 +45,7 @@ pub mod InstallLaws
 pub mod JoinLaws
 pub mod ListLaws
 pub mod MakeLaws
+pub mod NamesLeft
 pub mod NewLaws
 pub mod OutLaws
 pub mod ParentLaws

@@ -1,7 +1,7 @@
 -- The index: for each directory and name a head, from which a list of nodes begins, each of which names the next one.
 -- A node stands in the list of its own directory and name, once. How many nodes a list has stands in its head.
 --     Heads                      the heads
---     hash_step, hash_of         a number for a directory and a name
+--     hash_of                    a number for a directory and a name: what the hasher of std's maps makes of the two
 --     place_of directory name n  the head of the two among n of them
 --     chain nodes n b            n nodes from b on
 --     list_of nodes head         the list of a head
@@ -10,7 +10,9 @@
 --     IsListed nodes out n k b   the node b stands in the list k of n lists, and is not the one that stands in none
 --     count_out out              how many nodes stand in no list
 --     IsIndex nodes heads out    each node stands in its list, but for the one that is out, and each list has just its nodes
-use Rattle.std.specs.Prelude.{◌≡◌, ◌≢◌, ℕ, ◌+◌, ◌*◌, ◌%◌, ◌^◌, ◌<◌, ◌==◌, not, List, Option, Some, None, All, AllPairs, Contains, filter, fold, length, slice_index_or, sum_by}
+use Rattle.std.specs.Prelude.{◌≡◌, ◌≢◌, ℕ, ◌+◌, ◌%◌, ◌<◌, ◌==◌, not, List, Option, Some, None, All, AllPairs, Contains, filter, fold, length, slice_index_or, sum_by}
+use Rattle.std.specs.Hash as fed
+use Rattle.std.specs.Hash.FoldHasher as hasher
 use Rattle.cfdp_arena.specs.Arena.{Blocks, live_count}
 use Rattle.cfdp_paths.specs.Paths.{Name}
 use Rattle.cfdp_tree.specs.declared.index.Head.{Head}
@@ -20,16 +22,10 @@ use Rattle.cfdp_tree.specs.Tree.{IsNode, row_at, name_at, home}
 abbrev pub Heads : Type 0
 Heads = List Head
 
-abbrev pub hash_step : ℕ → ℕ → ℕ
-hash_step hash octet = ((hash * 401) % 2 ^ 32 + octet) % 2 ^ 32
-
--- the root is 0
-abbrev pub hash_start : Option ℕ → ℕ
-hash_start None = 0
-hash_start (Some d) = (d + 1) % 2 ^ 32
-
+-- the root adds nothing
 abbrev pub hash_of : Option ℕ → Name → ℕ
-hash_of directory name = fold hash_step (hash_start directory) name
+hash_of None name = hasher.finish (hasher.write hasher.initial name)
+hash_of (Some d) name = hasher.finish (hasher.write (fold hasher.write hasher.initial (fed.u32 d)) name)
 
 abbrev pub place_of : Option ℕ → Name → ℕ → ℕ
 place_of directory name n = hash_of directory name % n

@@ -8,6 +8,7 @@ ghost use Rattle.cfdp_tree.specs.Index.{hash_of, place_of, chain, list_of, witho
 
 use crate::rows::{home_is, name_is, same_head_of, set_same_head};
 use cfdp_arena::{Arena, BlockId};
+use std::hash::{FoldHasher, Hasher};
 
 /// Where a list of nodes begins, and how many there are. Where there are none, the node means nothing.
 #[derive(Clone, Copy, Debug)]
@@ -29,23 +30,16 @@ impl Head {
     }
 }
 
-/// By what each octet multiplies the hash so far: a prime above all octets.
-const HASH_FACTOR: u32 = 401;
-
-/// A number for a directory, `None` for the root, and a name in it.
-fn hash_of(directory: Option<BlockId>, name: &[u8]) -> u32
+/// A number for a directory, `None` for the root, and a name in it. In time linear in the name, by 16 octets a step.
+fn hash_of(directory: Option<BlockId>, name: &[u8]) -> u64
     ensures { result ≡ hash_of directory name.now }
 {
-    let mut hash = match directory {
-        Some(directory) => directory.number().wrapping_add(1),
-        None => 0,
-    };
-    for octet in name {
-        hash = hash
-            .wrapping_mul(HASH_FACTOR)
-            .wrapping_add(u32::from(*octet));
+    let mut hasher = FoldHasher::default();
+    if let Some(directory) = directory {
+        hasher.write_u32(directory.number());
     }
-    hash
+    hasher.write(name);
+    hasher.finish()
 }
 
 /// The place of the head of a directory and a name.

@@ -8,8 +8,7 @@ use crate::index::{Head, find};
 use cfdp_arena::{Arena, BlockId};
 use cfdp_paths::Path;
 
-/// The node of the path of the first `depth` names; none for no name. In expected time linear in the octets of the path
-/// for each name.
+/// The node of the path of the first `depth` names; none for no name. In expected time linear in their octets.
 pub(crate) fn lookup(arena: &Arena, heads: &[Head], path: &Path, depth: usize) -> Option<BlockId>
     requires tree { IsTree (nodes_in arena.now) }
     requires index { IsIndex (nodes_in arena.now) heads.now None }
@@ -20,14 +19,14 @@ pub(crate) fn lookup(arena: &Arena, heads: &[Head], path: &Path, depth: usize) -
         path_of (nodes_in arena.now) b ≡ take depth path.now → ⊥) }
 {
     let mut place = None;
-    for index in 0..depth {
-        let node = find(arena, heads, place, path.name(index))?;
+    for name in path.names().take(depth) {
+        let node = find(arena, heads, place, name)?;
         place = Some(node);
     }
     place
 }
 
-/// The node of a path. In expected time linear in the octets of the path for each name.
+/// The node of a path. In expected time linear in its octets.
 pub(crate) fn find_path(arena: &Arena, heads: &[Head], path: &Path) -> Option<BlockId>
     requires tree { IsTree (nodes_in arena.now) }
     requires index { IsIndex (nodes_in arena.now) heads.now None }

@@ -1,12 +1,18 @@
 use Rattle.std.proofs.Common.{rules, ◌≡◌, [], ◌∷◌, ◌++◌, map, sym, ap, ◌∙◌, subst}
 use Rattle.std.proofs.lemmas.List.{append_assoc}
-use Rattle.std.proofs.lemmas.List.Elements.{All-tail}
+use Rattle.std.proofs.lemmas.List.Elements.{All-head, All-tail}
 use Rattle.std.specs.Prelude.{All}
 use Rattle.std.specs.Vec.Iter.{into_iter_items}
 use Rattle.cfdp_actions.specs.Store.{standing_of}
 use Rattle.cfdp_tree.specs.Nodes.{nodes_in}
 use Rattle.cfdp_tree.specs.Survey.{shown, IsSound}
 use Rattle.cfdp_tree.proofs.listing.standings.Goals as goal
+
+pub standing-requires : goal.standing-requires
+standing-requires c =
+    let arena = c.args.arena.now in let rest = into_iter_items c.next.new.self in let l = c.loop-path in
+    let items : into_iter_items l.path-iterator ≡ (c.in-Some.path, c.in-Some.node) ∷ rest = search rules in
+    All-head (IsSound arena) (c.in-Some.path, c.in-Some.node) rest (subst (All (IsSound arena)) items l.invariant.sound)
 
 pub loop-path-preserved : goal.loop-path-preserved
 loop-path-preserved c =

@@ -1,11 +1,13 @@
-use Rattle.std.proofs.Common.{◌≡◌, ◌+◌, ℕ, [], ◌∷◌, ◌++◌, length, take, Option, Some, None, sym, ap, ◌∙◌, subst, arith}
+use Rattle.std.proofs.Common.{◌≡◌, ◌+◌, ◌≤◌, ◌<◌, ℕ, [], ◌∷◌, ◌++◌, length, take, Option, Some, None, refl, sym, ap, ◌∙◌, subst, arith}
+use Rattle.std.specs.Iterator.Adapters.{take_count, take_source}
 use Rattle.std.proofs.lemmas.List.{take_more, take-take, length-take-le}
-use Rattle.std.specs.Prelude.{IfNone}
+use Rattle.std.specs.Prelude.{IfNone, IfSome}
 use Rattle.cfdp_arena.specs.Arena.{Blocks}
-use Rattle.cfdp_paths.specs.Paths.{Path}
+use Rattle.cfdp_paths.specs.Paths.{Name, Path}
 use Rattle.cfdp_tree.specs.Nodes.{nodes_in}
 use Rattle.cfdp_tree.specs.Tree.{IsTree, IsNode, path_of}
 use Rattle.cfdp_tree.specs.Places.{StandsAt}
+use Rattle.cfdp_tree.proofs.NamesLeft.{IsAhead, ahead-start, ahead-next, ahead-end}
 use Rattle.cfdp_tree.proofs.ClimbLaws.{some_path, entry_at, path_entry, beginning}
 use Rattle.cfdp_tree.proofs.lookup.lookup.Goals as goal
 
@@ -18,30 +20,73 @@ no_node : (nodes : Blocks) (tree : IsTree nodes) (place : Option ℕ) (p : Path)
 no_node nodes tree None p stands = (λ b node e. some_path nodes tree b node (e ∙ sym stands.path))
 no_node nodes tree (Some d) p stands = tt
 
+node_path : (nodes : Blocks) (place : Option ℕ) (p : Path) → StandsAt nodes place p → IfSome place (λ b. path_of nodes b ≡ p)
+node_path nodes None p stands = tt
+node_path nodes (Some d) p stands = stands.path
+
+pub loop-name-init : goal.loop-name-init
+loop-name-init c =
+    let path = c.args.path.now in let same = c.into_iter-name-iterator.ensures.into_iter_gives in (
+      0,
+      ahead-start path (take_source c.into_iter-name-iterator.result) c.args.depth (take_count c.into_iter-name-iterator.result)
+          (ap take_source same ∙ c.take-name-items.ensures.source ∙ c.names.ensures.names) (ap take_count same ∙ c.take-name-items.ensures.count),
+      record { node = (λ d e. cc); path = refl },
+    )
+
+pub find-requires-clause-short : goal.find-requires-clause-short
+find-requires-clause-short c =
+    let path = c.args.path.now in let at = c.loop-name.invariant in
+    let next = ahead-next path (take_source c.loop-name.name-iterator) c.args.depth (take_count c.loop-name.name-iterator) at.0 at.1 c.requires.within c.in-Some.name.now
+    (take_source c.next.new.self) (take_count c.next.new.self) c.in-Some.ensures.steps.0 c.in-Some.ensures.steps.1 in
+    let inside : at.0 < length path = omega (arith, next.1.counted, c.requires.within) in
+    subst (λ (name : Name). length name ≤ 96) (sym next.0) (c.names.ensures.within.names at.0 [] inside).short
+
 pub returns-in_err-node-clause-none : goal.returns-in_err-node-clause-none
 returns-in_err-node-clause-none c =
-    let nodes = nodes_in c.args.arena.now in let path = c.args.path.now in let i = c.loop-index.index in let place = c.loop-index.place in let depth = c.args.depth in
+    let nodes = nodes_in c.args.arena.now in let path = c.args.path.now in let place = c.loop-name.place in let depth = c.args.depth in
+    let at = c.loop-name.invariant in let i = at.0 in
+    let next = ahead-next path (take_source c.loop-name.name-iterator) depth (take_count c.loop-name.name-iterator) i at.1 c.requires.within c.in-Some.name.now
+    (take_source c.next.new.self) (take_count c.next.new.self) c.in-Some.ensures.steps.0 c.in-Some.ensures.steps.1 in
+    let more : i + 1 ≤ depth = omega (arith, next.1.counted) in
     any_none c.from_residual.result ((b : ℕ) → IsNode nodes b → path_of nodes b ≡ take depth path → ⊥) (λ b node e.
     (let long : length (path_of nodes b) ≡ depth = ap length e ∙ length-take-le depth path c.requires.within in
-    let above = beginning nodes c.requires.tree b (i + 1) node (omega arith) (omega arith) in
-    let here = above.2 ∙ ap (take (i + 1)) e ∙ take-take (i + 1) depth path (omega arith) ∙ take_more path i [] (omega arith) in
-    c.in_err-node.ensures.none above.0 (entry_at nodes c.requires.tree place (take i path) c.name.result.now above.0 c.loop-index.invariant above.1 (here ∙ ap (λ name. take i path ++ name ∷ []) (sym c.name.ensures.name)))))
+    let above = beginning nodes c.requires.tree b (i + 1) node (omega arith) (omega (arith, long, more)) in
+    let here = above.2 ∙ ap (take (i + 1)) e ∙ take-take (i + 1) depth path more ∙ take_more path i [] (omega (arith, more, c.requires.within)) in
+    c.in_err-node.ensures.none above.0 (entry_at nodes c.requires.tree place (take i path) c.in-Some.name.now above.0 at.2 above.1 (here ∙ ap (λ name. take i path ++ name ∷ []) (sym next.0)))))
 
-pub loop-index-preserved : goal.loop-index-preserved
-loop-index-preserved c =
-    let nodes = nodes_in c.args.arena.now in let path = c.args.path.now in let i = c.loop-index.index in let place = c.loop-index.place in
-    let entry = c.in_ok-node.ensures.found in
-    record {
-      node = (λ d same. subst (IsNode nodes) (some_same same) entry.node);
-      path = path_entry nodes c.requires.tree place (take i path) c.name.result.now c.in_ok-node.node c.loop-index.invariant entry
-          ∙ ap (λ name. take i path ++ name ∷ []) c.name.ensures.name ∙ sym (take_more path i [] (omega arith));
-    }
+pub loop-name-preserved : goal.loop-name-preserved
+loop-name-preserved c =
+    let nodes = nodes_in c.args.arena.now in let path = c.args.path.now in let place = c.loop-name.place in let depth = c.args.depth in
+    let at = c.loop-name.invariant in let i = at.0 in
+    let next = ahead-next path (take_source c.loop-name.name-iterator) depth (take_count c.loop-name.name-iterator) i at.1 c.requires.within c.in-Some.name.now
+    (take_source c.next.new.self) (take_count c.next.new.self) c.in-Some.ensures.steps.0 c.in-Some.ensures.steps.1 in
+    let more : i + 1 ≤ depth = omega (arith, next.1.counted) in
+    let entry = c.in_ok-node.ensures.found in (
+      i + 1,
+      next.1,
+      record {
+        node = (λ d same. subst (IsNode nodes) (some_same same) entry.node);
+        path = path_entry nodes c.requires.tree place (take i path) c.in-Some.name.now c.in_ok-node.node at.2 entry
+            ∙ ap (λ name. take i path ++ name ∷ []) next.0 ∙ sym (take_more path i [] (omega (arith, more, c.requires.within)));
+      },
+    )
   where
     some_same : {x y : ℕ} → Some x ≡ Some y → x ≡ y
     some_same e = cc
 
+-- all names were taken
+all_taken : (nodes : Blocks) (path left : Path) (depth count done : ℕ) (place : Option ℕ) → IsAhead path depth left count done → depth ≤ length path → (0 < count → left ≡ []) → StandsAt nodes place (take done path)
+    → StandsAt nodes place (take depth path)
+all_taken nodes path left depth count done place ahead within none stands = subst (λ n. StandsAt nodes place (take n path)) (ahead-end path left depth count done ahead within none) stands
+
 pub returns-clause-none : goal.returns-clause-none
 returns-clause-none c =
-    let nodes = nodes_in c.args.arena.now in let path = c.args.path.now in let i = c.loop-index.index in let place = c.loop-index.place in
-    let all : i ≡ c.args.depth = omega arith in
-    no_node nodes c.requires.tree place (take c.args.depth path) (subst (λ n. StandsAt nodes place (take n path)) all c.loop-index.invariant)
+    let nodes = nodes_in c.args.arena.now in let path = c.args.path.now in let at = c.loop-name.invariant in
+    no_node nodes c.requires.tree c.loop-name.place (take c.args.depth path)
+    (all_taken nodes path _ c.args.depth _ at.0 c.loop-name.place at.1 c.requires.within (λ some. (c.in-None.ensures.steps some).0) at.2)
+
+pub returns-clause-path : goal.returns-clause-path
+returns-clause-path c =
+    let nodes = nodes_in c.args.arena.now in let path = c.args.path.now in let at = c.loop-name.invariant in
+    node_path nodes c.loop-name.place (take c.args.depth path)
+    (all_taken nodes path _ c.args.depth _ at.0 c.loop-name.place at.1 c.requires.within (λ some. (c.in-None.ensures.steps some).0) at.2)

@@ -1,12 +1,11 @@
-use Rattle.std.proofs.Common.{◌≡◌, ◌≤◌, ℕ, length, get_or, refl, rules, subst, sym, ap, ◌∙◌, inl, inr, arith}
+use Rattle.std.proofs.Common.{◌≡◌, ◌≤◌, ℕ, length, get_or, refl, subst, sym, ap, ◌∙◌, inl, inr, arith}
 use Rattle.std.specs.Option.{option_map, unwrap_or}
 use Rattle.std.specs.Prelude.{[], Option, Some, None, All}
 use Rattle.std.proofs.lemmas.Bool.{cases_lt}
 use Rattle.std.proofs.lemmas.Option.{unwrap_or-slice_get}
 use Rattle.std.proofs.lemmas.List.{get_or_past}
-use Rattle.std.proofs.lemmas.Iterator.Consumers.{nth_from_yields_List}
-use Rattle.std.proofs.lemmas.Iterator.Splits.{YieldsList-from_slice_split}
-use Rattle.cfdp_paths.specs.Paths.{Path, IsName, is_separator, names_of}
+use Rattle.std.proofs.lemmas.Iterator.Consumers.{nth_from_yields_List, YieldsList-from_first}
+use Rattle.cfdp_paths.specs.Paths.{Path, IsName}
 use Rattle.cfdp_paths.proofs.paths.Path.name.Goals as goal
 
 seen : {A B : Type 0} (f : A → B) (r : Option A) (d : A) → f (unwrap_or r d) ≡ unwrap_or (option_map f r) (f d)
@@ -21,17 +20,14 @@ short_at p names i = elim (cases_lt i (length p)) [
 
 pub returns-clause-name : goal.returns-clause-name
 returns-clause-name c =
-    let item = nth_from_yields_List c.nth.result c.nth.new.self c.args.index c.nth.ensures.ran
-    (YieldsList-from_slice_split _ is_separator c.deref.result.now c.split.ensures.rest c.split.ensures.done c.split.ensures.closure (λ x r q k. search (rules, is_separator))) in
+    let item = nth_from_yields_List c.nth.result c.nth.new.self c.args.index c.nth.ensures.ran (YieldsList-from_first (λ x. x.now) (λ (names : Path). names) c.args.self.now c.names.ensures.names) in
     let place = c.args.index in
     ap (λ x. x.now) c.unwrap_or.ensures
     ∙ seen (λ x. x.now) c.nth.result _
     ∙ ap (λ name. unwrap_or name []) item
-    ∙ unwrap_or-slice_get (names_of c.deref.result.now) place []
-    ∙ ap (λ octets. get_or (names_of octets) place []) c.deref.ensures.value
-    ∙ ap (λ p. get_or p place []) c.self.view_is
+    ∙ unwrap_or-slice_get c.args.self.now place []
 
 pub returns-clause-short : goal.returns-clause-short
 returns-clause-short c =
     let here = returns-clause-name c in
-    subst (λ n. length n ≤ 96) (sym here) (short_at c.args.self.now (subst (All IsName) c.self.view_is c.self.invariant.names) c.args.index)
+    subst (λ n. length n ≤ 96) (sym here) (short_at c.args.self.now c.names.ensures.within.names c.args.index)

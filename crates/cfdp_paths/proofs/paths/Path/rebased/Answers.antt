@@ -1,8 +1,17 @@
-use Rattle.std.proofs.Common.{◌≡◌, true, length, ◌∙◌, ap, subst, ◌++◌, drop, arith, length-append}
-use Rattle.cfdp_paths.specs.Paths.{names_of, IsPath, is_at_or_below, rebased}
+use Rattle.std.proofs.Common.{◌≡◌, ℕ, ◌+◌, ◌-◌, ◌≤◌, true, length, ◌∙◌, ap, subst, ◌++◌, drop, arith, length-append, length-drop}
+use Rattle.cfdp_paths.specs.Paths.{Path, names_of, IsPath, is_at_or_below, rebased}
 use Rattle.cfdp_paths.proofs.Below.{IsPath-rebased, length-at_or_below}
 use Rattle.cfdp_paths.proofs.Separators.{behind, rebased-names_of}
 use Rattle.cfdp_paths.proofs.paths.Path.rebased.Goals as goal
+
+rebased_depth : (own to from : ℕ) (x q p : Path) → length p ≤ length x → own ≡ length x → to ≡ length q → from ≡ length p → own + to - from ≡ length (rebased p q x)
+rebased_depth own to from x q p short own_is to_is from_is = omega (arith, length-append q (drop (length p) x), length-drop (length p) x)
+
+pub overflow_sub-depth : goal.overflow_sub-depth
+overflow_sub-depth c =
+    let short = length-at_or_below c.args.self.now c.args.from.now c.requires.below in
+    let own = c.self.invariant.1 ∙ ap length c.self.view_is in let from = c.from.invariant.1 ∙ ap length c.from.view_is in
+    omega (arith, short, own, from)
 
 pub split_at-requires : goal.split_at-requires
 split_at-requires c =
@@ -25,8 +34,10 @@ made c =
 pub invariant_of-result : goal.invariant_of-result
 invariant_of-result c =
     let short = length-at_or_below c.args.self.now c.args.from.now c.requires.below in
-    rw (made c)
-    (IsPath-rebased c.args.from.now c.args.to.now c.args.self.now c.requires.room short (subst IsPath c.to.view_is c.to.invariant) (subst IsPath c.self.view_is c.self.invariant))
+    rw (made c) (
+      IsPath-rebased c.args.from.now c.args.to.now c.args.self.now c.requires.room short (subst IsPath c.to.view_is c.to.invariant.0) (subst IsPath c.self.view_is c.self.invariant.0),
+      rebased_depth c.self.inside.depth c.to.inside.depth c.from.inside.depth c.args.self.now c.args.to.now c.args.from.now short (c.self.invariant.1 ∙ ap length c.self.view_is) (c.to.invariant.1 ∙ ap length c.to.view_is) (c.from.invariant.1 ∙ ap length c.from.view_is),
+    )
 
 pub returns : goal.returns
 returns c = made c
