@@ -12,5 +12,5 @@ pub fn blocks_of(octets: u64) -> u32
     requires { octets ≤ 15728640 }
     ensures { result ≡ blocks_of octets }
 {
-    ((octets + (PAYLOAD_OCTETS - 1)) / PAYLOAD_OCTETS) as u32
+    octets.div_ceil(PAYLOAD_OCTETS) as u32
 }
