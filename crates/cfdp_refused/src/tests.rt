@@ -1,0 +1,4 @@
+//! `scripts` is replayed transactions, `workers` two workers on one engine.
+
+mod scripts;
+mod workers;
