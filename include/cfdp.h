@@ -15,7 +15,7 @@
  *
  * MEMORY comes from rattle_alloc, rattle_realloc and rattle_dealloc (docs/C.md). It is asked for by cfdp_new, by cfdp_receive for
  * a Metadata PDU and for a Finished PDU (which no receiver gets), by cfdp_take of a transaction that is over, by the calls that
- * name a path, and by cfdp_reply_text; by nothing else. So no file that arrives and no request that is performed takes memory.
+ * name a path, by cfdp_list and by cfdp_reply_text; by nothing else. So no file that arrives and no request that is performed takes memory.
  */
 #ifndef CFDP_H
 #define CFDP_H
@@ -223,6 +223,19 @@ uint32_t cfdp_look_up(struct cfdp_engine *engine, const struct cfdp_path *path, 
  * many. Answers CFDP_DONE; CFDP_NOTHING where no file stands at the path; CFDP_BAD_PATH, CFDP_NO_MEMORY (for the path), or
  * CFDP_NO_ENGINE. */
 uint32_t cfdp_read(struct cfdp_engine *engine, const struct cfdp_path *path, uint64_t at, uint8_t *out, size_t room, size_t *count);
+
+/* An entry of the filestore, with its path. */
+struct cfdp_listed {
+    struct cfdp_path path;  /* zeros stand behind its octets */
+    struct cfdp_entry entry;
+};
+
+/* What stands in the filestore, in path order (a directory before what is below it): the entries from the number `from` on, from
+ * 0, are written to the beginning of `entries`, as many as there are and as fit in `room`; `*count` says how many, so that fewer
+ * than `room` are the last. Answers CFDP_DONE; CFDP_NO_MEMORY; or CFDP_NO_ENGINE. Each call makes a listing of the whole filestore:
+ * it takes memory for that while it runs, and goes once over the octets of all files, for their checksums. So room for all at
+ * once, or for many, is cheaper than an entry a call. */
+uint32_t cfdp_list(struct cfdp_engine *engine, size_t from, struct cfdp_listed *entries, size_t room, size_t *count);
 
 /* The line that `cfdpsim replay` writes of a reply (docs/FORMATS.md), with its line end: "1/24 refused conflict 1/22\n". `octets` is
  * used for CFDP_TAKEN alone: what cfdp_take wrote beside the reply, of which `length` is 0 where there is no Finished PDU. The

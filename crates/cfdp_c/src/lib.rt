@@ -10,6 +10,7 @@ mod answer;
 mod events;
 mod fields;
 mod handle;
+mod listing;
 mod making;
 mod paths;
 mod reads;
@@ -19,6 +20,7 @@ mod store;
 mod texts;
 
 pub use events::{cfdp_cancel, cfdp_check, cfdp_receive, cfdp_step, cfdp_take};
+pub use listing::cfdp_list;
 pub use making::{cfdp_engine_octets, cfdp_free, cfdp_new};
 pub use reads::{
     cfdp_blocks, cfdp_blocks_spent, cfdp_gap, cfdp_grant, cfdp_next_runnable, cfdp_phase,
