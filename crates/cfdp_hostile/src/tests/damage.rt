@@ -1,5 +1,6 @@
-//! Each PDU of the rows, cut after each of its octets and with each of its bits changed, in the place of the row where it comes.
-//! What is an event then goes into an entity of its own, on which the row goes on; what is none changes nothing.
+//! Each PDU of the rows and each Finished PDU that is sent, cut after each of its octets and with each of its bits changed, in
+//! the place of the row where it comes. What is an event then goes into an entity of its own, on which the row goes on; what is none
+//! changes nothing.
 
 use super::entity::{has_no_reserve, is_failed_step};
 use super::large_rows::LARGE_ROWS;
@@ -123,9 +124,9 @@ impl<'a> There<'a> {
         self.try_changes(rt, alloc, octets)
     }
 
-    /// Tries the next line, if it is a PDU, and hands it in.
+    /// Tries the PDU that the next line brings or has sent, and hands the line in.
     fn pass(&mut self, rt: &impl Abort, alloc: Global, line: Line) -> Result<(), Memory> {
-        if let Some(mut octets) = line.pdu(alloc)? {
+        if let Some(mut octets) = self.row.octets(alloc, &mut self.entity, line)? {
             self.try_pdu(rt, alloc, &mut octets)?;
         }
         self.row.hand_in(alloc, &mut self.entity, line)?;

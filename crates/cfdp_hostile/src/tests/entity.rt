@@ -56,10 +56,14 @@ fn receive(alloc: Global, entity: &mut Entity, octets: &[u8]) -> Result<Option<R
     }
 }
 
-/// The reply to a take, with room for the Finished PDU.
-fn take(alloc: Global, entity: &mut Entity, id: TransactionId) -> Result<Reply, Memory> {
-    match entity.take(alloc, id, &mut [0; 2048]) {
-        Ok((reply, _)) => Ok(reply),
+/// The reply to a take, and the Finished PDU that is sent.
+fn take(alloc: Global, entity: &mut Entity, id: TransactionId) -> Result<(Reply, Vec<u8>), Memory> {
+    let mut out = [0; 2048];
+    match entity.take(alloc, id, &mut out) {
+        Ok((reply, len)) => {
+            let sent = out.get(..len).ok_or(AllocError)?;
+            Ok((reply, Vec::from_slice(alloc, sent)?))
+        }
         Err(NotTaken::TooShort(_) | NotTaken::Memory) => Err(AllocError),
     }
 }
@@ -95,8 +99,21 @@ impl Row {
             Line::Step(number) => Ok(Some(entity.step(self.id(number)))),
             Line::Cancel(number) => Ok(Some(entity.cancel(self.id(number)))),
             Line::Check(number) => Ok(Some(entity.check(self.id(number)))),
-            Line::Take(number) => Ok(Some(take(alloc, entity, self.id(number))?)),
+            Line::Take(number) => Ok(Some(take(alloc, entity, self.id(number))?.0)),
             Line::Pdu(_) | Line::Data(..) => Ok(None),
+        }
+    }
+
+    /// The octets that a line brings, or has sent as a Finished PDU, if any.
+    pub fn octets(
+        &self,
+        alloc: Global,
+        entity: &mut Entity,
+        line: Line,
+    ) -> Result<Option<Vec<u8>>, Memory> {
+        match line {
+            Line::Take(number) => Ok(Some(take(alloc, entity, self.id(number))?.1)),
+            _ => line.pdu(alloc),
         }
     }
 
