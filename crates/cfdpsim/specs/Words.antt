@@ -5,11 +5,14 @@
 --   replay_shape    `replay`, which may have a file
 --   links_shape     `links`, which has one to four files
 --   program         the program's commands, `plain`, `replay` and `links`; one has to be named
+--   has_globals     a command has arguments that its subcommands have too
 --   IsNamed         the command has this name
 --   IsAsked         what is asked for is the command that was named, with its files
-use Rattle.std.specs.Prelude.{◌≡◌, true, codes, List, [], ◌∷◌, Option, Some, map, option_map, option_and_then, unwrap_or}
+use Rattle.std.specs.Prelude.{◌≡◌, Bool, true, codes, List, [], ◌∷◌, Option, Some, map, option_map, option_and_then, unwrap_or}
 use Rattle.clap.specs.Words.{App, Row, Rule, Shape, Text, all_of, first_of, new_app, new_rule, with_subcommand}
 use Rattle.clap.specs.Simple.{on_top, new_shape}
+use Rattle.clap.specs.declared.builder.command.Command.{Command}
+use Rattle.clap.specs.declared.builder.command.Command.TheViews.{out-Command}
 use Rattle.cfdpsim.specs.declared.words.Asked.{Asked}
 use Rattle.cfdpsim.specs.declared.words.Asked.TheVariants.{Plain, Replay, Links}
 
@@ -37,6 +40,9 @@ program =
     (new_shape (codes "plain")))
     replay_shape)
     links_shape
+
+abbrev pub has_globals : Command → Bool
+has_globals command = (out-Command command).has_globals
 
 abbrev pub IsNamed : Text → Option (Text × List Row) → Type 0
 IsNamed name command = option_map (λ named. named.0) command ≡ Some name

@@ -1,10 +1,10 @@
 //! The words of the command line.
-ghost use Rattle.std.specs.Prelude.{◌≡◌, ◌≢◌, ◌⊎◌, ℕ, List, [], ◌∷◌, map, true, codes, unwrap_or, OnOk, IfOk, IfErr, Err};
-ghost use Rattle.clap.specs.Words.{all_of, app_of, fault_of, found_of, kind_of, rows_of, subcommand_of, subcommand_rows_of, takes};
+ghost use Rattle.std.specs.Prelude.{◌≡◌, ◌≢◌, ◌⊎◌, ℕ, List, [], ◌∷◌, map, true, false, codes, unwrap_or, OnOk, IfOk, IfErr, Err};
+ghost use Rattle.clap.specs.Words.{all_of, app_of, fault_of, found_of, kind_of, rows_of, shape_of, subcommand_of, subcommand_rows_of, takes};
 ghost use Rattle.clap.specs.declared.error.kind.ErrorKind.TheVariants as kind;
 ghost use Rattle.cfdp_sim.specs.declared.faults.ProgramEnd.TheVariants.{Usage, Run};
 ghost use Rattle.cfdp_sim.specs.declared.faults.RunFault.TheVariants.{Memory};
-ghost use Rattle.cfdpsim.specs.Words.{IsAsked, program};
+ghost use Rattle.cfdpsim.specs.Words.{IsAsked, has_globals, links_shape, program, replay_shape};
 
 use cfdp_sim::{ProgramEnd, RunFault};
 use clap::error::ErrorKind;
@@ -82,20 +82,36 @@ fn parse_command<'a, S: AsStr>(alloc: Global, words: &'a [S]) -> Result<Asked<'a
     Ok(asked)
 }
 
+/// The command `replay`, which may have a file.
+fn replay_command<'a>(alloc: Global) -> Result<Command<'a>, AllocError>
+    ensures shape { IfOk result (λ command. shape_of command ≡ replay_shape) }
+    ensures local { IfOk result (λ command. has_globals command ≡ false) }
+{
+    let file = Arg::new(alloc, "FILE");
+    let command = Command::new(alloc, "replay").arg(file)?;
+    Ok(command)
+}
+
+/// The command `links`, which has one to four files.
+fn links_command<'a>(alloc: Global) -> Result<Command<'a>, AllocError>
+    ensures shape { IfOk result (λ command. shape_of command ≡ links_shape) }
+    ensures local { IfOk result (λ command. has_globals command ≡ false) }
+{
+    let files = Arg::new(alloc, "FILE").required(true).num_args(1..=4);
+    let command = Command::new(alloc, "links").arg(files)?;
+    Ok(command)
+}
+
 /// The words that the program knows.
 fn program_of<'a>(alloc: Global) -> Result<Command<'a>, AllocError>
     ensures { IfOk result (λ command. app_of command ≡ program) }
 {
     let plain = Command::new(alloc, "plain");
-    let file = Arg::new(alloc, "FILE");
-    let replay = Command::new(alloc, "replay").arg(file)?;
-    let files = Arg::new(alloc, "FILE").required(true).num_args(1..=4);
-    let links = Command::new(alloc, "links").arg(files)?;
     let program = Command::new(alloc, "cfdpsim")
         .subcommand_required(true)
         .subcommand(plain)?
-        .subcommand(replay)?
-        .subcommand(links)?;
+        .subcommand(replay_command(alloc)?)?
+        .subcommand(links_command(alloc)?)?;
     Ok(program)
 }
 
