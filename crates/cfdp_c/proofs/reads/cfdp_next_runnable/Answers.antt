@@ -1,0 +1,5 @@
+use Rattle.std.proofs.Common.{rules}
+use Rattle.cfdp_c.proofs.reads.cfdp_next_runnable.Goals as goal
+
+pub returns-clause-read : goal.returns-clause-read
+returns-clause-read c = search rules
