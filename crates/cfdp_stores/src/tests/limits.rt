@@ -154,7 +154,7 @@ fn listing(alloc: Global, names: &[String], is_first: bool) -> Result<Vec<Stands
     Ok(rows)
 }
 
-/// Each name is found as that of an empty file, and the first and the last of the others is not.
+/// Each name is found as that of an empty file; the next number, and the first and the last of the others, stand nowhere.
 fn finds<'a>(
     alloc: Global,
     names: &'a [String],
@@ -165,6 +165,8 @@ fn finds<'a>(
         steps.push(Step::Shows(Shown::Octets(name.as_bytes(), 0, 0, b"")))?;
     }
     steps.extend_from_slice(&[
+        Step::Shows(Shown::Deepest(b"d/4096", None)),
+        Step::Shows(Shown::Deepest(b"e/4096", None)),
         Step::Shows(Shown::Deepest(name(absent, 0), None)),
         Step::Shows(Shown::Deepest(name(absent, 4095), None)),
     ])?;
