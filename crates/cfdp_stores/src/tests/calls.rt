@@ -3,13 +3,16 @@
 ghost use Rattle.std.specs.Prelude.{◌≡◌, ◌<◌, ◌≤◌};
 ghost use Rattle.cfdp_actions.specs.Filestore.{blocks_of};
 
-use cfdp_actions::{Filestore, Kind, PAYLOAD_OCTETS, Request};
+use cfdp_actions::{Filestore, Kind, PAYLOAD_OCTETS, Protected, Request, perform};
 use cfdp_paths::{Memory, Path};
 use cfdp_status::Action;
 use std::alloc::{AllocError, Global};
 
-/// The path that the octets spell. They spell one, so that only memory can be wanting.
+/// The path that the octets spell, also where memory is refused at first. They spell one, so that only memory can be wanting.
 pub fn parsed(alloc: Global, octets: &[u8]) -> Result<Path, Memory> {
+    if let Ok(path) = Path::parse(alloc, octets) {
+        return Ok(path);
+    }
     match Path::parse(alloc, octets) {
         Ok(path) => Ok(path),
         Err(_) => Err(AllocError),
@@ -35,76 +38,120 @@ pub fn request(
     Request::new(action, parsed(alloc, first)?, second).ok_or(AllocError)
 }
 
-/// Stages the octets and installs them at a path at which a file or nothing stands. The ticks of both; `None` where
-/// it does not fit or may not be.
-pub fn deliver<S: Filestore>(
-    store: &mut S,
-    path: &Path,
-    octets: &[u8],
-) -> Result<Option<(u32, u32)>, Memory> {
-    let size = octets.len() as u64;
-    if store.staged_size(0) > 0 {
-        return Ok(None);
-    }
-    let Some(staged) = extend(store, 0, size)? else {
-        return Ok(None);
-    };
-    if !put(store, 0, 0, octets) {
-        return Ok(None);
-    }
-    match install(store, 0, path)? {
-        Some(installed) => Ok(Some((staged, installed))),
-        None => Ok(None),
+/// What is asked of a store.
+#[derive(Clone, Copy)]
+pub enum Asked<'a> {
+    /// An action at its names. No second one: empty.
+    Perform(Action, &'a [u8], &'a [u8]),
+    /// What is staged in the slot gets so many octets.
+    Extend(u8, u64),
+    /// These octets stand in what is staged in the slot, from the place on.
+    Put(u8, u64, &'a [u8]),
+    /// What is staged in the slot is dropped.
+    Unstage(u8),
+    /// What is staged in the slot becomes the file at the path.
+    Install(u8, &'a [u8]),
+}
+
+/// What a store answers.
+#[derive(Drop, PartialEq)]
+pub enum Answer {
+    /// The status octet and the ticks.
+    Performed(u8, u32),
+    /// The ticks.
+    Ticks(u32),
+    /// It is put there.
+    Put,
+    /// It may not be, or does not fit.
+    NotAllowed,
+}
+
+impl<'a> Asked<'a> {
+    /// Asks it of the store. Memory that is refused was wanted by the store: a path that is refused it is parsed once more.
+    pub fn answer<S: Filestore>(
+        &self,
+        alloc: Global,
+        store: &mut S,
+        protected: &Protected,
+    ) -> Result<Answer, Memory> {
+        match self {
+            Asked::Perform(action, first, second) => {
+                performed(store, protected, &request(alloc, *action, first, second)?)
+            }
+            Asked::Extend(slot, size) => extend(store, *slot, *size),
+            Asked::Put(slot, at, octets) => Ok(put(store, *slot, *at, octets)),
+            Asked::Unstage(slot) => Ok(unstage(store, *slot)),
+            Asked::Install(slot, path) => install(store, *slot, &parsed(alloc, path)?),
+        }
     }
 }
 
-/// Puts the octets into what is staged in the slot, from the place `at` on; false where that ends before them.
-pub fn put<S: Filestore>(store: &mut S, slot: u8, at: u64, octets: &[u8]) -> bool
-    requires { slot < 64 }
+fn performed<S: Filestore>(
+    store: &mut S,
+    protected: &Protected,
+    request: &Request,
+) -> Result<Answer, Memory> {
+    let done = perform(store, protected, request)?;
+    Ok(Answer::Performed(done.status.octet(), done.ticks))
+}
+
+/// The blocks of so many octets, at most 65,536.
+#[tactic(auto, unfolding(cfdp_actions::specs::Filestore::blocks_of))]
+fn blocks_of(octets: u64) -> u64
+    requires { octets ≤ 7864320 }
+    ensures { result ≡ blocks_of octets }
 {
+    (octets + (PAYLOAD_OCTETS - 1)) / PAYLOAD_OCTETS
+}
+
+#[tactic(auto, unfolding(cfdp_actions::specs::Filestore::blocks_of))]
+fn extend<S: Filestore>(store: &mut S, slot: u8, size: u64) -> Result<Answer, Memory> {
+    if slot > 63 || size > 7_864_320 {
+        return Ok(Answer::NotAllowed);
+    }
+    let staged = store.staged_size(slot);
+    if staged > size || blocks_of(size) - blocks_of(staged) > u64::from(store.free()) {
+        return Ok(Answer::NotAllowed);
+    }
+    Ok(Answer::Ticks(store.stage_extend(slot, size)?))
+}
+
+fn put<S: Filestore>(store: &mut S, slot: u8, at: u64, octets: &[u8]) -> Answer {
+    if slot > 63 {
+        return Answer::NotAllowed;
+    }
     let size = store.staged_size(slot);
     let length = octets.len() as u64;
     if length > size || at > size - length {
-        return false;
+        return Answer::NotAllowed;
     }
     store.stage_put(slot, at, octets);
-    true
+    Answer::Put
 }
 
-/// Installs what is staged in the slot; `None` where it may not be.
-pub fn install<S: Filestore>(store: &mut S, slot: u8, path: &Path) -> Result<Option<u32>, Memory>
-    requires { slot < 64 }
-{
-    if !store.parent_is_good(path) {
-        return Ok(None);
+/// Drops what is staged in the slot.
+pub fn unstage<S: Filestore>(store: &mut S, slot: u8) -> Answer {
+    if slot > 63 {
+        return Answer::NotAllowed;
     }
-    match store.kind(path) {
-        Some(Kind::Directory) => Ok(None),
-        None if store.free() == 0 => Ok(None),
-        Some(Kind::File) | None => Ok(Some(store.install(slot, path)?)),
-    }
+    Answer::Ticks(store.unstage(slot))
 }
 
-/// The octets of the file at the path, if a file stands there.
-pub fn contents<S: Filestore>(
-    store: &S,
-    alloc: Global,
-    path: &Path,
-) -> Result<Option<Vec<u8>>, Memory> {
+fn install<S: Filestore>(store: &mut S, slot: u8, path: &Path) -> Result<Answer, Memory> {
+    if slot > 63 || !store.parent_is_good(path) {
+        return Ok(Answer::NotAllowed);
+    }
     match store.kind(path) {
-        Some(Kind::File) => {
-            let mut octets = vec![in alloc; 0; store.size(path) as usize]?;
-            store.read(path, 0, octets.as_mut_slice());
-            Ok(Some(octets))
-        }
-        Some(Kind::Directory) | None => Ok(None),
+        Some(Kind::Directory) => Ok(Answer::NotAllowed),
+        None if store.free() == 0 => Ok(Answer::NotAllowed),
+        Some(Kind::File) | None => Ok(Answer::Ticks(store.install(slot, path)?)),
     }
 }
 
 /// So many octets of the file at the path, from the place `at` on; `None` where there are none.
 pub fn read<S: Filestore>(
-    store: &S,
     alloc: Global,
+    store: &S,
     path: &Path,
     at: u64,
     count: u64,
@@ -123,14 +170,15 @@ pub fn read<S: Filestore>(
 
 /// So many octets of what is staged in the slot, from the place `at` on; `None` where there are none.
 pub fn read_staged<S: Filestore>(
-    store: &S,
     alloc: Global,
+    store: &S,
     slot: u8,
     at: u64,
     count: u64,
-) -> Result<Option<Vec<u8>>, Memory>
-    requires { slot < 64 }
-{
+) -> Result<Option<Vec<u8>>, Memory> {
+    if slot > 63 {
+        return Ok(None);
+    }
     let size = store.staged_size(slot);
     if count > size || at > size - count {
         return Ok(None);
@@ -140,37 +188,15 @@ pub fn read_staged<S: Filestore>(
     Ok(Some(octets))
 }
 
-/// The blocks of so many octets, at most 65,536.
-#[tactic(auto, unfolding(cfdp_actions::specs::Filestore::blocks_of))]
-fn blocks_of(octets: u64) -> u64
-    requires { octets ≤ 7864320 }
-    ensures { result ≡ blocks_of octets }
+/// How many octets are staged in the slot.
+pub fn staged_size<S: Filestore>(store: &S, slot: u8) -> u64
+    ensures within { result ≤ 7864320 }
 {
-    (octets + (PAYLOAD_OCTETS - 1)) / PAYLOAD_OCTETS
-}
-
-/// Extends what is staged in the slot; `None` where that does not fit into the free blocks.
-#[tactic(auto, unfolding(cfdp_actions::specs::Filestore::blocks_of))]
-pub fn extend<S: Filestore>(store: &mut S, slot: u8, size: u64) -> Result<Option<u32>, Memory>
-    requires { slot < 64 }
-{
-    let staged = store.staged_size(slot);
-    if size > 7864320
-        || staged > size
-        || blocks_of(size) - blocks_of(staged) > u64::from(store.free())
-    {
-        return Ok(None);
+    if slot > 63 {
+        0
+    } else {
+        store.staged_size(slot)
     }
-    Ok(Some(store.stage_extend(slot, size)?))
-}
-
-/// What is staged in the slot.
-pub fn staged<S: Filestore>(store: &S, alloc: Global, slot: u8) -> Result<Vec<u8>, Memory>
-    requires { slot < 64 }
-{
-    let mut octets = vec![in alloc; 0; store.staged_size(slot) as usize]?;
-    store.read_staged(slot, 0, octets.as_mut_slice());
-    Ok(octets)
 }
 
 /// The names of the longest path at or below the path, if anything stands there.
@@ -185,6 +211,14 @@ pub fn deepest<S: Filestore>(store: &S, path: &Path) -> Option<u8> {
 pub fn checksum<S: Filestore>(store: &S, path: &Path) -> Option<u32> {
     match store.kind(path) {
         Some(Kind::File) => Some(store.checksum(path)),
+        Some(Kind::Directory) | None => None,
+    }
+}
+
+/// How many octets the file at the path has, if a file stands there.
+pub fn size<S: Filestore>(store: &S, path: &Path) -> Option<u64> {
+    match store.kind(path) {
+        Some(Kind::File) => Some(store.size(path)),
         Some(Kind::Directory) | None => None,
     }
 }

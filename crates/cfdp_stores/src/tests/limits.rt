@@ -3,12 +3,11 @@
 
 ghost use Rattle.std.specs.Prelude.{◌≤◌};
 
-use super::calls::{
-    checksum, contents, deepest, deliver, extend, install, parsed, put, read, read_staged, request,
-};
-use cfdp_actions::{Entry, Filestore, Kind, Performed, Protected, Standing, perform};
-use cfdp_paths::{Memory, Path};
-use cfdp_status::{Action, Status};
+use super::calls::{Asked, deepest, parsed};
+use super::steps::{Script, Shown, Stands, Step, are_listed, are_standing, run, take};
+use cfdp_actions::{Filestore, Kind, Protected};
+use cfdp_paths::Memory;
+use cfdp_status::Action;
 use cfdp_tree::TreeStore;
 use std::alloc::Global;
 use std::process::Abort;
@@ -16,133 +15,62 @@ use std::process::Abort;
 /// As many blocks as there may be.
 const BLOCKS: u32 = 65_536;
 
-/// The last slot.
-const SLOT: u8 = 63;
-
-/// The names of a request. No second one: empty.
-type Names<'a> = (&'a [u8], &'a [u8]);
-
-/// Performs the action at its names: it is successful and takes so many ticks.
-fn succeed(
-    rt: &impl Abort,
-    alloc: Global,
-    store: &mut TreeStore,
-    action: Action,
-    names: Names<'_>,
-    ticks: u32,
-) -> Result<(), Memory> {
-    let request = request(alloc, action, names.0, names.1)?;
-    let done = perform(store, &Protected::new(), &request)?;
-    let status = Status::Successful(action);
-    assert!(rt; done == Performed { status, ticks });
-    Ok(())
-}
-
 /// The octets of all blocks but the two of a directory and of a file in it.
 const LONGEST: u64 = 65_534 * 120;
 
-/// What is staged, in the end: pieces in zeros, each from its place on. The second one goes from one block into the next.
-static PIECES: [(u64, &[u8]); 3] = [
-    (0, b"first"),
-    (3_599_998, b"middle"),
-    (LONGEST - 4, b"last"),
-];
-
-/// Its checksum: the words `firs` and `t`, the last two octets of a word `mi`, `ddle`, and `last`, added up.
+/// The checksum of three pieces among zeros: the words `firs` and `t`, the last two octets of a word `mi`, `ddle`, and `last`, added up.
 const CHECKSUM: u32 = 0xab2f_bfb5;
 
-/// Sizes up to which what is staged is extended, the ticks, and the blocks that are then free.
-static EXTENSIONS: [(u64, u32, u32); 3] = [
-    (1, 1, 65_533),
-    (3_600_000, 29_999, 35_534),
-    (LONGEST, 35_534, 0),
+/// What is staged in the last slot takes all that is left, with three pieces in it, of which the second one goes from one
+/// block into the next. It becomes the contents of a file, which takes no block.
+const A_LIST_TAKES_ALL_THAT_IS_LEFT: &[Step<'static>] = &[
+    Step::Performs(Action::CreateDirectory, b"d", b"", 0x50, 1, 65_535),
+    Step::Performs(Action::CreateFile, b"d/f", b"", 0x00, 1, 65_534),
+    Step::Takes(Asked::Extend(63, 1), 1, 65_533),
+    Step::Takes(Asked::Extend(63, 3_600_000), 29_999, 35_534),
+    Step::Takes(Asked::Extend(63, LONGEST), 35_534, 0),
+    Step::Puts(63, LONGEST - 4, b"last"),
+    Step::Puts(63, 3_599_998, b"middle"),
+    Step::Puts(63, 0, b"first"),
+    Step::Shows(Shown::Staged(63, LONGEST, 0, b"first")),
+    Step::Shows(Shown::Staged(63, LONGEST, 3_599_998, b"middle")),
+    Step::Shows(Shown::Staged(63, LONGEST, LONGEST - 4, b"last")),
+    Step::Shows(Shown::StagedChecksum(63, CHECKSUM)),
+    Step::Takes(Asked::Install(63, b"d/f"), 0, 0),
+    Step::Shows(Shown::Staged(63, 0, 0, b"")),
+    Step::Shows(Shown::Octets(b"d/f", LONGEST, 0, b"first")),
+    Step::Shows(Shown::Octets(b"d/f", LONGEST, 3_599_998, b"middle")),
+    Step::Shows(Shown::Octets(b"d/f", LONGEST, LONGEST - 4, b"last")),
+    Step::Shows(Shown::Checksum(b"d/f", Some(CHECKSUM))),
+    Step::Performs(Action::DeleteFile, b"d/f", b"", 0x10, 65_535, 65_535),
+    Step::Performs(Action::RemoveDirectory, b"d", b"", 0x60, 1, BLOCKS),
 ];
 
-/// What is staged takes all that is left.
-fn stage_all(rt: &impl Abort, store: &mut TreeStore) -> Result<(), Memory> {
-    for (size, ticks, free) in &EXTENSIONS {
-        let taken = extend(store, SLOT, *size)?;
-        assert!(rt; taken == Some(*ticks) && store.free() == *free);
-    }
-    Ok(())
-}
-
-/// Puts the pieces, the last one first.
-fn put_pieces(rt: &impl Abort, store: &mut TreeStore) {
-    for (at, octets) in PIECES.iter().rev() {
-        assert!(rt; put(store, SLOT, *at, octets));
-    }
-}
-
-/// The pieces are staged.
-fn are_staged(rt: &impl Abort, alloc: Global, store: &TreeStore) -> Result<(), Memory> {
-    for (at, octets) in &PIECES {
-        let found = read_staged(store, alloc, SLOT, *at, octets.len() as u64)?;
-        assert!(rt; found.as_deref() == Some(*octets));
-    }
-    assert!(rt; store.staged_checksum(SLOT) == CHECKSUM);
-    Ok(())
-}
-
-/// The pieces are in the file.
-fn are_in(rt: &impl Abort, alloc: Global, store: &TreeStore, file: &Path) -> Result<(), Memory> {
-    for (at, octets) in &PIECES {
-        let found = read(store, alloc, file, *at, octets.len() as u64)?;
-        assert!(rt; found.as_deref() == Some(*octets));
-    }
-    assert!(rt; checksum(store, file) == Some(CHECKSUM));
-    Ok(())
-}
-
-/// What is staged becomes the contents of the file `d/f`, which takes no block.
-fn install_all(rt: &impl Abort, alloc: Global, store: &mut TreeStore) -> Result<(), Memory> {
-    let file = parsed(alloc, b"d/f")?;
-    let ticks = install(store, SLOT, &file)?;
-    assert!(rt; ticks == Some(0) && store.free() == 0 && store.staged_size(SLOT) == 0);
-    are_in(rt, alloc, store, &file)
-}
-
-/// Makes the directory `d` and the empty file `d/f` in a store in which nothing stands.
-fn make_file(rt: &impl Abort, alloc: Global, store: &mut TreeStore) -> Result<(), Memory> {
-    succeed(rt, alloc, store, Action::CreateDirectory, (b"d", b""), 1)?;
-    succeed(rt, alloc, store, Action::CreateFile, (b"d/f", b""), 1)
-}
-
-/// Removes both again, with all octets of the file.
-fn remove_file(rt: &impl Abort, alloc: Global, store: &mut TreeStore) -> Result<(), Memory> {
-    succeed(rt, alloc, store, Action::DeleteFile, (b"d/f", b""), 65_535)?;
-    succeed(rt, alloc, store, Action::RemoveDirectory, (b"d", b""), 1)?;
-    assert!(rt; store.free() == BLOCKS);
-    Ok(())
-}
-
-#[test]
-fn a_list_takes_all_that_is_left(rt: HostRuntime) -> Result<(), Memory> {
-    let mut store = TreeStore::new(rt.alloc(), BLOCKS)?;
-    make_file(&rt, rt.alloc(), &mut store)?;
-    stage_all(&rt, &mut store)?;
-    put_pieces(&rt, &mut store);
-    are_staged(&rt, rt.alloc(), &store)?;
-    install_all(&rt, rt.alloc(), &mut store)?;
-    remove_file(&rt, rt.alloc(), &mut store)
-}
-
 /// The octets of all blocks are staged, and given back.
+const A_LIST_TAKES_ALL_BLOCKS: &[Step<'static>] = &[
+    Step::Takes(Asked::Extend(63, 65_536 * 120), BLOCKS, 0),
+    Step::Takes(Asked::Unstage(63), BLOCKS, BLOCKS),
+];
+
 #[test]
 fn a_list_takes_all_blocks(rt: HostRuntime) -> Result<(), Memory> {
     let mut store = TreeStore::new(rt.alloc(), BLOCKS)?;
-    let taken = extend(&mut store, SLOT, 65_536 * 120)?;
-    assert!(rt; taken == Some(BLOCKS) && store.free() == 0);
-    assert!(rt; store.unstage(SLOT) == BLOCKS && store.free() == BLOCKS);
-    Ok(())
+    let script = Script {
+        name: "a list takes all blocks",
+        parts: &[A_LIST_TAKES_ALL_BLOCKS, A_LIST_TAKES_ALL_THAT_IS_LEFT],
+    };
+    run(&rt, rt.alloc(), &mut store, &Protected::new(), &script)
 }
 
 /// How many entries a directory has.
 const ENTRIES: u32 = 4096;
 
-/// The name of an entry with a number.
-fn entry(alloc: Global, directory: char, number: u32) -> Result<String, Memory> {
-    format!(in alloc; "{directory}/{number:04}")
+/// Adds the names of the entries in a directory, in path order.
+fn push_names(names: &mut Vec<String>, alloc: Global, directory: char) -> Result<(), Memory> {
+    for number in 0..ENTRIES {
+        names.push(format!(in alloc; "{directory}/{number:04}")?)?;
+    }
+    Ok(())
 }
 
 /// The numbers below 4,096, each once, far from those before and after it.
@@ -153,215 +81,314 @@ fn scattered(number: u32) -> u32
     number * 2731 % ENTRIES
 }
 
-/// Makes the directories `d` and `e`, and the entries in `d`.
-fn make_entries(rt: &impl Abort, alloc: Global, store: &mut TreeStore) -> Result<(), Memory> {
-    succeed(rt, alloc, store, Action::CreateDirectory, (b"d", b""), 1)?;
-    succeed(rt, alloc, store, Action::CreateDirectory, (b"e", b""), 1)?;
-    for number in 0..ENTRIES {
-        let name = entry(alloc, 'd', scattered(number))?;
-        let names: Names<'_> = (name.as_bytes(), b"");
-        succeed(rt, alloc, store, Action::CreateFile, names, 1)?;
+/// The name of the place; empty behind the last one.
+fn name(names: &[String], place: u32) -> &[u8] {
+    match names.get(place as usize) {
+        Some(name) => name.as_bytes(),
+        None => b"",
     }
-    Ok(())
 }
 
-/// Moves each entry of `d` into `e`, where the numbers run the other way.
-fn rename_entries(rt: &impl Abort, alloc: Global, store: &mut TreeStore) -> Result<(), Memory> {
+/// Makes two directories and the entries in the one.
+fn entries(alloc: Global, names: &[String]) -> Result<Vec<Step<'_>>, Memory> {
+    let mut steps = Vec::new(alloc);
+    steps.extend_from_slice(&[
+        Step::Performs(Action::CreateDirectory, b"d", b"", 0x50, 1, 65_535),
+        Step::Performs(Action::CreateDirectory, b"e", b"", 0x50, 1, 65_534),
+    ])?;
     for number in 0..ENTRIES {
-        let old = entry(alloc, 'd', scattered(number))?;
-        let new = entry(alloc, 'e', ENTRIES - 1 - scattered(number))?;
-        let names = (old.as_bytes(), new.as_bytes());
-        succeed(rt, alloc, store, Action::RenameFile, names, 0)?;
+        let name = name(names, scattered(number));
+        steps.push(Step::Performs(Action::CreateFile, name, b"", 0x00, 1, 65_533 - number))?;
     }
-    Ok(())
+    Ok(steps)
 }
 
-/// Removes all entries of `e`, and the two directories.
-fn remove_entries(rt: &impl Abort, alloc: Global, store: &mut TreeStore) -> Result<(), Memory> {
-    for number in 0..ENTRIES {
-        let name = entry(alloc, 'e', scattered(number))?;
-        let names: Names<'_> = (name.as_bytes(), b"");
-        succeed(rt, alloc, store, Action::DeleteFile, names, 1)?;
-    }
-    succeed(rt, alloc, store, Action::RemoveDirectory, (b"d", b""), 1)?;
-    succeed(rt, alloc, store, Action::RemoveDirectory, (b"e", b""), 1)
-}
-
-/// Whether an entry is an empty file; there is none with the number 4,096.
-fn is_empty_file(
+/// Moves each entry of the one directory into the other, where the numbers run the other way.
+fn renames<'a>(
     alloc: Global,
-    store: &TreeStore,
-    directory: char,
-    number: u32,
+    old: &'a [String],
+    new: &'a [String],
+) -> Result<Vec<Step<'a>>, Memory> {
+    let mut steps = Vec::new(alloc);
+    for number in 0..ENTRIES {
+        let old = name(old, scattered(number));
+        let new = name(new, ENTRIES - 1 - scattered(number));
+        steps.push(Step::Performs(Action::RenameFile, old, new, 0x20, 0, 61_438))?;
+    }
+    Ok(steps)
+}
+
+/// Removes the entries and the two directories.
+fn removals(alloc: Global, names: &[String]) -> Result<Vec<Step<'_>>, Memory> {
+    let mut steps = Vec::new(alloc);
+    for number in 0..ENTRIES {
+        let name = name(names, number);
+        steps.push(Step::Performs(Action::DeleteFile, name, b"", 0x10, 1, 61_439 + number))?;
+    }
+    steps.extend_from_slice(&[
+        Step::Performs(Action::RemoveDirectory, b"d", b"", 0x60, 1, 65_535),
+        Step::Performs(Action::RemoveDirectory, b"e", b"", 0x60, 1, BLOCKS),
+    ])?;
+    Ok(steps)
+}
+
+/// Adds the empty files of these names.
+fn push_files<'a>(rows: &mut Vec<Stands<'a>>, names: &'a [String]) -> Result<(), Memory> {
+    for name in names {
+        rows.push((name.as_bytes(), Kind::File, 0, 0))?;
+    }
+    Ok(())
+}
+
+/// What stands where the entries are in the first of the two directories, or else in the second one: all, in path order.
+fn listing(alloc: Global, names: &[String], is_first: bool) -> Result<Vec<Stands<'_>>, Memory> {
+    let mut rows = Vec::new(alloc);
+    rows.push((b"d".as_slice(), Kind::Directory, 0, 0))?;
+    if is_first {
+        push_files(&mut rows, names)?;
+    }
+    rows.push((b"e".as_slice(), Kind::Directory, 0, 0))?;
+    if !is_first {
+        push_files(&mut rows, names)?;
+    }
+    Ok(rows)
+}
+
+/// Each name is found as that of an empty file; the next number, and the first and the last of the others, stand nowhere.
+fn finds<'a>(
+    alloc: Global,
+    names: &'a [String],
+    absent: &'a [String],
+) -> Result<Vec<Step<'a>>, Memory> {
+    let mut steps = Vec::new(alloc);
+    for name in names {
+        steps.push(Step::Shows(Shown::Octets(name.as_bytes(), 0, 0, b"")))?;
+    }
+    steps.extend_from_slice(&[
+        Step::Shows(Shown::Deepest(b"d/4096", None)),
+        Step::Shows(Shown::Deepest(b"e/4096", None)),
+        Step::Shows(Shown::Deepest(name(absent, 0), None)),
+        Step::Shows(Shown::Deepest(name(absent, 4095), None)),
+    ])?;
+    Ok(steps)
+}
+
+/// Whether just these are listed, those at and below the directory stand there, and the longest path has so many names.
+fn shows_rows<S: Filestore>(
+    alloc: Global,
+    store: &S,
+    listing: &[Stands<'_>],
+    directory: &[u8],
+    standing: &[Stands<'_>],
+    names: u8,
 ) -> Result<bool, Memory> {
-    let path = parsed(alloc, entry(alloc, directory, number)?.as_bytes())?;
-    Ok(contents(store, alloc, &path)?.is_some_and(|octets| octets.is_empty()))
+    let top = parsed(alloc, directory)?;
+    Ok(
+        deepest(store, &top) == Some(names)
+            && are_listed(alloc, &store.listing(alloc)?, listing)?
+            && are_standing(alloc, &store.standing(alloc, &top)?, standing)?,
+    )
 }
 
-/// Just the entries stand in the directory, and are found there.
-fn has_entries(
-    rt: &impl Abort,
+/// The entries are in the first of the two directories, or else in the second one: whether all is shown so.
+fn shows_entries<S: Filestore>(
     alloc: Global,
-    store: &TreeStore,
-    directory: char,
-) -> Result<(), Memory> {
-    for number in 0..=ENTRIES {
-        let is_there = is_empty_file(alloc, store, directory, number)?;
-        assert!(rt; is_there == (number < ENTRIES), "{directory}/{number}");
+    store: &S,
+    names: &[String],
+    is_first: bool,
+) -> Result<bool, Memory> {
+    let rows = listing(alloc, names, is_first)?;
+    if is_first {
+        shows_rows(alloc, store, &rows, b"d", first_rows(&rows), 2)
+    } else {
+        shows_rows(alloc, store, &rows, b"e", last_rows(&rows), 2)
     }
-    Ok(())
 }
 
-/// The directory stands with its entries, in path order.
-fn stands_in_order(
+/// The entries are found in the one directory and not in the other, and all is shown so.
+fn has_entries<S: Filestore>(
     rt: &impl Abort,
     alloc: Global,
-    store: &TreeStore,
-    directory: char,
+    store: &mut S,
+    names: (&[String], &[String]),
+    is_first: bool,
 ) -> Result<(), Memory> {
-    let top = parsed(alloc, format!(in alloc; "{directory}")?.as_bytes())?;
-    let found = store.standing(alloc, &top)?;
-    assert!(rt; found.len() == 4097 && deepest(store, &top) == Some(2));
-    for (number, file) in (0..ENTRIES).zip(found.iter().skip(1)) {
-        let path = parsed(alloc, entry(alloc, directory, number)?.as_bytes())?;
-        assert!(rt; file.path == path, "{directory}/{number}");
-    }
+    let steps = finds(alloc, names.0, names.1)?;
+    take(rt, alloc, store, &Protected::new(), "finds", &steps)?;
+    let holds = shows_entries(alloc, store, names.0, is_first)?;
+    assert!(rt; holds);
     Ok(())
 }
 
-/// The listing has the two directories and the entries, in path order.
-fn lists_in_order(rt: &impl Abort, alloc: Global, store: &TreeStore) -> Result<(), Memory> {
-    let listing = store.listing(alloc)?;
-    assert!(rt; listing.len() == 4098);
-    assert!(rt;
-        listing
-            .iter()
-            .zip(listing.iter().skip(1))
-            .all(|(one, next)| one.path < next.path)
-    );
-    Ok(())
-}
-
-/// The entries are in the one directory, and not in the other.
-fn are_entries_of(
+/// Makes the entries, moves them into the other directory, and removes them.
+fn fill<'a, S: Filestore>(
     rt: &impl Abort,
     alloc: Global,
-    store: &TreeStore,
-    directory: char,
+    store: &mut S,
+    old: &'a [String],
+    new: &'a [String],
 ) -> Result<(), Memory> {
-    has_entries(rt, alloc, store, directory)?;
-    stands_in_order(rt, alloc, store, directory)?;
-    lists_in_order(rt, alloc, store)
+    let none = Protected::new();
+    take(rt, alloc, store, &none, "entries", &entries(alloc, old)?)?;
+    has_entries(rt, alloc, store, (old, new), true)?;
+    take(
+        rt,
+        alloc,
+        store,
+        &none,
+        "renames",
+        &renames(alloc, old, new)?,
+    )?;
+    has_entries(rt, alloc, store, (new, old), false)?;
+    take(rt, alloc, store, &none, "removals", &removals(alloc, new)?)
 }
 
 #[test]
 fn a_directory_has_4096_entries(rt: HostRuntime) -> Result<(), Memory> {
+    let mut old = Vec::new(rt.alloc());
+    let mut new = Vec::new(rt.alloc());
+    push_names(&mut old, rt.alloc(), 'd')?;
+    push_names(&mut new, rt.alloc(), 'e')?;
     let mut store = TreeStore::new(rt.alloc(), BLOCKS)?;
-    make_entries(&rt, rt.alloc(), &mut store)?;
-    are_entries_of(&rt, rt.alloc(), &store, 'd')?;
-    rename_entries(&rt, rt.alloc(), &mut store)?;
-    are_entries_of(&rt, rt.alloc(), &store, 'e')?;
-    remove_entries(&rt, rt.alloc(), &mut store)?;
-    assert!(rt; store.free() == BLOCKS);
-    Ok(())
+    fill(&rt, rt.alloc(), &mut store, &old, &new)
 }
 
-/// A path of so many names of 96 octets: equal letters, the first name those of one letter, and the others `n`.
-fn long(alloc: Global, first: u8, names: usize) -> Result<Vec<u8>, Memory> {
-    let mut octets = vec![in alloc; first; 96]?;
-    for _ in 1..names {
-        octets.push(b'/')?;
-        octets.extend_from_slice(&[b'n'; 96])?;
+/// All rows but the last one.
+fn first_rows<'a>(rows: &'a [Stands<'a>]) -> &'a [Stands<'a>] {
+    match rows {
+        [first @ .., _] => first,
+        [] => rows,
     }
-    Ok(octets)
 }
 
-/// Makes seven directories in one another, and a file of two blocks in the last one.
-fn make_long(rt: &impl Abort, alloc: Global, store: &mut TreeStore) -> Result<(), Memory> {
-    for names in 1..8 {
-        let path = long(alloc, b'n', names)?;
-        succeed(rt, alloc, store, Action::CreateDirectory, (&path, b""), 1)?;
+/// All rows but the first one.
+fn last_rows<'a>(rows: &'a [Stands<'a>]) -> &'a [Stands<'a>] {
+    match rows {
+        [_, last @ ..] => last,
+        [] => rows,
     }
-    let file = parsed(alloc, &long(alloc, b'n', 8)?)?;
-    let ticks = deliver(store, &file, b"octets")?;
-    assert!(rt; ticks == Some((1, 1)));
-    Ok(())
 }
 
-/// The first name becomes another one, in which only the last octet differs: all stands below it then.
-fn rename_long(rt: &impl Abort, alloc: Global, store: &mut TreeStore) -> Result<(), Memory> {
-    let old = long(alloc, b'n', 1)?;
-    let new = long(alloc, b'm', 1)?;
-    succeed(rt, alloc, store, Action::RenameFile, (&old, &new), 0)?;
-    let top = parsed(alloc, &new)?;
-    assert!(rt; deepest(store, &top) == Some(8) && store.kind(&parsed(alloc, &old)?).is_none());
-    Ok(())
+/// Paths of one to eight names of 96 octets: equal letters, the first name those of one letter, and the others `n`.
+fn long(alloc: Global, first: u8) -> Result<Vec<Vec<u8>>, Memory> {
+    let mut path = Vec::from_slice(alloc, &[first; 96])?;
+    let mut paths = Vec::new(alloc);
+    for _ in 0..8 {
+        paths.push(path.clone()?)?;
+        path.push(b'/')?;
+        path.extend_from_slice(&[b'n'; 96])?;
+    }
+    Ok(paths)
 }
 
-/// Whether both tell of what stands at a path of so many names: of a directory, or with eight names of the file.
-fn is_long(
+/// What stands where the last path is that of a file with six octets, and the others are directories.
+fn long_rows(alloc: Global, paths: &[Vec<u8>]) -> Result<Vec<Stands<'_>>, Memory> {
+    let mut rows = Vec::new(alloc);
+    for path in paths {
+        rows.push((path.as_slice(), Kind::Directory, 0, 0))?;
+    }
+    if let Some(last) = rows.last_mut() {
+        (last.1, last.2, last.3) = (Kind::File, 6, 0xe3d6_7465);
+    }
+    Ok(rows)
+}
+
+/// All paths but the last one.
+fn directories(paths: &[Vec<u8>]) -> &[Vec<u8>] {
+    match paths {
+        [directories @ .., _] => directories,
+        [] => paths,
+    }
+}
+
+/// The path of the place; empty behind the last one.
+fn path(paths: &[Vec<u8>], place: usize) -> &[u8] {
+    match paths.get(place) {
+        Some(path) => path,
+        None => b"",
+    }
+}
+
+/// Makes the directories in one another, and the file.
+fn made(alloc: Global, paths: &[Vec<u8>]) -> Result<Vec<Step<'_>>, Memory> {
+    let mut steps = Vec::new(alloc);
+    let mut free = BLOCKS;
+    for path in directories(paths) {
+        free = free.wrapping_sub(1);
+        steps.push(Step::Performs(Action::CreateDirectory, path, b"", 0x50, 1, free))?;
+    }
+    steps.extend_from_slice(&[
+        Step::Takes(Asked::Extend(0, 6), 1, 65_528),
+        Step::Puts(0, 0, b"octets"),
+        Step::Takes(Asked::Install(0, path(paths, 7)), 1, 65_527),
+        Step::Shows(Shown::Octets(path(paths, 7), 6, 0, b"octets")),
+    ])?;
+    Ok(steps)
+}
+
+/// The first directory gets another name.
+fn renamed<'a>(old: &'a [u8], new: &'a [u8]) -> [Step<'a>; 2] {
+    [
+        Step::Performs(Action::RenameFile, old, new, 0x20, 0, 65_527),
+        Step::Shows(Shown::Deepest(old, None)),
+    ]
+}
+
+/// The file has its octets. It is removed, and then the directories are.
+fn unmade(alloc: Global, paths: &[Vec<u8>]) -> Result<Vec<Step<'_>>, Memory> {
+    let mut steps = Vec::new(alloc);
+    let mut free = 65_529u32;
+    let file = path(paths, 7);
+    steps.push(Step::Shows(Shown::Octets(file, 6, 0, b"octets")))?;
+    steps.push(Step::Performs(Action::DeleteFile, file, b"", 0x10, 2, free))?;
+    for path in directories(paths).iter().rev() {
+        free = free.wrapping_add(1);
+        steps.push(Step::Performs(Action::RemoveDirectory, path, b"", 0x60, 1, free))?;
+    }
+    Ok(steps)
+}
+
+/// Just the directories and the file stand.
+fn stands_long<S: Filestore>(
+    rt: &impl Abort,
     alloc: Global,
-    first: u8,
-    names: usize,
-    entry: &Entry,
-    found: &Standing,
-) -> Result<bool, Memory> {
-    let path = long(alloc, first, names)?;
-    let kind = if names < 8 {
-        Kind::Directory
-    } else {
-        Kind::File
-    };
-    Ok(
-        entry.path.text(alloc)? == path
-            && found.path == entry.path
-            && entry.kind == kind
-            && found.kind == kind
-            && entry.size == found.size,
-    )
-}
-
-/// Just the directories and the file stand, each path with one name more.
-fn stand_long(rt: &impl Abort, alloc: Global, store: &TreeStore, first: u8) -> Result<(), Memory> {
-    let top = parsed(alloc, &long(alloc, first, 1)?)?;
-    let listing = store.listing(alloc)?;
-    let standing = store.standing(alloc, &top)?;
-    assert!(rt; listing.len() == 8 && standing.len() == 8);
-    for (names, (entry, found)) in (1..9).zip(listing.iter().zip(&standing)) {
-        let holds = is_long(alloc, first, names, entry, found)?;
-        assert!(rt; holds, "{names} names");
-    }
+    store: &S,
+    paths: &[Vec<u8>],
+) -> Result<(), Memory> {
+    let rows = long_rows(alloc, paths)?;
+    let holds = shows_rows(alloc, store, &rows, path(paths, 0), &rows, 8)?;
+    assert!(rt; holds);
     Ok(())
 }
 
-/// The same, and the file has its octets.
-fn has_long(rt: &impl Abort, alloc: Global, store: &TreeStore, first: u8) -> Result<(), Memory> {
-    stand_long(rt, alloc, store, first)?;
-    let file = parsed(alloc, &long(alloc, first, 8)?)?;
-    let found = contents(store, alloc, &file)?;
-    assert!(rt; found.as_deref() == Some(b"octets"));
-    Ok(())
+/// Makes all at the one paths, moves it to the others, and removes it.
+fn move_long<S: Filestore>(
+    rt: &impl Abort,
+    alloc: Global,
+    store: &mut S,
+    old: &[Vec<u8>],
+    new: &[Vec<u8>],
+) -> Result<(), Memory> {
+    let none = Protected::new();
+    take(rt, alloc, store, &none, "makes", &made(alloc, old)?)?;
+    stands_long(rt, alloc, store, old)?;
+    take(
+        rt,
+        alloc,
+        store,
+        &none,
+        "renames",
+        &renamed(path(old, 0), path(new, 0)),
+    )?;
+    stands_long(rt, alloc, store, new)?;
+    take(rt, alloc, store, &none, "removes", &unmade(alloc, new)?)
 }
 
-/// Removes the file and then the directories.
-fn remove_long(rt: &impl Abort, alloc: Global, store: &mut TreeStore) -> Result<(), Memory> {
-    let file = long(alloc, b'm', 8)?;
-    succeed(rt, alloc, store, Action::DeleteFile, (&file, b""), 2)?;
-    for names in (1..8).rev() {
-        let path = long(alloc, b'm', names)?;
-        succeed(rt, alloc, store, Action::RemoveDirectory, (&path, b""), 1)?;
-    }
-    Ok(())
-}
-
+/// The first directory gets another name, of which only the letters differ.
 #[test]
 fn a_path_has_eight_names_of_96_octets(rt: HostRuntime) -> Result<(), Memory> {
+    let old = long(rt.alloc(), b'n')?;
+    let new = long(rt.alloc(), b'm')?;
     let mut store = TreeStore::new(rt.alloc(), BLOCKS)?;
-    make_long(&rt, rt.alloc(), &mut store)?;
-    has_long(&rt, rt.alloc(), &store, b'n')?;
-    rename_long(&rt, rt.alloc(), &mut store)?;
-    has_long(&rt, rt.alloc(), &store, b'm')?;
-    remove_long(&rt, rt.alloc(), &mut store)?;
-    assert!(rt; store.free() == BLOCKS);
-    Ok(())
+    move_long(&rt, rt.alloc(), &mut store, &old, &new)
 }

@@ -4,11 +4,10 @@
 ghost use Rattle.std.specs.Prelude.{◌<◌, ◌≤◌};
 
 use super::calls::{
-    checksum, contents, deepest, extend, install, parsed, put, read, read_staged, request, staged,
+    Answer, Asked, checksum, deepest, parsed, read, read_staged, request, size, staged_size,
+    unstage,
 };
-use cfdp_actions::{
-    Filestore, Kind, ListStore, Performed, Protected, Request, Standing, perform, refusal,
-};
+use cfdp_actions::{Filestore, Kind, ListStore, Protected, Request, Standing, refusal};
 use cfdp_paths::{Memory, Path};
 use cfdp_status::Action;
 use cfdp_tree::TreeStore;
@@ -46,11 +45,11 @@ impl Random {
     }
 
     /// Two names for what is asked, rather two at which it is not refused.
-    fn names(&mut self, alloc: Global, store: &ListStore, asked: Asked) -> Result<Names, Memory> {
-        let is_directory = asked.is_of_directories();
+    fn names(&mut self, alloc: Global, store: &ListStore, task: Task) -> Result<Names, Memory> {
+        let is_directory = task.is_of_directories();
         let mut names = (self.name(is_directory), self.name(is_directory));
         for _ in 0..self.below(16) {
-            if !asked.is_refused(alloc, store, names)? {
+            if !task.is_refused(alloc, store, names)? {
                 break;
             }
             names = (self.name(is_directory), self.name(is_directory));
@@ -117,114 +116,108 @@ static FILES: [&[u8]; 18] = [
 /// The names that something is done to: the second one only where the action has two.
 type Names = (&'static [u8], &'static [u8]);
 
-/// The request for the action at its names.
-fn request_of(alloc: Global, action: Action, names: Names) -> Result<Request, Memory> {
-    let (first, second) = names;
-    request(
-        alloc,
-        action,
-        first,
-        if action.has_second() { second } else { b"" },
-    )
+/// The second name of the action; empty where it has none.
+fn second_of(action: Action, names: Names) -> &'static [u8] {
+    if action.has_second() { names.1 } else { b"" }
 }
 
-/// What is asked of a store.
+/// What is done to a store.
 #[derive(Clone, Copy)]
-enum Asked {
+enum Task {
     Perform(Action),
     Extend,
     Put,
     Unstage,
     Install,
-    Read,
-    ReadStaged,
 }
 
-impl Asked {
+impl Task {
     /// Whether it is done to directories.
     fn is_of_directories(self) -> bool {
         matches!(
             self,
-            Asked::Perform(
-                Action::CreateDirectory | Action::RemoveDirectory | Action::DenyDirectory
-            )
+            Task::Perform(Action::CreateDirectory | Action::RemoveDirectory | Action::DenyDirectory)
         )
     }
 
     /// Whether it is refused at the names; what is not an action, where no file stands.
     fn is_refused(self, alloc: Global, store: &ListStore, names: Names) -> Result<bool, Memory> {
         match self {
-            Asked::Perform(action) => {
-                Ok(refusal(store, &request_of(alloc, action, names)?).is_some())
-            }
-            _ => Ok(store.kind(&parsed(alloc, names.0)?) != Some(Kind::File)),
+            Task::Perform(action) => is_refused(alloc, store, action, names),
+            _ => Ok(size(store, &parsed(alloc, names.0)?).is_none()),
         }
     }
 }
 
-/// What is asked, as often as it stands there.
-type Work = [Asked; 20];
+/// Whether the action is refused at its names.
+fn is_refused<S: Filestore>(
+    alloc: Global,
+    store: &S,
+    action: Action,
+    names: Names,
+) -> Result<bool, Memory> {
+    let request = request(alloc, action, names.0, second_of(action, names))?;
+    Ok(refusal(store, &request).is_some())
+}
 
-/// What is asked where the store is to become full: rather new directories, longer files and lists that are installed.
+/// What is done, as often as it stands there.
+type Work = [Task; 18];
+
+/// What is done where the store is to become full: rather new directories, longer files and lists that are installed.
 static GROWING: Work = [
-    Asked::Perform(Action::CreateFile),
-    Asked::Perform(Action::CreateFile),
-    Asked::Perform(Action::CreateDirectory),
-    Asked::Perform(Action::CreateDirectory),
-    Asked::Perform(Action::CreateDirectory),
-    Asked::Perform(Action::CreateDirectory),
-    Asked::Perform(Action::RenameFile),
-    Asked::Perform(Action::RenameFile),
-    Asked::Perform(Action::AppendFile),
-    Asked::Perform(Action::AppendFile),
-    Asked::Perform(Action::AppendFile),
-    Asked::Perform(Action::ReplaceFile),
-    Asked::Extend,
-    Asked::Extend,
-    Asked::Put,
-    Asked::Put,
-    Asked::Install,
-    Asked::Install,
-    Asked::Read,
-    Asked::ReadStaged,
+    Task::Perform(Action::CreateFile),
+    Task::Perform(Action::CreateFile),
+    Task::Perform(Action::CreateDirectory),
+    Task::Perform(Action::CreateDirectory),
+    Task::Perform(Action::CreateDirectory),
+    Task::Perform(Action::CreateDirectory),
+    Task::Perform(Action::RenameFile),
+    Task::Perform(Action::RenameFile),
+    Task::Perform(Action::AppendFile),
+    Task::Perform(Action::AppendFile),
+    Task::Perform(Action::AppendFile),
+    Task::Perform(Action::ReplaceFile),
+    Task::Extend,
+    Task::Extend,
+    Task::Put,
+    Task::Put,
+    Task::Install,
+    Task::Install,
 ];
 
-/// What is asked where it is to become empty: rather what gives blocks back.
+/// What is done where it is to become empty: rather what gives blocks back.
 static SHRINKING: Work = [
-    Asked::Perform(Action::DeleteFile),
-    Asked::Perform(Action::DeleteFile),
-    Asked::Perform(Action::DeleteFile),
-    Asked::Perform(Action::DenyFile),
-    Asked::Perform(Action::DenyFile),
-    Asked::Perform(Action::DenyFile),
-    Asked::Perform(Action::RemoveDirectory),
-    Asked::Perform(Action::RemoveDirectory),
-    Asked::Perform(Action::DenyDirectory),
-    Asked::Perform(Action::DenyDirectory),
-    Asked::Perform(Action::RenameFile),
-    Asked::Perform(Action::RenameFile),
-    Asked::Perform(Action::ReplaceFile),
-    Asked::Perform(Action::AppendFile),
-    Asked::Perform(Action::CreateFile),
-    Asked::Unstage,
-    Asked::Put,
-    Asked::Install,
-    Asked::Read,
-    Asked::ReadStaged,
+    Task::Perform(Action::DeleteFile),
+    Task::Perform(Action::DeleteFile),
+    Task::Perform(Action::DeleteFile),
+    Task::Perform(Action::DenyFile),
+    Task::Perform(Action::DenyFile),
+    Task::Perform(Action::DenyFile),
+    Task::Perform(Action::RemoveDirectory),
+    Task::Perform(Action::RemoveDirectory),
+    Task::Perform(Action::DenyDirectory),
+    Task::Perform(Action::DenyDirectory),
+    Task::Perform(Action::RenameFile),
+    Task::Perform(Action::RenameFile),
+    Task::Perform(Action::ReplaceFile),
+    Task::Perform(Action::AppendFile),
+    Task::Perform(Action::CreateFile),
+    Task::Unstage,
+    Task::Put,
+    Task::Install,
 ];
 
 /// How many slots are staged in: 0, 21, 42 and 63.
 const SLOTS: u8 = 4;
 
-/// What is asked, and all that it may be done with.
+/// What is done, and all that it may be done with.
 #[derive(Drop)]
 struct Operation {
-    asked: Asked,
+    task: Task,
     names: Names,
     slot: u8,
     at: u64,
     octets: Vec<u8>,
-    ghost is_slot: { slot < 64 },
 }
 
 impl Random {
@@ -240,10 +233,10 @@ impl Random {
             1 => self.below(10),
             _ => self.below(601),
         };
-        let asked = work[self.below(20) as usize];
+        let task = work[self.below(18) as usize];
         Ok(Operation {
-            asked,
-            names: self.names(alloc, store, asked)?,
+            task,
+            names: self.names(alloc, store, task)?,
             slot: self.below(u64::from(SLOTS)) as u8 * 21,
             at: self.below(301),
             octets: self.octets(alloc, count)?,
@@ -251,56 +244,23 @@ impl Random {
     }
 }
 
-/// What a store answers.
-#[derive(Debug, Drop, PartialEq)]
-enum Answer {
-    Performed(Performed),
-    /// The ticks; `None` where it may not be, or does not fit.
-    Ticks(Option<u32>),
-    /// Whether what is staged has these places.
-    Put(bool),
-    /// `None` where there are no such places.
-    Octets(Option<Vec<u8>>),
+impl Operation {
+    /// What is asked of each store.
+    fn asked(&self) -> Asked<'_> {
+        let (first, _) = self.names;
+        let count = self.octets.len() as u64;
+        match self.task {
+            Task::Perform(action) => Asked::Perform(action, first, second_of(action, self.names)),
+            Task::Extend => Asked::Extend(self.slot, self.at.saturating_add(count)),
+            Task::Put => Asked::Put(self.slot, self.at, &self.octets),
+            Task::Unstage => Asked::Unstage(self.slot),
+            Task::Install => Asked::Install(self.slot, first),
+        }
+    }
 }
 
-/// What is asked, done to the store; `first` is the operation's path.
-fn answered<S: Filestore>(
-    store: &mut S,
-    alloc: Global,
-    operation: &Operation,
-    first: &Path,
-) -> Result<Answer, Memory> {
-    let Operation {
-        asked,
-        names,
-        slot,
-        at,
-        octets,
-        ..
-    } = operation;
-    let count = octets.len() as u64;
-    Ok(match asked {
-        Asked::Perform(action) => Answer::Performed(performed(store, alloc, *action, *names)?),
-        Asked::Extend => Answer::Ticks(extend(store, *slot, at.saturating_add(count))?),
-        Asked::Put => Answer::Put(put(store, *slot, *at, octets)),
-        Asked::Unstage => Answer::Ticks(Some(store.unstage(*slot))),
-        Asked::Install => Answer::Ticks(install(store, *slot, first)?),
-        Asked::Read => Answer::Octets(read(store, alloc, first, *at, count)?),
-        Asked::ReadStaged => Answer::Octets(read_staged(store, alloc, *slot, *at, count)?),
-    })
-}
-
-/// What the action comes to at its names.
-fn performed<S: Filestore>(
-    store: &mut S,
-    alloc: Global,
-    action: Action,
-    names: Names,
-) -> Result<Performed, Memory> {
-    perform(store, &Protected::new(), &request_of(alloc, action, names)?)
-}
-
-/// What a store says of itself and of a path.
+/// What a store says of itself and of the path of an operation, and the octets at its place, in the file and in the slot;
+/// `None` where there are no such places.
 #[derive(Drop, PartialEq)]
 struct Told {
     free: u32,
@@ -309,31 +269,74 @@ struct Told {
     has_entries: bool,
     deepest: Option<u8>,
     checksum: Option<u32>,
+    octets: Option<Vec<u8>>,
+    staged: Option<Vec<u8>>,
 }
 
-fn says<S: Filestore>(store: &S, path: &Path) -> Told {
-    Told {
+fn says<S: Filestore>(
+    alloc: Global,
+    store: &S,
+    path: &Path,
+    operation: &Operation,
+) -> Result<Told, Memory> {
+    let count = operation.octets.len() as u64;
+    Ok(Told {
         free: store.free(),
         kind: store.kind(path),
         parent_is_good: store.parent_is_good(path),
         has_entries: store.has_entries(path),
         deepest: deepest(store, path),
         checksum: checksum(store, path),
-    }
+        octets: read(alloc, store, path, operation.at, count)?,
+        staged: read_staged(alloc, store, operation.slot, operation.at, count)?,
+    })
 }
 
 /// What stands at a path and below it, with the octets of the file.
 #[derive(Drop, PartialEq)]
-struct Shown {
+struct Stand {
     standing: Vec<Standing>,
-    contents: Option<Vec<u8>>,
+    octets: Option<Vec<u8>>,
 }
 
-fn show<S: Filestore>(store: &S, alloc: Global, path: &Path) -> Result<Shown, Memory> {
-    Ok(Shown {
+fn stand_at<S: Filestore>(alloc: Global, store: &S, path: &Path) -> Result<Stand, Memory> {
+    let count = size(store, path).unwrap_or(0);
+    Ok(Stand {
         standing: store.standing(alloc, path)?,
-        contents: contents(store, alloc, path)?,
+        octets: read(alloc, store, path, 0, count)?,
     })
+}
+
+/// The same for each path of the listing.
+fn stands<S: Filestore>(alloc: Global, store: &S) -> Result<Vec<Stand>, Memory> {
+    let mut stands = Vec::new(alloc);
+    for entry in store.listing(alloc)? {
+        stands.push(stand_at(alloc, store, &entry.path)?)?;
+    }
+    Ok(stands)
+}
+
+/// What is staged in the slot, and its checksum.
+#[derive(Drop, PartialEq)]
+struct Staged {
+    octets: Option<Vec<u8>>,
+    checksum: Option<u32>,
+}
+
+fn staged_in<S: Filestore>(alloc: Global, store: &S, slot: u8) -> Result<Staged, Memory> {
+    Ok(Staged {
+        octets: read_staged(alloc, store, slot, 0, staged_size(store, slot))?,
+        checksum: staged_checksum(store, slot),
+    })
+}
+
+/// The same of each slot that is used.
+fn all_staged<S: Filestore>(alloc: Global, store: &S) -> Result<Vec<Staged>, Memory> {
+    let mut all = Vec::new(alloc);
+    for slot in 0..SLOTS {
+        all.push(staged_in(alloc, store, slot.wrapping_mul(21))?)?;
+    }
+    Ok(all)
 }
 
 /// The blocks that are given back for a file or an empty directory; `None` where there is neither.
@@ -344,6 +347,32 @@ fn removed<S: Filestore>(store: &mut S, path: &Path) -> Result<Option<u32>, Memo
     Ok(Some(store.remove(path)?))
 }
 
+/// Removes all that stands: the blocks that are given back for each path.
+fn all_removed<S: Filestore>(alloc: Global, store: &mut S) -> Result<Vec<Option<u32>>, Memory> {
+    let mut all = Vec::new(alloc);
+    for entry in store.listing(alloc)?.iter().rev() {
+        all.push(removed(store, &entry.path)?)?;
+    }
+    Ok(all)
+}
+
+/// The checksum of what is staged in the slot.
+fn staged_checksum<S: Filestore>(store: &S, slot: u8) -> Option<u32> {
+    if slot > 63 {
+        return None;
+    }
+    Some(store.staged_checksum(slot))
+}
+
+/// Drops all that is staged: the answers.
+fn all_unstaged<S: Filestore>(alloc: Global, store: &mut S) -> Result<Vec<Answer>, Memory> {
+    let mut all = Vec::new(alloc);
+    for slot in 0..SLOTS {
+        all.push(unstage(store, slot.wrapping_mul(21)))?;
+    }
+    Ok(all)
+}
+
 /// The two stores.
 #[derive(Drop)]
 struct Pair {
@@ -352,82 +381,47 @@ struct Pair {
 }
 
 impl Pair {
-    /// Two empty stores of so many blocks.
-    fn new(alloc: Global, blocks: u32) -> Result<Pair, Memory>
-        requires some { 1 ≤ blocks }
-        requires few { blocks ≤ 65536 }
-    {
-        Ok(Pair {
-            lists: ListStore::new(alloc, blocks)?,
-            tree: TreeStore::new(alloc, blocks)?,
-        })
-    }
-
-    /// Does what is asked: whether both answer the same, and say the same then.
+    /// Asks both: whether they answer the same, and say the same then.
     fn agrees_on(&mut self, alloc: Global, operation: &Operation) -> Result<bool, Memory> {
+        let asked = operation.asked();
+        let protected = Protected::new();
         let first = parsed(alloc, operation.names.0)?;
-        let of_lists = answered(&mut self.lists, alloc, operation, &first)?;
-        let of_tree = answered(&mut self.tree, alloc, operation, &first)?;
-        Ok(of_lists == of_tree && says(&self.lists, &first) == says(&self.tree, &first))
+        let is_same = asked.answer(alloc, &mut self.lists, &protected)?
+            == asked.answer(alloc, &mut self.tree, &protected)?;
+        Ok(
+            is_same
+                && says(alloc, &self.lists, &first, operation)?
+                    == says(alloc, &self.tree, &first, operation)?,
+        )
     }
 
     /// Extends what is staged in a slot by all that is left.
     fn filling(&self, alloc: Global) -> Operation {
+        let left = u64::from(self.lists.free()).wrapping_mul(120);
         Operation {
-            asked: Asked::Extend,
+            task: Task::Extend,
             names: (b"a", b"a"),
             slot: 21,
-            at: self
-                .lists
-                .staged_size(21)
-                .saturating_add(u64::from(self.lists.free()) * 120),
+            at: staged_size(&self.lists, 21).saturating_add(left),
             octets: Vec::new(alloc),
         }
     }
 
-    /// Whether the same is staged in both.
-    fn has_same_staged(&self, alloc: Global) -> Result<bool, Memory> {
-        for slot in 0..SLOTS {
-            let slot = slot * 21;
-            if staged(&self.lists, alloc, slot)? != staged(&self.tree, alloc, slot)?
-                || self.lists.staged_checksum(slot) != self.tree.staged_checksum(slot)
-            {
-                return Ok(false);
-            }
-        }
-        Ok(true)
-    }
-
-    /// Whether the same stands at and below each path, octet for octet.
-    fn has_same_standing(&self, alloc: Global) -> Result<bool, Memory> {
-        let listing = self.lists.listing(alloc)?;
-        if listing != self.tree.listing(alloc)? {
-            return Ok(false);
-        }
-        for entry in &listing {
-            if show(&self.lists, alloc, &entry.path)? != show(&self.tree, alloc, &entry.path)? {
-                return Ok(false);
-            }
-        }
-        Ok(true)
-    }
-
-    /// Gives back all blocks: both answer the same.
-    fn empty(&mut self, rt: &impl Abort, alloc: Global) -> Result<(), Memory> {
-        for slot in 0..SLOTS {
-            assert!(rt; self.lists.unstage(slot * 21) == self.tree.unstage(slot * 21));
-        }
-        for entry in self.tree.listing(alloc)?.iter().rev() {
-            assert!(rt;
-                removed(&mut self.lists, &entry.path)? == removed(&mut self.tree, &entry.path)?
-            );
-        }
-        Ok(())
-    }
-
-    /// Whether both are the same.
+    /// Whether both are the same: what is staged, and what stands, octet for octet.
     fn is_same(&self, alloc: Global) -> Result<bool, Memory> {
-        Ok(self.has_same_staged(alloc)? && self.has_same_standing(alloc)?)
+        Ok(
+            all_staged(alloc, &self.lists)? == all_staged(alloc, &self.tree)?
+                && self.lists.listing(alloc)? == self.tree.listing(alloc)?
+                && stands(alloc, &self.lists)? == stands(alloc, &self.tree)?,
+        )
+    }
+
+    /// Gives back all blocks: whether both answer the same.
+    fn empties(&mut self, alloc: Global) -> Result<bool, Memory> {
+        Ok(
+            all_unstaged(alloc, &mut self.lists)? == all_unstaged(alloc, &mut self.tree)?
+                && all_removed(alloc, &mut self.lists)? == all_removed(alloc, &mut self.tree)?,
+        )
     }
 }
 
@@ -439,19 +433,6 @@ struct Script {
 }
 
 impl Script {
-    /// A script on two empty stores of so many blocks.
-    fn new(alloc: Global, blocks: u32) -> Result<Script, Memory>
-        requires some { 1 ≤ blocks }
-        requires few { blocks ≤ 65536 }
-    {
-        Ok(Script {
-            random: Random {
-                state: u64::from(blocks),
-            },
-            pair: Pair::new(alloc, blocks)?,
-        })
-    }
-
     /// One operation: both stores give the same answer.
     fn go_on(&mut self, rt: &impl Abort, alloc: Global, work: &Work) -> Result<(), Memory> {
         let operation = self.random.operation(alloc, &self.pair.lists, work)?;
@@ -497,17 +478,25 @@ impl Script {
     }
 }
 
-/// A script of so many rounds on stores of so many blocks.
+/// A script of so many rounds on two empty stores of so many blocks.
 fn run(rt: &impl Abort, alloc: Global, blocks: u32, rounds: u32) -> Result<(), Memory>
     requires some { 1 ≤ blocks }
     requires few { blocks ≤ 65536 }
 {
-    let mut script = Script::new(alloc, blocks)?;
+    let mut script = Script {
+        random: Random {
+            state: u64::from(blocks),
+        },
+        pair: Pair {
+            lists: ListStore::new(alloc, blocks)?,
+            tree: TreeStore::new(alloc, blocks)?,
+        },
+    };
     for _ in 0..rounds {
         script.round(rt, alloc)?;
     }
-    script.pair.empty(rt, alloc)?;
-    assert!(rt; script.pair.tree.free() == blocks);
+    let is_same = script.pair.empties(alloc)?;
+    assert!(rt; is_same && script.pair.tree.free() == blocks);
     Ok(())
 }
 

@@ -1,21 +1,16 @@
 //! Octets of sizes around those of whole blocks: staged in pieces, appended to others and to themselves, and replaced.
 
-use super::calls::{contents, deliver, extend, parsed, put, request, staged};
-use cfdp_actions::{Filestore, ListStore, Protected, perform};
+use super::calls::Asked;
+use super::steps::{BLOCKS, Shown, Step, take_on_both};
 use cfdp_paths::Memory;
-use cfdp_status::{Action, Status};
-use cfdp_tree::TreeStore;
+use cfdp_status::Action;
 use std::alloc::Global;
-use std::process::Abort;
 
 /// How many octets the files have: none, and around one block and two of them.
 static SIZES: [usize; 6] = [0, 1, 119, 120, 121, 240];
 
 /// The most octets that two of them have.
 const MOST: usize = 480;
-
-/// How many blocks a store has here.
-const BLOCKS: u32 = 32;
 
 /// A slot for what is staged beside the files.
 const SLOT: u8 = 1;
@@ -29,169 +24,131 @@ fn octets() -> [u8; MOST] {
     octets
 }
 
-/// A request: its action, and its names. No second one: empty.
-type Asked = (Action, &'static [u8], &'static [u8]);
-
-const APPEND: Asked = (Action::AppendFile, b"f", b"g");
-
-const DOUBLE: Asked = (Action::AppendFile, b"f", b"f");
-
-const REPLACE: Asked = (Action::ReplaceFile, b"g", b"f");
-
-const DELETE_FIRST: Asked = (Action::DeleteFile, b"f", b"");
-
-const DELETE_SECOND: Asked = (Action::DeleteFile, b"g", b"");
-
-/// Performs the request, which is successful.
-fn succeed<S: Filestore>(
-    rt: &impl Abort,
-    alloc: Global,
-    store: &mut S,
-    asked: Asked,
-) -> Result<(), Memory> {
-    let request = request(alloc, asked.0, asked.1, asked.2)?;
-    let done = perform(store, &Protected::new(), &request)?;
-    assert!(rt; done.status == Status::Successful(asked.0));
-    Ok(())
+/// How many blocks so many octets take.
+fn blocks(octets: usize) -> u32 {
+    (octets.div_ceil(120) & 0xffff) as u32
 }
 
-/// Makes a file of these octets.
-fn make<S: Filestore>(
-    rt: &impl Abort,
-    alloc: Global,
-    store: &mut S,
-    name: &[u8],
-    octets: &[u8],
-) -> Result<(), Memory> {
-    let path = parsed(alloc, name)?;
-    let ticks = deliver(store, &path, octets)?;
-    assert!(rt; ticks.is_some());
-    Ok(())
+/// How many blocks are free behind so many.
+fn free(blocks: u32) -> u32 {
+    BLOCKS.wrapping_sub(blocks)
 }
 
-/// The file has these octets.
-fn has<S: Filestore>(
-    rt: &impl Abort,
-    alloc: Global,
-    store: &S,
-    name: &[u8],
-    wanted: &[u8],
-) -> Result<(), Memory> {
-    let path = parsed(alloc, name)?;
-    let found = contents(store, alloc, &path)?;
-    assert!(rt; found.as_deref() == Some(wanted));
-    Ok(())
+/// The octets from one place up to another.
+fn part(octets: &[u8], from: usize, to: usize) -> &[u8] {
+    octets.get(from..to).unwrap_or(b"")
 }
 
-/// All blocks are free.
-fn is_empty<S: Filestore>(rt: &impl Abort, store: &S) {
-    assert!(rt; store.free() == BLOCKS);
+/// The file of the name has just these octets.
+fn has<'a>(name: &'a [u8], octets: &'a [u8]) -> Step<'a> {
+    Step::Shows(Shown::Octets(name, octets.len() as u64, 0, octets))
+}
+
+/// Makes a file of these octets in a store of which so many blocks are in use.
+fn push_file<'a>(
+    steps: &mut Vec<Step<'a>>,
+    name: &'a [u8],
+    octets: &'a [u8],
+    used: u32,
+) -> Result<(), Memory> {
+    let taken = blocks(octets.len());
+    let used = used.wrapping_add(taken);
+    steps.extend_from_slice(&[
+        Step::Takes(Asked::Extend(0, octets.len() as u64), taken, free(used)),
+        Step::Puts(0, 0, octets),
+        Step::Takes(Asked::Install(0, name), 1, free(used.wrapping_add(1))),
+    ])?;
+    Ok(())
 }
 
 /// One file is appended to another, which is then put in its place. The first octets of both are the one's.
-fn join<S: Filestore>(
-    rt: &impl Abort,
-    alloc: Global,
-    store: &mut S,
-    both: &[u8],
-    front: usize,
-) -> Result<(), Memory> {
-    let Some((front, back)) = both.split_at_checked(front) else {
-        return Ok(());
-    };
-    make(rt, alloc, store, b"f", front)?;
-    make(rt, alloc, store, b"g", back)?;
-    succeed(rt, alloc, store, APPEND)?;
-    has(rt, alloc, store, b"f", both)?;
-    has(rt, alloc, store, b"g", back)?;
-    succeed(rt, alloc, store, REPLACE)?;
-    has(rt, alloc, store, b"g", both)?;
-    clear(rt, alloc, store)
-}
-
-/// Deletes both files.
-fn clear<S: Filestore>(rt: &impl Abort, alloc: Global, store: &mut S) -> Result<(), Memory> {
-    succeed(rt, alloc, store, DELETE_FIRST)?;
-    succeed(rt, alloc, store, DELETE_SECOND)?;
-    is_empty(rt, store);
-    Ok(())
-}
-
-fn join_all<S: Filestore>(rt: &impl Abort, alloc: Global, store: &mut S) -> Result<(), Memory> {
-    let octets = octets();
-    for front in SIZES {
-        for back in SIZES {
-            join(rt, alloc, store, &octets[..front + back], front)?;
-        }
-    }
+fn push_join<'a>(steps: &mut Vec<Step<'a>>, both: &'a [u8], front: usize) -> Result<(), Memory> {
+    let (front, back) = (part(both, 0, front), part(both, front, both.len()));
+    let (of_both, of_front, of_back) = (
+        blocks(both.len()),
+        blocks(front.len()),
+        blocks(back.len()),
+    );
+    push_file(steps, b"f", front, 0)?;
+    push_file(steps, b"g", back, of_front.wrapping_add(1))?;
+    let appended = of_both.wrapping_sub(of_front).wrapping_add(of_back);
+    let beside = free(of_both.wrapping_add(of_back).wrapping_add(2));
+    let replaced = of_back.wrapping_add(of_both.wrapping_mul(2));
+    let twice = free(of_both.wrapping_mul(2).wrapping_add(2));
+    let last = of_both.wrapping_add(1);
+    steps.extend_from_slice(&[
+        Step::Performs(Action::AppendFile, b"f", b"g", 0x30, appended, beside),
+        has(b"f", both),
+        has(b"g", back),
+        Step::Performs(Action::ReplaceFile, b"g", b"f", 0x40, replaced, twice),
+        has(b"g", both),
+        Step::Performs(Action::DeleteFile, b"f", b"", 0x10, last, free(last)),
+        Step::Performs(Action::DeleteFile, b"g", b"", 0x10, last, BLOCKS),
+    ])?;
     Ok(())
 }
 
 #[test]
 fn files_are_appended(rt: HostRuntime) -> Result<(), Memory> {
-    join_all(&rt, rt.alloc(), &mut ListStore::new(rt.alloc(), BLOCKS)?)?;
-    join_all(&rt, rt.alloc(), &mut TreeStore::new(rt.alloc(), BLOCKS)?)
-}
-
-/// A file is appended to itself.
-fn double<S: Filestore>(
-    rt: &impl Abort,
-    alloc: Global,
-    store: &mut S,
-    part: &[u8],
-) -> Result<(), Memory> {
-    let mut twice = Vec::from_slice(alloc, part)?;
-    twice.extend_from_slice(part)?;
-    make(rt, alloc, store, b"f", part)?;
-    succeed(rt, alloc, store, DOUBLE)?;
-    has(rt, alloc, store, b"f", &twice)?;
-    succeed(rt, alloc, store, DELETE_FIRST)?;
-    is_empty(rt, store);
-    Ok(())
-}
-
-fn double_all<S: Filestore>(rt: &impl Abort, alloc: Global, store: &mut S) -> Result<(), Memory> {
     let octets = octets();
-    for size in SIZES {
-        double(rt, alloc, store, &octets[..size])?;
+    let mut steps = Vec::new(rt.alloc());
+    for front in &SIZES {
+        for back in &SIZES {
+            push_join(
+                &mut steps,
+                part(&octets, 0, front.wrapping_add(*back)),
+                *front,
+            )?;
+        }
     }
+    take_on_both(&rt, rt.alloc(), "appends", &steps)
+}
+
+/// A file is appended to itself, which is the first half of these octets.
+fn push_double<'a>(steps: &mut Vec<Step<'a>>, twice: &'a [u8]) -> Result<(), Memory> {
+    let taken = blocks(twice.len());
+    let used = taken.wrapping_add(1);
+    push_file(steps, b"f", part(twice, 0, twice.len() / 2), 0)?;
+    steps.extend_from_slice(&[
+        Step::Performs(Action::AppendFile, b"f", b"f", 0x30, taken, free(used)),
+        has(b"f", twice),
+        Step::Performs(Action::DeleteFile, b"f", b"", 0x10, used, BLOCKS),
+    ])?;
     Ok(())
+}
+
+/// So many octets, twice.
+fn doubled(alloc: Global, octets: &[u8], count: usize) -> Result<Vec<u8>, Memory> {
+    let once = part(octets, 0, count);
+    let mut twice = Vec::from_slice(alloc, once)?;
+    twice.extend_from_slice(once)?;
+    Ok(twice)
+}
+
+/// The octets of each size, twice.
+fn doubles(alloc: Global) -> Result<Vec<Vec<u8>>, Memory> {
+    let octets = octets();
+    let mut doubles = Vec::new(alloc);
+    for size in &SIZES {
+        doubles.push(doubled(alloc, &octets, *size)?)?;
+    }
+    Ok(doubles)
 }
 
 #[test]
 fn files_are_appended_to_themselves(rt: HostRuntime) -> Result<(), Memory> {
-    double_all(&rt, rt.alloc(), &mut ListStore::new(rt.alloc(), BLOCKS)?)?;
-    double_all(&rt, rt.alloc(), &mut TreeStore::new(rt.alloc(), BLOCKS)?)
-}
-
-/// What is staged has these octets.
-fn are_staged<S: Filestore>(
-    rt: &impl Abort,
-    alloc: Global,
-    store: &S,
-    wanted: &[u8],
-) -> Result<(), Memory> {
-    let found = staged(store, alloc, SLOT)?;
-    assert!(rt; found.as_slice() == wanted);
-    Ok(())
-}
-
-/// What is staged is extended to so many octets.
-fn lengthen<S: Filestore>(rt: &impl Abort, store: &mut S, size: usize) -> Result<(), Memory> {
-    let ticks = extend(store, SLOT, size as u64)?;
-    assert!(rt; ticks.is_some());
-    Ok(())
-}
-
-/// Stages the octets of the whole from one place up to another.
-fn fill<S: Filestore>(rt: &impl Abort, store: &mut S, whole: &[u8], from: usize, to: usize) {
-    if from <= to && to <= whole.len() {
-        assert!(rt; put(store, SLOT, from as u64, &whole[from..to]));
+    let doubles = doubles(rt.alloc())?;
+    let mut steps = Vec::new(rt.alloc());
+    for twice in &doubles {
+        push_double(&mut steps, twice)?;
     }
+    take_on_both(&rt, rt.alloc(), "doubles", &steps)
 }
 
 /// With how many octets a list begins, how many it has after the first piece, and how many after the second.
-static GROWTHS: [(usize, usize, usize); 5] = [
+type Growth = (usize, usize, usize);
+
+static GROWTHS: [Growth; 5] = [
     (0, 1, 2),
     (1, 119, 120),
     (119, 120, 121),
@@ -199,41 +156,48 @@ static GROWTHS: [(usize, usize, usize); 5] = [
     (100, 300, 480),
 ];
 
-/// What is staged has zeros at its end when it was extended, and then what is put there in two pieces.
-fn grow<S: Filestore>(
-    rt: &impl Abort,
-    alloc: Global,
-    store: &mut S,
-    whole: &[u8],
-    growth: (usize, usize, usize),
-) -> Result<(), Memory> {
-    let (begun, middle, size) = growth;
-    let mut zeroed = vec![in alloc; 0; size]?;
-    for (zero, octet) in zeroed.iter_mut().zip(whole).take(begun) {
-        *zero = *octet;
-    }
-    lengthen(rt, store, begun)?;
-    fill(rt, store, whole, 0, begun);
-    lengthen(rt, store, size)?;
-    are_staged(rt, alloc, store, &zeroed)?;
-    fill(rt, store, whole, begun, middle);
-    fill(rt, store, whole, middle, size);
-    are_staged(rt, alloc, store, whole)?;
-    store.unstage(SLOT);
-    is_empty(rt, store);
-    Ok(())
+/// What an extension adds.
+static ZEROS: [u8; MOST] = [0; MOST];
+
+/// What is staged has just so many octets; these are among them.
+fn is_staged<'a>(size: usize, from: usize, octets: &'a [u8]) -> Step<'a> {
+    Step::Shows(Shown::Staged(SLOT, size as u64, from as u64, octets))
 }
 
-fn grow_all<S: Filestore>(rt: &impl Abort, alloc: Global, store: &mut S) -> Result<(), Memory> {
-    let octets = octets();
-    for growth in GROWTHS {
-        grow(rt, alloc, store, &octets[..growth.2], growth)?;
-    }
+/// What is staged has zeros at its end when it was extended, and then what is put there in two pieces.
+fn push_growth<'a>(
+    steps: &mut Vec<Step<'a>>,
+    octets: &'a [u8],
+    growth: &Growth,
+) -> Result<(), Memory> {
+    let (begun, middle, size) = *growth;
+    let (first, last) = (blocks(begun), blocks(size));
+    let whole = part(octets, 0, size);
+    let beginning = part(whole, 0, begun);
+    steps.extend_from_slice(&[
+        Step::Takes(Asked::Extend(SLOT, begun as u64), first, free(first)),
+        Step::Puts(SLOT, 0, beginning),
+        Step::Takes(
+            Asked::Extend(SLOT, size as u64),
+            last.wrapping_sub(first),
+            free(last),
+        ),
+        is_staged(size, 0, beginning),
+        is_staged(size, begun, part(&ZEROS, begun, size)),
+        Step::Puts(SLOT, begun as u64, part(whole, begun, middle)),
+        Step::Puts(SLOT, middle as u64, part(whole, middle, size)),
+        is_staged(size, 0, whole),
+        Step::Takes(Asked::Unstage(SLOT), last, BLOCKS),
+    ])?;
     Ok(())
 }
 
 #[test]
 fn what_is_staged_grows(rt: HostRuntime) -> Result<(), Memory> {
-    grow_all(&rt, rt.alloc(), &mut ListStore::new(rt.alloc(), BLOCKS)?)?;
-    grow_all(&rt, rt.alloc(), &mut TreeStore::new(rt.alloc(), BLOCKS)?)
+    let octets = octets();
+    let mut steps = Vec::new(rt.alloc());
+    for growth in &GROWTHS {
+        push_growth(&mut steps, &octets, growth)?;
+    }
+    take_on_both(&rt, rt.alloc(), "grows", &steps)
 }

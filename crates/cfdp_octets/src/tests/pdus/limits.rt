@@ -27,21 +27,21 @@ fn header() -> Header
     }
 }
 
-// How many octets there are, where they are read as this PDU.
-fn read_back(alloc: Global, octets: &[u8], pdu: &Pdu) -> Option<usize> {
-    let is_same = match read_pdu(alloc, octets) {
-        Ok(read) => read == *pdu,
-        Err(_) => false,
-    };
-    if is_same { Some(octets.len()) } else { None }
+// The octets of a PDU, and what is written in them.
+type Written = (Vec<u8>, Pdu);
+
+// 64 requests with values of 254 octets, or none.
+fn requests(alloc: Global, are_many: bool) -> Result<Vec<FilestoreRequest>, AllocError> {
+    let mut requests = Vec::new(alloc);
+    for _ in 0..if are_many { 64 } else { 0 } {
+        let second = Some([b'r'; 126].as_slice());
+        requests.push(FilestoreRequest::new(alloc, Action::RenameFile, &[b'p'; 125], second)?)?;
+    }
+    Ok(requests)
 }
 
-// Writes a Metadata PDU with names of so many octets.
-fn write_asked(
-    alloc: Global,
-    name_len: usize,
-    requests: Vec<FilestoreRequest>,
-) -> Result<(Vec<u8>, Metadata), WriteFault> {
+// A Metadata PDU with names of so many octets, and 64 requests or none.
+fn metadata(alloc: Global, name_len: usize, has_requests: bool) -> Result<Written, WriteFault> {
     let name = vec![in alloc; b'p'; name_len]?;
     let metadata = Metadata {
         closure: true,
@@ -49,52 +49,38 @@ fn write_asked(
         size: u64::MAX,
         source_name: Vec::from_slice(alloc, &name)?,
         destination_name: name,
-        requests,
+        requests: requests(alloc, has_requests)?,
     };
     let mut out = Vec::new(alloc);
     write_metadata(&header(), &metadata, &mut out)?;
-    Ok((out, metadata))
+    Ok((out, Pdu::Metadata(header(), metadata)))
 }
 
-// How long the names are, and the fault.
-type NameLen = (usize, Option<WriteFault>);
-
-static NAME_LENS: [NameLen; 2] = [(255, None), (256, Some(WriteFault::TooLong))];
-
-impl Row for NameLen {
-    fn holds(&self, alloc: Global) -> Result<bool, AllocError> {
-        Ok(write_asked(alloc, self.0, Vec::new(alloc)).err() == self.1)
-    }
+// A File Data PDU of so many octets.
+fn file_data(alloc: Global, len: usize) -> Result<Written, WriteFault> {
+    let file_data = FileData {
+        offset: u64::MAX,
+        octets: vec![in alloc; b'o'; len]?,
+    };
+    let mut out = Vec::new(alloc);
+    write_file_data(&header(), &file_data, &mut out)?;
+    Ok((out, Pdu::FileData(header(), file_data)))
 }
 
-#[test]
-fn names_too_long(rt: HostRuntime) {
-    all_hold(&rt, rt.alloc(), &NAME_LENS);
-}
+const LONGEST_EOF: Eof = Eof {
+    condition: 15,
+    checksum: u32::MAX,
+    size: u64::MAX,
+};
 
-// 64 requests with values of 254 octets.
-fn many_requests(alloc: Global) -> Result<Vec<FilestoreRequest>, AllocError> {
-    let mut requests = Vec::new(alloc);
-    for _ in 0..64 {
-        let second = Some([b'r'; 126].as_slice());
-        requests.push(FilestoreRequest::new(alloc, Action::RenameFile, &[b'p'; 125], second)?)?;
-    }
-    Ok(requests)
-}
-
-// How long a Metadata PDU of 64 requests is, where it is read back.
-fn requests_read_back(alloc: Global) -> Result<Option<usize>, WriteFault> {
-    let (out, metadata) = write_asked(alloc, 255, many_requests(alloc)?)?;
-    Ok(read_back(alloc, &out, &Pdu::Metadata(header(), metadata)))
-}
-
-#[test]
-fn longest_metadata(rt: HostRuntime) {
-    assert!(rt; requests_read_back(rt.alloc()) == Ok(Some(16_934)));
+fn eof(alloc: Global) -> Result<Written, WriteFault> {
+    let mut out = Vec::new(alloc);
+    write_eof(&header(), &LONGEST_EOF, &mut out)?;
+    Ok((out, Pdu::Eof(header(), LONGEST_EOF)))
 }
 
 // 64 responses with messages of 200 octets.
-fn many_responses(alloc: Global) -> Result<Vec<FilestoreResponse>, AllocError> {
+fn responses(alloc: Global) -> Result<Vec<FilestoreResponse>, AllocError> {
     let status = Status::NotPerformed(Action::RenameFile);
     let mut responses = Vec::new(alloc);
     for _ in 0..64 {
@@ -104,79 +90,72 @@ fn many_responses(alloc: Global) -> Result<Vec<FilestoreResponse>, AllocError> {
     Ok(responses)
 }
 
-// Writes a Finished PDU with these responses.
-fn write_outcome(
-    alloc: Global,
-    responses: Vec<FilestoreResponse>,
-) -> Result<(Vec<u8>, Finished), WriteFault> {
+// A Finished PDU with 64 responses.
+fn finished(alloc: Global) -> Result<Written, WriteFault> {
     let finished = Finished {
         condition: 15,
         incomplete: true,
         file_status: 3,
-        responses,
+        responses: responses(alloc)?,
         fault: Some(2),
     };
     let mut out = Vec::new(alloc);
     write_finished(&header(), &finished, &mut out)?;
-    Ok((out, finished))
+    Ok((out, Pdu::Finished(header(), finished)))
 }
 
-// How long a Finished PDU of 64 responses is, where it is read back.
-fn responses_read_back(alloc: Global) -> Result<Option<usize>, WriteFault> {
-    let (out, finished) = write_outcome(alloc, many_responses(alloc)?)?;
-    Ok(read_back(alloc, &out, &Pdu::Finished(header(), finished)))
+// A PDU that is written: of Metadata how long its names are, and whether it has 64 requests; of File Data how many octets.
+enum Longest {
+    Metadata(usize, bool),
+    FileData(usize),
+    Eof,
+    Finished,
 }
 
-#[test]
-fn longest_finished(rt: HostRuntime) {
-    assert!(rt; responses_read_back(rt.alloc()) == Ok(Some(13_352)));
+fn written(alloc: Global, longest: &Longest) -> Result<Written, WriteFault> {
+    match longest {
+        Longest::Metadata(name_len, has_requests) => metadata(alloc, *name_len, *has_requests),
+        Longest::FileData(len) => file_data(alloc, *len),
+        Longest::Eof => eof(alloc),
+        Longest::Finished => finished(alloc),
+    }
 }
 
-// Writes a File Data PDU of so many octets.
-fn write_data(alloc: Global, len: usize) -> Result<(Vec<u8>, FileData), WriteFault> {
-    let file_data = FileData {
-        offset: u64::MAX,
-        octets: vec![in alloc; b'o'; len]?,
-    };
-    let mut out = Vec::new(alloc);
-    write_file_data(&header(), &file_data, &mut out)?;
-    Ok((out, file_data))
+// Whether the octets are read as this PDU.
+fn are_read_as(alloc: Global, octets: &[u8], pdu: &Pdu) -> Result<bool, AllocError> {
+    match read_pdu(alloc, octets) {
+        Ok(read) => Ok(read == *pdu),
+        Err(PduFault::Memory) => Err(AllocError),
+        Err(_) => Ok(false),
+    }
 }
 
-// How long the longest File Data PDU is, where it is read back.
-fn data_reads_back(alloc: Global) -> Result<Option<usize>, WriteFault> {
-    let (out, file_data) = write_data(alloc, 65_527)?;
-    Ok(read_back(alloc, &out, &Pdu::FileData(header(), file_data)))
-}
+// A PDU, and in how many octets it is written and read back, or the fault.
+type Length = (Longest, Result<usize, WriteFault>);
 
-#[test]
-fn longest_file_data(rt: HostRuntime) {
-    assert!(rt; data_reads_back(rt.alloc()) == Ok(Some(65_563)));
-    assert!(rt; write_data(rt.alloc(), 65_528).err() == Some(WriteFault::TooLong));
-}
+static LENGTHS: [Length; 7] = [
+    (Longest::Metadata(255, false), Ok(550)),
+    (Longest::Metadata(256, false), Err(WriteFault::TooLong)),
+    (Longest::Metadata(255, true), Ok(16_934)),
+    (Longest::FileData(65_527), Ok(65_563)),
+    (Longest::FileData(65_528), Err(WriteFault::TooLong)),
+    (Longest::Eof, Ok(52)),
+    (Longest::Finished, Ok(13_352)),
+];
 
-const LONGEST_EOF: Eof = Eof {
-    condition: 15,
-    checksum: u32::MAX,
-    size: u64::MAX,
-};
-
-// Writes the longest EOF PDU.
-fn written_eof(alloc: Global) -> Result<Vec<u8>, WriteFault> {
-    let mut out = Vec::new(alloc);
-    write_eof(&header(), &LONGEST_EOF, &mut out)?;
-    Ok(out)
-}
-
-// How long it is, where it is read back.
-fn eof_reads_back(alloc: Global) -> Result<Option<usize>, WriteFault> {
-    let out = written_eof(alloc)?;
-    Ok(read_back(alloc, &out, &Pdu::Eof(header(), LONGEST_EOF)))
+impl Row for Length {
+    fn holds(&self, alloc: Global) -> Result<bool, AllocError> {
+        match written(alloc, &self.0) {
+            Ok((out, pdu)) => Ok(self.1 == Ok(out.len()) && are_read_as(alloc, &out, &pdu)?),
+            Err(WriteFault::Memory) => Err(AllocError),
+            Err(fault) => Ok(self.1 == Err(fault)),
+        }
+    }
 }
 
 #[test]
-fn longest_eof(rt: HostRuntime) {
-    assert!(rt; eof_reads_back(rt.alloc()) == Ok(Some(52)));
+fn lengths(rt: HostRuntime) {
+    all_hold(&rt, rt.alloc(), &LENGTHS);
 }
 
 // Metadata PDUs without a file, with one request, which renames a name of 125 octets to one of 126, so that its value has 254

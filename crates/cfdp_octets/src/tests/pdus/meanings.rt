@@ -39,13 +39,6 @@ fn one_octet(alloc: Global) -> Result<Pdu, AllocError> {
     Ok(Pdu::FileData(header(10), FileData { offset: 0, octets }))
 }
 
-#[test]
-fn segment_metadata_is_passed_over(rt: HostRuntime) -> Result<(), AllocError> {
-    let want = one_octet(rt.alloc())?;
-    assert!(rt; says(rt.alloc(), "34000708010a0281ff0000000041", &want)?);
-    Ok(())
-}
-
 // What is not ours, and its directive code.
 type NotOurs = (&'static str, u8);
 
@@ -118,6 +111,13 @@ fn modes_sizes_and_types(rt: HostRuntime) {
     all_hold(&rt, rt.alloc(), &SAID);
 }
 
+// A list of one item.
+fn only<T: Drop>(alloc: Global, item: T) -> Result<Vec<T>, AllocError> {
+    let mut items = Vec::new(alloc);
+    items.push(item)?;
+    Ok(items)
+}
+
 // A Finished PDU with one response, and another fault location than the header could say.
 fn with_a_fault(alloc: Global) -> Result<Pdu, AllocError> {
     let status = Status::Successful(Action::CreateFile);
@@ -126,20 +126,12 @@ fn with_a_fault(alloc: Global) -> Result<Pdu, AllocError> {
         condition: 0,
         incomplete: false,
         file_status: 3,
-        responses: Vec::from_array(alloc, [made])?,
+        responses: only(alloc, made)?,
         fault: Some(0x0103),
     };
     let mut back = header(5);
     back.toward_sender = true;
     Ok(Pdu::Finished(back, finished))
-}
-
-#[test]
-fn the_last_entity_counts(rt: HostRuntime) -> Result<(), AllocError> {
-    let want = with_a_fault(rt.alloc())?;
-    let text = "2c001200010502 0503 020161 060102 010400016100 06020103";
-    assert!(rt; says(rt.alloc(), text, &want)?);
-    Ok(())
 }
 
 // A file of 120 octets for `a`, behind which `a` is appended to itself.
@@ -151,17 +143,51 @@ fn appended(alloc: Global) -> Result<Pdu, AllocError> {
         size: 120,
         source_name: Vec::from_slice(alloc, b"s")?,
         destination_name: Vec::from_slice(alloc, b"a")?,
-        requests: Vec::from_array(alloc, [append])?,
+        requests: only(alloc, append)?,
     };
     Ok(Pdu::Metadata(header(6), metadata))
 }
 
+// A PDU that is built: one octet behind segment metadata, which is passed over; two entity IDs, of which the last one counts; a
+// file with a request.
+enum Built {
+    OneOctet,
+    WithAFault,
+    Appended,
+}
+
+fn build(alloc: Global, which: &Built) -> Result<Pdu, AllocError> {
+    match which {
+        Built::OneOctet => one_octet(alloc),
+        Built::WithAFault => with_a_fault(alloc),
+        Built::Appended => appended(alloc),
+    }
+}
+
+// What digits say.
+type Says = (&'static str, Built);
+
+static SAYS: [Says; 3] = [
+    ("34000708010a0281ff0000000041", Built::OneOctet),
+    (
+        "2c001200010502 0503 020161 060102 010400016100 06020103",
+        Built::WithAFault,
+    ),
+    (
+        "24001100010602 0740 00000078 0173 0161 00053001610161",
+        Built::Appended,
+    ),
+];
+
+impl Row for Says {
+    fn holds(&self, alloc: Global) -> Result<bool, AllocError> {
+        says(alloc, self.0, &build(alloc, &self.1)?)
+    }
+}
+
 #[test]
-fn a_file_with_a_request(rt: HostRuntime) -> Result<(), AllocError> {
-    let want = appended(rt.alloc())?;
-    let text = "24001100010602 0740 00000078 0173 0161 00053001610161";
-    assert!(rt; says(rt.alloc(), text, &want)?);
-    Ok(())
+fn fields(rt: HostRuntime) {
+    all_hold(&rt, rt.alloc(), &SAYS);
 }
 
 // The end of a file of 120 octets, and of a transaction that was cancelled.

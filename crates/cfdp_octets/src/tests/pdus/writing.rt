@@ -11,7 +11,10 @@ use std::alloc::Global;
 fn one_octet(fault: Option<u64>) -> Option<u64>
     ensures { IfSome result (λ entity. entity < 256 ^ 1) }
 {
-    fault.filter(|entity| *entity < 256)
+    match fault {
+        Some(entity) if entity < 256 => Some(entity),
+        _ => None,
+    }
 }
 
 // Writes a Finished PDU whose entity IDs have one octet.
