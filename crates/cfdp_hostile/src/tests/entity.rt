@@ -19,7 +19,7 @@ fn digit(octet: u8) -> u8 {
 }
 
 /// The octets that hexadecimal digits say.
-pub fn octets_of(alloc: Global, text: &str) -> Result<Vec<u8>, Memory> {
+fn octets_of(alloc: Global, text: &str) -> Result<Vec<u8>, Memory> {
     let mut octets = Vec::new(alloc);
     for pair in text.as_bytes().chunks_exact(2) {
         octets.push(digit(pair[0]).wrapping_mul(16).wrapping_add(digit(pair[1])))?;
