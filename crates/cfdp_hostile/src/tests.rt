@@ -3,6 +3,5 @@
 mod cancels;
 mod damage;
 mod entity;
-mod journal;
 mod large_rows;
 mod rows;

@@ -1,6 +1,6 @@
 //! A cancel of every live transaction, put in after each line of a row in turn.
 
-use super::entity::{has_no_reserve, is_failed_step};
+use super::entity::has_no_reserve;
 use super::rows::{
     BEHIND_THE_EOF, CANCELLED, CHECKS, CREATED, DENIED, DOUBLED_119, DOUBLED_120, Line,
     MOST_NUMBER, RESERVED, Row, TWO_PIECES, TWO_SPELLINGS, WRONG_CHECKSUM,
@@ -131,12 +131,15 @@ impl<'a> Script<'a> {
         })
     }
 
-    /// Whether the outcome of a transaction answers its list.
-    fn is_answered(&self, number: u8, finished: &Finished) -> bool {
-        self.sent.iter().any(|sent| sent.number == u64::from(number) && sent.is_answered(finished))
+    /// Keeps the list that a line brings.
+    fn keep(&mut self, alloc: Global, line: Line) -> Result<bool, Memory> {
+        if let Some(sent) = list_in(alloc, line)? {
+            self.sent.push(sent)?;
+        }
+        Ok(true)
     }
 
-    /// Counts a request that was performed.
+    /// Counts a request of a transaction that was performed.
     fn count(&mut self, number: u8) {
         for sent in self.sent.iter_mut() {
             if sent.number == u64::from(number) {
@@ -145,22 +148,40 @@ impl<'a> Script<'a> {
         }
     }
 
+    /// Counts the request that was performed at a line.
+    fn count_at(&mut self, line: Line) {
+        if let Line::Step(number) = line {
+            self.count(number);
+        }
+    }
+
+    /// Whether the outcome of a transaction answers its list.
+    fn answers(&self, number: u8, finished: &Finished) -> bool {
+        for sent in &self.sent {
+            if sent.number == u64::from(number) && sent.is_answered(finished) {
+                return true;
+            }
+        }
+        false
+    }
+
+    /// Whether the outcome that is taken at a line answers the list of its transaction.
+    fn is_answered(&self, line: Line, finished: &Finished) -> bool {
+        match line {
+            Line::Take(number) => self.answers(number, finished),
+            _ => false,
+        }
+    }
+
     /// Whether the reply to a line is as it has to be.
     fn is_well(&mut self, alloc: Global, line: Line, reply: &Reply) -> Result<bool, Memory> {
-        match (line, reply) {
-            (_, Reply::Admitted(..) | Reply::Refused(_)) => {
-                if let Some(sent) = list_in(alloc, line)? {
-                    self.sent.push(sent)?;
-                }
-                Ok(true)
+        match reply {
+            Reply::Admitted(..) | Reply::Refused(_) => self.keep(alloc, line),
+            Reply::Performed(status) => {
+                self.count_at(line);
+                Ok(status.is_successful())
             }
-            (Line::Step(number), Reply::Performed(_)) => {
-                self.count(number);
-                Ok(!is_failed_step(reply))
-            }
-            (Line::Take(number), Reply::Taken(outcome)) => {
-                Ok(self.is_answered(number, &outcome.outcome().finished))
-            }
+            Reply::Taken(outcome) => Ok(self.is_answered(line, &outcome.outcome().finished)),
             _ => Ok(true),
         }
     }

@@ -19,7 +19,7 @@ fn digit(octet: u8) -> u8 {
 }
 
 /// The octets that hexadecimal digits say.
-pub fn octets_of(alloc: Global, text: &str) -> Result<Vec<u8>, Memory> {
+fn octets_of(alloc: Global, text: &str) -> Result<Vec<u8>, Memory> {
     let mut octets = Vec::new(alloc);
     for pair in text.as_bytes().chunks_exact(2) {
         octets.push(digit(pair[0]).wrapping_mul(16).wrapping_add(digit(pair[1])))?;
@@ -30,9 +30,8 @@ pub fn octets_of(alloc: Global, text: &str) -> Result<Vec<u8>, Memory> {
 /// So many equal octets behind others.
 fn repeated(alloc: Global, before: &str, octet: u8, count: usize) -> Result<Vec<u8>, Memory> {
     let mut octets = octets_of(alloc, before)?;
-    for _ in 0..count {
-        octets.push(octet)?;
-    }
+    let tail = vec![in alloc; octet; count]?;
+    octets.extend_from_slice(&tail)?;
     Ok(octets)
 }
 
@@ -92,15 +91,15 @@ impl Row {
         entity: &mut Entity,
         line: Line,
     ) -> Result<Option<Reply>, Memory> {
-        if let Some(octets) = line.pdu(alloc)? {
-            return receive(alloc, entity, &octets);
-        }
         match line {
+            Line::Pdu(text) => receive(alloc, entity, &octets_of(alloc, text)?),
+            Line::Data(before, octet, count) => {
+                receive(alloc, entity, &repeated(alloc, before, octet, count)?)
+            }
             Line::Step(number) => Ok(Some(entity.step(self.id(number)))),
             Line::Cancel(number) => Ok(Some(entity.cancel(self.id(number)))),
             Line::Check(number) => Ok(Some(entity.check(self.id(number)))),
             Line::Take(number) => Ok(Some(take(alloc, entity, self.id(number))?.0)),
-            Line::Pdu(_) | Line::Data(..) => Ok(None),
         }
     }
 

@@ -1,9 +1,9 @@
 //! A receiving entity that is handed events one after another, what it replies, and what it says of itself in between.
 
-ghost use Rattle.std.specs.Prelude.{◌≡◌, ◌≤◌, true, false, IfOk};
+ghost use Rattle.std.specs.Prelude.{◌≡◌};
 ghost use Rattle.cfdp_actions.specs.Store.{empty_store};
 
-use super::scene::{path_of, protects};
+use super::scene::path_of;
 use cfdp_actions::{Entry, Filestore, Kind, ListStore, Protected};
 use cfdp_paths::Memory;
 use cfdp_pdus::{FileData, Header, Pdu, read_pdu};
@@ -30,14 +30,8 @@ pub enum Given {
 #[derive(Clone, Copy)]
 pub enum Told {
     Admitted(u32, u32),
-    TooManyRequests,
     BadDestination,
-    BadName(u8),
     Conflict(u8),
-    DestinationNotAllowed,
-    WouldFail(u8, u8),
-    TooLong(u32),
-    NoRoom(u32, u32),
     Stored,
     Dropped,
     Complete,
@@ -50,13 +44,12 @@ pub enum Told {
     Cancelled,
     /// The outcome is sent as this Finished PDU.
     Finished(&'static str),
-    /// The outcome is not sent, and has this condition.
-    Ended(u8),
     Duplicate,
     Unknown,
     Idle,
     NotForUs,
     TableFull,
+    JournalFull,
 }
 
 /// What stands at a path: a file of so many octets with this checksum, or a directory.
@@ -81,23 +74,33 @@ pub enum Row {
     Runnable(Option<u8>),
 }
 
-/// What a configuration leaves open: the blocks, the cap, and the protected paths.
+/// What rows are handed to.
 #[derive(Clone, Copy)]
-pub struct Limits {
-    pub blocks: u32,
-    pub cap: u64,
-    pub protected: &'static [&'static [u8]],
+struct Trial {
+    /// Whether the store is inside an arena, or else in a list.
+    tree: bool,
+    /// Whether each reply is given twice.
+    twice: bool,
 }
 
-/// Of 64 blocks, where a file of unbounded size has 2,400 octets at most.
-pub const DEFAULT: Limits = Limits {
-    blocks: 64,
-    cap: 2400,
-    protected: &[],
-};
-
-/// The configuration of an entity, and its rows.
-pub type Case = (Limits, &'static [Row]);
+static TRIALS: [Trial; 4] = [
+    Trial {
+        tree: false,
+        twice: false,
+    },
+    Trial {
+        tree: false,
+        twice: true,
+    },
+    Trial {
+        tree: true,
+        twice: false,
+    },
+    Trial {
+        tree: true,
+        twice: true,
+    },
+];
 
 /// The header of a PDU of entity 1 to entity 2, in unacknowledged mode.
 pub fn header(number: u8) -> Header {
@@ -146,18 +149,17 @@ pub fn octets_of(rt: &impl Abort, alloc: Global, text: &str) -> Result<Vec<u8>, 
     Ok(octets)
 }
 
-/// The PDU of a hexadecimal text, which has one: only memory can be wanting.
-fn pdu_of(rt: &impl Abort, alloc: Global, text: &str) -> Result<Pdu, Memory> {
-    let octets = octets_of(rt, alloc, text)?;
-    match read_pdu(alloc, &octets) {
+/// The PDU of octets, which are one: only memory can be wanting.
+fn pdu_in(alloc: Global, octets: &[u8]) -> Result<Pdu, Memory> {
+    match read_pdu(alloc, octets) {
         Ok(pdu) => Ok(pdu),
         Err(_) => Err(AllocError),
     }
 }
 
-/// The event of a PDU, which is one.
-fn event_in(rt: &impl Abort, alloc: Global, text: &str) -> Result<Event, Memory> {
-    match event_of(pdu_of(rt, alloc, text)?) {
+/// The event of octets, which bring one.
+pub fn event_in(alloc: Global, octets: &[u8]) -> Result<Event, Memory> {
+    match event_of(pdu_in(alloc, octets)?) {
         Ok(event) => Ok(event),
         Err(_) => Err(AllocError),
     }
@@ -171,17 +173,15 @@ fn file_data(
     count: usize,
     octet: u8,
 ) -> Result<Event, Memory> {
-    let mut octets = Vec::with_capacity(alloc, count)?;
-    for _ in 0..count {
-        octets.push(octet)?;
-    }
+    let mut octets = Vec::new(alloc);
+    octets.resize(count, octet)?;
     Ok(Event::Data(header(number), FileData { offset, octets }))
 }
 
 impl Given {
     pub fn event(self, rt: &impl Abort, alloc: Global) -> Result<Event, Memory> {
         match self {
-            Given::Pdu(text) => event_in(rt, alloc, text),
+            Given::Pdu(text) => event_in(alloc, &octets_of(rt, alloc, text)?),
             Given::Octets(number, offset, count, octet) => {
                 file_data(alloc, number, offset, count, octet)
             }
@@ -201,20 +201,12 @@ fn status_of(rt: &impl Abort, octet: u8) -> Status {
 }
 
 impl Told {
-    /// The reply, where it hands out no outcome.
-    fn reply(self, rt: &impl Abort) -> Option<Reply> {
-        Some(match self {
+    /// The reply. Where it hands out an outcome that is compared by itself: want of memory, which no row tells.
+    fn reply(self, rt: &impl Abort) -> Reply {
+        match self {
             Told::Admitted(blocks, steps) => Reply::Admitted(blocks, steps),
-            Told::TooManyRequests => Reply::Refused(Refusal::TooManyRequests),
             Told::BadDestination => Reply::Refused(Refusal::BadPath(Place::Destination)),
-            Told::BadName(number) => Reply::Refused(Refusal::BadPath(Place::Request(number))),
             Told::Conflict(number) => Reply::Refused(Refusal::Conflict(id(number))),
-            Told::DestinationNotAllowed => Reply::Refused(Refusal::DestinationNotAllowed),
-            Told::WouldFail(number, octet) => {
-                Reply::Refused(Refusal::WouldFail(number, status_of(rt, octet)))
-            }
-            Told::TooLong(steps) => Reply::Refused(Refusal::TooLong(steps)),
-            Told::NoRoom(needed, spare) => Reply::Refused(Refusal::NoRoom(needed, spare)),
             Told::Stored => Reply::Stored,
             Told::Dropped => Reply::Dropped,
             Told::Complete => Reply::Complete,
@@ -224,13 +216,14 @@ impl Told {
             Told::Installed => Reply::Installed,
             Told::Done => Reply::Done,
             Told::Cancelled => Reply::Cancelled,
-            Told::Finished(_) | Told::Ended(_) => return None,
             Told::Duplicate => Reply::Duplicate,
             Told::Unknown => Reply::Unknown,
             Told::Idle => Reply::Idle,
             Told::NotForUs => Reply::NotForUs,
             Told::TableFull => Reply::TableFull,
-        })
+            Told::JournalFull => Reply::JournalFull,
+            Told::Finished(_) => Reply::Memory,
+        }
     }
 }
 
@@ -241,80 +234,39 @@ fn is_sent_as(
     outcome: &Outcome,
     text: &str,
 ) -> Result<bool, Memory> {
-    let pdu = pdu_of(rt, alloc, text)?;
-    Ok(match pdu {
+    match pdu_in(alloc, &octets_of(rt, alloc, text)?)? {
         Pdu::Finished(header, finished) => {
-            outcome.send && outcome.header == header && outcome.finished == finished
-        }
-        _ => false,
-    })
-}
-
-/// Whether the reply is the one that is told.
-pub fn is_told(rt: &impl Abort, alloc: Global, reply: &Reply, told: Told) -> Result<bool, Memory> {
-    if let Some(expected) = told.reply(rt) {
-        return Ok(reply.same(&expected));
-    }
-    match (reply, told) {
-        (Reply::Taken(shared), Told::Finished(text)) => {
-            is_sent_as(rt, alloc, shared.outcome(), text)
-        }
-        (Reply::Taken(shared), Told::Ended(condition)) => {
-            let outcome = shared.outcome();
-            Ok(!outcome.send && outcome.finished.condition == condition)
+            Ok(outcome.send && outcome.header == header && outcome.finished == finished)
         }
         _ => Ok(false),
     }
 }
 
-/// The paths that a configuration protects.
-fn protected_of(rt: &impl Abort, alloc: Global, names: &[&[u8]]) -> Result<Protected, Memory> {
-    let mut protected = Protected::new();
-    for name in names {
-        assert!(rt; protects(alloc, &mut protected, name)?);
+/// Whether the outcome that is handed out, if one is, is sent as this Finished PDU.
+fn is_finished(rt: &impl Abort, alloc: Global, reply: &Reply, text: &str) -> Result<bool, Memory> {
+    match reply {
+        Reply::Taken(shared) => is_sent_as(rt, alloc, shared.outcome(), text),
+        _ => Ok(false),
     }
-    Ok(protected)
 }
 
-/// The entity 2 that has just begun, over an empty store. Its limits are good: only memory can be wanting.
-fn entity_over<S: Filestore>(
-    rt: &impl Abort,
-    alloc: Global,
-    limits: Limits,
-    store: S,
-) -> Result<Core<S>, Memory>
-    requires { S.state store ≡ empty_store limits.blocks (S.state store).takes_no_memory }
+/// Whether the reply is the one that is told.
+pub fn is_told(rt: &impl Abort, alloc: Global, reply: &Reply, told: Told) -> Result<bool, Memory> {
+    match told {
+        Told::Finished(text) => is_finished(rt, alloc, reply, text),
+        _ => Ok(reply.same(&told.reply(rt))),
+    }
+}
+
+/// The entity 2 that has just begun, over an empty store of 64 blocks, where a file of unbounded size has 2,400 octets at most. These
+/// limits are good: only memory can be wanting.
+fn entity_over<S: Filestore>(alloc: Global, store: S) -> Result<Core<S>, Memory>
+    requires { S.state store ≡ empty_store 64 (S.state store).takes_no_memory }
 {
-    let protected = protected_of(rt, alloc, limits.protected)?;
-    match Config::new(2, limits.blocks, limits.cap, 2, 1000, protected) {
+    match Config::new(2, 64, 2400, 2, 1000, Protected::new()) {
         Ok(config) => Core::new(alloc, config, store),
         Err(_) => Err(AllocError),
     }
-}
-
-/// An empty store of so many blocks in a list.
-fn lists_of(rt: &impl Abort, alloc: Global, blocks: u32) -> Result<ListStore, Memory>
-    ensures { IfOk result (λ store. store ≡ empty_store blocks false) }
-{
-    assert!(rt; 1 <= blocks && blocks <= 65_536);
-    ListStore::new(alloc, blocks)
-}
-
-/// An empty store of so many blocks inside an arena.
-fn tree_of(rt: &impl Abort, alloc: Global, blocks: u32) -> Result<TreeStore, Memory>
-    ensures { IfOk result (λ store. store ≡ empty_store blocks true) }
-{
-    assert!(rt; 1 <= blocks && blocks <= 65_536);
-    TreeStore::new(alloc, blocks)
-}
-
-/// The entity 2 that has just begun, over an empty store in a list.
-pub fn entity_of(
-    rt: &impl Abort,
-    alloc: Global,
-    limits: Limits,
-) -> Result<Core<ListStore>, Memory> {
-    entity_over(rt, alloc, limits, lists_of(rt, alloc, limits.blocks)?)
 }
 
 /// The reply, by one call or by the one that gives it twice.
@@ -327,9 +279,48 @@ fn apply<S: Filestore>(rt: &impl Abort, core: &mut Core<S>, event: &Event, twice
     reply
 }
 
-/// What an event must not change where memory is refused.
-fn summary<S: Filestore>(core: &Core<S>) -> (u32, u32, Option<TransactionId>) {
-    (core.spare(), core.store().free(), core.next_runnable())
+/// The transaction that an event is about.
+fn id_of(event: &Event) -> TransactionId {
+    match event {
+        Event::Metadata(header, _) | Event::Data(header, _) | Event::Eof(header, _) => {
+            TransactionId {
+                source: header.source,
+                number: header.number,
+            }
+        }
+        Event::Step(id) | Event::Cancel(id) | Event::Check(id) | Event::Take(id) => *id,
+    }
+}
+
+/// What no want of memory changes: how far a transaction is, what it was granted and whether it holds leases, the free blocks and
+/// those to spare, and the first transaction that is performed.
+type Books = (
+    Option<Phase>,
+    Option<(u32, u32)>,
+    bool,
+    (u32, u32),
+    Option<TransactionId>,
+);
+
+fn books<S: Filestore>(core: &Core<S>, id: TransactionId) -> Books {
+    (
+        core.phase(id),
+        core.grant(id),
+        core.leases().holds(id),
+        (core.store().free(), core.spare()),
+        core.next_runnable(),
+    )
+}
+
+/// Whether books, blocks and what stands are as they were.
+fn is_as_before<S: Filestore>(
+    alloc: Global,
+    core: &Core<S>,
+    id: TransactionId,
+    before: &(Books, Vec<Entry>),
+) -> Result<bool, Memory> {
+    let listing = core.store().listing(alloc)?;
+    Ok(books(core, id) == before.0 && listing == before.1)
 }
 
 /// Whether an event may be answered with want of memory: over a store that takes none only Metadata and Take may.
@@ -338,69 +329,61 @@ fn may_want_memory<S: Filestore>(core: &Core<S>, event: &Event) -> bool {
 }
 
 /// The reply; where memory is refused, which may be, nothing has changed, and the same event is handed in again.
-pub fn hand_in<S: Filestore>(
+fn hand_in<S: Filestore>(
     rt: &impl Abort,
+    alloc: Global,
     core: &mut Core<S>,
     event: &Event,
     twice: bool,
-) -> Reply {
-    let before = summary(core);
+) -> Result<Reply, Memory> {
+    let before = (books(core, id_of(event)), core.store().listing(alloc)?);
     let reply = apply(rt, core, event, twice);
     if let Reply::Memory = reply {
-        assert!(rt; summary(core) == before && may_want_memory(core, event));
-        return apply(rt, core, event, twice);
+        let same = is_as_before(alloc, core, id_of(event), &before)?;
+        assert!(rt; same && may_want_memory(core, event));
+        return Ok(apply(rt, core, event, twice));
     }
-    reply
+    Ok(reply)
+}
+
+/// Whether the reply to what is handed in is the one that is told.
+fn replies<S: Filestore>(
+    rt: &impl Abort,
+    alloc: Global,
+    core: &mut Core<S>,
+    (given, told): (Given, Told),
+    twice: bool,
+) -> Result<bool, Memory> {
+    let event = given.event(rt, alloc)?;
+    let reply = hand_in(rt, alloc, core, &event, twice)?;
+    is_told(rt, alloc, &reply, told)
 }
 
 /// Whether an entry of the listing is what is expected.
 fn is_standing(alloc: Global, entry: &Entry, expected: Standing) -> Result<bool, Memory> {
-    let told = match entry.kind {
-        Kind::Directory => None,
-        Kind::File => Some((entry.size, entry.checksum)),
+    let path = path_of(alloc, expected.0)?;
+    let same = match expected.1 {
+        None => entry.kind == Kind::Directory,
+        Some((size, checksum)) => {
+            entry.kind == Kind::File && entry.size == size && entry.checksum == checksum
+        }
     };
-    Ok(told == expected.1 && entry.path == path_of(alloc, expected.0)?)
+    Ok(same && entry.path == path)
 }
 
-fn are_standing(alloc: Global, listing: &[Entry], expected: &[Standing]) -> Result<bool, Memory> {
+/// Whether what stands is what is expected, in path order.
+fn stands<S: Filestore>(
+    alloc: Global,
+    core: &Core<S>,
+    expected: &[Standing],
+) -> Result<bool, Memory> {
+    let listing = core.store().listing(alloc)?;
     for (entry, row) in listing.iter().zip(expected) {
         if !is_standing(alloc, entry, *row)? {
             return Ok(false);
         }
     }
     Ok(listing.len() == expected.len())
-}
-
-/// Whether what stands is what is expected, in path order.
-fn stands<S: Filestore>(alloc: Global, store: &S, expected: &[Standing]) -> Result<bool, Memory> {
-    let listing = store.listing(alloc)?;
-    are_standing(alloc, &listing, expected)
-}
-
-/// Whether the reply to an event is the one that is told.
-pub fn is_reply_to<S: Filestore>(
-    rt: &impl Abort,
-    alloc: Global,
-    core: &mut Core<S>,
-    event: &Event,
-    told: Told,
-    twice: bool,
-) -> Result<bool, Memory> {
-    let reply = hand_in(rt, core, event, twice);
-    is_told(rt, alloc, &reply, told)
-}
-
-/// Whether the reply to what is handed in is the one that is told.
-pub fn replies<S: Filestore>(
-    rt: &impl Abort,
-    alloc: Global,
-    core: &mut Core<S>,
-    given: Given,
-    told: Told,
-    twice: bool,
-) -> Result<bool, Memory> {
-    let event = given.event(rt, alloc)?;
-    is_reply_to(rt, alloc, core, &event, told, twice)
 }
 
 /// Whether so many blocks are free, and so many of them were granted to nobody.
@@ -421,18 +404,6 @@ fn has_spent<S: Filestore>(core: &Core<S>, number: u8, blocks: i64, steps: u32) 
     core.blocks_spent(id(number)) == Some(blocks) && core.steps_spent(id(number)) == Some(steps)
 }
 
-/// Whether the entity says of itself what a row expects, where that is neither a reply nor what stands.
-fn holds<S: Filestore>(core: &Core<S>, row: Row) -> bool {
-    match row {
-        Row::Store(free, spare) => has_free(core, free, spare),
-        Row::Gaps(number, expected) => has_gaps(core, number, expected),
-        Row::Spent(number, blocks, steps) => has_spent(core, number, blocks, steps),
-        Row::Phase(number, phase) => core.phase(id(number)) == phase,
-        Row::Runnable(number) => core.next_runnable() == number.map(id),
-        Row::On(..) | Row::Standing(_) => false,
-    }
-}
-
 /// Whether a row holds.
 fn is_met<S: Filestore>(
     rt: &impl Abort,
@@ -441,73 +412,76 @@ fn is_met<S: Filestore>(
     row: Row,
     twice: bool,
 ) -> Result<bool, Memory> {
-    if let Row::On(given, told) = row {
-        return replies(rt, alloc, core, given, told, twice);
+    match row {
+        Row::On(given, told) => replies(rt, alloc, core, (given, told), twice),
+        Row::Standing(expected) => stands(alloc, core, expected),
+        Row::Store(free, spare) => Ok(has_free(core, free, spare)),
+        Row::Gaps(number, expected) => Ok(has_gaps(core, number, expected)),
+        Row::Spent(number, blocks, steps) => Ok(has_spent(core, number, blocks, steps)),
+        Row::Phase(number, phase) => Ok(core.phase(id(number)) == phase),
+        Row::Runnable(None) => Ok(core.next_runnable() == None),
+        Row::Runnable(Some(number)) => Ok(core.next_runnable() == Some(id(number))),
     }
-    if let Row::Standing(expected) = row {
-        return stands(alloc, core.store(), expected);
-    }
-    Ok(holds(core, row))
 }
 
-/// Hands the rows of a case to an entity that has just begun, over an empty store.
-fn try_case<S: Filestore>(
+/// Hands rows to an entity.
+fn meet<S: Filestore>(
     rt: &impl Abort,
     alloc: Global,
-    case: &Case,
+    core: &mut Core<S>,
+    rows: &[Row],
     twice: bool,
-    store: S,
-) -> Result<(), Memory>
-    requires { S.state store ≡ empty_store case.now.0.blocks (S.state store).takes_no_memory }
-{
-    let mut core = entity_over(rt, alloc, case.0, store)?;
-    for (place, row) in case.1.iter().enumerate() {
-        let met = is_met(rt, alloc, &mut core, *row, twice)?;
+) -> Result<(), Memory> {
+    for (place, row) in rows.iter().enumerate() {
+        let met = is_met(rt, alloc, core, *row, twice)?;
         assert!(rt; met, "at row {place}");
     }
     Ok(())
 }
 
-fn try_on_lists(rt: &impl Abort, alloc: Global, case: &Case, twice: bool) -> Result<(), Memory> {
-    let store = lists_of(rt, alloc, case.0.blocks)?;
-    try_case(rt, alloc, case, twice, store)
-}
-
-fn try_on_tree(rt: &impl Abort, alloc: Global, case: &Case, twice: bool) -> Result<(), Memory> {
-    let store = tree_of(rt, alloc, case.0.blocks)?;
-    try_case(rt, alloc, case, twice, store)
-}
-
-/// Hands the rows of a case to an entity over a store in a list, whose replies may be given twice. Where memory is refused beside
-/// the events all is tried once more: `rt try --test --fail-alloc N` refuses one growth.
-fn check_on_lists(rt: &impl Abort, alloc: Global, case: &Case, twice: bool) -> Result<(), Memory> {
-    match try_on_lists(rt, alloc, case, twice) {
-        Ok(()) => Ok(()),
-        Err(_) => try_on_lists(rt, alloc, case, twice),
-    }
-}
-
-/// The same over a store inside an arena.
-pub fn check_on_tree(
+/// Hands rows to an entity that has just begun, over an empty store.
+fn run<S: Filestore>(
     rt: &impl Abort,
     alloc: Global,
-    case: &Case,
+    rows: &[Row],
     twice: bool,
-) -> Result<(), Memory> {
-    match try_on_tree(rt, alloc, case, twice) {
-        Ok(()) => Ok(()),
-        Err(_) => try_on_tree(rt, alloc, case, twice),
+    store: S,
+) -> Result<(), Memory>
+    requires { S.state store ≡ empty_store 64 (S.state store).takes_no_memory }
+{
+    let mut core = entity_over(alloc, store)?;
+    meet(rt, alloc, &mut core, rows, twice)
+}
+
+fn try_rows(rt: &impl Abort, alloc: Global, rows: &[Row], trial: Trial) -> Result<(), Memory> {
+    if trial.tree {
+        run(rt, alloc, rows, trial.twice, TreeStore::new(alloc, 64)?)
+    } else {
+        run(rt, alloc, rows, trial.twice, ListStore::new(alloc, 64)?)
     }
 }
 
-/// Hands the rows of each case to an entity that has just begun, and to another one whose replies are given twice, over a store
-/// of each kind.
-pub fn check_all(rt: &impl Abort, alloc: Global, cases: &[Case]) -> Result<(), Memory> {
+/// Hands rows to an entity. Where memory is refused beside the events all is tried once more: `rt try --test --fail-alloc N`
+/// refuses one growth.
+fn check_rows(rt: &impl Abort, alloc: Global, rows: &[Row], trial: Trial) -> Result<(), Memory> {
+    match try_rows(rt, alloc, rows, trial) {
+        Ok(()) => Ok(()),
+        Err(_) => try_rows(rt, alloc, rows, trial),
+    }
+}
+
+/// Hands rows to an entity that has just begun, and to another one whose replies are given twice, over a store of each kind.
+pub fn check(rt: &impl Abort, alloc: Global, rows: &[Row]) -> Result<(), Memory> {
+    for trial in &TRIALS {
+        check_rows(rt, alloc, rows, *trial)?;
+    }
+    Ok(())
+}
+
+/// The same with the rows of each case.
+pub fn check_all(rt: &impl Abort, alloc: Global, cases: &[&[Row]]) -> Result<(), Memory> {
     for case in cases {
-        for twice in [false, true] {
-            check_on_lists(rt, alloc, case, twice)?;
-            check_on_tree(rt, alloc, case, twice)?;
-        }
+        check(rt, alloc, case)?;
     }
     Ok(())
 }

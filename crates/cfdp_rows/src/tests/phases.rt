@@ -1,9 +1,7 @@
 //! Each event in each phase, and PDUs of another entity.
 
-use super::entity::{Case, DEFAULT, Given, Row, Told, check_all, entity_of, hand_in, replies};
-use cfdp_actions::ListStore;
+use super::entity::{Given, Row, Told, check, check_all};
 use cfdp_paths::Memory;
-use cfdp_transactions::Core;
 use std::alloc::Global;
 use std::process::Abort;
 
@@ -20,6 +18,15 @@ const EOF: Given = Given::Pdu("24000a00010a020400181c20150000000f");
 /// The same transaction with a destination that is no path.
 const NO_PATH: Given = Given::Pdu("24000b00010a0207400000000f0173022e2e");
 
+/// The transaction begins, its octets come, and it ends.
+const BEGUN: Row = Row::On(METADATA, Told::Admitted(2, 2));
+
+const HEAD: Row = Row::On(FIRST, Told::Stored);
+
+const TAIL: Row = Row::On(LAST, Told::Stored);
+
+const ENDED: Row = Row::On(EOF, Told::Complete);
+
 /// One event of each kind.
 static EVENTS: [Given; 7] = [
     METADATA,
@@ -32,7 +39,7 @@ static EVENTS: [Given; 7] = [
 ];
 
 /// What comes before, and the replies to one event of each kind, each handed in right behind that.
-type Phase = (&'static [Given], &'static [Told]);
+type Phase = (&'static [Row], &'static [Told]);
 
 static PHASES: [Phase; 7] = [
     // Not known.
@@ -50,7 +57,7 @@ static PHASES: [Phase; 7] = [
     ),
     // Receiving.
     (
-        &[METADATA],
+        &[BEGUN],
         &[
             Told::Duplicate,
             Told::Stored,
@@ -63,7 +70,7 @@ static PHASES: [Phase; 7] = [
     ),
     // Awaiting.
     (
-        &[METADATA, EOF],
+        &[BEGUN, Row::On(EOF, Told::Waiting)],
         &[
             Told::Duplicate,
             Told::Stored,
@@ -76,7 +83,7 @@ static PHASES: [Phase; 7] = [
     ),
     // Executing.
     (
-        &[METADATA, FIRST, LAST, EOF],
+        &[BEGUN, HEAD, TAIL, ENDED],
         &[
             Told::Duplicate,
             Told::Idle,
@@ -89,7 +96,7 @@ static PHASES: [Phase; 7] = [
     ),
     // Refused.
     (
-        &[NO_PATH],
+        &[Row::On(NO_PATH, Told::BadDestination)],
         &[
             Told::Duplicate,
             Told::Idle,
@@ -102,7 +109,13 @@ static PHASES: [Phase; 7] = [
     ),
     // Done.
     (
-        &[METADATA, FIRST, LAST, EOF, Given::Step(10)],
+        &[
+            BEGUN,
+            HEAD,
+            TAIL,
+            ENDED,
+            Row::On(Given::Step(10), Told::Installed),
+        ],
         &[
             Told::Duplicate,
             Told::Idle,
@@ -115,7 +128,7 @@ static PHASES: [Phase; 7] = [
     ),
     // Ended.
     (
-        &[METADATA, Given::Cancel(10)],
+        &[BEGUN, Row::On(Given::Cancel(10), Told::Cancelled)],
         &[
             Told::Duplicate,
             Told::Idle,
@@ -128,74 +141,29 @@ static PHASES: [Phase; 7] = [
     ),
 ];
 
-/// Hands something in.
-fn hand_over(
-    rt: &impl Abort,
-    alloc: Global,
-    core: &mut Core<ListStore>,
-    given: Given,
-) -> Result<(), Memory> {
-    let event = given.event(rt, alloc)?;
-    let _reply = hand_in(rt, core, &event, false);
+/// What comes before, and an event with its reply.
+fn rows_of(alloc: Global, before: &[Row], event: Given, told: Told) -> Result<Vec<Row>, Memory> {
+    let mut rows = Vec::from_slice(alloc, before)?;
+    rows.push(Row::On(event, told))?;
+    Ok(rows)
+}
+
+/// The replies in one phase, over a store of each kind. Of an event with another one the row behind the last is told.
+fn compare(rt: &impl Abort, alloc: Global, before: &[Row], replies: &[Told]) -> Result<(), Memory> {
+    assert!(rt; replies.len() == EVENTS.len());
+    for (event, told) in EVENTS.iter().zip(replies) {
+        let rows = rows_of(alloc, before, *event, *told)?;
+        check(rt, alloc, &rows)?;
+    }
     Ok(())
 }
 
-/// Whether the reply to an event is the one that is told, behind what came before.
-fn replies_behind(
-    rt: &impl Abort,
-    alloc: Global,
-    core: &mut Core<ListStore>,
-    before: &[Given],
-    event: Given,
-    told: Told,
-) -> Result<bool, Memory> {
-    for given in before {
-        hand_over(rt, alloc, core, *given)?;
-    }
-    replies(rt, alloc, core, event, told, true)
-}
-
-/// Whether an entity that has just begun replies so to an event behind what came before.
-fn is_reply(
-    rt: &impl Abort,
-    alloc: Global,
-    before: &[Given],
-    event: Given,
-    told: Told,
-) -> Result<bool, Memory> {
-    let mut core = entity_of(rt, alloc, DEFAULT)?;
-    replies_behind(rt, alloc, &mut core, before, event, told)
-}
-
-/// The same; where memory is refused it is asked for once more.
-fn is_reply_at_last(
-    rt: &impl Abort,
-    alloc: Global,
-    before: &[Given],
-    event: Given,
-    told: Told,
-) -> bool {
-    let mut same = is_reply(rt, alloc, before, event, told);
-    if same.is_err() {
-        same = is_reply(rt, alloc, before, event, told);
-    }
-    same == Ok(true)
-}
-
-/// The replies in one phase. Of an event with another one the number is told, from 0.
-fn compare(rt: &impl Abort, alloc: Global, before: &[Given], replies: &[Told]) {
-    assert!(rt; replies.len() == EVENTS.len());
-    for (place, (event, told)) in EVENTS.iter().zip(replies).enumerate() {
-        let same = is_reply_at_last(rt, alloc, before, *event, *told);
-        assert!(rt; same, "event {place}");
-    }
-}
-
 #[test]
-fn each_event_in_each_phase(rt: HostRuntime) {
+fn each_event_in_each_phase(rt: HostRuntime) -> Result<(), Memory> {
     for (before, replies) in &PHASES {
-        compare(&rt, rt.alloc(), before, replies);
+        compare(&rt, rt.alloc(), before, replies)?;
     }
+    Ok(())
 }
 
 const PDUS_OF_ANOTHER_ENTITY: &[Row] = &[
@@ -252,10 +220,7 @@ const OCTETS_AT_THEIR_LIMITS: &[Row] = &[
     Row::Store(64, 64),
 ];
 
-static CASES: [Case; 2] = [
-    (DEFAULT, PDUS_OF_ANOTHER_ENTITY),
-    (DEFAULT, OCTETS_AT_THEIR_LIMITS),
-];
+static CASES: [&[Row]; 2] = [PDUS_OF_ANOTHER_ENTITY, OCTETS_AT_THEIR_LIMITS];
 
 #[test]
 fn each_case(rt: HostRuntime) -> Result<(), Memory> {

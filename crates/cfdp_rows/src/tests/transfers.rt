@@ -1,10 +1,14 @@
-//! Transactions with a file, from their Metadata to their outcome.
+//! Transactions from their Metadata to their outcome: phases, gaps, what they spent, and what other transactions are refused
+//! meanwhile. More of them, whose replies say all, are scripts of `cfdp_scripts`.
+//!
+//! Over a store that takes no memory each File Data, EOF, step, cancel and check has its reply, whichever allocation is refused (`rt try
+//! --test --fail-alloc 1..` refuses each in turn); only Metadata and Take are handed in again.
 
-use super::entity::{Case, DEFAULT, Given, Limits, Row, Told, check_all};
+use super::entity::{Given, Row, Told, check_all};
 use cfdp_paths::Memory;
 use cfdp_transactions::Phase;
 
-pub const A_FILE_IN_TWO_PIECES: &[Row] = &[
+const A_FILE_IN_TWO_PIECES: &[Row] = &[
     Row::On(
         Given::Pdu("24000a00010a0207400000000f01730166"),
         Told::Admitted(2, 2),
@@ -36,7 +40,7 @@ pub const A_FILE_IN_TWO_PIECES: &[Row] = &[
     Row::Standing(&[(b"f", Some((15, 0x181c2015)))]),
 ];
 
-pub const A_WRONG_CHECKSUM: &[Row] = &[
+const A_WRONG_CHECKSUM: &[Row] = &[
     Row::On(
         Given::Pdu("24000a00010a0207400000000f01730166"),
         Told::Admitted(2, 2),
@@ -55,7 +59,7 @@ pub const A_WRONG_CHECKSUM: &[Row] = &[
     ),
 ];
 
-pub const CHECKS_UP_TO_THE_LIMIT: &[Row] = &[
+const CHECKS_UP_TO_THE_LIMIT: &[Row] = &[
     Row::On(
         Given::Pdu("24000a00010b0207400000000f01730166"),
         Told::Admitted(2, 2),
@@ -72,7 +76,7 @@ pub const CHECKS_UP_TO_THE_LIMIT: &[Row] = &[
     Row::On(Given::Take(11), Told::Finished("2c000500010b0205a4060102")),
 ];
 
-pub const OCTETS_BEHIND_THE_EOF: &[Row] = &[
+const OCTETS_BEHIND_THE_EOF: &[Row] = &[
     Row::On(
         Given::Pdu("24000a00010b0207400000000f01730166"),
         Told::Admitted(2, 2),
@@ -97,35 +101,7 @@ pub const OCTETS_BEHIND_THE_EOF: &[Row] = &[
     Row::On(Given::Check(11), Told::Idle),
 ];
 
-const AN_OCTET_PAST_THE_CAP: &[Row] = &[
-    Row::On(
-        Given::Pdu("24000a0001090207400000000001730166"),
-        Told::Admitted(3, 2),
-    ),
-    Row::On(Given::Octets(9, 0, 240, 7), Told::Stored),
-    Row::Store(62, 61),
-    Row::Standing(&[]),
-    Row::On(Given::Pdu("34000500010902000000f007"), Told::Faulted(6)),
-    Row::Store(64, 64),
-    Row::Standing(&[]),
-    Row::On(Given::Take(9), Told::Finished("2c0005000109020564060102")),
-];
-
-const A_FILE_OF_THE_CAP: &[Row] = &[
-    Row::On(
-        Given::Pdu("24000a0001090207400000000001730166"),
-        Told::Admitted(3, 2),
-    ),
-    Row::On(Given::Octets(9, 0, 240, 7), Told::Stored),
-    Row::Store(62, 61),
-    Row::Standing(&[]),
-    Row::On(
-        Given::Pdu("24000a000109020400a5a5a5a4000000f0"),
-        Told::Complete,
-    ),
-];
-
-pub const A_FILE_APPENDED_TO_ITSELF: &[Row] = &[
+const A_FILE_APPENDED_TO_ITSELF: &[Row] = &[
     Row::On(
         Given::Pdu("240011000132020740000000780173016100053001610161"),
         Told::Admitted(3, 5),
@@ -142,7 +118,7 @@ pub const A_FILE_APPENDED_TO_ITSELF: &[Row] = &[
     Row::Standing(&[(b"a", Some((240, 0x3c3c3c3c)))]),
 ];
 
-pub const A_FILE_OF_119_OCTETS_APPENDED_TO_ITSELF: &[Row] = &[
+const A_FILE_OF_119_OCTETS_APPENDED_TO_ITSELF: &[Row] = &[
     Row::On(
         Given::Pdu("240011000132020740000000770173016100053001610161"),
         Told::Admitted(3, 5),
@@ -156,68 +132,6 @@ pub const A_FILE_OF_119_OCTETS_APPENDED_TO_ITSELF: &[Row] = &[
     Row::On(Given::Step(50), Told::Performed(0x30)),
     Row::Store(61, 61),
     Row::Standing(&[(b"a", Some((238, 0x3c3c3b3b)))]),
-];
-
-const A_FILE_REPLACED: &[Row] = &[
-    Row::On(
-        Given::Pdu("24000a0001330207400000007801730161"),
-        Told::Admitted(2, 2),
-    ),
-    Row::On(Given::Octets(51, 0, 120, 1), Told::Stored),
-    Row::On(
-        Given::Pdu("24000a0001330204001e1e1e1e00000078"),
-        Told::Complete,
-    ),
-    Row::On(Given::Step(51), Told::Installed),
-    Row::On(Given::Take(51), Told::Finished("2c0002000133020502")),
-    Row::Store(62, 62),
-    Row::Standing(&[(b"a", Some((120, 0x1e1e1e1e)))]),
-    Row::On(
-        Given::Pdu("24000f00013402074000000000000000054001610161"),
-        Told::Admitted(0, 1),
-    ),
-    Row::On(
-        Given::Pdu("24000a0001340204000000000000000000"),
-        Told::Complete,
-    ),
-    Row::On(Given::Step(52), Told::Performed(0x40)),
-    Row::Store(62, 62),
-    Row::Standing(&[(b"a", Some((120, 0x1e1e1e1e)))]),
-    Row::On(
-        Given::Pdu("24000d0001350207400000000000000003000162"),
-        Told::Admitted(1, 2),
-    ),
-    Row::On(
-        Given::Pdu("24000a0001350204000000000000000000"),
-        Told::Complete,
-    ),
-    Row::On(Given::Step(53), Told::Performed(0x00)),
-    Row::On(
-        Given::Take(53),
-        Told::Finished("2c0008000135020503010400016200"),
-    ),
-    Row::On(
-        Given::Pdu("24000f00013602074000000000000000054001620161"),
-        Told::Admitted(1, 3),
-    ),
-    Row::On(
-        Given::Pdu("24000a0001360204000000000000000000"),
-        Told::Complete,
-    ),
-    Row::On(Given::Step(54), Told::Performed(0x40)),
-    Row::Store(60, 60),
-    Row::Standing(&[
-        (b"a", Some((120, 0x1e1e1e1e))),
-        (b"b", Some((120, 0x1e1e1e1e))),
-    ]),
-];
-
-const AN_UNKNOWN_CHECKSUM_TYPE: &[Row] = &[
-    Row::On(
-        Given::Pdu("24000a00011b0207420000000f01730166"),
-        Told::Faulted(11),
-    ),
-    Row::On(Given::Take(27), Told::Finished("2c000200011b0205b4")),
 ];
 
 const SEGMENT_METADATA: &[Row] = &[
@@ -268,33 +182,84 @@ const AN_EMPTY_FILE: &[Row] = &[
     ]),
 ];
 
-static CASES: [Case; 12] = [
-    (DEFAULT, A_FILE_IN_TWO_PIECES),
-    (DEFAULT, A_WRONG_CHECKSUM),
-    (DEFAULT, CHECKS_UP_TO_THE_LIMIT),
-    (DEFAULT, OCTETS_BEHIND_THE_EOF),
-    (
-        Limits {
-            blocks: 64,
-            cap: 240,
-            ..DEFAULT
-        },
-        AN_OCTET_PAST_THE_CAP,
+const A_CANCELLED_LIST: &[Row] = &[
+    Row::On(
+        Given::Pdu("24001700010c020740000000000000000300016100030001620003000163"),
+        Told::Admitted(3, 6),
     ),
-    (
-        Limits {
-            blocks: 64,
-            cap: 240,
-            ..DEFAULT
-        },
-        A_FILE_OF_THE_CAP,
+    Row::On(
+        Given::Pdu("24000a00010c0204000000000000000000"),
+        Told::Complete,
     ),
-    (DEFAULT, A_FILE_APPENDED_TO_ITSELF),
-    (DEFAULT, A_FILE_OF_119_OCTETS_APPENDED_TO_ITSELF),
-    (DEFAULT, A_FILE_REPLACED),
-    (DEFAULT, AN_UNKNOWN_CHECKSUM_TYPE),
-    (DEFAULT, SEGMENT_METADATA),
-    (DEFAULT, AN_EMPTY_FILE),
+    Row::On(Given::Step(12), Told::Performed(0x00)),
+    Row::On(Given::Cancel(12), Told::Cancelled),
+    Row::On(
+        Given::Pdu("24000d00010d0207400000000000000003100161"),
+        Told::Admitted(0, 2),
+    ),
+    Row::On(
+        Given::Take(12),
+        Told::Finished("2c001700010c0205f301040001610001040f01620001040f016300060102"),
+    ),
+];
+
+const LEASES_OF_THOSE_THAT_ARE_OVER: &[Row] = &[
+    Row::On(
+        Given::Pdu("24000d0001150207400000000000000003500164"),
+        Told::Admitted(1, 2),
+    ),
+    Row::On(
+        Given::Pdu("24000a0001150204000000000000000000"),
+        Told::Complete,
+    ),
+    Row::On(Given::Step(21), Told::Performed(0x50)),
+    Row::On(
+        Given::Take(21),
+        Told::Finished("2c0008000115020503010450016400"),
+    ),
+    Row::On(
+        Given::Pdu("24000f00011602074000000000000000050003642f78"),
+        Told::Admitted(1, 2),
+    ),
+    Row::On(
+        Given::Pdu("24000d0001180207400000000000000003600164"),
+        Told::Conflict(22),
+    ),
+    Row::On(
+        Given::Pdu("24000f00011902074000000000000000050003642f79"),
+        Told::Admitted(1, 2),
+    ),
+];
+
+/// A file `f` of 15 octets, and the request to append it to itself, beside a transaction that is about to create `x`.
+const BESIDE_ANOTHER: &[Row] = &[
+    Row::On(
+        Given::Pdu("24000d0001160207400000000000000003000178"),
+        Told::Admitted(1, 2),
+    ),
+    Row::On(
+        Given::Pdu("24001100010a0207400000000f0173016600053001660166"),
+        Told::Admitted(2, 5),
+    ),
+    Row::On(Given::Cancel(10), Told::Cancelled),
+    Row::On(
+        Given::Take(10),
+        Told::Finished("2c000d00010a0205f401063f0166016600060102"),
+    ),
+];
+
+static CASES: [&[Row]; 11] = [
+    A_FILE_IN_TWO_PIECES,
+    A_WRONG_CHECKSUM,
+    CHECKS_UP_TO_THE_LIMIT,
+    OCTETS_BEHIND_THE_EOF,
+    A_FILE_APPENDED_TO_ITSELF,
+    A_FILE_OF_119_OCTETS_APPENDED_TO_ITSELF,
+    SEGMENT_METADATA,
+    AN_EMPTY_FILE,
+    A_CANCELLED_LIST,
+    LEASES_OF_THOSE_THAT_ARE_OVER,
+    BESIDE_ANOTHER,
 ];
 
 #[test]

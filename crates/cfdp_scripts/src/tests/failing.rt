@@ -111,10 +111,61 @@ impl Row for Example {
     }
 }
 
+/// Further scripts: a file that is created, two spellings of one path, a file in two pieces, a list that is cancelled.
+static REFUSED: [Example; 4] = [
+    Example {
+        kind: Kind::Replay,
+        script: "\
+            pdu 24000D00010502 07 40 00000000 00 00 00 03 00 01 61\n\
+            pdu 24000A00010502 04 00 00000000 00000000\n\
+            step 1 5\ntake 1 5\n",
+        report: "\
+            1/5 admitted blocks 1 steps 2\n1/5 complete\n1/5 performed 00\n\
+            1/5 finished 2c0008000105020503010400016100\n",
+    },
+    Example {
+        kind: Kind::Replay,
+        script: "\
+            pdu 24001300010802 0740 00000000 0000 000400022f61 0003100161\n\
+            pdu 24000a00010802 0400 00000000 00000000\n\
+            step 1 8\nstep 1 8\ntake 1 8\n",
+        report: "\
+            1/8 admitted blocks 1 steps 4\n1/8 complete\n1/8 performed 00\n1/8 performed 10\n\
+            1/8 finished 2c000f000108020503010500022f6100010410016100\n",
+    },
+    Example {
+        kind: Kind::Replay,
+        script: "\
+            pdu 24000a00010a02 0740 0000000f 0173 0166\n\
+            pdu 34000b00010a02 00000008 08090a0b0c0d0e\n\
+            pdu 34000e00010a02 00000000 00010203040506070809\n\
+            pdu 24000a00010a02 0400 181c2015 0000000f\n\
+            step 1 10\ntake 1 10\nlist\n",
+        report: "\
+            1/10 admitted blocks 2 steps 2\n1/10 stored\n1/10 stored\n1/10 complete\n1/10 installed\n\
+            1/10 finished 2c000200010a020502\n\
+            store used 2 free 62 spare 62\nfile f 15 181c2015\n",
+    },
+    Example {
+        kind: Kind::Replay,
+        script: "\
+            pdu 24001700010c02 0740 00000000 0000 0003000161 0003000162 0003000163\n\
+            pdu 24000a00010c02 0400 00000000 00000000\n\
+            step 1 12\ncancel 1 12\n\
+            pdu 24000d00010d02 0740 00000000 0000 0003100161\n\
+            take 1 12\n",
+        report: "\
+            1/12 admitted blocks 3 steps 6\n1/12 complete\n1/12 performed 00\n1/12 cancelled\n\
+            1/13 admitted blocks 0 steps 2\n\
+            1/12 finished 2c001700010c0205f301040001610001040f01620001040f016300060102\n",
+    },
+];
+
 /// Where memory is refused, it is told, and what was written is a beginning of the report; run once more, all is written.
 #[test]
 fn memory(rt: HostRuntime) {
     all_hold(&rt, rt.alloc(), &EXAMPLES);
+    all_hold(&rt, rt.alloc(), &REFUSED);
 }
 
 /// What calls of std's stream answer, and what the first read and the first write over it then answer.

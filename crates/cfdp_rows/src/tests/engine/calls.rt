@@ -1,9 +1,9 @@
 //! The journal and its closing, in one thread.
 
-use super::scene::{Given, event, id, journaled, shared};
+use super::scene::{Given, event, journaled, shared};
 use cfdp_actions::ListStore;
 use cfdp_engine::{Closed, Entry, Fault, Journaled, NotClosed, Seat, Shared, close};
-use cfdp_transactions::{Core, Phase, Reply};
+use cfdp_transactions::Reply;
 use std::alloc::Global;
 use std::process::Abort;
 use std::sync::Wait;
@@ -13,7 +13,6 @@ use std::sync::Wait;
 enum Told {
     Admitted(u32, u32),
     Duplicate,
-    JournalFull,
 }
 
 /// Whether the reply is the one that is told.
@@ -22,7 +21,7 @@ fn is_told(reply: &Reply, told: Told) -> bool {
         (Reply::Admitted(blocks, steps), Told::Admitted(told_blocks, told_steps)) => {
             *blocks == told_blocks && *steps == told_steps
         }
-        (Reply::Duplicate, Told::Duplicate) | (Reply::JournalFull, Told::JournalFull) => true,
+        (Reply::Duplicate, Told::Duplicate) => true,
         _ => false,
     }
 }
@@ -72,48 +71,6 @@ fn hand_in_twice(rt: &impl Abort, alloc: Global, journaled: &mut Journaled<ListS
 fn a_duplicate_is_journaled(rt: HostRuntime) {
     let mut journaled = journaled(&rt, rt.alloc(), 1000);
     hand_in_twice(&rt, rt.alloc(), &mut journaled);
-}
-
-static FURTHER: [Given; 4] = [
-    Given::Bare(17),
-    Given::End(1),
-    Given::Cancel(1),
-    Given::Take(1),
-];
-
-/// What sixteen transactions left.
-const LEFT: (Option<Phase>, Option<Phase>, u32) = (Some(Phase::Receiving), None, 64);
-
-fn phase_of(core: &Core<ListStore>, number: u8) -> Option<Phase> {
-    core.phase(id(number))
-}
-
-/// How far the first of them and one more are, and how many blocks are to spare.
-fn left(core: &Core<ListStore>) -> (Option<Phase>, Option<Phase>, u32) {
-    (phase_of(core, 1), phase_of(core, 17), core.spare())
-}
-
-/// Whether the entity is as sixteen transactions left it, and the journal full.
-fn is_full(journaled: &Journaled<ListStore>) -> bool {
-    journaled.journal().len() == 16 && left(journaled.core()) == LEFT
-}
-
-/// Fills a journal of sixteen entries, and hands in more.
-fn fill(rt: &impl Abort, alloc: Global, journaled: &mut Journaled<ListStore>) {
-    for number in 1..=16u8 {
-        let given = Given::Bare(number);
-        replies(rt, journaled, 0, alloc, given, Told::Admitted(0, 0));
-    }
-    for given in &FURTHER {
-        replies(rt, journaled, 0, alloc, *given, Told::JournalFull);
-        assert!(rt; is_full(journaled));
-    }
-}
-
-#[test]
-fn a_full_journal_takes_nothing(rt: HostRuntime) {
-    let mut journaled = journaled(&rt, rt.alloc(), 16);
-    fill(&rt, rt.alloc(), &mut journaled);
 }
 
 /// Whether a seat that has none has one receipt, once it handed in this.

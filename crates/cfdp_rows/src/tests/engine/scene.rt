@@ -1,11 +1,10 @@
 //! An engine, and what it is handed. Where there is no memory a test ends, and fails.
 
+use super::super::entity::{event_in, id};
 use cfdp_actions::{ListStore, Protected};
 use cfdp_engine::{Journaled, Message, Shared};
 use cfdp_paths::Memory;
-use cfdp_pdus::{Pdu, read_pdu};
-use cfdp_status::TransactionId;
-use cfdp_transactions::{Config, Core, Event, event_of};
+use cfdp_transactions::{Config, Core, Event};
 use crossbeam_channel::{Receiver, Sender, bounded};
 use std::alloc::{AllocError, Global};
 use std::process::Abort;
@@ -51,43 +50,22 @@ fn octets(alloc: Global, given: Given) -> Result<Vec<u8>, Memory> {
     }
 }
 
-/// The transaction of entity 1 with this number.
-pub fn id(number: u8) -> TransactionId {
-    TransactionId {
-        source: 1,
-        number: u64::from(number),
-    }
-}
-
-fn event_in_pdu(pdu: Pdu) -> Result<Event, Memory> {
-    match event_of(pdu) {
-        Ok(event) => Ok(event),
-        Err(_) => Err(AllocError),
-    }
-}
-
-/// The event of a PDU.
-fn event_in(alloc: Global, given: Given) -> Result<Event, Memory> {
-    let octets = octets(alloc, given)?;
-    match read_pdu(alloc, &octets) {
-        Ok(pdu) => event_in_pdu(pdu),
-        Err(_) => Err(AllocError),
-    }
-}
-
 /// What is handed in as an event.
 fn given_event(alloc: Global, given: Given) -> Result<Event, Memory> {
     match given {
         Given::Cancel(number) => Ok(Event::Cancel(id(number))),
         Given::Take(number) => Ok(Event::Take(id(number))),
-        _ => event_in(alloc, given),
+        _ => event_in(alloc, &octets(alloc, given)?),
     }
+}
+
+fn shared_event(alloc: Global, given: Given) -> Result<Arc<Event, Global>, Memory> {
+    Ok(Arc::new(alloc, given_event(alloc, given)?)?)
 }
 
 /// The same, to be shared.
 pub fn event(rt: &impl Abort, alloc: Global, given: Given) -> Arc<Event, Global> {
-    let event = given_event(alloc, given).expect(rt, "an event");
-    Arc::new(alloc, event).expect(rt, "memory")
+    shared_event(alloc, given).expect(rt, "memory")
 }
 
 /// What is handed in as a message to a worker: PDUs by their octets.

@@ -1,22 +1,16 @@
 //! Two workers on one engine, one after the other, and a gate that lets everybody pass: each takes what it was sent, or stops for
 //! want of memory behind a beginning of it.
 
-use cfdp_actions::Protected;
-use cfdp_engine::{Gate, Journaled, Message, Seat, Shared, Stop, Worked, close, work};
+use super::super::journal::engine;
+use super::workers::Open;
+use cfdp_engine::{Message, Seat, Shared, Stop, Worked, close, work};
 use cfdp_paths::Memory;
-use cfdp_transactions::{Config, Core, Reply};
+use cfdp_transactions::Reply;
 use cfdp_tree::TreeStore;
 use crossbeam_channel::{Receiver, bounded};
 use std::alloc::{AllocError, Global};
 use std::process::Abort;
 use std::sync::Wait;
-
-/// A gate that lets everybody pass.
-struct Open;
-
-impl Gate for Open {
-    fn pass<R: Wait>(&self, _rt: &R, _seat: u8, _turn: u64) {}
-}
 
 /// A list that creates a file.
 static CREATE: [&[u8]; 1] = [b"\x24\x00\x0d\x00\x01\x05\x02\x07\x40\0\0\0\0\0\0\0\x03\0\x01a"];
@@ -29,20 +23,12 @@ static BARE: [&[u8]; 2] = [
 
 /// Whether it is the reply to the first seat's event, or to one of the second's.
 fn is_reply(seat: u8, place: usize, reply: &Reply) -> bool {
-    matches!(
-        (seat, place, reply),
-        (0, 0, Reply::Admitted(1, 2)) | (1, 0, Reply::Admitted(0, 0)) | (1, 1, Reply::Done)
-    )
-}
-
-/// An engine that has just begun: only memory can be wanting.
-fn engine(alloc: Global) -> Result<Shared<TreeStore>, Memory> {
-    let Ok(config) = Config::new(2, 64, 2400, 2, 1000, Protected::new()) else {
-        return Err(AllocError);
-    };
-    let store = TreeStore::new(alloc, 64)?;
-    let core = Core::new(alloc, config, store)?;
-    Ok(Shared::new(Journaled::new(alloc, core)?))
+    match reply {
+        Reply::Admitted(1, 2) => seat == 0 && place == 0,
+        Reply::Admitted(0, 0) => seat == 1 && place == 0,
+        Reply::Done => seat == 1 && place == 1,
+        _ => false,
+    }
 }
 
 /// A closed inbox with these PDUs.
@@ -77,18 +63,52 @@ fn is_well(worked: &Worked, seat: u8, sent: usize) -> bool {
     }
 }
 
+/// A worker of this seat, which was sent these PDUs.
+fn worker<R: Wait>(
+    rt: &R,
+    alloc: Global,
+    shared: &Shared<TreeStore>,
+    seat: u8,
+    pdus: &[&[u8]],
+) -> Result<Worked, Memory> {
+    let inbox = inbox(rt, alloc, pdus)?;
+    Ok(work(rt, alloc, shared, Seat::new(alloc, seat), inbox, &Open))
+}
+
+/// Lets a worker work, and keeps its seat: whether it does well.
+fn does_well<R: Wait>(
+    rt: &R,
+    alloc: Global,
+    shared: &Shared<TreeStore>,
+    seats: &mut Vec<Seat>,
+    seat: u8,
+    pdus: &[&[u8]],
+) -> Result<bool, Memory> {
+    let worked = worker(rt, alloc, shared, seat, pdus)?;
+    let well = is_well(&worked, seat, pdus.len());
+    seats.push(worked.seat)?;
+    Ok(well)
+}
+
+/// The seats of both workers, where they do well.
+fn both<R: Wait>(
+    rt: &R,
+    alloc: Global,
+    shared: &Shared<TreeStore>,
+) -> Result<Option<Vec<Seat>>, Memory> {
+    let mut seats = Vec::new(alloc);
+    let zero = does_well(rt, alloc, shared, &mut seats, 0, &CREATE)?;
+    let one = does_well(rt, alloc, shared, &mut seats, 1, &BARE)?;
+    Ok(if zero && one { Some(seats) } else { None })
+}
+
 /// Whether both workers do well, and their receipts are the journal.
 fn are_well<R: Wait>(rt: &R, alloc: Global) -> Result<bool, Memory> {
-    let shared = engine(alloc)?;
-    let mut seats = Vec::with_capacity(alloc, 2)?;
-    let mut well = true;
-    for (number, pdus) in [(0, CREATE.as_slice()), (1, BARE.as_slice())] {
-        let inbox = inbox(rt, alloc, pdus)?;
-        let worked = work(rt, alloc, &shared, Seat::new(alloc, number), inbox, &Open);
-        well = well && is_well(&worked, number, pdus.len());
-        seats.push(worked.seat)?;
+    let shared = Shared::new(engine(alloc, 1000)?);
+    match both(rt, alloc, &shared)? {
+        Some(seats) => Ok(close(shared.into_journaled(), seats).is_ok()),
+        None => Ok(false),
     }
-    Ok(well && close(shared.into_journaled(), seats).is_ok())
 }
 
 /// Where memory is refused beside the workers, all is tried once more.

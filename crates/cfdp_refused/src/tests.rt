@@ -1,4 +1,0 @@
-//! `scripts` is replayed transactions, `workers` two workers on one engine.
-
-mod scripts;
-mod workers;
