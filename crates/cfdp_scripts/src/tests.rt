@@ -1,5 +1,6 @@
 //! What no clause says: worked scripts, the fakes' failures, limits and printed text.
 mod bad_lines;
+mod command_lines;
 mod ends;
 mod examples;
 mod failing;

@@ -1,15 +1,2 @@
-pub mod Answering
-pub mod Decoding
-pub mod Feeding
-pub mod Hearing
-pub mod LineLemmas
-pub mod Moving
-pub mod Numbering
-pub mod Preparing
 pub mod Reconciling
-pub mod Running
 pub mod SameConfig
-pub mod Statuses
-pub mod Steps
-pub mod Streaming
-pub mod Words

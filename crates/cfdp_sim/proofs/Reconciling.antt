@@ -12,8 +12,8 @@ use Rattle.cfdp_engine.specs.declared.receipt.Receipt.{Receipt}
 use Rattle.cfdp_engine.specs.Journal.{IsHistory, events_of, replies_of}
 use Rattle.cfdp_engine.specs.Seats.{Seated, receipts_in, is_taken, AreApart, AreEntered, AllEntered, IsReconciled}
 use Rattle.cfdp_engine.specs.Sharing.{told_of}
-use Rattle.cfdp_sim.specs.Linked.{AreHanded, HasReadable, Handed, events_by}
-use Rattle.cfdp_sim.specs.Links.{Said}
+use Rattle.cfdp_commands.specs.Linked.{AreHanded, HasReadable, Handed, events_by}
+use Rattle.cfdp_commands.specs.Links.{Said}
 
 -- ---- numbers that differ
 

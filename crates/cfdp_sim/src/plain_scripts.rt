@@ -1,18 +1,15 @@
 //! The scripts of `plain`: filestore requests, a TLV a line, on one filestore.
 ghost use Rattle.std.specs.Prelude.{◌≡◌, ◌≢◌, ℕ, ◌+◌, ◌<◌, ◌≤◌, ◌⊎◌, true, length, None, Some, IfOk, OnOk, Err};
 ghost use Rattle.std.specs.Io.KnownBytes.{IsAtEnd};
-ghost use Rattle.cfdp_sim.specs.Lines.{input_limit};
-ghost use Rattle.cfdp_sim.specs.Outcome.{WholeRun, BadRun, LongRun, PartRun, LostRun};
-ghost use Rattle.cfdp_sim.specs.Plain.{plain_answer, at_start, plain_report};
-ghost use Rattle.cfdp_sim.specs.Report.{limited_report};
-ghost use Rattle.cfdp_sim.specs.declared.faults.RunFault.TheVariants.{Read, Write, Memory, BadLine};
+ghost use Rattle.cfdp_lines.specs.Lines.{input_limit};
+ghost use Rattle.cfdp_lines.specs.Outcome.{WholeRun, BadRun, LongRun, PartRun, LostRun};
+ghost use Rattle.cfdp_commands.specs.Plain.{plain_answer, at_start, plain_report};
+ghost use Rattle.cfdp_lines.specs.Report.{limited_report};
+ghost use Rattle.cfdp_lines.specs.declared.faults.RunFault.TheVariants.{Read, Write, Memory, BadLine};
 
-use crate::faults::RunFault;
-use crate::from_slice::FromSlice;
-use crate::requests::Requests;
-use crate::run::run;
-use crate::streams::{ScriptIn, ScriptOut};
-use crate::to_write::ToWrite;
+use cfdp_commands::Requests;
+use cfdp_lines::{RunFault, run};
+use cfdp_streams::{FromSlice, ScriptIn, ScriptOut, ToWrite};
 use cfdp_tree::TreeStore;
 use std::alloc::Global;
 

@@ -1,18 +1,15 @@
 //! The scripts of `replay`: PDUs and local events, a line each, of one receiving entity.
 ghost use Rattle.std.specs.Prelude.{◌≡◌, ◌≢◌, ℕ, ◌+◌, ◌<◌, ◌≤◌, ◌⊎◌, true, length, None, Some, IfOk, OnOk, Err};
 ghost use Rattle.std.specs.Io.KnownBytes.{IsAtEnd};
-ghost use Rattle.cfdp_sim.specs.Lines.{input_limit};
-ghost use Rattle.cfdp_sim.specs.Outcome.{WholeRun, BadRun, LongRun, PartRun, LostRun};
-ghost use Rattle.cfdp_sim.specs.Replay.{replay_answer, at_first, replay_report};
-ghost use Rattle.cfdp_sim.specs.Report.{limited_report};
-ghost use Rattle.cfdp_sim.specs.declared.faults.RunFault.TheVariants.{Read, Write, Memory, BadLine};
+ghost use Rattle.cfdp_lines.specs.Lines.{input_limit};
+ghost use Rattle.cfdp_lines.specs.Outcome.{WholeRun, BadRun, LongRun, PartRun, LostRun};
+ghost use Rattle.cfdp_commands.specs.Replay.{replay_answer, at_first, replay_report};
+ghost use Rattle.cfdp_lines.specs.Report.{limited_report};
+ghost use Rattle.cfdp_lines.specs.declared.faults.RunFault.TheVariants.{Read, Write, Memory, BadLine};
 
-use crate::faults::RunFault;
-use crate::from_slice::FromSlice;
-use crate::run::run;
-use crate::streams::{ScriptIn, ScriptOut};
-use crate::to_write::ToWrite;
-use crate::transfers::Transfers;
+use cfdp_commands::Transfers;
+use cfdp_lines::{RunFault, run};
+use cfdp_streams::{FromSlice, ScriptIn, ScriptOut, ToWrite};
 use std::alloc::Global;
 
 /// Runs a script of PDUs and local events of one receiving entity (CCSDS 727.0-B-5 §4.6).

@@ -1,8 +1,8 @@
 //! The workers of `links`: one for each file, and what they are sent.
 ghost use Rattle.std.specs.Prelude.{◌≡◌, ◌≤◌, length, IfOk};
-ghost use Rattle.cfdp_sim.specs.Linked.{AllNumbered, IsWork};
+ghost use Rattle.cfdp_commands.specs.Linked.{AllNumbered, IsWork};
 
-use crate::messages::copy_of;
+use cfdp_commands::copy_of;
 use cfdp_engine::{Gate, Message, Seat, Shared, Worked, work};
 use cfdp_tree::TreeStore;
 use crossbeam_channel::{Receiver, Sender, bounded};
@@ -19,7 +19,7 @@ const INBOX: usize = 16;
 struct Numbered(u8);
 
 impl Promise<Worked> for Numbered {
-    ghost use Rattle.cfdp_sim.specs.Linked.{IsWork};
+    ghost use Rattle.cfdp_commands.specs.Linked.{IsWork};
 
     ghost kept_by = { λ promise worked. IsWork promise.0 worked };
 }

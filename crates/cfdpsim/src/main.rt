@@ -7,18 +7,14 @@
 //! that differ from it, 2 for unknown words, 3 for a bad line.
 #![tactic(auto)]
 
-mod files;
-mod words;
-
+use cfdp_command_line::{Asked, open, parse, read_all, read_words};
 use cfdp_sim::{FromRead, Open, ProgramEnd, RunFault, ToWrite, links, plain, replay};
-use files::{open, read_all};
 use std::io;
 use std::io::Read;
 use std::process::ExitCode;
 use std::rt::{Env, Files};
 use std::sync::Wait;
 use std::thread::Threads;
-use words::{Asked, parse, read_words};
 
 /// How many files `links` takes at most.
 const MOST_FILES: usize = 4;

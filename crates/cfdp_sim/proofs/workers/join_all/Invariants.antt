@@ -1,6 +1,6 @@
 use Rattle.std.proofs.Common.{◌≡◌, ◌+◌, length}
 use Rattle.std.specs.Vec.Iter.{into_iter_items}
-use Rattle.cfdp_sim.specs.Linked.{AllNumbered, IsWork}
+use Rattle.cfdp_commands.specs.Linked.{AllNumbered, IsWork}
 use Rattle.cfdp_sim.proofs.workers.join_all.Given as goal
 
 abbrev pub invariant-loop-worker : goal.invariant-loop-worker

@@ -1,0 +1,13 @@
+pub mod Commands
+pub mod Hexadecimal
+pub mod JournalTexts
+pub mod Linked
+pub mod Links
+pub mod Plain
+pub mod Replay
+pub mod RequestLines
+pub mod Scripts
+pub mod Stages
+pub use Rattle.cfdp_lines.specs.Answers
+pub use Rattle.cfdp_lines.specs.Lines
+pub use Rattle.cfdp_lines.specs.Report

@@ -1,0 +1,117 @@
+-- What the files of `links` say: PDUs, local events and runs, which workers are to be sent.
+--
+--   Said           what a line says: the octets of a PDU that came, something of the entity's own, or a run
+--   said_of        what a message to a worker says
+--   running        the stage behind the first event: the configuration stands
+--   link_answer    what a line does: the stage after it, and what it says; nothing where it is bad. As in `replay`, without `list`
+--   Reading        how far a file is read: the stage, and what its lines said
+--   read_from      what the lines of a file say, one after the other, or the number of the first bad one
+--   Files          what all files say: the configuration, and what each says
+--   files_from     the files in order, or the number of the first that has a bad line, and that of its first one
+--   link_files     the same from the first file on: files count from 0, and lines from 1. The configuration stands behind the
+--                  first file
+use Rattle.std.specs.Prelude.{ℕ, ◌+◌, List, [], ◌∷◌, ◌++◌, Option, Some, None, Result, Ok, Err}
+use Rattle.std.specs.Arc.{arc_value}
+use Rattle.cfdp_status.specs.declared.transaction.TransactionId.{TransactionId}
+use Rattle.cfdp_transactions.specs.Config.{Config}
+use Rattle.cfdp_transactions.specs.declared.event.Event.{Event}
+use Rattle.cfdp_engine.specs.declared.message.Message.{Message}
+use Rattle.cfdp_engine.specs.declared.message.Message.TheVariants as messages
+use Rattle.cfdp_commands.specs.Commands.{words_of, numbers_of, id_by, keyword_of, local_event}
+use Rattle.cfdp_commands.specs.declared.commands.Keyword.{Keyword}
+use Rattle.cfdp_commands.specs.declared.commands.Keyword.TheVariants as keyword
+use Rattle.cfdp_commands.specs.Hexadecimal.{octets_of_words}
+use Rattle.cfdp_lines.specs.Lines.{lines_of}
+use Rattle.cfdp_commands.specs.Replay.{Stage, Running, at_first, configured, protected, world_of, alone}
+use Rattle.cfdp_lines.specs.Report.{line_answer}
+
+pub data Said : Type 0 where
+  Came : List ℕ → Said
+  Happened : Event → Said
+  Steps : Said
+
+abbrev pub said_of : Message → Said
+said_of (messages.Pdu octets) = Came octets.items
+said_of (messages.Event event) = Happened (arc_value event)
+said_of messages.Run = Steps
+
+-- a line may say nothing
+abbrev pub said_in : Option Message → List Said
+said_in None = []
+said_in (Some message) = said_of message ∷ []
+
+-- ---- lines
+
+abbrev pub running : Stage → Stage
+running stage = Running (world_of stage)
+
+-- a line that prepares the entity says nothing to a worker
+abbrev pub prepared : Option (Stage × List ℕ) → Option (Stage × List Said)
+prepared None = None
+prepared (Some answered) = Some (answered.0, [])
+
+abbrev pub says : Stage → Said → Stage × List Said
+says stage said = (running stage, said ∷ [])
+
+abbrev pub local_said : Stage → (TransactionId → Event) → Option TransactionId → Option (Stage × List Said)
+local_said stage event None = None
+local_said stage event (Some id) = Some (says stage (Happened (event id)))
+
+-- a line without a pair of digits is bad
+abbrev pub pdu_said : Stage → Option (List ℕ) → Option (Stage × List Said)
+pdu_said stage None = None
+pdu_said stage (Some []) = None
+pdu_said stage (Some (octet ∷ octets)) = Some (says stage (Came (octet ∷ octets)))
+
+abbrev pub obeyed_by_link : Stage → Option Keyword → List (List ℕ) → Option (Stage × List Said)
+obeyed_by_link stage None words = None
+obeyed_by_link stage (Some keyword.Config) words = prepared (configured stage (numbers_of words))
+obeyed_by_link stage (Some keyword.Protect) words = prepared (protected stage (octets_of_words words))
+obeyed_by_link stage (Some keyword.Pdu) words = pdu_said stage (octets_of_words words)
+obeyed_by_link stage (Some (keyword.Local which)) words = local_said stage (local_event which) (id_by (numbers_of words))
+obeyed_by_link stage (Some keyword.Run) words = alone words (says stage Steps)
+obeyed_by_link stage (Some keyword.List) words = None
+
+abbrev pub words_said : Stage → List (List ℕ) → Option (Stage × List Said)
+words_said stage [] = Some (stage, [])
+words_said stage (word ∷ words) = obeyed_by_link stage (keyword_of word) words
+
+abbrev pub link_answer : Stage → List ℕ → Option (Stage × List Said)
+link_answer stage line = words_said stage (words_of line)
+
+-- ---- files
+
+pub record Reading : Type 0 where
+  pub stage : Stage
+  pub said : List Said
+
+-- what the line of this number says comes behind what those before it said
+abbrev pub read_then : ℕ → List Said → Option (Stage × List Said) → (Reading → Result Reading ℕ) → Result Reading ℕ
+read_then number said None later = Err number
+read_then number said (Some answered) later = later (record { stage = answered.0; said = said ++ answered.1 })
+
+abbrev pub read_from : ℕ → Reading → List (List ℕ) → Result Reading ℕ
+read_from number reading [] = Ok reading
+read_from number reading (line ∷ lines) =
+    read_then number reading.said (line_answer link_answer reading.stage line) (λ after. read_from (number + 1) after lines)
+
+-- a file, from its first line on
+abbrev pub file_said : Stage → List ℕ → Result Reading ℕ
+file_said stage script = read_from 1 (record { stage = stage; said = [] }) (lines_of script)
+
+pub record Files : Type 0 where
+  pub config : Config
+  pub said : List (List Said)
+
+-- what a file says comes behind what those before it say
+abbrev pub files_then : ℕ → List (List Said) → Result Reading ℕ → (Stage → List (List Said) → Result Files (ℕ × ℕ)) → Result Files (ℕ × ℕ)
+files_then file said (Err line) later = Err (file, line)
+files_then file said (Ok reading) later = later (running reading.stage) (said ++ reading.said ∷ [])
+
+abbrev pub files_from : ℕ → Stage → List (List Said) → List (List ℕ) → Result Files (ℕ × ℕ)
+files_from file stage said [] = Ok (record { config = (world_of stage).config; said = said })
+files_from file stage said (script ∷ scripts) =
+    files_then file said (file_said stage script) (λ after more. files_from (file + 1) after more scripts)
+
+abbrev pub link_files : List (List ℕ) → Result Files (ℕ × ℕ)
+link_files scripts = files_from 0 at_first [] scripts

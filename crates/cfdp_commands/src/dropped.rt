@@ -1,0 +1,49 @@
+//! Lines that bring no filestore request.
+ghost use Rattle.std.specs.Prelude.{◌≡◌};
+ghost use Rattle.cfdp_commands.specs.RequestLines.{dropped_for, dropped_text};
+
+use cfdp_tlv::TlvFault;
+
+/// Why a line is dropped. A dropped line is no part of its list.
+#[derive(Clone, Copy, Debug, PartialEq, Eq)]
+pub(crate) enum Dropped {
+    /// A field is cut.
+    Truncated,
+    /// Octets stand after the last field.
+    Trailing,
+    /// It is a TLV of another type.
+    NotARequest,
+    /// There is no such action.
+    BadAction,
+    /// The value has 255 octets, so that its response would be longer than a TLV can be.
+    RequestTooLong,
+}
+
+impl Dropped {
+    /// Why a line is dropped whose value is no request. Such a value has been cut, or has an unknown action or octets
+    /// behind its last name; the faults of responses, of writers and of memory have an answer only so that each
+    /// fault has one, as in the definition.
+    pub(crate) fn of_fault(fault: TlvFault) -> Self
+        ensures { result ≡ dropped_for fault }
+    {
+        match fault {
+            TlvFault::Truncated | TlvFault::Memory => Dropped::Truncated,
+            TlvFault::BadAction | TlvFault::BadStatus => Dropped::BadAction,
+            TlvFault::Trailing => Dropped::Trailing,
+            TlvFault::TooLong => Dropped::RequestTooLong,
+        }
+    }
+
+    /// The line that is written for it.
+    pub(crate) fn text(self) -> &'static [u8]
+        ensures { result.now ≡ dropped_text self }
+    {
+        match self {
+            Dropped::Truncated => b"dropped truncated\n",
+            Dropped::Trailing => b"dropped trailing\n",
+            Dropped::NotARequest => b"dropped not-a-request\n",
+            Dropped::BadAction => b"dropped bad-action\n",
+            Dropped::RequestTooLong => b"dropped request-too-long\n",
+        }
+    }
+}

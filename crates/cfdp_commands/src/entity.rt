@@ -1,0 +1,126 @@
+//! A receiving entity that a script tells what happens.
+ghost use Rattle.std.specs.Prelude.{◌≡◌, ◌++◌, ℕ, List, IfOk, OnOk};
+ghost use Rattle.cfdp_actions.specs.Store.{empty_store};
+ghost use Rattle.cfdp_transactions.specs.Entry.{id_of};
+ghost use Rattle.cfdp_transactions.specs.Events.{about};
+ghost use Rattle.cfdp_pdus.specs.First.{pdu_at};
+ghost use Rattle.cfdp_transactions.specs.Next.{next, replies, run};
+ghost use Rattle.cfdp_transactions.specs.World.{start};
+ghost use Rattle.cfdp_transactions.specs.Writable.{IsReadable};
+ghost use Rattle.cfdp_transactions.specs.Fitting.{OnlyWritable, only_writable_prop};
+ghost use Rattle.cfdp_commands.specs.Replay.{Running, most_runs, read_told, steps_from};
+ghost use Rattle.cfdp_texts.specs.Replies.{listing_text, reply_line, told_lines};
+
+use cfdp_actions::Filestore;
+use cfdp_pdus::{Header, PduFault, read_pdu};
+use cfdp_status::TransactionId;
+use cfdp_texts::{fault_line, not_ours_line, write_listing, write_reply};
+use cfdp_transactions::{Config, Core, Event, Reply, event_of, laws};
+use std::alloc::{AllocError, Global};
+
+/// How many steps `run` takes at most.
+const MOST_RUNS: u32 = 4_224;
+
+/// The transaction that a PDU belongs to.
+fn id_of(header: &Header) -> TransactionId
+    ensures { result ≡ id_of header.now }
+{
+    TransactionId {
+        source: header.source,
+        number: header.number,
+    }
+}
+
+/// The transaction that an event is about.
+pub(crate) fn about(event: &Event) -> TransactionId
+    ensures { result ≡ about event.now }
+{
+    match event {
+        Event::Metadata(header, _) | Event::Data(header, _) | Event::Eof(header, _) => {
+            id_of(header)
+        }
+        Event::Step(id) | Event::Cancel(id) | Event::Check(id) | Event::Take(id) => *id,
+    }
+}
+
+/// A receiving entity, whose events all come from a script.
+#[derive(Drop)]
+pub(crate) struct Entity<S: Filestore> {
+    pub(crate) core: Core<S>,
+    ghost writable: { OnlyWritable core.world } by { only_writable_prop core.world },
+}
+
+impl<S: Filestore> Entity<S> {
+    /// One that has just begun, over an empty store.
+    pub(crate) fn new(alloc: Global, config: Config, store: S) -> Result<Self, AllocError>
+        requires { S.state store ≡ empty_store config.blocks (S.state store).takes_no_memory }
+        ensures { IfOk result (λ entity. entity.core.world ≡ start config) }
+    {
+        laws::outcomes_fit();
+        let core = Core::new(alloc, config, store)?;
+        Ok(Entity { core })
+    }
+
+    /// Takes an event, and appends the line of its reply.
+    pub(crate) fn tell(
+        &mut self,
+        alloc: Global,
+        event: &Event,
+        text: &mut Vec<u8>,
+    ) -> Result<(), AllocError>
+        requires { IsReadable event.now }
+        ensures world { OnOk result (self.new.core.world ≡ (next self.old.core.world event.now).0) }
+        ensures text { OnOk result (text.new.items
+            ≡ text.old.items ++ reply_line (about event.now) (next self.old.core.world event.now).1) }
+    {
+        match self.core.apply(event) {
+            Reply::Memory => Err(AllocError),
+            reply => write_reply(alloc, about(event), &reply, text),
+        }
+    }
+
+    /// Takes the octets of a PDU, and appends the line of what came of them.
+    pub(crate) fn receive(
+        &mut self,
+        alloc: Global,
+        octets: &[u8],
+        text: &mut Vec<u8>,
+    ) -> Result<(), AllocError>
+        ensures { OnOk result ((lines : List ℕ) × (read_told self.old.core.world (pdu_at octets.now) ≡ (Running self.new.core.world, lines))
+            × (text.new.items ≡ text.old.items ++ lines)) }
+    {
+        laws::what_was_read_is_readable();
+        let pdu = match read_pdu(alloc, octets) {
+            Ok(pdu) => pdu,
+            Err(PduFault::Memory) => return Err(AllocError),
+            Err(fault) => return text.extend_from_slice(fault_line(fault)),
+        };
+        match event_of(pdu) {
+            Ok(event) => self.tell(alloc, &event, text),
+            Err(_) => text.extend_from_slice(not_ours_line()),
+        }
+    }
+
+    /// Performs the next items, of one transaction after the other, until none has any: at most 4,224. The lines of the
+    /// replies are appended.
+    pub(crate) fn run(&mut self, alloc: Global, text: &mut Vec<u8>) -> Result<(), AllocError>
+        ensures world { OnOk result (self.new.core.world ≡ run self.old.core.world (steps_from most_runs self.old.core.world)) }
+        ensures text { OnOk result (text.new.items ≡ text.old.items ++ told_lines (steps_from most_runs self.old.core.world)
+            (replies self.old.core.world (steps_from most_runs self.old.core.world))) }
+    {
+        'steps: for _ in 0..MOST_RUNS {
+            let Some(id) = self.core.next_runnable() else {
+                return Ok(());
+            };
+            self.tell(alloc, &Event::Step(id), text)?;
+        }
+        Ok(())
+    }
+
+    /// Appends the lines of what stands in the filestore.
+    pub(crate) fn list(&self, alloc: Global, text: &mut Vec<u8>) -> Result<(), AllocError>
+        ensures { OnOk result (text.new.items ≡ text.old.items ++ listing_text self.now.core.world) }
+    {
+        write_listing(alloc, &self.core, text)
+    }
+}

@@ -1,0 +1,178 @@
+-- A loop over the octets that a run is fed with: up to the next line end at once.
+use Rattle.std.proofs.Common.{◌≡◌, ℕ, ◌+◌, ◌<◌, ◌≤◌, ◌==◌, Bool, true, false, List, [], ◌∷◌, ◌++◌, Option, None, length, take, drop, get_or, refl, sym, ap, subst, ◌∙◌, append_assoc, arith, length-take}
+use Rattle.std.proofs.lemmas.List.{append-nil, take_more, take-append-drop, get_or-take}
+use Rattle.std.proofs.lemmas.List.Elements.{All-from_get_or}
+use Rattle.std.specs.Io.KnownBytes.{Appends}
+use Rattle.cfdp_lines.specs.Answers.{Answers, Adds}
+use Rattle.cfdp_lines.specs.Lines.{is_newline, line_limit, IsOneLine}
+use Rattle.cfdp_lines.specs.Report.{line_answer}
+use Rattle.cfdp_lines.specs.Session.{Place, place, Moves, StopsBad, Breaks, Runs, RunsBad, RunsPart, RunsLost}
+use Rattle.cfdp_streams.specs.Streams.{Spills, LostWithin}
+use Rattle.cfdp_streams.proofs.Streaming.{Appends-none, Appends-more, Appends-more_or_lost}
+use Rattle.cfdp_lines.proofs.Moving.{Moves-none, Moves-then, Moves-then_stops, Moves-then_breaks, StopsBad-before, Breaks-none, Breaks-shorter, Moves-gather, Moves-newline, StopsBad-newline, StopsBad-overlong}
+
+pub not_true : (b : Bool) → (b ≡ true → ⊥) → b ≡ false
+not_true true h = absurd (h refl)
+not_true false h = refl
+
+-- octets before the first newline
+pub one_line-before : (octets : List ℕ) (at : ℕ) → at ≤ length octets
+    → ((k : ℕ) → 0 ≤ k → k < at → (get_or octets k 0 == 10) ≡ true → ⊥) → IsOneLine (take at octets)
+one_line-before octets at le none =
+    All-from_get_or (λ (x : ℕ). is_newline x ≡ false) (take at octets) 0
+    (λ i lt. let inside : i < at = omega (arith, length-take at octets) in
+    ap is_newline (get_or-take at octets i 0 inside) ∙ not_true (get_or octets i 0 == 10) (none i (omega arith) inside))
+
+-- octets among which there is none
+pub one_line-whole : (octets : List ℕ) → ((k : ℕ) → 0 ≤ k → k < length octets → (get_or octets k 0 == 10) ≡ true → ⊥)
+    → IsOneLine octets
+one_line-whole octets none =
+    All-from_get_or (λ (x : ℕ). is_newline x ≡ false) octets 0
+    (λ i lt. not_true (get_or octets i 0 == 10) (none i (omega arith) lt))
+
+module _ (State : Type 0) (answer : State → List ℕ → Option (State × List ℕ)) where
+  -- octets without a newline
+  pub Adds-gather : (n : ℕ) (state : State) (line octets text : List ℕ)
+      → Adds answer (place n state line) (place n state (line ++ octets)) octets text text
+  Adds-gather n state line octets text = record {
+    text = [];
+    moves = Moves-gather State answer n state line octets;
+    appended = sym (append-nil text);
+  }
+
+  -- octets up to a newline, with it
+  pub Adds-line : (n : ℕ) (state after : State) (line octets before text : List ℕ) (at : ℕ)
+      → IsOneLine (line ++ take at octets) → at < length octets → is_newline (get_or octets at 0) ≡ true
+      → Answers (line_answer answer) state after (line ++ take at octets) before text
+      → Adds answer (place n state line) (place (n + 1) after []) (take (at + 1) octets) before text
+  Adds-line n state after line octets before text at h lt e a =
+      rw (take_more octets at 0 lt) record {
+        text = a.text;
+        moves = Moves-then State answer (place n state line) (place n state (line ++ take at octets)) (place (n + 1) after [])
+            (take at octets) (get_or octets at 0 ∷ []) [] a.text
+            (Moves-gather State answer n state line (take at octets))
+            (Moves-newline State answer n state after (line ++ take at octets) a.text (get_or octets at 0) h e a.answered);
+        appended = a.appended;
+      }
+
+  -- too many octets before the next newline
+  pub Stops-overlong : (n : ℕ) (state : State) (line octets : List ℕ) (at : ℕ) → IsOneLine line → IsOneLine (take at octets)
+      → line_limit < length line + length (take at octets) → StopsBad answer (place n state line) octets [] n
+  Stops-overlong n state line octets at h e full =
+      subst (λ (s : List ℕ). StopsBad answer (place n state line) s [] n) (take-append-drop at octets)
+      (StopsBad-before State answer (place n state line) (take at octets) (drop at octets) [] n
+      (StopsBad-overlong State answer n state line (take at octets) h e full))
+
+  -- a line that is bad
+  pub Stops-line : (n : ℕ) (state : State) (line octets : List ℕ) (at : ℕ)
+      → IsOneLine (line ++ take at octets) → at < length octets → is_newline (get_or octets at 0) ≡ true
+      → line_answer answer state (line ++ take at octets) ≡ None
+      → StopsBad answer (place n state line) octets [] n
+  Stops-line n state line octets at h lt e bad =
+      let stops : StopsBad answer (place n state line) (take (at + 1) octets) [] n =
+      rw (take_more octets at 0 lt)
+      (Moves-then_stops State answer (place n state line) (place n state (line ++ take at octets)) (take at octets) (get_or octets at 0 ∷ [])
+      [] [] n (Moves-gather State answer n state line (take at octets))
+      (StopsBad-newline State answer n state (line ++ take at octets) (get_or octets at 0) h e bad)) in
+      subst (λ (s : List ℕ). StopsBad answer (place n state line) s [] n) (take-append-drop (at + 1) octets)
+      (StopsBad-before State answer (place n state line) (take (at + 1) octets) (drop (at + 1) octets) [] n stops)
+
+  -- some of a piece was run; of its text some was written, and the rest is held back
+  pub record Fed (from here : Place State) (piece rest held : List ℕ) (old new : Option (List ℕ)) : Type 0 where
+    pub done : List ℕ
+    pub text : List ℕ
+    pub written : List ℕ
+    pub cut : piece ≡ done ++ rest
+    pub moves : Moves answer from here done text
+    pub whole : text ≡ written ++ held
+    pub appended : Appends old new written
+
+  pub Fed-none : (here : Place State) (piece : List ℕ) (old : Option (List ℕ)) → Fed here here piece piece [] old old
+  Fed-none here piece old = record {
+    done = [];
+    text = [];
+    written = [];
+    cut = refl;
+    moves = Moves-none State answer here;
+    whole = refl;
+    appended = Appends-none old;
+  }
+
+  pub Fed-adds : (from here there : Place State) (piece rest front back held later : List ℕ) (old new : Option (List ℕ))
+      → Fed from here piece rest held old new → front ++ back ≡ rest → Adds answer here there front held later
+      → Fed from there piece back later old new
+  Fed-adds from here there piece rest front back held later old new f e a = record {
+    done = f.done ++ front;
+    text = f.text ++ a.text;
+    written = f.written;
+    cut = f.cut ∙ ap (λ (s : List ℕ). f.done ++ s) (sym e) ∙ sym (append_assoc f.done front back);
+    moves = Moves-then State answer from here there f.done front f.text a.text f.moves a.moves;
+    whole = ap (λ (s : List ℕ). s ++ a.text) f.whole ∙ append_assoc f.written held a.text
+        ∙ ap (λ (s : List ℕ). f.written ++ s) (sym a.appended);
+    appended = f.appended;
+  }
+
+  pub Fed-spills : (from here : Place State) (piece rest held later : List ℕ) (old new newer : Option (List ℕ))
+      → Fed from here piece rest held old new → Spills held later new newer → Fed from here piece rest later old newer
+  Fed-spills from here piece rest held later old new newer f s = record {
+    done = f.done;
+    text = f.text;
+    written = f.written ++ s.written;
+    cut = f.cut;
+    moves = f.moves;
+    whole = f.whole ∙ ap (λ (t : List ℕ). f.written ++ t) s.whole ∙ sym (append_assoc f.written s.written later);
+    appended = Appends-more old new newer f.written s.written f.appended s.appended;
+  }
+
+  -- what was held back was written: all of the text was
+  whole_text : (from here : Place State) (piece rest held : List ℕ) (old new newer : Option (List ℕ)) (f : Fed from here piece rest held old new)
+      → Appends new newer held → Appends old newer f.text
+  whole_text from here piece rest held old new newer f a =
+      subst (λ (s : List ℕ). Appends old newer s) (sym f.whole) (Appends-more old new newer f.written held f.appended a)
+
+  pub Fed-runs : (from here : Place State) (piece rest held : List ℕ) (old new newer : Option (List ℕ))
+      → Fed from here piece rest held old new → rest ≡ [] → Appends new newer held → Runs answer from here piece old newer
+  Fed-runs from here piece rest held old new newer f e a =
+      let all : f.done ≡ piece = sym (f.cut ∙ ap (λ (s : List ℕ). f.done ++ s) e ∙ append-nil f.done) in record {
+        written = f.text;
+        moves = subst (λ (s : List ℕ). Moves answer from here s f.text) all f.moves;
+        appended = whole_text from here piece rest held old new newer f a;
+      }
+
+  pub Fed-stops : (from here : Place State) (piece rest held : List ℕ) (n : ℕ) (old new newer : Option (List ℕ))
+      → Fed from here piece rest held old new → Appends new newer held → StopsBad answer here rest [] n
+      → RunsBad answer from piece n old newer
+  Fed-stops from here piece rest held n old new newer f a b = record {
+    written = f.text;
+    stops = subst (λ (s : List ℕ). StopsBad answer from s f.text n) (sym f.cut)
+        (subst (λ (t : List ℕ). StopsBad answer from (f.done ++ rest) t n) (append-nil f.text)
+        (Moves-then_stops State answer from here f.done rest f.text [] n f.moves b));
+    appended = whole_text from here piece rest held old new newer f a;
+  }
+
+  breaks_off : (from here : Place State) (piece rest held : List ℕ) (old new : Option (List ℕ)) (f : Fed from here piece rest held old new)
+      → Breaks answer from piece f.text
+  breaks_off from here piece rest held old new f =
+      subst (λ (s : List ℕ). Breaks answer from s f.text) (sym f.cut)
+      (Breaks-shorter State answer from (f.done ++ rest) f.text []
+      (Moves-then_breaks State answer from here f.done rest f.text [] f.moves (Breaks-none State answer here rest)))
+
+  pub Fed-part : (from here : Place State) (piece rest held : List ℕ) (old new newer : Option (List ℕ))
+      → Fed from here piece rest held old new → Appends new newer held → RunsPart answer from piece old newer
+  Fed-part from here piece rest held old new newer f a = record {
+    written = f.text;
+    breaks = breaks_off from here piece rest held old new f;
+    appended = whole_text from here piece rest held old new newer f a;
+  }
+
+  pub Fed-lost : (from here : Place State) (piece rest held : List ℕ) (old new newer : Option (List ℕ))
+      → Fed from here piece rest held old new → LostWithin held new newer → RunsLost answer from piece old newer
+  Fed-lost from here piece rest held old new newer f l =
+      let parts : f.text ≡ (f.written ++ l.written) ++ l.begins.0 =
+      f.whole ∙ ap (λ (s : List ℕ). f.written ++ s) l.begins.1 ∙ sym (append_assoc f.written l.written l.begins.0) in
+      record {
+        written = f.written ++ l.written;
+        breaks = Breaks-shorter State answer from piece (f.written ++ l.written) l.begins.0
+            (subst (λ (t : List ℕ). Breaks answer from piece t) parts (breaks_off from here piece rest held old new f));
+        appended = Appends-more_or_lost old new newer f.written l.written f.appended l.appended;
+      }

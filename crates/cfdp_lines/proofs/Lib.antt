@@ -1,0 +1,4 @@
+pub mod Feeding
+pub mod LineLemmas
+pub mod Moving
+pub mod Running

@@ -1,0 +1,43 @@
+use Rattle.std.proofs.Common.{◌≡◌, true, Err, ◌++◌, take, get_or, arith}
+use Rattle.std.proofs.lemmas.Result.{err_from_is_err_and}
+use Rattle.cfdp_lines.specs.declared.script.LineFault.TheVariants.{Bad}
+use Rattle.cfdp_lines.specs.Lines.{is_newline, IsOneLine}
+use Rattle.cfdp_lines.proofs.Feeding.{one_line-before, one_line-whole, Adds-line, Stops-overlong, Stops-line}
+use Rattle.cfdp_lines.proofs.Moving.{StopsBad-overlong}
+use Rattle.cfdp_lines.proofs.session.Session.take.Goals as goal
+
+pub gather-requires-2 : goal.gather-requires-2
+gather-requires-2 g c = one_line-before c.args.octets.now c.in-Some.at (omega (arith, c.in-Some.ensures.0.high)) c.in-Some.ensures.0.before
+
+pub returns-in_err-gather-clause-bad : goal.returns-in_err-gather-clause-bad
+returns-in_err-gather-clause-bad g c = λ e.
+    let p = err_from_is_err_and c.from_residual.result c.from_residual.ensures.1 in
+    let same : c.gather.result ≡ Err Bad = cc (p.1, p.2, c.in_err-gather.was) in
+    let one_line = one_line-whole c.args.octets.now c.in_default.ensures in
+    StopsBad-overlong _ _ _ _ _ _ c.args.self.now.one_line one_line (c.gather.ensures.bad same)
+
+pub returns-in_err-gather-2-clause-bad : goal.returns-in_err-gather-2-clause-bad
+returns-in_err-gather-2-clause-bad g c = λ e.
+    let p = err_from_is_err_and c.from_residual-in_err-gather-2.result c.from_residual-in_err-gather-2.ensures.1 in
+    let same : c.gather-2.result ≡ Err Bad = cc (p.1, p.2, c.in_err-gather-2.was) in
+    let one_line = one_line-before c.args.octets.now c.in-Some.at (omega (arith, c.in-Some.ensures.0.high)) c.in-Some.ensures.0.before in
+    Stops-overlong _ _ _ _ _ _ c.in-Some.at c.args.self.now.one_line one_line (c.gather-2.ensures.bad same)
+
+pub returns-in_err-end_line-clause-bad : goal.returns-in_err-end_line-clause-bad
+returns-in_err-end_line-clause-bad g c = λ e.
+    let p = err_from_is_err_and c.from_residual-in_err-end_line.result c.from_residual-in_err-end_line.ensures.1 in
+    let same : c.end_line.result ≡ Err Bad = cc (p.1, p.2, c.in_err-end_line.was) in
+    let newline : is_newline (get_or c.args.octets.now c.in-Some.at 0) ≡ true = c.in-Some.ensures.1 in
+    let gathered : c.gather-2.new.self.line.items ≡ c.args.self.now.line.items ++ take c.in-Some.at c.args.octets.now = c.in_ok-gather-2.ensures.ok in
+    let one_line : IsOneLine (c.args.self.now.line.items ++ take c.in-Some.at c.args.octets.now) = rw gathered at c.gather-2.new.self.one_line in
+    Stops-line _ _ _ _ _ _ c.in-Some.at one_line c.in-Some.ensures.0.high newline
+    (rw (gathered, c.gather-2.ensures.script) at (c.end_line.ensures.bad same))
+
+pub returns-clause-ok : goal.returns-clause-ok
+returns-clause-ok g c =
+    let newline : is_newline (get_or c.args.octets.now c.in-Some.at 0) ≡ true = c.in-Some.ensures.1 in
+    let gathered : c.gather-2.new.self.line.items ≡ c.args.self.now.line.items ++ take c.in-Some.at c.args.octets.now = c.in_ok-gather-2.ensures.ok in
+    let one_line : IsOneLine (c.args.self.now.line.items ++ take c.in-Some.at c.args.octets.now) = rw gathered at c.gather-2.new.self.one_line in
+    rw (c.in_ok-end_line.ensures.number, c.in_ok-end_line.ensures.line, c.gather-2.ensures.number)
+    (Adds-line _ _ _ _ _ _ _ _ _ c.in-Some.at one_line c.in-Some.ensures.0.high newline
+    (rw (gathered, c.gather-2.ensures.script, c.gather-2.ensures.text) at c.in_ok-end_line.ensures.ok))

@@ -1,0 +1,9 @@
+pub mod Answers
+pub mod Ends
+pub mod Lines
+pub mod Outcome
+pub mod Places
+pub mod Report
+pub mod Session
+pub use Rattle.cfdp_streams.specs.Adapters
+pub use Rattle.cfdp_streams.specs.Streams

@@ -1,0 +1,94 @@
+//! How a run of a script, and the program round it, can end.
+ghost use Rattle.std.specs.Prelude.{◌≡◌};
+ghost use Rattle.cfdp_lines.specs.Ends.{status_of};
+
+use std::alloc::AllocError;
+use thiserror::Error;
+
+/// Why a run of a script stopped before its end.
+#[derive(Clone, Copy, Debug, PartialEq, Eq, Drop, Error)]
+pub enum RunFault {
+    /// The reader failed, or the script is longer than the input limit.
+    #[error("read failed")]
+    Read,
+    /// The writer failed.
+    #[error("write failed")]
+    Write,
+    /// Memory was refused.
+    #[error("out of memory")]
+    Memory,
+    /// The line of this number, counted from 1, is bad.
+    #[error("line {0}")]
+    BadLine(u64),
+}
+
+/// Why a run of `links` stopped before its end.
+#[derive(Clone, Copy, Debug, PartialEq, Eq, Drop, Error)]
+pub enum LinkFault {
+    /// The writer failed.
+    #[error("write failed")]
+    Write,
+    /// Memory was refused, or a thread could not be started.
+    #[error("out of memory")]
+    Memory,
+    /// The first file that has a bad line, counted from 0 as its seat is, and that line's number, counted from 1.
+    #[error("line {1}")]
+    BadLine(u8, u64),
+    /// The journal was full.
+    #[error("journal full")]
+    JournalFull,
+    /// The receipts of the seats are not the journal, a worker did not take the messages of its file, or the entity has not
+    /// the configuration of the files.
+    #[error("receipts differ")]
+    ReceiptsDiffer,
+}
+
+impl From<AllocError> for LinkFault {
+    ghost use Rattle.std.specs.Prelude.{◌≡◌};
+    ghost use Rattle.cfdp_lines.specs.declared.faults.LinkFault.TheVariants.{Memory};
+
+    ghost from_gives = { λ _ fault. fault ≡ Memory };
+
+    fn from(_refused: AllocError) -> LinkFault {
+        LinkFault::Memory
+    }
+}
+
+/// What the program ends with. Its text is the line on standard error, empty where there is none, and takes no
+/// memory.
+#[derive(Clone, Copy, Debug, PartialEq, Eq, Drop, Error)]
+pub enum ProgramEnd {
+    /// The whole input was run.
+    #[error("")]
+    Fine,
+    /// The words of the command line are none that the program knows.
+    #[error("cfdpsim: usage")]
+    Usage,
+    /// The run stopped before its end.
+    #[error("cfdpsim: {0}")]
+    Run(RunFault),
+    /// The run of several files stopped before its end.
+    #[error("cfdpsim: {0}")]
+    Link(LinkFault),
+}
+
+impl ProgramEnd {
+    /// The exit status: 0 where the whole input was run, 1 for a read, a write or memory that failed, for a full journal and
+    /// for receipts that differ, 2 for unknown words, 3 for a bad line. It takes no memory.
+    pub fn status(&self) -> u8
+        ensures { result ≡ status_of self.now }
+    {
+        match self {
+            ProgramEnd::Fine => 0,
+            ProgramEnd::Run(RunFault::Read | RunFault::Write | RunFault::Memory) => 1,
+            ProgramEnd::Usage => 2,
+            ProgramEnd::Link(
+                LinkFault::Write
+                | LinkFault::Memory
+                | LinkFault::JournalFull
+                | LinkFault::ReceiptsDiffer,
+            ) => 1,
+            ProgramEnd::Run(RunFault::BadLine(_)) | ProgramEnd::Link(LinkFault::BadLine(..)) => 3,
+        }
+    }
+}

@@ -1,0 +1,44 @@
+//! What a kind of script is: how one line of it is answered.
+ghost use Rattle.std.specs.Prelude.{◌≡◌, ℕ, List, Option, None, OnOk, OnErr, Err};
+ghost use Rattle.cfdp_lines.specs.Answers.{Answers};
+ghost use Rattle.cfdp_lines.specs.declared.script.LineFault.TheVariants.{Bad};
+
+use std::alloc::{AllocError, Global};
+
+/// Why a line has no answer.
+#[derive(Clone, Copy, Debug, PartialEq, Eq)]
+pub enum LineFault {
+    /// It is a bad line.
+    Bad,
+    /// Memory was refused.
+    Memory,
+}
+
+impl From<AllocError> for LineFault {
+    ghost use Rattle.std.specs.Prelude.{◌≡◌};
+    ghost use Rattle.cfdp_lines.specs.declared.script.LineFault.TheVariants.{Memory};
+
+    ghost from_gives = { λ _ e. e ≡ Memory };
+
+    fn from(_e: AllocError) -> LineFault {
+        LineFault::Memory
+    }
+}
+
+/// A kind of script: a state, and an answer to each line.
+pub trait Script {
+    // What the state between two lines is seen as.
+    ghost State: { Type 0 };
+
+    ghost state: { Self → State };
+
+    // What a line does that is neither overlong nor a comment: the state after it and its text, or nothing
+    // where it is bad.
+    ghost answer: { State → List ℕ → Option (State × List ℕ) };
+
+    /// Answers a line, and appends its text to `out`: each line of it with a newline behind.
+    fn line(&mut self, alloc: Global, line: &[u8], out: &mut Vec<u8>) -> Result<(), LineFault>
+        ensures ok { OnOk result (Answers answer (state self.old) (state self.new) line.now out.old.items out.new.items) }
+        ensures bad { result ≡ Err Bad → answer (state self.old) line.now ≡ None }
+        ensures kept { OnErr result (out.new.items ≡ out.old.items) };
+}

@@ -1,0 +1,241 @@
+//! A run in the middle of its script.
+ghost use Rattle.std.specs.Prelude.{◌≡◌, ◌≢◌, ℕ, ◌+◌, ◌<◌, ◌≤◌, ◌^◌, true, List, [], ◌∷◌, ◌++◌, length, take, Option, Some, None, IfOk, OnOk, OnErr, Err};
+ghost use Rattle.std.specs.Io.KnownBytes.{Appends, Keeps};
+ghost use Rattle.cfdp_lines.specs.Answers.{Answers, Adds};
+ghost use Rattle.cfdp_lines.specs.Lines.{IsOneLine, line_limit};
+ghost use Rattle.cfdp_lines.specs.Report.{line_answer, wrote, finished, stopped_at};
+ghost use Rattle.cfdp_lines.specs.Session.{Runs, RunsBad, RunsPart, RunsLost, StopsBad, Finishes, FinishesBad, FinishesLost};
+ghost use Rattle.cfdp_streams.specs.Streams.{LostWithin, Spills};
+ghost use Rattle.cfdp_lines.specs.declared.faults.RunFault.TheVariants.{Read, Write, Memory, BadLine};
+ghost use Rattle.cfdp_lines.specs.declared.script.LineFault.TheVariants.{Bad};
+
+use crate::faults::RunFault;
+use crate::script::{LineFault, Script};
+use cfdp_streams::{ScriptOut, write_all};
+use memchr::memchr;
+use std::alloc::Global;
+
+/// The longest line, in octets.
+pub const LINE_LIMIT: usize = 200_000;
+
+/// How much text is held back at most before it is written, in octets, the answer to the last line apart.
+const FULL: usize = 65_536;
+
+/// The octet that ends a line.
+pub const NEWLINE: u8 = b'\n';
+
+/// The octet that a line begins with which is passed over.
+pub const COMMENT: u8 = b'#';
+
+/// A script that is being run: what it does, what has come of the line that is being read, and the text that is not
+/// written yet.
+#[derive(Drop)]
+pub(crate) struct Session<S> {
+    pub(crate) script: S,
+    pub(crate) line: Vec<u8>,
+    /// The number of that line, counted from 1.
+    pub(crate) number: u64,
+    pub(crate) text: Vec<u8>,
+    ghost one_line: { IsOneLine line.items },
+    ghost within: { length line.items ≤ line_limit },
+}
+
+impl<S: Script> Session<S> {
+    ghost use Rattle.cfdp_lines.specs.Places.{place_of};
+
+    /// Before the first octet.
+    pub(crate) fn new(alloc: Global, script: S) -> Self
+        ensures script { result.script ≡ script }
+        ensures line { result.line.items ≡ [] }
+        ensures number { result.number ≡ 1 }
+        ensures text { result.text.items ≡ [] }
+    {
+        Session {
+            script,
+            line: Vec::new(alloc),
+            number: 1,
+            text: Vec::new(alloc),
+        }
+    }
+
+    /// The fault of the line that is being read.
+    fn fault(&self, fault: LineFault) -> RunFault
+        ensures bad { (n : ℕ) → result ≡ BadLine n → (n ≡ self.now.number) × (fault ≡ Bad) }
+        ensures never_reads { result ≢ Read }
+        ensures never_writes { result ≢ Write }
+    {
+        match fault {
+            LineFault::Bad => RunFault::BadLine(self.number),
+            LineFault::Memory => RunFault::Memory,
+        }
+    }
+
+    /// Runs the line that was read, and appends its text to what is to be written.
+    fn run_line(&mut self, alloc: Global) -> Result<(), LineFault>
+        ensures line { self.new.line ≡ self.old.line }
+        ensures number { self.new.number ≡ self.old.number }
+        ensures ok { OnOk result (Answers (line_answer S.answer) (S.state self.old.script) (S.state self.new.script)
+            self.old.line.items self.old.text.items self.new.text.items) }
+        ensures bad { result ≡ Err Bad → line_answer S.answer (S.state self.old.script) self.old.line.items ≡ None }
+        ensures kept { OnErr result (self.new.text.items ≡ self.old.text.items) }
+    {
+        if self.line.first() == Some(&COMMENT) {
+            return Ok(());
+        }
+        self.script.line(alloc, &self.line, &mut self.text)
+    }
+
+    /// Takes some octets of the line that is being read.
+    fn gather(&mut self, part: &[u8]) -> Result<(), LineFault>
+        requires { IsOneLine part.now }
+        ensures script { self.new.script ≡ self.old.script }
+        ensures number { self.new.number ≡ self.old.number }
+        ensures text { self.new.text ≡ self.old.text }
+        ensures ok { OnOk result (self.new.line.items ≡ self.old.line.items ++ part.now) }
+        ensures bad { result ≡ Err Bad → line_limit < length self.old.line.items + length part.now }
+    {
+        if part.len() > LINE_LIMIT - self.line.len() {
+            return Err(LineFault::Bad);
+        }
+        Ok(self.line.extend_from_slice(part)?)
+    }
+
+    /// The line that was read ends here, and is run.
+    fn end_line(&mut self, alloc: Global) -> Result<(), LineFault>
+        requires { self.old.number + 1 < 2 ^ 64 }
+        ensures ok { OnOk result (Answers (line_answer S.answer) (S.state self.old.script) (S.state self.new.script)
+            self.old.line.items self.old.text.items self.new.text.items) }
+        ensures line { OnOk result (self.new.line.items ≡ []) }
+        ensures number { OnOk result (self.new.number ≡ self.old.number + 1) }
+        ensures bad { result ≡ Err Bad → line_answer S.answer (S.state self.old.script) self.old.line.items ≡ None }
+        ensures kept { OnErr result (self.new.text.items ≡ self.old.text.items) }
+        ensures same { OnErr result (self.new.number ≡ self.old.number) }
+    {
+        self.run_line(alloc)?;
+        self.line.clear();
+        self.number += 1;
+        Ok(())
+    }
+
+    /// Takes the next octets of the script up to the next newline, or all where there is none, and answers how many;
+    /// a line that ends is run.
+    fn take(&mut self, alloc: Global, octets: &[u8]) -> Result<usize, LineFault>
+        requires some { 0 < length octets.now }
+        requires number { self.old.number + 1 < 2 ^ 64 }
+        ensures some { IfOk result (λ n. 0 < n) }
+        ensures count { IfOk result (λ n. n ≤ length octets.now) }
+        ensures number { OnOk result (self.new.number ≤ self.old.number + 1) }
+        ensures ok { IfOk result (λ n. Adds S.answer (place_of S.state self.old) (place_of S.state self.new)
+            (take n octets.now) self.old.text.items self.new.text.items) }
+        ensures bad { result ≡ Err Bad → StopsBad S.answer (place_of S.state self.old) octets.now [] self.old.number }
+        ensures kept { OnErr result (self.new.text.items ≡ self.old.text.items) }
+        ensures same { OnErr result (self.new.number ≡ self.old.number) }
+    {
+        let Some(at) = memchr(NEWLINE, octets) else {
+            self.gather(octets)?;
+            return Ok(octets.len());
+        };
+        self.gather(&octets[..at])?;
+        self.end_line(alloc)?;
+        Ok(at + 1)
+    }
+
+    /// Writes the text that was held back.
+    fn flush<W: ScriptOut>(&mut self, writer: &mut W) -> Result<(), RunFault>
+        ensures script { self.new.script ≡ self.old.script }
+        ensures line { self.new.line ≡ self.old.line }
+        ensures number { self.new.number ≡ self.old.number }
+        ensures ok { OnOk result (Appends (W.contents writer.old) (W.contents writer.new) self.old.text.items) }
+        ensures empty { OnOk result (self.new.text.items ≡ []) }
+        ensures lost { OnErr result (LostWithin self.old.text.items (W.contents writer.old) (W.contents writer.new)) }
+        ensures well { OnOk result (W.failed writer.new ≡ W.failed writer.old) }
+        ensures fails { OnErr result (W.failed writer.new ≡ true) }
+        ensures only { OnErr result (result ≡ Err Write) }
+    {
+        write_all(writer, &self.text).map_err(|_| RunFault::Write)?;
+        self.text.clear();
+        Ok(())
+    }
+
+    /// Writes the text that was held back, if it is full.
+    fn flush_if_full<W: ScriptOut>(&mut self, writer: &mut W) -> Result<(), RunFault>
+        ensures script { self.new.script ≡ self.old.script }
+        ensures line { self.new.line ≡ self.old.line }
+        ensures number { self.new.number ≡ self.old.number }
+        ensures ok { OnOk result (Spills self.old.text.items self.new.text.items (W.contents writer.old) (W.contents writer.new)) }
+        ensures lost { OnErr result (LostWithin self.old.text.items (W.contents writer.old) (W.contents writer.new)) }
+        ensures well { OnOk result (W.failed writer.new ≡ W.failed writer.old) }
+        ensures fails { OnErr result (W.failed writer.new ≡ true) }
+        ensures only { OnErr result (result ≡ Err Write) }
+    {
+        if self.text.len() < FULL {
+            return Ok(());
+        }
+        self.flush(writer)
+    }
+
+    /// Takes the next octets of the script: each line that ends among them is run, and its text is written.
+    pub(crate) fn feed<W: ScriptOut>(
+        &mut self,
+        alloc: Global,
+        octets: &[u8],
+        writer: &mut W,
+    ) -> Result<(), RunFault>
+        requires number { self.old.number + length octets.now < 2 ^ 64 }
+        requires empty { self.old.text.items ≡ [] }
+        ensures empty { OnOk result (self.new.text.items ≡ []) }
+        ensures number { OnOk result (self.new.number ≤ self.old.number + length octets.now) }
+        ensures ok { OnOk result (Runs S.answer (place_of S.state self.old) (place_of S.state self.new)
+            octets.now (W.contents writer.old) (W.contents writer.new)) }
+        ensures bad { (n : ℕ) → result ≡ Err (BadLine n) → RunsBad S.answer (place_of S.state self.old)
+            octets.now n (W.contents writer.old) (W.contents writer.new) }
+        ensures memory { result ≡ Err Memory → RunsPart S.answer (place_of S.state self.old)
+            octets.now (W.contents writer.old) (W.contents writer.new) }
+        ensures write { result ≡ Err Write → RunsLost S.answer (place_of S.state self.old)
+            octets.now (W.contents writer.old) (W.contents writer.new) }
+        ensures well { result ≢ Err Write → W.failed writer.new ≡ W.failed writer.old }
+        ensures fails { result ≡ Err Write → W.failed writer.new ≡ true }
+        ensures never_reads { result ≢ Err Read }
+    {
+        let mut rest = octets;
+        'lines: while !rest.is_empty() {
+            let count = match self.take(alloc, rest) {
+                Ok(count) => count,
+                Err(fault) => {
+                    self.flush(writer)?;
+                    return Err(self.fault(fault));
+                }
+            };
+            rest = rest.split_at(count).1;
+            self.flush_if_full(writer)?;
+        }
+        self.flush(writer)
+    }
+
+    /// The script ends here. What came of a last line without a newline is a line.
+    pub(crate) fn finish<W: ScriptOut>(
+        &mut self,
+        alloc: Global,
+        writer: &mut W,
+    ) -> Result<(), RunFault>
+        requires { self.old.text.items ≡ [] }
+        ensures ok { OnOk result (Finishes S.answer (place_of S.state self.old)
+            (W.contents writer.old) (W.contents writer.new)) }
+        ensures bad { (n : ℕ) → result ≡ Err (BadLine n) → FinishesBad S.answer (place_of S.state self.old)
+            n (W.contents writer.old) (W.contents writer.new) }
+        ensures memory { result ≡ Err Memory → Keeps (W.contents writer.old) (W.contents writer.new) }
+        ensures write { result ≡ Err Write → FinishesLost S.answer (place_of S.state self.old)
+            (W.contents writer.old) (W.contents writer.new) }
+        ensures well { result ≢ Err Write → W.failed writer.new ≡ W.failed writer.old }
+        ensures fails { result ≡ Err Write → W.failed writer.new ≡ true }
+        ensures never_reads { result ≢ Err Read }
+    {
+        if self.line.is_empty() {
+            return Ok(());
+        }
+        match self.run_line(alloc) {
+            Ok(()) => self.flush(writer),
+            Err(fault) => Err(self.fault(fault)),
+        }
+    }
+}
