@@ -18,7 +18,7 @@ pub type Range = (u64, u64);
 
 /// At most 32 ranges of offsets, in order, none of which is empty or touches another. Contracts see the list of them.
 /// No call takes memory, and each goes over the ranges once or twice.
-#[derive(Debug, Drop)]
+#[derive(Drop)]
 pub(crate) struct Ranges {
     ranges: ArrayVec<Range, MOST_GAPS>,
 }

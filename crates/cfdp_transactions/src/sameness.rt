@@ -8,17 +8,17 @@ use crate::reply::Reply;
 use cfdp_pdus::{Finished, Metadata};
 
 /// Whether two Metadata PDUs say the same.
-fn same_metadata(a: &Metadata, b: &Metadata) -> bool
-    ensures { IsTrue result ↔ (a.now ≡ b.now) }
+fn same_metadata(metadata: &Metadata, other: &Metadata) -> bool
+    ensures { IsTrue result ↔ (metadata.now ≡ other.now) }
 {
-    a == b
+    metadata == other
 }
 
 /// Whether two Finished PDUs say the same.
-fn same_finished(a: &Finished, b: &Finished) -> bool
-    ensures { IsTrue result ↔ (a.now ≡ b.now) }
+fn same_finished(finished: &Finished, other: &Finished) -> bool
+    ensures { IsTrue result ↔ (finished.now ≡ other.now) }
 {
-    a == b
+    finished == other
 }
 
 /// Whether two outcomes say the same to the sender, whatever their headers are.
@@ -41,15 +41,16 @@ impl Event {
     pub fn same(&self, other: &Event) -> bool
         ensures { IsTrue result ↔ (self.now ≡ other.now) }
     {
-        match (self, other) {
-            (Event::Metadata(h, a), Event::Metadata(k, b)) => h == k && same_metadata(a, b),
-            (Event::Data(h, a), Event::Data(k, b)) => h == k && a == b,
-            (Event::Eof(h, a), Event::Eof(k, b)) => h == k && a == b,
-            (Event::Step(a), Event::Step(b))
-            | (Event::Cancel(a), Event::Cancel(b))
-            | (Event::Check(a), Event::Check(b))
-            | (Event::Take(a), Event::Take(b)) => a == b,
-            _ => false,
+        match self {
+            Event::Metadata(h, a) => {
+                matches!(other, Event::Metadata(k, b) if h == k && same_metadata(a, b))
+            }
+            Event::Data(h, a) => matches!(other, Event::Data(k, b) if h == k && a == b),
+            Event::Eof(h, a) => matches!(other, Event::Eof(k, b) if h == k && a == b),
+            Event::Step(a) => matches!(other, Event::Step(b) if a == b),
+            Event::Cancel(a) => matches!(other, Event::Cancel(b) if a == b),
+            Event::Check(a) => matches!(other, Event::Check(b) if a == b),
+            Event::Take(a) => matches!(other, Event::Take(b) if a == b),
         }
     }
 }
@@ -60,29 +61,30 @@ impl Reply {
     pub fn same(&self, other: &Reply) -> bool
         ensures { IsTrue result ↔ (self.now ≡ other.now) }
     {
-        match (self, other) {
-            (Reply::Admitted(blocks, steps), Reply::Admitted(other_blocks, other_steps)) => {
-                blocks == other_blocks && steps == other_steps
+        match self {
+            Reply::Admitted(blocks, steps) => {
+                matches!(other, Reply::Admitted(b, s) if blocks == b && steps == s)
             }
-            (Reply::Refused(a), Reply::Refused(b)) => a == b,
-            (Reply::Faulted(a), Reply::Faulted(b)) => a == b,
-            (Reply::Performed(a), Reply::Performed(b)) => a == b,
-            (Reply::Taken(a), Reply::Taken(b)) => same_outcome(a.outcome(), b.outcome()),
-            (Reply::Stored, Reply::Stored)
-            | (Reply::Dropped, Reply::Dropped)
-            | (Reply::Complete, Reply::Complete)
-            | (Reply::Waiting, Reply::Waiting)
-            | (Reply::Installed, Reply::Installed)
-            | (Reply::Done, Reply::Done)
-            | (Reply::Cancelled, Reply::Cancelled)
-            | (Reply::Duplicate, Reply::Duplicate)
-            | (Reply::Unknown, Reply::Unknown)
-            | (Reply::Idle, Reply::Idle)
-            | (Reply::NotForUs, Reply::NotForUs)
-            | (Reply::TableFull, Reply::TableFull)
-            | (Reply::Memory, Reply::Memory)
-            | (Reply::JournalFull, Reply::JournalFull) => true,
-            _ => false,
+            Reply::Refused(a) => matches!(other, Reply::Refused(b) if a == b),
+            Reply::Faulted(a) => matches!(other, Reply::Faulted(b) if a == b),
+            Reply::Performed(a) => matches!(other, Reply::Performed(b) if a == b),
+            Reply::Taken(a) => {
+                matches!(other, Reply::Taken(b) if same_outcome(a.outcome(), b.outcome()))
+            }
+            Reply::Stored => matches!(other, Reply::Stored),
+            Reply::Dropped => matches!(other, Reply::Dropped),
+            Reply::Complete => matches!(other, Reply::Complete),
+            Reply::Waiting => matches!(other, Reply::Waiting),
+            Reply::Installed => matches!(other, Reply::Installed),
+            Reply::Done => matches!(other, Reply::Done),
+            Reply::Cancelled => matches!(other, Reply::Cancelled),
+            Reply::Duplicate => matches!(other, Reply::Duplicate),
+            Reply::Unknown => matches!(other, Reply::Unknown),
+            Reply::Idle => matches!(other, Reply::Idle),
+            Reply::NotForUs => matches!(other, Reply::NotForUs),
+            Reply::TableFull => matches!(other, Reply::TableFull),
+            Reply::Memory => matches!(other, Reply::Memory),
+            Reply::JournalFull => matches!(other, Reply::JournalFull),
         }
     }
 }

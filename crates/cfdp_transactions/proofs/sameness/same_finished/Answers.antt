@@ -4,4 +4,4 @@ use Rattle.cfdp_transactions.proofs.Equality.{finished-Decides}
 use Rattle.cfdp_transactions.proofs.sameness.same_finished.Goals as goal
 
 pub returns : goal.returns
-returns c = subst (λ r. Decides r (c.args.a.now ≡ c.args.b.now)) (sym c.eq.ensures) (finished-Decides c.args.a.now c.args.b.now)
+returns c = subst (λ r. Decides r (c.args.finished.now ≡ c.args.other.now)) (sym c.eq.ensures) (finished-Decides c.args.finished.now c.args.other.now)
