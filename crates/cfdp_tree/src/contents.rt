@@ -17,7 +17,7 @@ use cfdp_actions::Kind;
 use cfdp_arena::{Arena, Block};
 
 /// The octets of a file or of a staged list: a run that has just the blocks for them, and how many they are.
-#[derive(Clone, Copy, Debug)]
+#[derive(Clone, Copy)]
 pub(crate) struct Contents {
     pub(crate) run: Run,
     pub(crate) size: u32,

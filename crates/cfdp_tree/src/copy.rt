@@ -11,7 +11,7 @@ use crate::runs::Run;
 use cfdp_arena::Arena;
 
 /// An octet of a run: the place of its block, and its place in the block's payload.
-#[derive(Clone, Copy, Debug)]
+#[derive(Clone, Copy)]
 pub(crate) struct Spot {
     pub(crate) cursor: Cursor,
     pub(crate) at: usize,

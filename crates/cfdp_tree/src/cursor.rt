@@ -8,7 +8,7 @@ use cfdp_arena::{Arena, BlockId};
 
 /// A place in a run: a block of it, and how many blocks of the run come before that one. Behind the last block there is
 /// a place too, whose block means nothing.
-#[derive(Clone, Copy, Debug)]
+#[derive(Clone, Copy)]
 pub(crate) struct Cursor {
     pub(crate) block: BlockId,
     pub(crate) index: u32,

@@ -22,7 +22,7 @@ use cfdp_arena::{Arena, Block, BlockId};
 use cfdp_paths::Path;
 
 /// A file that was found: its node, and its octets.
-#[derive(Clone, Copy, Debug)]
+#[derive(Clone, Copy)]
 pub(crate) struct FoundFile {
     pub(crate) node: BlockId,
     pub(crate) contents: Contents,

@@ -11,7 +11,7 @@ pub(crate) const HEADER_OCTETS: usize = 8;
 pub(crate) const PAYLOAD_OCTETS: usize = cfdp_actions::PAYLOAD_OCTETS as usize;
 
 /// What a block is for.
-#[derive(Clone, Copy, Debug, PartialEq, Eq)]
+#[derive(Clone, Copy, PartialEq, Eq)]
 pub(crate) enum BlockKind {
     /// Octets of a file or of a staged list.
     Content,

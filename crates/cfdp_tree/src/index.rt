@@ -11,7 +11,7 @@ use cfdp_arena::{Arena, BlockId};
 use std::hash::{FoldHasher, Hasher};
 
 /// Where a list of nodes begins, and how many there are. Where there are none, the node means nothing.
-#[derive(Clone, Copy, Debug)]
+#[derive(Clone, Copy)]
 pub(crate) struct Head {
     pub(crate) first: BlockId,
     pub(crate) count: u32,

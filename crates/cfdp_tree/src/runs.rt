@@ -11,7 +11,7 @@ use cfdp_arena::{Arena, BlockId};
 
 /// A run of blocks in an arena: its first block, its last block and how many there are. Where there are none, the two
 /// blocks mean nothing.
-#[derive(Clone, Copy, Debug)]
+#[derive(Clone, Copy)]
 pub(crate) struct Run {
     pub(crate) first: BlockId,
     pub(crate) last: BlockId,

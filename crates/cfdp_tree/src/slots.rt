@@ -12,7 +12,7 @@ use crate::cursor::Cursor;
 use cfdp_arena::Arena;
 
 /// A staged list, and the place of the block of it that was last written.
-#[derive(Clone, Copy, Debug)]
+#[derive(Clone, Copy)]
 pub(crate) struct Slot {
     pub(crate) contents: Contents,
     pub(crate) place: Cursor,

@@ -13,7 +13,7 @@ use Rattle.cfdp_tree.proofs.OutLaws.{nodes_long, index_regrouped}
 use Rattle.cfdp_tree.proofs.GroupLaws.{grouped_relinked}
 use Rattle.cfdp_tree.proofs.AlikeLaws.{alike_relinked, alike_regrouped, alike_then, runs_then}
 use Rattle.cfdp_tree.proofs.DropLaws.{seen_found, tree_two, index_two, entry_two, alike_three}
-use Rattle.cfdp_tree.proofs.ShiftLaws.{place_nodes, place_other, tree_three, index_three, groups_three, shift_view, shift_store}
+use Rattle.cfdp_tree.proofs.ShiftLaws.{place_nodes, place_other, tree_three, index_three, entry_three, groups_three, shift_view, shift_store}
 use Rattle.cfdp_tree.proofs.tree_store.TreeStoreFilestore.rename.Goals as goal
 
 pub unwrap-node-requires : goal.unwrap-node-requires
@@ -68,6 +68,16 @@ insert-requires-clause-tree c =
     let node = subst (λ r. IfSome r (λ x. IsNode (nodes_in arena) x)) c.unwrap-node.ensures c.find_path.ensures.node in
     let way = subst (λ r. IfSome r (λ x. path_of (nodes_in arena) x ≡ p)) c.unwrap-node.ensures c.find_path.ensures.path in
     tree_three _ _ _ _ c.self.invariant _ c.self.view_is p b node way q c.depth-depth.ensures.within _ (omega (arith, c.depth-depth.ensures.depth, c.depth-depth.ensures.within.some)) c.requires.parent
+    c.lookup.result c.lookup.ensures.node c.lookup.ensures.path c.lookup.ensures.none c.name-new_name.result.now c.name-new_name.ensures.name c.requires.apart
+    c.remove.new.arena (alike_three _ _ _ _ c.self.invariant _ c.self.view_is p b node way arena refl c.unlink_entry.new.arena c.unlink_entry.ensures.same c.unlink_entry.ensures.capacity c.remove.new.arena c.remove.ensures.links)
+    c.rename_node.new.arena _ c.rename_node.ensures.nodes c.rename_node.ensures.row c.rename_node.ensures.home c.rename_node.ensures.name c.rename_node.ensures.whole c.requires.absent c.requires.depth
+
+pub insert-requires-clause-entry : goal.insert-requires-clause-entry
+insert-requires-clause-entry c =
+    let arena = c.self.inside.arena in let b = c.unwrap-node.result in let p = c.args.from.now in let q = c.args.to.now in
+    let node = subst (λ r. IfSome r (λ x. IsNode (nodes_in arena) x)) c.unwrap-node.ensures c.find_path.ensures.node in
+    let way = subst (λ r. IfSome r (λ x. path_of (nodes_in arena) x ≡ p)) c.unwrap-node.ensures c.find_path.ensures.path in
+    entry_three _ _ _ _ c.self.invariant _ c.self.view_is p b node way q c.depth-depth.ensures.within _ (omega (arith, c.depth-depth.ensures.depth, c.depth-depth.ensures.within.some)) c.requires.parent
     c.lookup.result c.lookup.ensures.node c.lookup.ensures.path c.lookup.ensures.none c.name-new_name.result.now c.name-new_name.ensures.name c.requires.apart
     c.remove.new.arena (alike_three _ _ _ _ c.self.invariant _ c.self.view_is p b node way arena refl c.unlink_entry.new.arena c.unlink_entry.ensures.same c.unlink_entry.ensures.capacity c.remove.new.arena c.remove.ensures.links)
     c.rename_node.new.arena _ c.rename_node.ensures.nodes c.rename_node.ensures.row c.rename_node.ensures.home c.rename_node.ensures.name c.rename_node.ensures.whole c.requires.absent c.requires.depth
