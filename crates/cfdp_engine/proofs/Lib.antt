@@ -1,5 +1,6 @@
 pub mod Keeping
 pub mod Histories
+pub mod Beginning
 pub mod Accepting
 pub mod Faults
 pub mod Serving

@@ -1,6 +1,7 @@
 //! Workers.
 
 ghost use Rattle.std.specs.Prelude.{◌≡◌, [], IfOk, OnErr, OnOk, min};
+ghost use Rattle.std.specs.Arc.{arc_value};
 ghost use Rattle.cfdp_engine.specs.Sharing.{Adds, IsReceived};
 ghost use Rattle.cfdp_engine.specs.Working.{AreSteps, BeginAll, BeginsOne, BringAll, Brings, event_in, is_passed_over, passed_over};
 
@@ -10,6 +11,7 @@ use crate::seat::Seat;
 use crate::shared::Shared;
 use crate::stop::Stop;
 use cfdp_actions::Filestore;
+use cfdp_paths::Memory;
 use cfdp_pdus::{PduFault, read_pdu};
 use cfdp_transactions::{Event, event_of};
 use crossbeam_channel::Receiver;
@@ -43,6 +45,13 @@ fn read_event(alloc: Global, octets: &[u8]) -> Result<Option<Event>, Stop>
     }
 }
 
+/// The first handle of a value that several holders share; it is dropped where there is no memory.
+fn first_handle<T: Drop>(alloc: Global, value: T) -> Result<Arc<T, Global>, Memory>
+    ensures { IfOk result (λ handle. arc_value handle ≡ value) }
+{
+    Ok(Arc::new(alloc, value)?)
+}
+
 /// Hands in an event of the worker's own: the place of its entry.
 fn hand_in<S: Filestore, R: Wait>(
     rt: &R,
@@ -54,10 +63,8 @@ fn hand_in<S: Filestore, R: Wait>(
     ensures ok { IfOk result (λ place. IsReceived seat.old seat.new place event) }
     ensures err { OnErr result (seat.new ≡ seat.old) }
 {
-    match Arc::new(alloc, event) {
-        Ok(event) => shared.accept(rt, seat, event),
-        Err(_) => Err(Stop::Memory),
-    }
+    let event = first_handle(alloc, event)?;
+    shared.accept(rt, seat, event)
 }
 
 /// Steps what can be stepped.

@@ -1,0 +1,12 @@
+-- An empty journal is that of a core that has just begun.
+use Rattle.std.proofs.Common.{◌≡◌, ℕ, ◌≤◌, [], refl, sym, arith}
+use Rattle.cfdp_transactions.specs.World.{start}
+use Rattle.cfdp_transactions.specs.Engine.{Engine}
+use Rattle.cfdp_engine.specs.Journal.{IsWhole}
+
+pub whole_start : (capacity : ℕ) (E : Engine) → E.world ≡ start E.world.config → E.world.config.journal ≤ capacity → IsWhole capacity (record { core = E; journal = [] })
+whole_start capacity E begun room = record {
+  history = record { replies = refl; world = sym begun };
+  within = omega arith;
+  room = room;
+}
