@@ -12,7 +12,7 @@ use std::marker::Model;
 
 /// What CCSDS 727.0-B-5 §8 leaves to the management information base of a receiving entity. All numbers are within their
 /// limits. Contracts see its values.
-#[derive(Drop)]
+#[derive(Debug, Drop)]
 pub struct Config {
     entity: u64,
     blocks: u32,

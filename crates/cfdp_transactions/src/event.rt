@@ -9,7 +9,7 @@ use std::error::Error;
 use std::fmt;
 
 /// What happens to the receiving entity: a PDU that came, or something of its own.
-#[derive(Drop)]
+#[derive(Debug, Drop)]
 pub enum Event {
     /// A Metadata PDU (CCSDS 727.0-B-5 §5.2.5), which begins a transaction.
     Metadata(Header, Metadata),

@@ -10,7 +10,7 @@ use std::marker::Model;
 use std::sync::Arc;
 
 /// The outcome of a transaction: its Finished PDU, and whether it is sent.
-#[derive(Drop)]
+#[derive(Debug, Drop)]
 pub struct Outcome {
     /// The header of the Finished PDU, which goes toward the sender (CCSDS 727.0-B-5 §5.1).
     pub header: Header,
