@@ -98,16 +98,21 @@ fn judge(alloc: Global, scene: &Scene, bound: u64, spare: u32) -> Result<Verdict
     verify(alloc, store, leases, &quota, protected, &list)
 }
 
-fn try_needs(rt: &impl Abort, alloc: Global) -> Result<(), Memory> {
-    let scene = Scene::new(rt, alloc, 64, &[])?;
+/// Judges each of them.
+fn judge_all(rt: &impl Abort, alloc: Global, scene: &Scene) -> Result<(), Memory> {
     for (bound, spare, told) in &NEEDS {
-        let verdict = judge(alloc, &scene, *bound, *spare)?;
+        let verdict = judge(alloc, scene, *bound, *spare)?;
         assert!(rt;
             Told::of(rt, &verdict) == *told,
             "{bound} octets, {spare} blocks"
         );
     }
     Ok(())
+}
+
+fn try_needs(rt: &impl Abort, alloc: Global) -> Result<(), Memory> {
+    let scene = Scene::new(rt, alloc, 64, &[])?;
+    judge_all(rt, alloc, &scene)
 }
 
 /// A need that no u32 can tell is told from the greatest that one can.

@@ -56,17 +56,29 @@ fn judge(
     }
 }
 
-/// The verdict on a list with a file.
-fn ask_again(rt: &impl Abort, alloc: Global, tlvs: &[&[u8]], told: Told) -> Result<(), Memory> {
-    let scene = Scene::new(rt, alloc, 64, &BEFORE)?;
+/// Whether this is the verdict on a list with a file.
+fn is_judged(
+    rt: &impl Abort,
+    alloc: Global,
+    scene: &Scene,
+    tlvs: &[&[u8]],
+    told: Told,
+) -> Result<bool, Memory> {
     let requests = read_all(alloc, tlvs)?;
     let list = Proposal {
         destination: Some(b"b"),
         bound: 240,
         requests: &requests,
     };
-    let verdict = judge(rt, alloc, &scene, &list)?;
-    assert!(rt; Told::of(rt, &verdict) == told);
+    let verdict = judge(rt, alloc, scene, &list)?;
+    Ok(Told::of(rt, &verdict) == told)
+}
+
+/// Asks for the verdict.
+fn ask_again(rt: &impl Abort, alloc: Global, tlvs: &[&[u8]], told: Told) -> Result<(), Memory> {
+    let scene = Scene::new(rt, alloc, 64, &BEFORE)?;
+    let judged = is_judged(rt, alloc, &scene, tlvs, told)?;
+    assert!(rt; judged);
     Ok(())
 }
 

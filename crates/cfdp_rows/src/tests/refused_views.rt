@@ -100,16 +100,31 @@ fn try_items(rt: &impl Abort, view: &mut View<'_>, paths: &[Path; 3], requests: 
     assert!(rt; tells(view, paths, AT_LAST));
 }
 
+/// Tries them on a view of the store.
+fn try_on(
+    rt: &impl Abort,
+    alloc: Global,
+    scene: &Scene,
+    paths: &[Path; 3],
+    requests: &[Request],
+) -> Result<(), Memory> {
+    let leased = footprint(alloc, requests, Some(&paths[0]))?;
+    let mut view = View::of(alloc, &scene.store, &scene.protected, &leased)?;
+    try_items(rt, &mut view, paths, requests);
+    Ok(())
+}
+
+fn try_in(rt: &impl Abort, alloc: Global, scene: &Scene) -> Result<(), Memory> {
+    let requests = requests(alloc, &ITEMS)?;
+    let paths = asked(alloc)?;
+    try_on(rt, alloc, scene, &paths, &requests)
+}
+
 /// All else that takes memory comes before the install and the requests, so that only one of these can be refused from
 /// then on: that changes no answer, and the same is done when it is asked for again.
 fn run(rt: &impl Abort, alloc: Global) -> Result<(), Memory> {
     let scene = Scene::new(rt, alloc, 8, &BEFORE)?;
-    let requests = requests(alloc, &ITEMS)?;
-    let paths = asked(alloc)?;
-    let leased = footprint(alloc, &requests, Some(&paths[0]))?;
-    let mut view = View::of(alloc, &scene.store, &scene.protected, &leased)?;
-    try_items(rt, &mut view, &paths, &requests);
-    Ok(())
+    try_in(rt, alloc, &scene)
 }
 
 /// Where memory was refused before the first item, all is tried once more; where an item was refused it, the test goes on.
