@@ -3,6 +3,8 @@ pub mod Decoding
 pub mod Hearing
 pub mod Numbering
 pub mod Preparing
+pub mod Reconciling
+pub mod SameConfig
 pub mod Statuses
 pub mod Steps
 pub mod Words

@@ -16,7 +16,7 @@ use std::str;
 pub(crate) const MOST_NUMBERS: usize = 5;
 
 /// What the receiving entity is told of its own: an event of one transaction.
-#[derive(Clone, Copy, Debug, PartialEq, Eq)]
+#[derive(Clone, Copy)]
 pub(crate) enum Local {
     /// The next item is performed.
     Step,
@@ -43,7 +43,7 @@ impl Local {
 }
 
 /// What a line says.
-#[derive(Clone, Copy, Debug, PartialEq, Eq)]
+#[derive(Clone, Copy)]
 pub(crate) enum Keyword {
     /// The configuration is given.
     Config,

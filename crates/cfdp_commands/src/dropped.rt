@@ -5,7 +5,7 @@ ghost use Rattle.cfdp_commands.specs.RequestLines.{dropped_for, dropped_text};
 use cfdp_tlv::TlvFault;
 
 /// Why a line is dropped. A dropped line is no part of its list.
-#[derive(Clone, Copy, Debug, PartialEq, Eq)]
+#[derive(Clone, Copy)]
 pub(crate) enum Dropped {
     /// A field is cut.
     Truncated,

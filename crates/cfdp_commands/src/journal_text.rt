@@ -72,7 +72,7 @@ fn push_count(count: usize, text: &mut Vec<u8>) -> Result<(), AllocError>
 }
 
 /// The whole text: the entries, the seats, the journal's length, and what stands in the filestore.
-pub fn text_of<S: Filestore>(
+pub(crate) fn text_of<S: Filestore>(
     alloc: Global,
     core: &Core<S>,
     journal: &[Entry],

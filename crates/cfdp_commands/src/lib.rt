@@ -2,10 +2,11 @@
 //!
 //! There are two kinds of script: [`Requests`], filestore requests as hexadecimal TLVs (CCSDS 727.0-B-5 §5.4), performed on one
 //! filestore (§4.9); and [`Transfers`], PDUs (§5.1 to §5.3) and local events of one receiving entity (§4.6). The files of `links`
-//! have the lines of the second kind: [`read_files`] makes messages of them, and [`text_of`] the text of the journal that these
-//! came to.
+//! have the lines of the second kind: [`read_files`] makes messages of them, [`run_all`] runs a worker for each file, and
+//! [`text_of_closed`] is the text of what they did.
 #![tactic(auto)]
 
+mod closed_text;
 mod commands;
 mod dropped;
 mod entity;
@@ -19,11 +20,13 @@ mod request_lines;
 mod requests;
 mod stage;
 mod transfers;
+mod workers;
 
-pub use journal_text::text_of;
+pub use closed_text::{reconcile, text_of_closed};
 pub use link_files::{Prepared, read_files};
-pub use messages::{are_same, copy_of};
+pub use messages::are_same;
 pub use readable::messages_are_readable;
 pub use requests::Requests;
 pub use stage::copy_config;
 pub use transfers::Transfers;
+pub use workers::run_all;

@@ -8,7 +8,7 @@ use std::alloc::{AllocError, Global};
 use std::sync::Arc;
 
 /// One more message that says the same.
-pub fn copy_of(alloc: Global, message: &Message) -> Result<Message, AllocError>
+pub(crate) fn copy_of(alloc: Global, message: &Message) -> Result<Message, AllocError>
     ensures { IfOk result (λ copy. said_of copy ≡ said_of message.now) }
 {
     match message {

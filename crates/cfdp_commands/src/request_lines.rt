@@ -17,7 +17,7 @@ use cfdp_tlv::{
 use std::alloc::{AllocError, Global};
 
 /// Why a line brings no request.
-#[derive(Clone, Copy, Debug, PartialEq, Eq)]
+#[derive(Clone, Copy)]
 pub(crate) enum NoRequest {
     /// It is dropped.
     Dropped(Dropped),

@@ -1,5 +1,5 @@
 //! How far a script of `replay` is.
-ghost use Rattle.std.specs.Prelude.{◌≡◌, ◌++◌, ℕ, List, [], ◌∷◌, None, Some, OnOk, OnErr, IfOk, IsSome, Err};
+ghost use Rattle.std.specs.Prelude.{◌≡◌, ◌≤◌, ◌^◌, ◌++◌, ℕ, List, [], ◌∷◌, None, Some, OnOk, OnErr, IfOk, IfSome, IsSome, Err};
 ghost use Rattle.cfdp_transactions.specs.Config.{first_fault};
 ghost use Rattle.cfdp_transactions.specs.World.{start};
 ghost use Rattle.cfdp_transactions.specs.Writable.{IsReadable};
@@ -64,6 +64,17 @@ pub fn copy_config(alloc: Global, config: &Config) -> Result<Config, AllocError>
     Ok(with_prefixes(config, protected))
 }
 
+/// A number that may be a count of the configuration.
+fn count_of(number: u64) -> Option<u32>
+    ensures some { IfSome result (λ count. count ≡ number) }
+    ensures none { result ≡ None → 2 ^ 32 ≤ number }
+{
+    match u32::try_from(number) {
+        Ok(count) => Some(count),
+        Err(_) => None,
+    }
+}
+
 /// The configuration of these numbers, with nothing protected.
 fn config_of(
     entity: u64,
@@ -77,11 +88,13 @@ fn config_of(
     ensures bad { OnErr result (IsSome (first_fault blocks cap checks journal)) }
     ensures only { OnErr result (result ≡ Err Bad) }
 {
-    let (Ok(blocks), Ok(checks), Ok(journal)) = (
-        u32::try_from(blocks),
-        u32::try_from(checks),
-        u32::try_from(journal),
-    ) else {
+    let Some(blocks) = count_of(blocks) else {
+        return Err(LineFault::Bad);
+    };
+    let Some(checks) = count_of(checks) else {
+        return Err(LineFault::Bad);
+    };
+    let Some(journal) = count_of(journal) else {
         return Err(LineFault::Bad);
     };
     match Config::new(entity, blocks, cap, checks, journal, Protected::new()) {

@@ -1,2 +1,0 @@
-pub mod Reconciling
-pub mod SameConfig

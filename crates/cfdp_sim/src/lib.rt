@@ -10,7 +10,6 @@
 mod link_scripts;
 mod plain_scripts;
 mod replay_scripts;
-mod workers;
 
 pub use cfdp_lines::{INPUT_LIMIT, LinkFault, ProgramEnd, RunFault};
 pub use cfdp_streams::{Failed, FromRead, ScriptIn, ScriptOut, ToWrite};

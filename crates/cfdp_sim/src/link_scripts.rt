@@ -2,23 +2,21 @@
 ghost use Rattle.std.specs.Prelude.{◌≡◌, ◌≢◌, ℕ, ◌≤◌, true, length, map, None, Err, IfNone, IfOk, IfErr, OnErr, OnOk};
 ghost use Rattle.std.specs.List.{AllByRecursion};
 ghost use Rattle.cfdp_transactions.specs.World.{start};
-ghost use Rattle.cfdp_transactions.specs.Writable.{FitsReply};
-ghost use Rattle.cfdp_engine.specs.Journal.{IsHistory, replies_of};
-ghost use Rattle.cfdp_engine.specs.Seats.{IsReconciled};
 ghost use Rattle.cfdp_engine.specs.Sharing.{told_of};
 ghost use Rattle.cfdp_engine.specs.Working.{BringAll, passed_over};
-ghost use Rattle.cfdp_commands.specs.JournalTexts.{journal_text};
 ghost use Rattle.cfdp_lines.specs.Lines.{input_limit};
 ghost use Rattle.cfdp_commands.specs.Linked.{AllNumbered, AreHanded, Handed, HasReadable, IsHeard, IsLinkRun, IsLinked, IsLinkedBy, IsRunFault, IsWork, Stops};
 ghost use Rattle.cfdp_commands.specs.Links.{link_files, said_of};
 ghost use Rattle.cfdp_lines.specs.declared.faults.LinkFault.TheVariants.{BadLine, ReceiptsDiffer, Write};
 
-use crate::workers::run_all;
-use cfdp_commands::{Prepared, are_same, copy_config, messages_are_readable, read_files, text_of};
-use cfdp_engine::{Closed, Entry, Gate, Journaled, Message, Seat, Shared, Stop, Worked, close};
+use cfdp_commands::{
+    Prepared, are_same, copy_config, messages_are_readable, read_files, reconcile, run_all,
+    text_of_closed,
+};
+use cfdp_engine::{Gate, Journaled, Message, Seat, Shared, Stop, Worked};
 use cfdp_lines::LinkFault;
 use cfdp_streams::{ScriptOut, write_all};
-use cfdp_transactions::{Config, Core, laws};
+use cfdp_transactions::Config;
 use cfdp_tree::TreeStore;
 use std::alloc::Global;
 use std::sync::Wait;
@@ -113,59 +111,6 @@ fn settle_all(
         };
     }
     Ok((seats, dropped))
-}
-
-/// What is left of the engine, where the receipts of the seats are its journal, and it has this configuration.
-///
-/// # Errors
-///
-/// [`LinkFault::ReceiptsDiffer`] elsewhere.
-fn reconcile(
-    config: &Config,
-    journaled: Journaled<TreeStore>,
-    seats: Vec<Seat>,
-) -> Result<Closed<TreeStore>, LinkFault>
-    ensures config { IfOk result (λ closed. closed.core.world.config ≡ config.now) }
-    ensures history { IfOk result (λ closed. IsHistory closed.journal.items closed.core.world) }
-    ensures reconciled { IfOk result (λ closed. IsReconciled closed.journal.items closed.seats.items) }
-    ensures seats { IfOk result (λ closed. closed.seats.items ≡ seats.items) }
-    ensures differs { OnErr result (result ≡ Err ReceiptsDiffer) }
-{
-    if journaled.core().config() != config {
-        return Err(LinkFault::ReceiptsDiffer);
-    }
-    match close(journaled, seats) {
-        Ok(closed) => Ok(closed),
-        Err(_) => Err(LinkFault::ReceiptsDiffer),
-    }
-}
-
-/// The replies of a journal can be written, where its events are those of seats that handed in what may have been read. Does
-/// nothing.
-fn replies_fit(core: &Core<TreeStore>, journal: &[Entry], seats: &[Seat])
-    requires history { IsHistory journal.now core.now.world }
-    requires reconciled { IsReconciled journal.now seats.now }
-    requires readable { AllByRecursion HasReadable seats.now }
-    ensures { AllByRecursion FitsReply (replies_of journal.now) }
-{
-    laws::outcomes_fit();
-}
-
-/// The text of an engine that is closed.
-fn text_of_closed(
-    alloc: Global,
-    closed: &Closed<TreeStore>,
-    dropped: &[u64],
-) -> Result<Vec<u8>, LinkFault>
-    requires history { IsHistory closed.now.journal.items closed.now.core.world }
-    requires reconciled { IsReconciled closed.now.journal.items closed.now.seats.items }
-    requires readable { AllByRecursion HasReadable closed.now.seats.items }
-    ensures ok { IfOk result (λ text. text.items ≡ journal_text closed.now.journal.items closed.now.seats.items dropped.now closed.now.core.world) }
-    ensures fault { IfErr result IsRunFault }
-{
-    replies_fit(&closed.core, &closed.journal, &closed.seats);
-    let text = text_of(alloc, &closed.core, &closed.journal, &closed.seats, dropped)?;
-    Ok(text)
 }
 
 /// The text of the workers' journal, once none is at work.

@@ -2,7 +2,7 @@ use Rattle.std.proofs.Common.{rules, ◌≡◌, ◌+◌, ◌++◌, ◌∷◌, []
 use Rattle.std.specs.Vec.Iter.{into_iter_items}
 use Rattle.cfdp_commands.specs.Linked.{IsWork}
 use Rattle.cfdp_commands.proofs.Numbering.{numbered-first, numbered-rest, numbered-grown}
-use Rattle.cfdp_sim.proofs.workers.join_all.Goals as goal
+use Rattle.cfdp_commands.proofs.workers.join_all.Goals as goal
 
 pub loop-worker-preserved : goal.loop-worker-preserved
 loop-worker-preserved g c =

@@ -2,7 +2,7 @@
 ghost use Rattle.std.specs.Prelude.{◌≡◌, ◌≤◌, length, IfOk};
 ghost use Rattle.cfdp_commands.specs.Linked.{AllNumbered, IsWork};
 
-use cfdp_commands::copy_of;
+use crate::messages::copy_of;
 use cfdp_engine::{Gate, Message, Seat, Shared, Worked, work};
 use cfdp_tree::TreeStore;
 use crossbeam_channel::{Receiver, Sender, bounded};
@@ -40,7 +40,11 @@ fn work_as<R: Wait, G: Gate>(
 
 /// How many messages the longest file has.
 fn longest(files: &[Vec<Message>]) -> usize {
-    files.iter().map(Vec::len).max().unwrap_or(0)
+    let mut most = 0;
+    for file in files {
+        most = most.max(file.len());
+    }
+    most
 }
 
 /// Sends the workers what their files say, a message to each in turn, and closes their inboxes. A message for a worker that has
@@ -83,7 +87,7 @@ fn join_all<R: Threads>(
 /// # Errors
 ///
 /// Memory was refused, or a thread could not be started.
-pub(crate) fn run_all<R: Threads + Wait + Sync, G: Gate + Sync>(
+pub fn run_all<R: Threads + Wait + Sync, G: Gate + Sync>(
     rt: &R,
     alloc: Global,
     shared: &Shared<TreeStore>,

@@ -1,6 +1,6 @@
 use Rattle.std.proofs.Common.{◌≡◌}
-use Rattle.cfdp_sim.proofs.SameConfig.{config_same}
-use Rattle.cfdp_sim.proofs.link_scripts.reconcile.Goals as goal
+use Rattle.cfdp_commands.proofs.SameConfig.{config_same}
+use Rattle.cfdp_commands.proofs.closed_text.reconcile.Goals as goal
 
 pub returns-in-Ok-clause-config : goal.returns-in-Ok-clause-config
 returns-in-Ok-clause-config c =

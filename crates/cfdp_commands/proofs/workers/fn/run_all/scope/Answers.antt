@@ -1,6 +1,6 @@
 use Rattle.std.proofs.Common.{rules, ◌≡◌, ◌++◌, ◌∷◌, [], length}
 use Rattle.cfdp_commands.proofs.Numbering.{numbered-grown}
-use Rattle.cfdp_sim.proofs.workers.fn.run_all.scope.Goals as goal
+use Rattle.cfdp_commands.proofs.workers.fn.run_all.scope.Goals as goal
 
 pub loop-place-preserved : goal.loop-place-preserved
 loop-place-preserved g c =

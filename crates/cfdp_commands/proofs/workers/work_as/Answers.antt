@@ -1,6 +1,6 @@
 use Rattle.std.proofs.Common.{rules}
 use Rattle.cfdp_commands.proofs.Numbering.{passed_over-few}
-use Rattle.cfdp_sim.proofs.workers.work_as.Goals as goal
+use Rattle.cfdp_commands.proofs.workers.work_as.Goals as goal
 
 pub returns : goal.returns
 returns g c = record {

@@ -1,6 +1,6 @@
 use Rattle.std.proofs.Common.{◌≡◌, length}
 use Rattle.cfdp_commands.specs.Linked.{AllNumbered}
-use Rattle.cfdp_sim.proofs.workers.fn.run_all.scope.Given as goal
+use Rattle.cfdp_commands.proofs.workers.fn.run_all.scope.Given as goal
 
 abbrev pub invariant-loop-place : goal.invariant-loop-place
 invariant-loop-place g l = record {

@@ -1,7 +1,7 @@
 use Rattle.std.proofs.Common.{◌≡◌, ◌+◌, length}
 use Rattle.std.specs.Vec.Iter.{into_iter_items}
 use Rattle.cfdp_commands.specs.Linked.{AllNumbered, IsWork}
-use Rattle.cfdp_sim.proofs.workers.join_all.Given as goal
+use Rattle.cfdp_commands.proofs.workers.join_all.Given as goal
 
 abbrev pub invariant-loop-worker : goal.invariant-loop-worker
 invariant-loop-worker g l = record {

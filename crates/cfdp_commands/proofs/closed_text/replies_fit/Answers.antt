@@ -1,5 +1,5 @@
-use Rattle.cfdp_sim.proofs.Reconciling.{replies_fit}
-use Rattle.cfdp_sim.proofs.link_scripts.replies_fit.Goals as goal
+use Rattle.cfdp_commands.proofs.Reconciling.{replies_fit}
+use Rattle.cfdp_commands.proofs.closed_text.replies_fit.Goals as goal
 
 pub returns : goal.returns
 returns c =
