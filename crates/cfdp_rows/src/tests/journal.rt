@@ -1,5 +1,5 @@
 //! A journal of sixteen entries that some Metadata PDUs filled in part: worked transactions go on until it is full, and nothing
-//! goes in from then on.
+//! goes in from then on. An event for which memory was refused is handed in once more.
 
 use super::entity::{Given, Told, id, is_told};
 use cfdp_actions::{Entry, Filestore, Protected};
@@ -67,6 +67,42 @@ static FOUR: [(Given, Told); 20] = [
     ),
     // Behind all of them the journal is full.
     (Given::Cancel(14), Told::JournalFull),
+];
+
+/// A path in two spellings; and a list that is cancelled behind its first request, whose leases another transaction then gets.
+static TWO_MORE: [(Given, Told); 11] = [
+    (
+        Given::Pdu("240013000108020740000000000000000400022f610003100161"),
+        Told::Admitted(1, 4),
+    ),
+    (
+        Given::Pdu("24000a0001080204000000000000000000"),
+        Told::Complete,
+    ),
+    (Given::Step(8), Told::Performed(0x00)),
+    (Given::Step(8), Told::Performed(0x10)),
+    (
+        Given::Take(8),
+        Told::Finished("2c000f000108020503010500022f6100010410016100"),
+    ),
+    (
+        Given::Pdu("24001700010c020740000000000000000300016100030001620003000163"),
+        Told::Admitted(3, 6),
+    ),
+    (
+        Given::Pdu("24000a00010c0204000000000000000000"),
+        Told::Complete,
+    ),
+    (Given::Step(12), Told::Performed(0x00)),
+    (Given::Cancel(12), Told::Cancelled),
+    (
+        Given::Pdu("24000d00010d0207400000000000000003100161"),
+        Told::Admitted(0, 2),
+    ),
+    (
+        Given::Take(12),
+        Told::Finished("2c001700010c0205f301040001610001040f01620001040f016300060102"),
+    ),
 ];
 
 /// Sixteen Metadata PDUs, of neither a file nor requests, of transactions of entity 3.
@@ -153,7 +189,7 @@ fn replies(
     is_told(rt, alloc, &reply, told)
 }
 
-/// Whether the next event of the four transactions is replied to as it has to be.
+/// Whether the next event of the transactions is replied to as it has to be.
 fn goes_on(
     rt: &impl Abort,
     alloc: Global,
@@ -174,20 +210,26 @@ fn fill(rt: &impl Abort, alloc: Global, engine: &mut Engine, count: usize) -> Re
     Ok(())
 }
 
-/// Hands in the four transactions.
-fn go_on(rt: &impl Abort, alloc: Global, engine: &mut Engine) -> Result<(), Memory> {
-    for (place, row) in FOUR.iter().enumerate() {
+/// Hands in the events of transactions.
+fn go_on(
+    rt: &impl Abort,
+    alloc: Global,
+    engine: &mut Engine,
+    rows: &[(Given, Told)],
+) -> Result<(), Memory> {
+    for (place, row) in rows.iter().enumerate() {
         let well = goes_on(rt, alloc, engine, *row)?;
         assert!(rt; well, "event {place}");
     }
-    assert!(rt; engine.journal().len() == 16);
     Ok(())
 }
 
 fn try_behind(rt: &impl Abort, alloc: Global, count: usize) -> Result<(), Memory> {
     let mut engine = engine(alloc, 16)?;
     fill(rt, alloc, &mut engine, count)?;
-    go_on(rt, alloc, &mut engine)
+    go_on(rt, alloc, &mut engine, &FOUR)?;
+    assert!(rt; engine.journal().len() == 16);
+    Ok(())
 }
 
 /// Where memory is refused beside the events, all is tried once more: `rt try --test --fail-alloc N` refuses one growth.
@@ -204,4 +246,17 @@ fn fills_behind_any_number_of_entries(rt: HostRuntime) -> Result<(), Memory> {
         check_behind(&rt, rt.alloc(), count)?;
     }
     Ok(())
+}
+
+fn try_two_more(rt: &impl Abort, alloc: Global) -> Result<(), Memory> {
+    let mut engine = engine(alloc, 16)?;
+    go_on(rt, alloc, &mut engine, &TWO_MORE)
+}
+
+#[test]
+fn goes_on_where_memory_is_refused(rt: HostRuntime) -> Result<(), Memory> {
+    match try_two_more(&rt, rt.alloc()) {
+        Ok(()) => Ok(()),
+        Err(_) => try_two_more(&rt, rt.alloc()),
+    }
 }

@@ -1,8 +1,8 @@
 //! Reads and writes that fail in mid-stream, and std's streams that are interrupted.
-use super::fakes::{Call, Scripted, Stream};
+use super::fakes::{Call, Reader, Scripted, Stream};
 use super::runs::{Kind, Ran, Run};
 use super::{REPLAY_REPORT, REPLAY_SCRIPT, REPORT, Row, SCRIPT, all_hold};
-use cfdp_sim::{Failed, FromRead, RunFault, ScriptIn, ScriptOut, ToWrite};
+use cfdp_sim::{Failed, FromRead, RunFault, ScriptIn, ScriptOut, ToWrite, plain, replay};
 use std::alloc::Global;
 use std::process::Abort;
 
@@ -214,6 +214,28 @@ impl Row for Moved {
 #[test]
 fn std_streams(rt: HostRuntime) {
     all_hold(&rt, rt.alloc(), &STREAMS);
+}
+
+/// A stream that takes nothing.
+static NOTHING: [Call; 1] = [Call::Nothing];
+
+/// How a run ends whose writer takes nothing.
+fn end_of_unwritten(alloc: Global, example: &Example) -> Result<(), RunFault> {
+    let mut reader = Reader::new(example.script.as_bytes(), Stream::sound(100));
+    let mut writer = ToWrite::new(Scripted { calls: &NOTHING });
+    match example.kind {
+        Kind::Plain => plain(alloc, &mut reader, &mut writer),
+        Kind::Replay => replay(alloc, &mut reader, &mut writer),
+    }
+}
+
+/// A writer that takes nothing ends the run.
+#[test]
+fn writers_that_take_nothing(rt: HostRuntime) {
+    for example in &EXAMPLES {
+        let end = end_of_unwritten(rt.alloc(), example);
+        assert!(rt; matches!(end, Err(RunFault::Write | RunFault::Memory)));
+    }
 }
 
 /// A stream that fails once.
