@@ -39,7 +39,7 @@ use std::marker::Model;
 pub struct TreeStore {
     pub(crate) arena: Arena,
     pub(crate) heads: Vec<Head>,
-    root: Head,
+    pub(crate) root: Head,
     pub(crate) slots: Vec<Slot>,
 }
 
