@@ -1,6 +1,7 @@
 //! The names of a path, lent one after the other.
 
 ghost use Rattle.std.specs.Iterator.{YieldsFirstRef, item_count};
+ghost use Rattle.std.specs.Prelude.{◌≡◌, []};
 
 use crate::buffers::SEPARATOR;
 use memchr::memchr;
@@ -22,6 +23,15 @@ impl<'a> Model for Names<'a> {
     ghost Value = { Path };
 
     ghost view = { λ names. path_in (option_copied names.octets) };
+}
+
+impl<'a> Names<'a> {
+    /// No names: those of the root. Takes no memory. In constant time.
+    pub fn none() -> Names<'a>
+        ensures { result ≡ [] }
+    {
+        Names { octets: None }
+    }
 }
 
 impl<'a> Iterator for Names<'a> {
