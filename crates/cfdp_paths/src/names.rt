@@ -1,7 +1,7 @@
 //! The names of a path, lent one after the other.
 
 ghost use Rattle.std.specs.Iterator.{YieldsFirstRef, item_count};
-ghost use Rattle.std.specs.Prelude.{◌≡◌, Some, IfOk, IfErr};
+ghost use Rattle.std.specs.Prelude.{◌≡◌, [], Some, IfOk, IfErr};
 ghost use Rattle.cfdp_paths.specs.Faults.{fault_of};
 ghost use Rattle.cfdp_paths.specs.Paths.{IsPath, path_of};
 
@@ -33,6 +33,13 @@ impl<'a> Model for Names<'a> {
 }
 
 impl<'a> Names<'a> {
+    /// No names: those of the root. Takes no memory. In constant time.
+    pub fn none() -> Names<'a>
+        ensures { result ≡ [] }
+    {
+        Names { octets: None }
+    }
+
     /// The names of the path that the octets spell, as [`Path::parse`] reads them, lent out of these octets, which change
     /// while they are lent. Takes no memory. Cost: a few passes over the octets.
     ///
