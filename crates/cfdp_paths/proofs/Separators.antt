@@ -5,6 +5,7 @@
 --     names_of-cut, cut_there, cut_nowhere             the names before and behind a separator
 --     names_of-next, names_of-last                     the first name, up to the first separator;  the last one, where there is none
 --     text-names_of, names_of-parsed                   octets with `/` in place of each separator, and the other way round
+--     names_of-spelled                                 the names that octets spell, once each `/` between them was replaced
 --     replace_more                                     one more octet is replaced
 --     rebased-names_of                                 what follows the octets of a path, behind those of another
 use Rattle.std.proofs.Common.{◌≡◌, ◌≢◌, refl, sym, ◌∙◌, ap, cond, ℕ, zero, suc, ◌+◌, ◌≤◌, ◌<◌, ◌==◌, nat_eq, Bool, true, false, ◌&&◌, List, [], ◌∷◌, ◌++◌, map, length, take, drop, get_or, set, add-one, arith, All, take-append-drop, length-take, length-drop, ◌-◌}
@@ -20,7 +21,7 @@ use Rattle.std.proofs.Math.Seq.{drop-cons}
 use Rattle.std.proofs.lemmas.List.{take_all, take_at, append-nil, get_or-take}
 use Rattle.std.proofs.lemmas.List.Elements.{All-weaker, All-head, All-tail, All-cons, All-from_get_or}
 use Rattle.std.proofs.lemmas.List.Splits.{length-slice_split, slice_split_none}
-use Rattle.cfdp_paths.specs.Paths.{Name, Path, IsName, is_separator, names_of, path_cmp, same_name, same_path, is_at_or_below, slash, is_slash, joined, rebased}
+use Rattle.cfdp_paths.specs.Paths.{Name, Path, IsName, IsPath, is_separator, names_of, path_cmp, same_name, same_path, is_at_or_below, slash, is_slash, without_slash, joined, names_in, rebased}
 use Rattle.cfdp_paths.proofs.Below.{rebased-append}
 
 pub some_names : (octets : List ℕ) → 1 ≤ length (names_of octets)
@@ -199,6 +200,12 @@ names_lack_zero p good = All-weaker IsName LacksZero (λ n w. All-weaker (λ o. 
 pub names_of-parsed : (a : List ℕ) → All LacksZero (slice_split is_slash a) → names_of (map (λ octet. cond (octet == slash) 0 octet) a) ≡ slice_split is_slash a
 names_of-parsed [] lacks = refl
 names_of-parsed (x ∷ a) lacks = parsed_more x a (map (λ octet. cond (octet == slash) 0 octet) a) (is_slash x) (names_of-parsed a) lacks
+
+-- what was made of the octets has the names that they spell
+pub names_of-spelled : (octets front made : List ℕ) → IsPath (names_in octets) → front ≡ without_slash octets → made ≡ map (λ octet. cond (octet == slash) 0 octet) front → names_of made ≡ names_in octets
+names_of-spelled octets front made path stripped replaced =
+    ap names_of (replaced ∙ ap (map (λ octet. cond (octet == slash) 0 octet)) stripped)
+    ∙ names_of-parsed (without_slash octets) (names_lack_zero (names_in octets) path.names)
 
 -- ---- one more octet is replaced
 

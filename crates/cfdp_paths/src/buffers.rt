@@ -23,7 +23,7 @@ pub(crate) fn replaced(
 }
 
 /// Puts `new` in place of each `old`.
-fn replace(octets: &mut [u8], old: u8, new: u8)
+pub(crate) fn replace(octets: &mut [u8], old: u8, new: u8)
     ensures { octets.new ≡ map (λ octet. if octet == old then new else octet) octets.old }
 {
     for octet in octets.iter_mut() {

@@ -59,3 +59,13 @@ pub(crate) fn strip_slash(octets: &[u8]) -> &[u8]
         _ => octets,
     }
 }
+
+/// The same of octets that may change.
+pub(crate) fn strip_slash_mut(octets: &mut [u8]) -> &mut [u8]
+    ensures { result.now ≡ without_slash octets.old }
+{
+    match octets {
+        [b'/', rest @ ..] => rest,
+        _ => octets,
+    }
+}

@@ -88,6 +88,19 @@ impl Path {
         }
     }
 
+    /// The first `depth` names in order, lent. Takes no memory. Cost: one pass over them; [`Names`] says what going through
+    /// them costs.
+    pub fn first_names(&self, depth: usize) -> Names<'_>
+        requires { depth ≤ length self.now }
+        ensures names { result ≡ take depth self.now }
+        ensures within { IsPath self.now }
+    {
+        let _ = &self.octets;
+        Names {
+            octets: self.first_octets(depth),
+        }
+    }
+
     /// The name at the index, where the first name has the index 0; no octets where the path has no such name. Takes no
     /// memory. Cost: one pass over the octets up to its end.
     pub fn name(&self, index: usize) -> &[u8]

@@ -55,3 +55,5 @@ pub mod RootedLaws
 pub mod ShiftLaws
 pub mod InOrderLaws
 pub mod SummingLaws
+pub mod LeastLaws
+pub mod NextLaws

@@ -1,5 +1,6 @@
 -- The octets of a path.
 --     text-push, text_home      one name more;  a node's path by its directory
+--     text_slash                a slash, and the names with slashes between them
 --     text_spells               they spell the path
 --     path_good                 a node's path is one
 use Rattle.std.proofs.Common.{◌≡◌, ℕ, zero, suc, List, [], ◌∷◌, ◌++◌, length, length-append, Option, Some, None, refl, ap, ◌∙◌, inr, arith}
@@ -25,6 +26,10 @@ text_home p q name rest e = ap (λ x. text_of x ++ rest) e ∙ ap (λ t. t ++ re
 text_joined : (name : Name) (p : Path) → text_of (name ∷ p) ≡ slash ∷ joined (name ∷ p)
 text_joined name [] = ap (λ t. slash ∷ t) (append-nil name)
 text_joined name (other ∷ p) = ap (λ t. slash ∷ name ++ t) (text_joined other p)
+
+pub text_slash : (p : Path) → IsPath p → text_of p ≡ slash ∷ joined p
+text_slash [] good = absurd (omega (arith, good.some))
+text_slash (name ∷ p) good = text_joined name p
 
 pub text_spells : (p : Path) → IsPath p → Spells (text_of p) p
 text_spells [] good = absurd (omega (arith, good.some))

@@ -16,6 +16,7 @@
 --     Walk         walks over what stands below a place
 --     Survey       the nodes of what stands there
 --     Text         the octets of a path
+--     Next         what comes next in path order
 pub mod Block
 pub mod Changes
 pub mod Contents
@@ -25,6 +26,7 @@ pub mod Index
 pub mod Kept
 pub mod Links
 pub mod Lists
+pub mod Next
 pub mod Nodes
 pub mod Places
 pub mod Row

@@ -7,7 +7,7 @@
 //! just the blocks for them (`contents`, `files`, `slots`). What stands at a path is a node, one block with its name and its
 //! links (`rows`, `nodes`). Nodes are found by their directory and their name (`index`, `lookup`), and stand in a list for
 //! each directory (`entries`), by which what stands below a place is walked over (`walk`) and told in path order (`survey`,
-//! `spelling`, `listing`, `summing`). The store puts these together (`tree_store`, `install`).
+//! `spelling`, `listing`, `summing`), or one by one (`next`). The store puts these together (`tree_store`, `install`).
 #![tactic(auto)]
 
 mod contents;
@@ -20,6 +20,7 @@ mod index;
 mod install;
 mod listing;
 mod lookup;
+mod next;
 mod nodes;
 mod payload;
 mod rows;
@@ -32,4 +33,5 @@ mod transfer;
 mod tree_store;
 mod walk;
 
+pub use next::NextEntry;
 pub use tree_store::TreeStore;

@@ -1,6 +1,10 @@
 //! What stands at nodes, as callers see it.
-ghost use Rattle.std.specs.Prelude.{◌≡◌, All, IfOk, map};
-ghost use Rattle.cfdp_actions.specs.Store.{entry_of, standing_of};
+ghost use Rattle.std.specs.Prelude.{◌≡◌, [], Some, All, IfOk, length, map};
+ghost use Rattle.cfdp_arena.specs.Arena.{octets_of};
+ghost use Rattle.cfdp_checksum.specs.Checksum.{checksum};
+ghost use Rattle.cfdp_actions.specs.Filestore.{octets_in};
+ghost use Rattle.cfdp_actions.specs.Store.{entry_of, kind_of, standing_of};
+ghost use Rattle.cfdp_tree.specs.Kept.{node_of};
 ghost use Rattle.cfdp_tree.specs.Nodes.{nodes_in};
 ghost use Rattle.cfdp_tree.specs.Survey.{shown, IsSound};
 
@@ -79,18 +83,41 @@ fn entry(arena: &Arena, path: Path, node: &BlockId) -> Entry
     requires { IsSound arena.now (path, node.now) }
     ensures { result ≡ entry_of (shown arena.now (nodes_in arena.now) (path, node.now)) }
 {
+    let told = tell(arena, node);
+    Entry {
+        path,
+        kind: told.kind,
+        size: told.size,
+        checksum: told.checksum,
+    }
+}
+
+/// What stands at a node, without its path.
+#[derive(Clone, Copy)]
+pub(crate) struct Told {
+    pub(crate) kind: Kind,
+    pub(crate) size: u64,
+    pub(crate) checksum: u32,
+}
+
+/// What stands at a node. In time linear in the octets of a file.
+pub(crate) fn tell(arena: &Arena, node: &BlockId) -> Told
+    requires { IsSound arena.now ([], node.now) }
+    ensures kind { result.kind ≡ kind_of (node_of arena.now (octets_of (nodes_in arena.now) node.now)) }
+    ensures size { result.size ≡ length (octets_in (Some (node_of arena.now (octets_of (nodes_in arena.now) node.now)))) }
+    ensures checksum { result.checksum
+        ≡ checksum (octets_in (Some (node_of arena.now (octets_of (nodes_in arena.now) node.now)))) }
+{
     let block = arena.bytes(*node);
     match kind_of(block) {
-        Kind::Directory => Entry {
-            path,
+        Kind::Directory => Told {
             kind: Kind::Directory,
             size: 0,
             checksum: 0,
         },
         Kind::File => {
             let file = contents_of(block);
-            Entry {
-                path,
+            Told {
                 kind: Kind::File,
                 size: u64::from(file.size),
                 checksum: checksum_of(arena, &file),

@@ -30,7 +30,7 @@ pub(crate) fn path_of(alloc: Global, arena: &Arena, node: &BlockId) -> Result<Pa
 
 /// Writes the names of a node's path, a slash before each, to the end of the buffer. Answers where they begin. In time
 /// linear in the octets.
-fn write_path(arena: &Arena, node: &BlockId, text: &mut [u8]) -> usize
+pub(crate) fn write_path(arena: &Arena, node: &BlockId, text: &mut [u8]) -> usize
     requires tree { IsTree (nodes_in arena.now) }
     requires node { IsNode (nodes_in arena.now) node.now }
     requires room { 776 ≤ length text.old }

@@ -34,12 +34,12 @@ use std::marker::Model;
 /// zeros of those that it takes. `read`, `read_staged`, `stage_put`, `append` and `replace` copy the octets that they are asked
 /// for by slices of a block; `read_staged` and `stage_put` begin their search for the place where the slot was last written,
 /// where that is before it, and `read` at the file's first block. `deepest` and `standing` go through what stands at and below the
-/// path, `listing` through everything with all octets.
+/// path, `listing` through everything with all octets, and `next_entry` through the entries of the directories on the way.
 #[derive(Drop)]
 pub struct TreeStore {
     pub(crate) arena: Arena,
     pub(crate) heads: Vec<Head>,
-    root: Head,
+    pub(crate) root: Head,
     pub(crate) slots: Vec<Slot>,
 }
 

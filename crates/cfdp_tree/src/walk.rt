@@ -11,7 +11,7 @@ use cfdp_arena::{Arena, Block, BlockId};
 use cfdp_paths::Memory;
 
 /// The list of a directory's entries, by its block; an empty one for a file.
-fn entries_in(block: &Block) -> Head
+pub(crate) fn entries_in(block: &Block) -> Head
     ensures { result ≡ entries_in block.now }
 {
     let count = match kind_of(block) {

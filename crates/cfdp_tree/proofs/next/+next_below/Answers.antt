@@ -1,0 +1,127 @@
+use Rattle.std.proofs.Common.{◌≡◌, ◌++◌, ℕ, false, [], ◌∷◌, length, is_some, Option, Some, None, refl, sym, ap, ◌∙◌, subst, arith}
+use Rattle.std.proofs.lemmas.List.Elements.{All-head, All-tail}
+use Rattle.std.proofs.lemmas.Option.{IfSome_then}
+use Rattle.std.specs.Prelude.{All, IfSome, IfNone}
+use Rattle.cfdp_arena.specs.Arena.{Blocks}
+use Rattle.cfdp_paths.specs.Paths.{Name, Path, IsName}
+use Rattle.cfdp_tree.specs.declared.index.Head.{Head}
+use Rattle.cfdp_tree.specs.Nodes.{nodes_in}
+use Rattle.cfdp_tree.specs.Tree.{IsTree, IsNode, IsEntry, path_of}
+use Rattle.cfdp_tree.specs.Places.{path_at, StandsAt}
+use Rattle.cfdp_tree.specs.Walk.{chain_of, entries_in}
+use Rattle.cfdp_tree.specs.Next.{IsListOf, Follows, IsFirst}
+use Rattle.cfdp_tree.proofs.TreeLaws.{node_live, node_octets}
+use Rattle.cfdp_tree.proofs.ClimbLaws.{path_entry}
+use Rattle.cfdp_tree.proofs.LeastLaws.{none_then}
+use Rattle.cfdp_tree.proofs.NextLaws.{list_of_node, least_first, none_first, apart_last, apart_name, behind_name, none_below, first_below, NoneBelow}
+use Rattle.cfdp_tree.proofs.next.+next_below.Goals as goal
+use Rattle.cfdp_tree.proofs.next.+next_below.Goals.{in-Some-find+else-is_some, in_default-find}
+
+no_result : {A : Type 0} (r : Option A) {P : Type 0} → is_some r ≡ false → IfNone r P → P
+no_result None absent p = p
+no_result (Some x) absent p = cc
+
+not_some : {A : Type 0} (r : Option A) {P : Type 0} → ((x : A) → r ≡ Some x → ⊥) → IfNone r P → P
+not_some None absent p = p
+not_some (Some x) absent p = absurd (absent x refl)
+
+some_same : {x y : ℕ} → Some x ≡ Some y → x ≡ y
+some_same e = cc
+
+-- the place of the call
+here : (nodes : Blocks) (place : Option ℕ) → ((d : ℕ) → place ≡ Some d → IsNode nodes d) → StandsAt nodes place (path_at nodes place)
+here nodes place node = record { node = node; path = refl }
+
+pub returns-in_default-clause-first : goal.returns-in_default-clause-first
+returns-in_default-clause-first t c =
+    let nodes = nodes_in c.args.arena.now in let place = c.args.place in let a = path_at nodes place in let list = chain_of nodes c.args.list.now in
+    let stands = here nodes place c.requires.place in
+    subst (λ (names : Path). IfSome c.least_behind.result (λ b. IsFirst nodes a (a ++ names) b)) (sym c.in_default.ensures.steps.0)
+    (IfSome_then c.least_behind.result c.least_behind.ensures.least
+    (least_first nodes c.requires.tree place a stands list c.requires.list [] None (apart_last nodes c.requires.tree place a stands list c.requires.list) (λ m behind. refl)))
+
+pub returns-in_default-clause-none : goal.returns-in_default-clause-none
+returns-in_default-clause-none t c =
+    let nodes = nodes_in c.args.arena.now in let place = c.args.place in let a = path_at nodes place in let list = chain_of nodes c.args.list.now in
+    let stands = here nodes place c.requires.place in
+    subst (λ (names : Path). IfNone c.least_behind.result ((b : ℕ) → Follows nodes a (a ++ names) b → ⊥)) (sym c.in_default.ensures.steps.0)
+    (none_then c.least_behind.result c.least_behind.ensures.none
+    (none_first nodes c.requires.tree place a stands list c.requires.list [] None (apart_last nodes c.requires.tree place a stands list c.requires.list)))
+
+names_good : (p rest : Path) (name : Name) → p ≡ name ∷ rest → All IsName p → IsName name × All IsName rest
+names_good p rest name e all = let parts = subst (All IsName) e all in (All-head IsName name rest parts, All-tail IsName name rest parts)
+
+pub find-requires-clause-short : goal.find-requires-clause-short
+find-requires-clause-short t c = (names_good c.args.names c.next.new.self c.in-Some.name.now c.in-Some.ensures.steps c.requires.names).0.short
+
+pub bytes-requires : goal.bytes-requires
+bytes-requires t c = record { live = node_live c.args.arena.now c.in-Some-find.node c.in-Some-find.ensures.found.node }
+
+pub next_below-below-requires : goal.next_below-below-requires
+next_below-below-requires t c =
+    let nodes = nodes_in c.args.arena.now in let d = c.in-Some-find.node in let node = c.in-Some-find.ensures.found.node in
+    let same = node_octets c.args.arena.now d node c.bytes.result.now c.bytes.ensures.octets in (
+      omega (arith, ap length c.in-Some.ensures.steps, c.decreases),
+      (
+        c.requires.tree,
+        (
+          c.requires.index,
+          (
+            c.requires.lists,
+            (
+              λ x e. subst (IsNode nodes) (some_same e) node,
+              (
+                subst (IsListOf nodes (Some d)) (ap (λ o. chain_of nodes (entries_in o)) (sym same) ∙ ap (λ (h : Head). chain_of nodes h) (sym c.entries_in-entries.ensures))
+                    (list_of_node nodes c.requires.tree c.requires.lists.0 c.requires.lists.1 d node),
+                (names_good c.args.names c.next.new.self c.in-Some.name.now c.in-Some.ensures.steps c.requires.names).1,
+              ),
+            ),
+          ),
+        ),
+      ),
+    )
+
+pub returns-then-is_some-clause-first : goal.returns-then-is_some-clause-first
+returns-then-is_some-clause-first t c =
+    let nodes = nodes_in c.args.arena.now in let place = c.args.place in let a = path_at nodes place in let name = c.in-Some.name.now in let rest : Path = c.next.new.self in
+    let stands = here nodes place c.requires.place in
+    let way = path_entry nodes c.requires.tree place a name c.in-Some-find.node stands c.in-Some-find.ensures.found in
+    subst (λ (names : Path). IfSome c.next_below-below.result (λ b. IsFirst nodes a (a ++ names) b)) (sym c.in-Some.ensures.steps)
+    (IfSome_then c.next_below-below.result
+    (subst (λ q. IfSome c.next_below-below.result (λ b. IsFirst nodes q (q ++ rest) b)) way c.next_below-below.ensures.first)
+    (first_below nodes c.requires.tree place a stands name rest))
+
+-- nothing follows below the name's own path
+none_found : (nodes : Blocks) (tree : IsTree nodes) (place : Option ℕ) (stands : StandsAt nodes place (path_at nodes place)) (name : Name) (rest : Path) (d : ℕ) → IsEntry nodes place name d
+    → ((b : ℕ) → Follows nodes (path_of nodes d) (path_of nodes d ++ rest) b → ⊥) → NoneBelow nodes tree place (path_at nodes place) stands name rest
+none_found nodes tree place stands name rest d entry none c follows =
+    let way = path_entry nodes tree place (path_at nodes place) name d stands entry in
+    none c (subst (λ q. Follows nodes q (q ++ rest) c) (sym way) follows)
+
+pub returns-clause-first : goal.returns-clause-first
+returns-clause-first t c =
+    let nodes = nodes_in c.args.arena.now in let tree = c.requires.tree in let place = c.args.place in let a = path_at nodes place in let name = c.in-Some.name.now in let rest : Path = c.next.new.self in
+    let list = chain_of nodes c.args.list.now in
+    let stands = here nodes place c.requires.place in
+    let none : NoneBelow nodes tree place a stands name rest = elim c.match-find.branch [
+      | in-Some-find+else-is_some w ↦ none_found nodes tree place stands name rest w.in-Some-find.node w.in-Some-find.ensures.found
+          (no_result w.next_below-below.result (sym w.is_some.ensures ∙ w.if-is_some.false) w.next_below-below.ensures.none)
+      | in_default-find w ↦ none_below nodes tree place a stands name rest (not_some c.find.result w.in_default-find.not-Some c.find.ensures.none)
+    ] in
+    subst (λ (names : Path). IfSome c.least_behind-2.result (λ b. IsFirst nodes a (a ++ names) b)) (sym c.in-Some.ensures.steps)
+    (IfSome_then c.least_behind-2.result c.least_behind-2.ensures.least
+    (least_first nodes tree place a stands list c.requires.list (name ∷ rest) (Some name) (apart_name nodes tree place a stands name rest list c.requires.list none) (behind_name nodes tree place a stands name rest)))
+
+pub returns-clause-none : goal.returns-clause-none
+returns-clause-none t c =
+    let nodes = nodes_in c.args.arena.now in let tree = c.requires.tree in let place = c.args.place in let a = path_at nodes place in let name = c.in-Some.name.now in let rest : Path = c.next.new.self in
+    let list = chain_of nodes c.args.list.now in
+    let stands = here nodes place c.requires.place in
+    let none : NoneBelow nodes tree place a stands name rest = elim c.match-find.branch [
+      | in-Some-find+else-is_some w ↦ none_found nodes tree place stands name rest w.in-Some-find.node w.in-Some-find.ensures.found
+          (no_result w.next_below-below.result (sym w.is_some.ensures ∙ w.if-is_some.false) w.next_below-below.ensures.none)
+      | in_default-find w ↦ none_below nodes tree place a stands name rest (not_some c.find.result w.in_default-find.not-Some c.find.ensures.none)
+    ] in
+    subst (λ (names : Path). IfNone c.least_behind-2.result ((b : ℕ) → Follows nodes a (a ++ names) b → ⊥)) (sym c.in-Some.ensures.steps)
+    (none_then c.least_behind-2.result c.least_behind-2.ensures.none
+    (none_first nodes tree place a stands list c.requires.list (name ∷ rest) (Some name) (apart_name nodes tree place a stands name rest list c.requires.list none)))

@@ -1,0 +1,54 @@
+use Rattle.std.proofs.Common.{ℕ, List, drop, length, length-drop, sym, ap, ◌∙◌, subst, arith}
+use Rattle.std.proofs.lemmas.List.{drop-drop}
+use Rattle.std.specs.Prelude.{IfNone}
+use Rattle.cfdp_arena.specs.Arena.{octets_of}
+use Rattle.cfdp_tree.specs.Nodes.{nodes_in}
+use Rattle.cfdp_tree.specs.Tree.{path_of}
+use Rattle.cfdp_tree.specs.Kept.{node_of}
+use Rattle.cfdp_tree.specs.Next.{IsLast}
+use Rattle.cfdp_tree.proofs.SeenLaws.{shows}
+use Rattle.cfdp_tree.proofs.SoundLaws.{node_sound}
+use Rattle.cfdp_tree.proofs.TextLaws.{path_good, text_slash}
+use Rattle.cfdp_tree.proofs.NextLaws.{list_of_root, first_next, none_last}
+use Rattle.cfdp_tree.proofs.tree_store.TreeStore.next_entry.Goals as goal
+
+pub next_below-requires-clause-list : goal.next_below-requires-clause-list
+next_below-requires-clause-list c =
+    let kept = c.self.invariant.kept in
+    list_of_root (nodes_in c.self.inside.arena) kept.tree c.self.inside.root kept.groups
+
+pub returns-in_err-node-clause-none : goal.returns-in_err-node-clause-none
+returns-in_err-node-clause-none c =
+    let arena = c.self.inside.arena in let F = c.args.self.now.filestore in
+    subst (λ r. IfNone r (IsLast F c.args.after)) (sym c.from_residual.ensures)
+    (none_last arena (nodes_in arena) F (shows _ _ _ _ c.self.invariant _ c.self.view_is) c.args.after c.in_err-node.ensures.none)
+
+pub tell-told-requires : goal.tell-told-requires
+tell-told-requires c =
+    let sound = node_sound _ _ _ _ c.self.invariant _ c.self.view_is c.in_ok-node.node c.in_ok-node.ensures.first.follows.node in
+    record { node = sound.node; filled = sound.filled; small = sound.small }
+
+pub returns-clause-next : goal.returns-clause-next
+returns-clause-next c =
+    let arena = c.self.inside.arena in let nodes = nodes_in arena in let b = c.in_ok-node.node in let F = c.args.self.now.filestore in
+    let first = c.in_ok-node.ensures.first in
+    let shown = shows _ _ _ _ c.self.invariant _ c.self.view_is in
+    let good = path_good nodes c.self.invariant.kept.tree b first.follows.node in
+    let text = c.write_path-start.new.text in let start = c.write_path-start.result in
+    record {
+      path = path_of nodes b;
+      node = node_of arena (octets_of nodes b);
+      there = shown.each b first.follows.node;
+      is_next = first_next arena nodes F shown c.args.after b first;
+      good = good;
+      spelled = sym (drop-drop 1 start text) ∙ ap (λ (xs : List ℕ). drop 1 xs) (c.write_path-start.ensures.text ∙ text_slash (path_of nodes b) good);
+      kind = c.tell-told.ensures.kind;
+      size = c.tell-told.ensures.size;
+      checksum = c.tell-told.ensures.checksum;
+    }
+
+pub returns-clause-within : goal.returns-clause-within
+returns-clause-within c =
+    let nodes = nodes_in c.self.inside.arena in let b = c.in_ok-node.node in let text = c.write_path-start.new.text in let start = c.write_path-start.result in
+    let good = path_good nodes c.self.invariant.kept.tree b c.in_ok-node.ensures.first.follows.node in
+    omega (arith, ap length (c.write_path-start.ensures.text ∙ text_slash (path_of nodes b) good), length-drop start text)
