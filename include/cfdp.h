@@ -14,8 +14,8 @@
  *    No call comes from a signal handler, nor from the forked child of a process with threads.
  *
  * MEMORY comes from rattle_alloc, rattle_realloc and rattle_dealloc (docs/C.md). It is asked for by cfdp_new, by cfdp_receive for
- * a Metadata PDU and for a Finished PDU (which no receiver gets), by cfdp_take of a transaction that is over, by the calls that
- * name a path, by cfdp_list and by cfdp_reply_text; by nothing else. So no file that arrives and no request that is performed takes memory.
+ * a Metadata PDU alone, by cfdp_take of a transaction that is over, by the calls that name a path, by cfdp_list and by
+ * cfdp_reply_text; by nothing else. So no file that arrives and no request that is performed takes memory.
  */
 #ifndef CFDP_H
 #define CFDP_H
@@ -130,7 +130,7 @@ uint32_t cfdp_new(struct cfdp_engine *engine, const struct cfdp_config *config, 
 uint32_t cfdp_free(struct cfdp_engine *engine);
 
 /* Takes the octets of one whole PDU (5.1 to 5.3). Answers CFDP_DONE with the reply, CFDP_NO_ENGINE, CFDP_NOT_OURS, or the first
- * fault that the octets have (CFDP_TRUNCATED to CFDP_REQUEST_TOO_LONG); CFDP_NO_MEMORY for a Metadata or a Finished PDU alone.
+ * fault that the octets have (CFDP_TRUNCATED to CFDP_REQUEST_TOO_LONG); CFDP_NO_MEMORY for a Metadata PDU alone.
  * The octets are not kept. Cost: one pass over them, and that of the event. */
 uint32_t cfdp_receive(struct cfdp_engine *engine, const uint8_t *octets, size_t length, struct cfdp_reply *reply);
 

@@ -15,7 +15,7 @@ use std::rt::Env;
 use std::{env, io};
 
 /// What the words ask for.
-#[derive(Drop)]
+#[derive(Debug, Drop, PartialEq, Eq)]
 pub enum Asked<'a> {
     /// `plain`: to run filestore requests from standard input.
     Plain,

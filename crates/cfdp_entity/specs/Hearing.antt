@@ -1,7 +1,7 @@
 -- What octets that came bring to a receiving entity (CCSDS 727.0-B-5 §5.1 to §5.3).
 --   heard octets            the event of the PDU that they spell, or why there is none
 --   IsUnheard octets why    why there was no reply: that there is none, or want of memory
---   MayWantMemory octets    they spell a Metadata PDU or a Finished PDU: only these are copied
+--   MayWantMemory octets    they spell a Metadata PDU: only this is copied
 use Rattle.std.specs.Prelude.{◌≡◌, ◌⊎◌, ⊤, ℕ, List, Option, Some, None, Result, Ok, Err}
 use Rattle.cfdp_pdus.specs.First.{pdu_at}
 use Rattle.cfdp_pdus.specs.declared.pdu.Pdu.{Pdu}
@@ -26,7 +26,6 @@ heard octets = heard_in (pdu_at octets)
 
 abbrev pub IsCopied : Result Pdu PduFault → Type 0
 IsCopied (Ok (pdus.Metadata header metadata)) = ⊤
-IsCopied (Ok (pdus.Finished header finished)) = ⊤
 IsCopied read = ⊥
 
 abbrev pub MayWantMemory : List ℕ → Type 0

@@ -16,14 +16,14 @@ ghost use Rattle.cfdp_transactions.specs.World.{start};
 ghost use Rattle.cfdp_transactions.specs.Needs.{Follows, may_want_memory};
 ghost use Rattle.cfdp_transactions.specs.Writable.{FitsReply, IsReadable, IsWritable};
 ghost use Rattle.cfdp_transactions.specs.Books.{IsAnswered};
-ghost use Rattle.cfdp_entity.specs.Hearing.{IsUnheard, heard};
+ghost use Rattle.cfdp_entity.specs.Hearing.{IsUnheard, MayWantMemory, heard};
 ghost use Rattle.cfdp_entity.specs.Sending.{IsUntaken, sent};
 ghost use Rattle.cfdp_entity.specs.declared.fault.NotHeard.TheVariants.{Fault};
 ghost use Rattle.cfdp_entity.specs.declared.fault.NotTaken.TheVariants.{Memory as NoMemory, TooShort};
 
 use crate::{NotHeard, NotTaken};
 use cfdp_paths::Memory;
-use cfdp_pdus::{Header, PduFault, Piece, read_pdu, read_piece};
+use cfdp_pdus::{Header, PduFault, Piece, read_for_receiver, read_piece};
 use cfdp_status::TransactionId;
 use cfdp_transactions::{Config, Core, Event, Reply, event_of, laws};
 use cfdp_tree::TreeStore;
@@ -155,8 +155,9 @@ impl Entity {
         ensures unchanged { OnErr result (self.new ≡ self.old) }
     {
         laws::what_was_read_is_readable();
-        let pdu = match read_pdu(alloc, octets) {
-            Ok(pdu) => pdu,
+        let pdu = match read_for_receiver(alloc, octets) {
+            Ok(Some(pdu)) => pdu,
+            Ok(None) => return Err(NotHeard::NotOurs),
             Err(fault) => return Err(NotHeard::Fault(fault)),
         };
         let Ok(event) = event_of(pdu) else {
@@ -173,7 +174,7 @@ impl Entity {
     ///
     /// # Errors
     ///
-    /// Why the octets bring no event; or want of memory, for a Metadata PDU or a Finished PDU alone. The entity is as before.
+    /// Why the octets bring no event; or want of memory, for a Metadata PDU alone. The entity is as before.
     ///
     /// Cost: a pass over the octets, and that of the event. The octets of a File Data PDU are copied once, into the filestore.
     pub fn receive(
@@ -183,6 +184,7 @@ impl Entity {
     ) -> Result<(TransactionId, Reply), NotHeard>
         ensures ok { IfOk result (λ told. (event : EventOf) × (heard octets.now ≡ Ok event) × (told.0 ≡ about event) × (next self.old event ≡ (self.new, told.1))) }
         ensures err { IfErr result (IsUnheard octets.now) }
+        ensures memory { result ≡ Err (Fault OutOfMemory) → MayWantMemory octets.now }
         ensures unchanged { OnErr result (self.new ≡ self.old) }
     {
         let Some((header, piece)) = read_piece(octets) else {

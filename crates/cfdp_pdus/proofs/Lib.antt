@@ -15,3 +15,5 @@ pub mod WriteSteps
 pub mod CanonicalSteps
 pub mod SoundSteps
 pub mod DirectiveSteps
+pub mod ReceiveSteps
+pub mod FaultSteps

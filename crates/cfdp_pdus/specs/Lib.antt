@@ -8,3 +8,4 @@ pub mod Canonical
 pub mod Equality
 pub mod Texts
 pub mod Sound
+pub mod Receiving

@@ -111,7 +111,7 @@ fn read_response_parts(value: &[u8]) -> Result<ResponseParts<'_>, PduFault>
 
 /// How many filestore responses there are among TLV fields, and the last entity ID. Each field is
 /// looked at. It takes no memory.
-fn count_responses(octets: &[u8]) -> Result<(usize, Option<u64>), PduFault>
+pub fn count_responses(octets: &[u8]) -> Result<(usize, Option<u64>), PduFault>
     ensures { result ≡ outcome_count (fields_at octets.now) }
 {
     let mut count = 0usize;

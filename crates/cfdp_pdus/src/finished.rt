@@ -4,14 +4,15 @@ ghost use Rattle.std.specs.Prelude.{◌≡◌, ◌≤◌, ◌<◌, ◌+◌, ◌�
 ghost use Rattle.std.specs.List.{flat_map, list_all};
 ghost use Rattle.std.specs.Vec.{vec_capacity};
 ghost use Rattle.cfdp_pdus.specs.Equality.{same_codes};
-ghost use Rattle.cfdp_tlv.specs.Reading.{Gives};
+ghost use Rattle.cfdp_tlv.specs.Reading.{Answers, Gives};
+ghost use Rattle.cfdp_pdus.specs.Reading.{judged};
 ghost use Rattle.cfdp_pdus.specs.First.{finished_at};
 ghost use Rattle.cfdp_pdus.specs.Canonical.{IsHeader, IsSizedFinished, pdu_octets, finished_field, finished_fits, response_field, is_short_response};
 ghost use Rattle.cfdp_pdus.specs.declared.fault.PduFault.TheVariants.{Memory as OutOfMemory};
 ghost use Rattle.cfdp_pdus.specs.declared.fault.WriteFault.TheVariants.{TooLong, Memory};
 
 use crate::directive::FINISHED;
-use crate::field::read_outcome;
+use crate::field::{count_responses, read_outcome};
 use crate::number::bit;
 use crate::put::{MAX_FIELD_LEN, fault_len, header_len, push_fault, push_header};
 use crate::{Header, PduFault, WriteFault};
@@ -86,6 +87,18 @@ pub fn read_finished(alloc: Global, octets: &[u8]) -> Result<Finished, PduFault>
         responses,
         fault,
     })
+}
+
+/// That the octets are a Finished PDU's data field behind its directive code. Takes no memory.
+#[tactic(auto, unfolding(crate::specs::First::finished_at))]
+pub fn check_finished(octets: &[u8]) -> Result<(), PduFault>
+    ensures { Answers (λ good. good) result (judged (finished_at octets.now)) }
+{
+    let [_, rest @ ..] = octets else {
+        return Err(PduFault::LengthMismatch);
+    };
+    count_responses(rest)?;
+    Ok(())
 }
 
 /// Whether each response's value has at most 255 octets.

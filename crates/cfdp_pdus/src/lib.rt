@@ -2,8 +2,8 @@
 //! modular checksum.
 //!
 //! [`read_pdu`] answers the PDU exactly where the octets spell one, and otherwise the first fault;
-//! `specs/Grammar.antt` says what spells what. It judges the whole PDU before it asks for memory; [`read_piece`] reads a File Data
-//! PDU where it lies, without any. A writer appends the one canonical spelling of
+//! `specs/Grammar.antt` says what spells what. It judges the whole PDU before it asks for memory; [`read_for_receiver`]
+//! copies nothing of a Finished PDU, and [`read_piece`] reads a File Data PDU where it lies. A writer appends the one canonical spelling of
 //! `specs/Canonical.antt`, or answers [`WriteFault::TooLong`] exactly where a length does not fit. It
 //! asks for room once, for the whole PDU, before it writes.
 #![tactic(auto)]
@@ -30,4 +30,4 @@ pub use finished::{Finished, write_finished};
 pub use header::Header;
 pub use metadata::{Metadata, write_metadata};
 pub use pdu::Pdu;
-pub use read::{read_pdu, read_piece};
+pub use read::{read_for_receiver, read_pdu, read_piece};

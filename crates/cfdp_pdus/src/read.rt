@@ -4,6 +4,7 @@ ghost use Rattle.std.specs.Prelude.{◌≡◌, ◌⊎◌, IfOk, IfNone, IfSome, 
 ghost use Rattle.cfdp_tlv.specs.Reading.{Gives};
 ghost use Rattle.cfdp_pdus.specs.First.{directive_at, field_at, pdu_at};
 ghost use Rattle.cfdp_pdus.specs.Grammar.{SpellsPdu};
+ghost use Rattle.cfdp_pdus.specs.Receiving.{received, received_in, IsCopied, IsLeanToReceive, ReceivesLean};
 ghost use Rattle.cfdp_pdus.specs.Sound.{IsSound, IsLean, GivesLean, IsNoFileData};
 ghost use Rattle.cfdp_pdus.specs.declared.pdu.Pdu.{Pdu as PduValue};
 ghost use Rattle.cfdp_pdus.specs.declared.pdu.Pdu.TheVariants.{FileData as FileDataCame};
@@ -12,7 +13,7 @@ ghost use Rattle.cfdp_pdus.specs.declared.fault.PduFault.TheVariants.{Memory};
 use crate::directive::{ACK, EOF, FINISHED, KEEP_ALIVE, METADATA, NAK, PROMPT};
 use crate::eof::read_eof;
 use crate::file_data::{find_piece, read_file_data};
-use crate::finished::read_finished;
+use crate::finished::{check_finished, read_finished};
 use crate::header::{Start, read_start};
 use crate::metadata::read_metadata;
 use crate::{Header, Pdu, PduFault, Piece};
@@ -105,4 +106,53 @@ pub fn read_pdu(alloc: Global, octets: &[u8]) -> Result<Pdu, PduFault>
     ensures sound { IfOk result IsSound }
 {
     read_whole(alloc, octets)
+}
+
+/// What a file's receiver is told of a directive.
+#[tactic(auto, unfolding(crate::specs::First::directive_at))]
+fn receive_directive(alloc: Global, header: Header, field: &[u8]) -> Result<Option<Pdu>, PduFault>
+    ensures exact { Gives Memory (λ told. told) result (received_in (directive_at header field.now)) }
+    ensures lean { ReceivesLean (directive_at header field.now) → result ≡ received_in (directive_at header field.now) }
+{
+    if let [FINISHED, rest @ ..] = field {
+        return check_finished(rest).map(|()| None);
+    }
+    read_directive(alloc, header, field).map(Some)
+}
+
+/// What [`read_for_receiver`] answers.
+#[tactic(auto, unfolding(crate::specs::First::field_at))]
+fn receive_whole(alloc: Global, octets: &[u8]) -> Result<Option<Pdu>, PduFault>
+    ensures exact { Gives Memory (λ told. told) result (received_in (pdu_at octets.now)) }
+    ensures lean { ReceivesLean (pdu_at octets.now) → result ≡ received_in (pdu_at octets.now) }
+{
+    let start = read_start(octets)?;
+    if start.file_data {
+        return read_field(alloc, &start).map(Some);
+    }
+    receive_directive(alloc, start.header, start.field)
+}
+
+/// The PDU that the octets spell, as the receiver of a file takes it: `None` exactly where they spell a Finished PDU, which only
+/// the file's sender takes (CCSDS 727.0-B-5 §5.2.3). Its fields are judged as those of each other PDU.
+///
+/// The faults are those of [`read_pdu`], in the same cases, but `Memory` stands only in place of a Metadata PDU or of a File
+/// Data PDU: the others are read without memory.
+///
+/// Cost: that of [`read_pdu`], and of a Finished PDU one pass over its octets.
+pub fn read_for_receiver(alloc: Global, octets: &[u8]) -> Result<Option<Pdu>, PduFault>
+    // What is read is spelled so.
+    ensures found { IfOk result (λ told. IfSome told (SpellsPdu octets.now)) }
+    // What is spelled so is told, unless memory runs out.
+    ensures only { (pdu : PduValue) → SpellsPdu octets.now pdu → (result ≡ Ok (received pdu)) ⊎ (result ≡ Err Memory) }
+    // Which fault it is: `Memory` stands only in place of a PDU.
+    ensures exact { Gives Memory (λ told. told) result (received_in (pdu_at octets.now)) }
+    // An EOF PDU, a Finished PDU, and one that is not ours, are read without memory.
+    ensures lean { (pdu : PduValue) → SpellsPdu octets.now pdu → IsLeanToReceive pdu → result ≡ Ok (received pdu) }
+    // Memory is wanting only where a Metadata PDU or a File Data PDU is spelled.
+    ensures memory { result ≡ Err Memory → IsCopied (pdu_at octets.now) }
+    // What is read can be written, and answered.
+    ensures sound { IfOk result (λ told. IfSome told IsSound) }
+{
+    receive_whole(alloc, octets)
 }

@@ -2,6 +2,7 @@
 
 mod limits;
 mod meanings;
+mod receiving;
 mod slow;
 mod writing;
 

@@ -7,7 +7,7 @@ use cfdp_tlv::{FilestoreRequest, FilestoreResponse};
 use std::alloc::{AllocError, Global};
 
 // Unacknowledged, from entity 1 to entity 2, each number in one octet.
-fn header(number: u64) -> Header {
+pub fn header(number: u64) -> Header {
     Header {
         toward_sender: false,
         acknowledged: false,

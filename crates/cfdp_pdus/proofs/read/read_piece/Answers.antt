@@ -1,5 +1,4 @@
-use Rattle.std.proofs.Common.{◌≡◌, sym, true, false}
-use Rattle.std.specs.Prelude.{not}
+use Rattle.std.proofs.Common.{◌≡◌, sym, false}
 use Rattle.cfdp_pdus.proofs.DirectiveSteps.{field_is_no_file_data}
 use Rattle.cfdp_pdus.proofs.read.read_piece.Goals as goal
 
