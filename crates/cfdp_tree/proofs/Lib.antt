@@ -40,6 +40,7 @@ pub mod EntryLaws
 pub mod ExchangeLaws
 pub mod FileLaws
 pub mod FileRows
+pub mod CopiedLaws
 pub mod GroupLaws
 pub mod InstallLaws
 pub mod JoinLaws

@@ -17,11 +17,13 @@
 --     Survey       the nodes of what stands there
 --     Text         the octets of a path
 --     Next         what comes next in path order
+--     Found        what is told of a path, and copied of a file
 pub mod Block
 pub mod Changes
 pub mod Contents
 pub mod Entries
 pub mod Files
+pub mod Found
 pub mod Index
 pub mod Kept
 pub mod Links

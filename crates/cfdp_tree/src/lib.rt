@@ -7,7 +7,8 @@
 //! just the blocks for them (`contents`, `files`, `slots`). What stands at a path is a node, one block with its name and its
 //! links (`rows`, `nodes`). Nodes are found by their directory and their name (`index`, `lookup`), and stand in a list for
 //! each directory (`entries`), by which what stands below a place is walked over (`walk`) and told in path order (`survey`,
-//! `spelling`, `listing`, `summing`), or one by one (`next`). The store puts these together (`tree_store`, `install`).
+//! `spelling`, `listing`, `summing`), or one by one (`next`); `found` tells and reads it by lent names. The store puts these
+//! together (`tree_store`, `install`).
 #![tactic(auto)]
 
 mod contents;
@@ -15,6 +16,7 @@ mod copy;
 mod cursor;
 mod entries;
 mod files;
+mod found;
 mod header;
 mod index;
 mod install;
@@ -33,5 +35,6 @@ mod transfer;
 mod tree_store;
 mod walk;
 
+pub use listing::Found;
 pub use next::NextEntry;
 pub use tree_store::TreeStore;

@@ -92,16 +92,19 @@ fn entry(arena: &Arena, path: Path, node: &BlockId) -> Entry
     }
 }
 
-/// What stands at a node, without its path.
-#[derive(Clone, Copy)]
-pub(crate) struct Told {
-    pub(crate) kind: Kind,
-    pub(crate) size: u64,
-    pub(crate) checksum: u32,
+/// What stands at a path.
+#[derive(Clone, Copy, Debug, PartialEq, Eq)]
+pub struct Found {
+    /// Whether it is a file or a directory.
+    pub kind: Kind,
+    /// How many octets a file has; 0 for a directory.
+    pub size: u64,
+    /// A file's modular checksum (CCSDS 727.0-B-5 §4.2.2); 0 for a directory.
+    pub checksum: u32,
 }
 
 /// What stands at a node. In time linear in the octets of a file.
-pub(crate) fn tell(arena: &Arena, node: &BlockId) -> Told
+pub(crate) fn tell(arena: &Arena, node: &BlockId) -> Found
     requires { IsSound arena.now ([], node.now) }
     ensures kind { result.kind ≡ kind_of (node_of arena.now (octets_of (nodes_in arena.now) node.now)) }
     ensures size { result.size ≡ length (octets_in (Some (node_of arena.now (octets_of (nodes_in arena.now) node.now)))) }
@@ -110,14 +113,14 @@ pub(crate) fn tell(arena: &Arena, node: &BlockId) -> Told
 {
     let block = arena.bytes(*node);
     match kind_of(block) {
-        Kind::Directory => Told {
+        Kind::Directory => Found {
             kind: Kind::Directory,
             size: 0,
             checksum: 0,
         },
         Kind::File => {
             let file = contents_of(block);
-            Told {
+            Found {
                 kind: Kind::File,
                 size: u64::from(file.size),
                 checksum: checksum_of(arena, &file),

@@ -1,4 +1,4 @@
-use Rattle.std.proofs.Common.{◌≡◌, ◌+◌, ◌≤◌, ◌<◌, ℕ, [], ◌∷◌, ◌++◌, length, take, Option, Some, None, refl, sym, ap, ◌∙◌, subst, arith}
+use Rattle.std.proofs.Common.{◌≡◌, ◌+◌, ◌≤◌, ℕ, [], ◌∷◌, ◌++◌, length, take, Option, Some, None, refl, sym, ap, ◌∙◌, subst, arith}
 use Rattle.std.proofs.lemmas.List.{take_more}
 use Rattle.std.specs.Prelude.{IfNone, IfSome}
 use Rattle.cfdp_arena.specs.Arena.{Blocks}
@@ -6,7 +6,7 @@ use Rattle.cfdp_paths.specs.Paths.{Name, Path}
 use Rattle.cfdp_tree.specs.Nodes.{nodes_in}
 use Rattle.cfdp_tree.specs.Tree.{IsTree, IsNode, path_of}
 use Rattle.cfdp_tree.specs.Places.{StandsAt}
-use Rattle.cfdp_tree.proofs.NamesLeft.{IsAhead, ahead-start, ahead-next, ahead-end}
+use Rattle.cfdp_tree.proofs.NamesLeft.{ahead-start, ahead-next, ahead-end}
 use Rattle.cfdp_tree.proofs.ClimbLaws.{some_path, entry_at, path_entry, beginning}
 use Rattle.cfdp_tree.proofs.lookup.find_names.Goals as goal
 

@@ -1,0 +1,59 @@
+-- What is copied of a file.
+--     directory_there, file_there, file_held     what stands at a path, by its node's block
+--     none_copied                    where there are no octets the buffer stays
+--     copied                         so many octets, read from where the copy begins
+use Rattle.std.proofs.Common.{rules, ◌≡◌, ℕ, ◌+◌, ◌≤◌, List, [], ◌++◌, drop, length, Some, sym, ap, ◌∙◌, arith}
+use Rattle.std.specs.Prelude.{slice_range}
+use Rattle.cfdp_arena.specs.Arena.{Blocks, octets_at}
+use Rattle.cfdp_paths.specs.Paths.{Path}
+use Rattle.cfdp_actions.specs.declared.kind.Kind.TheVariants as kind
+use Rattle.cfdp_actions.specs.Filestore.{Directory, File, node_at, is_file}
+use Rattle.cfdp_actions.specs.Store.{Store}
+use Rattle.cfdp_tree.specs.declared.index.Head.{Head}
+use Rattle.cfdp_tree.specs.declared.slots.Slot.{Slot}
+use Rattle.cfdp_tree.specs.Index.{Heads}
+use Rattle.cfdp_tree.specs.Row.{row_of, kind_told}
+use Rattle.cfdp_tree.specs.Nodes.{nodes_in}
+use Rattle.cfdp_tree.specs.Tree.{IsNode, path_of}
+use Rattle.cfdp_tree.specs.Contents.{IsFilled, contents_in}
+use Rattle.cfdp_tree.specs.Kept.{contents_told, node_told, store_of}
+use Rattle.cfdp_tree.specs.Slots.{staged_in, IsStore}
+use Rattle.cfdp_tree.specs.Found.{beginning, fitting, with_octets}
+use Rattle.cfdp_tree.proofs.ContentsLaws.{length-contents}
+use Rattle.cfdp_tree.proofs.SeenLaws.{seen_block, seen_file, file_small}
+
+module _ (arena : Blocks) (heads : Heads) (root : Head) (slots : List Slot) (store : IsStore arena heads root slots) (now : Store) (view : store_of arena (staged_in slots) ≡ now)
+    (b : ℕ) (p : Path) (block : List ℕ) (node : IsNode (nodes_in arena) b) (way : path_of (nodes_in arena) b ≡ p) (is : octets_at arena b ≡ Some block) where
+  pub directory_there : kind.Directory ≡ kind_told (row_of block).kind → node_at now.filestore p ≡ Some Directory
+  directory_there told =
+      seen_block arena heads root slots store now view b p block node way is
+      ∙ ap (λ k. Some (node_told arena k (contents_told k (row_of block)))) (sym told)
+
+  module _ (told : kind.File ≡ kind_told (row_of block).kind) where
+    pub file_there : node_at now.filestore p ≡ Some (File (contents_in arena (contents_told kind.File (row_of block))))
+    file_there =
+        seen_block arena heads root slots store now view b p block node way is
+        ∙ ap (λ k. Some (node_told arena k (contents_told k (row_of block)))) (sym told)
+
+    pub file_held : IsFilled arena (contents_told kind.File (row_of block)) × ((row_of block).size ≤ 7864320)
+    file_held =
+        let seen = seen_file arena heads root slots store now view b p block node way is (ap is_file file_there) in
+        let small = file_small arena heads root slots store now view p in
+        (seen.1, omega (arith, small, ap length seen.0, length-contents arena (contents_told kind.File (row_of block)) seen.1))
+
+none_fits : (at : ℕ) (buffer : List ℕ) → fitting [] at buffer ≡ 0
+none_fits at buffer = omega arith
+
+pub none_copied : (at : ℕ) (buffer : List ℕ) → with_octets [] at buffer ≡ buffer
+none_copied at buffer =
+    ap (λ n. slice_range [] (beginning [] at) (beginning [] at + n) ++ drop n buffer) (none_fits at buffer)
+    ∙ ap (λ (octets : List ℕ). octets ++ buffer) (none_there (beginning [] at))
+  where
+    none_there : (start : ℕ) → slice_range {X = ℕ} [] start (start + 0) ≡ []
+    none_there start = search rules
+
+pub copied : (octets buffer piece : List ℕ) (at start count long : ℕ) → start ≡ beginning octets at → count ≡ fitting octets at buffer → long ≡ count → piece ≡ slice_range octets start (start + long)
+    → piece ++ drop count buffer ≡ with_octets octets at buffer
+copied octets buffer piece at start count long begins fits whole read =
+    ap (λ o. o ++ drop count buffer) (read ∙ ap (λ n. slice_range octets start (start + n)) whole ∙ ap (λ s. slice_range octets s (s + count)) begins)
+    ∙ ap (λ n. slice_range octets (beginning octets at) (beginning octets at + n) ++ drop n buffer) fits
