@@ -1,12 +1,12 @@
--- Configurations that the test for it calls equal are one.
-use Rattle.std.proofs.Common.{◌≡◌, ℕ, Bool, true, false, not, ◌&&◌, ◌==◌, refl, sym, subst, eqb→eq, true≢false, T}
+-- Configurations that the test for it calls equal are one, and the others are not.
+use Rattle.std.proofs.Common.{◌≡◌, ℕ, Bool, true, false, not, ◌&&◌, ◌==◌, refl, sym, ap, subst, ◌∙◌, eqb→eq, true≢false, T}
 use Rattle.std.specs.Cmp.{first_so, second_so, Equal-is}
 use Rattle.std.specs.FinMap.{nat_cmp-IsAntisymmetric, slice_cmp-IsAntisymmetric}
 use Rattle.std.specs.Prelude.{List}
 use Rattle.cfdp_paths.specs.Paths.{Path}
 use Rattle.cfdp_actions.specs.Prefixes.{same_paths}
 use Rattle.cfdp_transactions.specs.Config.{Config}
-use Rattle.cfdp_transactions.specs.ConfigEquality.{same_config, same_store, same_counts}
+use Rattle.cfdp_transactions.specs.ConfigEquality.{config_equiv, same_config, same_store, same_counts}
 
 paths_are : (ps qs : List Path) → same_paths ps qs ≡ true → ps ≡ qs
 paths_are ps qs same =
@@ -37,3 +37,11 @@ holds false same = absurd (true≢false (sym same))
 
 pub config_same : (a b : Config) → false ≡ not (same_config a b) → a ≡ b
 config_same a b same = config_is a b (holds (same_config a b) same)
+
+-- likewise where the test says that they do
+fails : (b : Bool) → true ≡ not b → b ≡ true → ⊥
+fails true differ same = true≢false differ
+fails false differ same = true≢false (sym same)
+
+pub configs_differ : (a b : Config) → true ≡ not (same_config a b) → a ≡ b → ⊥
+configs_differ a b differ same = fails (same_config a b) differ (ap (same_config a) (sym same) ∙ config_equiv.refl a)

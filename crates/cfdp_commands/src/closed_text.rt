@@ -1,5 +1,5 @@
 //! The text that `links` writes of an engine that is closed.
-ghost use Rattle.std.specs.Prelude.{◌≡◌, IfOk, IfErr, OnErr, Err};
+ghost use Rattle.std.specs.Prelude.{◌≡◌, ◌↔◌, IsOk, IfOk, IfErr, OnErr, Err};
 ghost use Rattle.std.specs.List.{AllByRecursion};
 ghost use Rattle.cfdp_transactions.specs.Writable.{FitsReply};
 ghost use Rattle.cfdp_engine.specs.Journal.{IsHistory, replies_of};
@@ -25,7 +25,10 @@ pub fn reconcile(
     journaled: Journaled<TreeStore>,
     seats: Vec<Seat>,
 ) -> Result<Closed<TreeStore>, LinkFault>
+    ensures exactly { IsOk result ↔ ((journaled.core.world.config ≡ config.now) × IsReconciled journaled.journal seats.items) }
     ensures config { IfOk result (λ closed. closed.core.world.config ≡ config.now) }
+    ensures core { IfOk result (λ closed. closed.core ≡ journaled.core) }
+    ensures journal { IfOk result (λ closed. closed.journal.items ≡ journaled.journal) }
     ensures history { IfOk result (λ closed. IsHistory closed.journal.items closed.core.world) }
     ensures reconciled { IfOk result (λ closed. IsReconciled closed.journal.items closed.seats.items) }
     ensures seats { IfOk result (λ closed. closed.seats.items ≡ seats.items) }
