@@ -1,5 +1,6 @@
 -- The least of the names behind another one.
---     less_upto, upto_less, flipped    orders, one after the other, and the other way round
+--     flipped, less_upto        an order the other way round, and one after another
+--     less_greater, equal_greater   two orders are not one
 --     behind_told               a test whether a name is behind
 --     listed_next, listed_before    a node of a list behind others, and one of these
 --     none_then                 what follows from a clause of `None`
@@ -31,21 +32,13 @@ module _ {K : Type 0} {R : K → K → Ordering} (total : IsTotalOrder R) where
       by_order Equal e = total.antisymm x z ∙ ap ordering_reverse (sym (total.congr y z x e)) ∙ sym (total.antisymm x y) ∙ less
       by_order Greater e = absurd (upto e)
 
-  pub upto_less : (x y z : K) → R x y ≢ Greater → R y z ≡ Less → R x z ≡ Less
-  upto_less x y z upto less = by_order (R x y) refl
-    where
-      by_order : (o : Ordering) → R x y ≡ o → R x z ≡ Less
-      by_order Less e = total.trans x y z e less
-      by_order Equal e = total.congr x y z e ∙ less
-      by_order Greater e = absurd (upto e)
-
 all_at : (P : ℕ → Type 0) (list : List ℕ) (b : ℕ) → Contains list b → All P list → P b
 all_at P list b has all = subst P has.2 (all has.0 b has.1)
 
-less_greater : {o : Ordering} → o ≡ Less → o ≡ Greater → ⊥
+pub less_greater : {o : Ordering} → o ≡ Less → o ≡ Greater → ⊥
 less_greater e f = cc
 
-equal_greater : {o : Ordering} → o ≡ Equal → o ≡ Greater → ⊥
+pub equal_greater : {o : Ordering} → o ≡ Equal → o ≡ Greater → ⊥
 equal_greater e f = cc
 
 greater_by : (o : Ordering) → is_gt o ≡ true → o ≡ Greater

@@ -30,15 +30,9 @@ use Rattle.cfdp_tree.specs.Kept.{Shows}
 use Rattle.cfdp_tree.specs.Walk.{entries_of}
 use Rattle.cfdp_tree.specs.Next.{IsNext, IsLast, name_cmp, IsBehind, IsLeast, IsListOf, Follows, IsFirst}
 use Rattle.cfdp_tree.proofs.ClimbLaws.{entry_at, path_entry, beginning}
-use Rattle.cfdp_tree.proofs.LeastLaws.{flipped}
+use Rattle.cfdp_tree.proofs.LeastLaws.{flipped, less_greater, equal_greater}
 use Rattle.cfdp_tree.proofs.WalkLaws.{entries_stand}
 use Rattle.cfdp_tree.proofs.SurveyLaws.{entries_has}
-
-equal_greater : {o : Ordering} → o ≡ Equal → o ≡ Greater → ⊥
-equal_greater e f = cc
-
-less_greater : {o : Ordering} → o ≡ Less → o ≡ Greater → ⊥
-less_greater e f = cc
 
 name_antisym : (m n : Name) → name_cmp m n ≡ Equal → m ≡ n
 name_antisym = slice_cmp-IsAntisymmetric nat_cmp-IsAntisymmetric
