@@ -14,8 +14,8 @@
  *    No call comes from a signal handler, nor from the forked child of a process with threads.
  *
  * MEMORY comes from rattle_alloc, rattle_realloc and rattle_dealloc (docs/C.md). It is asked for by cfdp_new, by cfdp_receive for
- * a Metadata PDU alone, by cfdp_take of a transaction that is over, by the calls that name a path, by cfdp_list and by
- * cfdp_reply_text; by nothing else. So no file that arrives and no request that is performed takes memory.
+ * a Metadata PDU alone, by cfdp_take of a transaction that is over, and by cfdp_reply_text, which uses no engine; by nothing else. So no
+ * file that arrives, no request that is performed and no look at the filestore takes memory.
  */
 #ifndef CFDP_H
 #define CFDP_H
@@ -215,27 +215,20 @@ uint32_t cfdp_blocks(struct cfdp_engine *engine, struct cfdp_blocks *blocks);
  * CFDP_NOTHING where there is no such gap or no such transaction, or CFDP_NO_ENGINE. */
 uint32_t cfdp_gap(struct cfdp_engine *engine, uint64_t source, uint64_t number, size_t place, struct cfdp_gap *gap);
 
-/* What stands at a path. Answers CFDP_DONE, CFDP_NOTHING, CFDP_BAD_PATH, CFDP_NO_MEMORY (for the path), or CFDP_NO_ENGINE. Cost: one
- * pass over a file's octets, for its checksum. */
+/* What stands at a path. Answers CFDP_DONE, CFDP_NOTHING, CFDP_BAD_PATH, or CFDP_NO_ENGINE. Cost: one pass over a file's octets, for its
+ * checksum. */
 uint32_t cfdp_look_up(struct cfdp_engine *engine, const struct cfdp_path *path, struct cfdp_entry *entry);
 
 /* Copies a file's octets from the place `at` on to the beginning of `out`: as many as there are and as fit in `room`; `*count` says how
- * many. Answers CFDP_DONE; CFDP_NOTHING where no file stands at the path; CFDP_BAD_PATH, CFDP_NO_MEMORY (for the path), or
- * CFDP_NO_ENGINE. */
+ * many. Answers CFDP_DONE; CFDP_NOTHING where no file stands at the path; CFDP_BAD_PATH; or CFDP_NO_ENGINE. */
 uint32_t cfdp_read(struct cfdp_engine *engine, const struct cfdp_path *path, uint64_t at, uint8_t *out, size_t room, size_t *count);
 
-/* An entry of the filestore, with its path. */
-struct cfdp_listed {
-    struct cfdp_path path;  /* zeros stand behind its octets */
-    struct cfdp_entry entry;
-};
-
-/* What stands in the filestore, in path order (a directory before what is below it): the entries from the number `from` on, from
- * 0, are written to the beginning of `entries`, as many as there are and as fit in `room`; `*count` says how many, so that fewer
- * than `room` are the last. Answers CFDP_DONE; CFDP_NO_MEMORY; or CFDP_NO_ENGINE. Each call makes a listing of the whole filestore:
- * it takes memory for that while it runs, and goes once over the octets of all files, for their checksums. So room for all at
- * once, or for many, is cheaper than an entry a call. */
-uint32_t cfdp_list(struct cfdp_engine *engine, size_t from, struct cfdp_listed *entries, size_t room, size_t *count);
+/* What comes next in the filestore behind a path, in path order (a directory before what is below it). The path need not stand there; one of
+ * length 0 is before all. Answers CFDP_DONE with the path of what comes next in `*path`, zeros behind its octets, and what stands
+ * there in `*entry`; CFDP_NOTHING behind the last one; CFDP_BAD_PATH; or CFDP_NO_ENGINE. So a loop that begins with length 0 and passes the
+ * same struct on goes over all that stands there. Cost: one pass over the entries of each directory on the way, of which there
+ * are 8 at most, and over a file's octets, for its checksum. */
+uint32_t cfdp_next(struct cfdp_engine *engine, struct cfdp_path *path, struct cfdp_entry *entry);
 
 /* The line that `cfdpsim replay` writes of a reply (docs/FORMATS.md), with its line end: "1/24 refused conflict 1/22\n". `octets` is
  * used for CFDP_TAKEN alone: what cfdp_take wrote beside the reply, of which `length` is 0 where there is no Finished PDU. The

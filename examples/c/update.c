@@ -95,6 +95,18 @@ static void show_file(const struct cfdp_path *path) {
     printf("\n");
 }
 
+/* All that stands in the filestore, in path order. */
+static void show_all(void) {
+    struct cfdp_path path = {0};
+    struct cfdp_entry entry;
+    while (cfdp_next(&engine, &path, &entry) == CFDP_DONE)
+        printf("%s %.*s %" PRIu64 "\n", entry.kind == CFDP_FILE ? "file" : "dir", (int)path.length, (const char *)path.octets, entry.size);
+    /* Behind the last one the struct is as before; what spells no path is told. */
+    expect(cfdp_next(&engine, &path, &entry), CFDP_NOTHING);
+    expect(path.length, 8);
+    expect(cfdp_next(&engine, &(struct cfdp_path){.length = 4, .octets = "app/"}, &entry), CFDP_BAD_PATH);
+}
+
 int main(void) {
     const struct cfdp_config config = {.entity = 2, .cap = 2400, .blocks = 64, .checks = 2};
     const struct cfdp_path boot = {.length = 4, .octets = "boot"};
@@ -161,6 +173,7 @@ int main(void) {
     expect(cfdp_look_up(&engine, &(struct cfdp_path){.length = 777, .octets = "app"}, &entry), CFDP_BAD_PATH);
     expect(cfdp_look_up(&engine, &(struct cfdp_path){.length = 3, .octets = "app"}, &entry), CFDP_DONE);
     printf("app is of kind %" PRIu32 "\n", entry.kind);
+    show_all();
     struct cfdp_blocks blocks;
     expect(cfdp_blocks(&engine, &blocks), CFDP_DONE);
     printf("free %" PRIu32 " spare %" PRIu32 "\n", blocks.free, blocks.spare);

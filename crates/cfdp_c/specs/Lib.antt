@@ -6,4 +6,4 @@ pub mod Calls
 pub mod Reads
 pub mod Stored
 pub mod Shown
-pub mod Listed
+pub mod Next

@@ -88,13 +88,3 @@ pub struct EntryFields {
     /// How many octets a file has; 0 for a directory.
     pub size: u64,
 }
-
-/// A C `struct cfdp_listed`: an entry of the filestore, with its path.
-#[derive(Clone, Copy)]
-#[repr(C)]
-pub struct ListedFields {
-    /// Where it stands.
-    pub path: PathFields,
-    /// What stands there.
-    pub entry: EntryFields,
-}

@@ -10,8 +10,8 @@ mod answer;
 mod events;
 mod fields;
 mod handle;
-mod listing;
 mod making;
+mod next;
 mod paths;
 mod reads;
 mod reply;
@@ -20,8 +20,8 @@ mod store;
 mod texts;
 
 pub use events::{cfdp_cancel, cfdp_check, cfdp_receive, cfdp_step, cfdp_take};
-pub use listing::cfdp_list;
 pub use making::{cfdp_engine_octets, cfdp_free, cfdp_new};
+pub use next::cfdp_next;
 pub use reads::{
     cfdp_blocks, cfdp_blocks_spent, cfdp_gap, cfdp_grant, cfdp_next_runnable, cfdp_phase,
     cfdp_steps_spent,

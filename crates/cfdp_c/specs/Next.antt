@@ -1,0 +1,55 @@
+-- What stands next in the filestore behind a path, as C gets it.
+--   spelled_fields octets     octets that spell a path as a struct: zeros stand behind them;  path_fields: of a path
+--   kind_number               the number of a kind
+--   cursor_in fields          the path that a struct spells, and the root where it has no octets
+--   StandsNext F p path entry the path that is next, and what stands there, are told
+--   GoesOn F p old new answer likewise;  or nothing comes next, and both structs are as before
+--   GoesOnFrom cursor         likewise of the path that is spelled;  or none is
+--   TellsNext handle          likewise of an engine's filestore;  or there is no engine
+use Rattle.std.specs.Prelude.{◌≡◌, ◌⊎◌, ◌==◌, ℕ, List, [], ◌++◌, drop, length, replicate, if◌then◌else◌, Option, Some, None}
+use Rattle.cfdp_paths.specs.Paths.{Path, joined}
+use Rattle.cfdp_actions.specs.Filestore.{Filestore, Node, node_at}
+use Rattle.cfdp_actions.specs.declared.kind.Kind.{Kind}
+use Rattle.cfdp_actions.specs.declared.kind.Kind.TheVariants as kind
+use Rattle.cfdp_tree.specs.Next.{IsNext, IsLast}
+use Rattle.cfdp_transactions.specs.World.{World}
+use Rattle.cfdp_c.specs.Answers.{code_of}
+use Rattle.cfdp_c.specs.Making.{path_in}
+use Rattle.cfdp_c.specs.Stored.{node_fields}
+use Rattle.cfdp_c.specs.declared.answer.Answer.TheVariants.{Done, NoEngine, Nothing, BadPath}
+use Rattle.cfdp_c.specs.declared.fields.EntryFields.{EntryFields}
+use Rattle.cfdp_c.specs.declared.fields.PathFields.{PathFields}
+
+abbrev pub spelled_fields : List ℕ → PathFields
+spelled_fields octets = record { length = length octets; octets = octets ++ drop (length octets) (replicate 776 0) }
+
+abbrev pub path_fields : Path → PathFields
+path_fields path = spelled_fields (joined path)
+
+abbrev pub kind_number : Kind → ℕ
+kind_number kind.File = 1
+kind_number kind.Directory = 2
+
+abbrev pub cursor_in : PathFields → Option Path
+cursor_in fields = if fields.length == 0 then Some [] else path_in fields
+
+pub record StandsNext (F : Filestore) (p : Path) (path : PathFields) (entry : EntryFields) : Type 0 where
+  pub next : Path
+  pub node : Node
+  pub there : node_at F next ≡ Some node
+  pub is_next : IsNext F p next
+  pub path_is : path ≡ path_fields next
+  pub entry_is : entry ≡ node_fields node
+
+abbrev pub GoesOn : Filestore → Path → PathFields → PathFields → EntryFields → EntryFields → ℕ → Type 0
+GoesOn F p before path old entry answer =
+    (StandsNext F p path entry × (answer ≡ code_of Done))
+    ⊎ (IsLast F p × (path ≡ before) × (entry ≡ old) × (answer ≡ code_of Nothing))
+
+abbrev pub GoesOnFrom : Option Path → Filestore → PathFields → PathFields → EntryFields → EntryFields → ℕ → Type 0
+GoesOnFrom None F before path old entry answer = (path ≡ before) × (entry ≡ old) × (answer ≡ code_of BadPath)
+GoesOnFrom (Some p) F before path old entry answer = GoesOn F p before path old entry answer
+
+abbrev pub TellsNext : PathFields → Option World → PathFields → EntryFields → EntryFields → ℕ → Type 0
+TellsNext before None path old entry answer = (path ≡ before) × (entry ≡ old) × (answer ≡ code_of NoEngine)
+TellsNext before (Some W) path old entry answer = GoesOnFrom (cursor_in before) W.filestore before path old entry answer
