@@ -14,8 +14,8 @@
  *    No call comes from a signal handler, nor from the forked child of a process with threads.
  *
  * MEMORY comes from rattle_alloc, rattle_realloc and rattle_dealloc (docs/C.md). It is asked for by cfdp_new, by cfdp_receive for
- * a Metadata PDU and for a Finished PDU (which no receiver gets), by cfdp_take of a transaction that is over, by the calls that
- * name a path, by cfdp_list and by cfdp_reply_text; by nothing else. So no file that arrives and no request that is performed takes memory.
+ * a Metadata PDU and for a Finished PDU (which no receiver gets), by cfdp_take of a transaction that is over, by cfdp_list and by
+ * cfdp_reply_text; by nothing else. So no file that arrives and no request that is performed takes memory.
  */
 #ifndef CFDP_H
 #define CFDP_H
@@ -215,13 +215,12 @@ uint32_t cfdp_blocks(struct cfdp_engine *engine, struct cfdp_blocks *blocks);
  * CFDP_NOTHING where there is no such gap or no such transaction, or CFDP_NO_ENGINE. */
 uint32_t cfdp_gap(struct cfdp_engine *engine, uint64_t source, uint64_t number, size_t place, struct cfdp_gap *gap);
 
-/* What stands at a path. Answers CFDP_DONE, CFDP_NOTHING, CFDP_BAD_PATH, CFDP_NO_MEMORY (for the path), or CFDP_NO_ENGINE. Cost: one
- * pass over a file's octets, for its checksum. */
+/* What stands at a path. Answers CFDP_DONE, CFDP_NOTHING, CFDP_BAD_PATH or CFDP_NO_ENGINE. Takes no memory. Cost: one pass over a
+ * file's octets, for its checksum. */
 uint32_t cfdp_look_up(struct cfdp_engine *engine, const struct cfdp_path *path, struct cfdp_entry *entry);
 
 /* Copies a file's octets from the place `at` on to the beginning of `out`: as many as there are and as fit in `room`; `*count` says how
- * many. Answers CFDP_DONE; CFDP_NOTHING where no file stands at the path; CFDP_BAD_PATH, CFDP_NO_MEMORY (for the path), or
- * CFDP_NO_ENGINE. */
+ * many. Answers CFDP_DONE; CFDP_NOTHING where no file stands at the path; CFDP_BAD_PATH; or CFDP_NO_ENGINE. Takes no memory. */
 uint32_t cfdp_read(struct cfdp_engine *engine, const struct cfdp_path *path, uint64_t at, uint8_t *out, size_t room, size_t *count);
 
 /* An entry of the filestore, with its path. */

@@ -1,18 +1,19 @@
 -- What the calls from C tell of the filestore.
 --   node_fields node          a directory or a file as a struct;  looked F p: what stands at a path
---   LooksUp path handle old new answer    it is told; or the octets spell no path, nothing stands there, or there is no memory
+--   LooksUp path handle old new answer    it is told; or the octets spell no path, or nothing stands there
 --   Copies at octets out written count    a file's octets from a place on, as many as there are and as fit
 --   CopiesFile, ReadsFile     these are copied where the path is a file's
-use Rattle.std.specs.Prelude.{◌≡◌, ◌⊎◌, ℕ, ◌+◌, ◌-◌, min, List, ◌++◌, drop, length, slice_range, Option, Some, None}
+use Rattle.std.specs.Prelude.{◌≡◌, ℕ, List, length, Option, Some, None}
 use Rattle.std.specs.Option.{option_map}
 use Rattle.cfdp_paths.specs.Paths.{Path}
 use Rattle.cfdp_actions.specs.Filestore.{Filestore, Node, Directory, File, node_at}
 use Rattle.cfdp_checksum.specs.Checksum.{checksum}
+use Rattle.cfdp_tree.specs.Found.{fitting, with_octets}
 use Rattle.cfdp_transactions.specs.World.{World}
 use Rattle.cfdp_c.specs.Answers.{code_of}
 use Rattle.cfdp_c.specs.Making.{path_in}
 use Rattle.cfdp_c.specs.Reads.{Found}
-use Rattle.cfdp_c.specs.declared.answer.Answer.TheVariants.{Done, NoEngine, Memory, Nothing, BadPath}
+use Rattle.cfdp_c.specs.declared.answer.Answer.TheVariants.{Done, NoEngine, Nothing, BadPath}
 use Rattle.cfdp_c.specs.declared.fields.EntryFields.{EntryFields}
 use Rattle.cfdp_c.specs.declared.fields.PathFields.{PathFields}
 
@@ -29,19 +30,10 @@ Looks (Some path) W old new answer = Found (looked W.filestore path) old new ans
 
 abbrev pub LooksUp : PathFields → Option World → EntryFields → EntryFields → ℕ → Type 0
 LooksUp path None old new answer = (new ≡ old) × (answer ≡ code_of NoEngine)
-LooksUp path (Some W) old new answer = Looks (path_in path) W old new answer ⊎ ((new ≡ old) × (answer ≡ code_of Memory))
-
--- where the copy begins, and how many octets there are from there on, and fit
-abbrev pub beginning : ℕ → List ℕ → ℕ
-beginning at octets = min at (length octets)
-
-abbrev pub fitting : ℕ → List ℕ → List ℕ → ℕ
-fitting at octets out = min (length octets - beginning at octets) (length out)
+LooksUp path (Some W) old new answer = Looks (path_in path) W old new answer
 
 abbrev pub Copies : ℕ → List ℕ → List ℕ → List ℕ → ℕ → Type 0
-Copies at octets out written count =
-    (count ≡ fitting at octets out)
-    × (written ≡ slice_range octets (beginning at octets) (beginning at octets + fitting at octets out) ++ drop (fitting at octets out) out)
+Copies at octets out written count = (count ≡ fitting octets at out) × (written ≡ with_octets octets at out)
 
 abbrev pub CopiesFile : Option Node → ℕ → List ℕ → List ℕ → ℕ → ℕ → ℕ → Type 0
 CopiesFile (Some (File octets)) at out written before count answer = Copies at octets out written count × (answer ≡ code_of Done)
@@ -53,5 +45,4 @@ CopiesPath (Some path) W at out written before count answer = CopiesFile (node_a
 
 abbrev pub ReadsFile : PathFields → Option World → ℕ → List ℕ → List ℕ → ℕ → ℕ → ℕ → Type 0
 ReadsFile path None at out written before count answer = (written ≡ out) × (count ≡ before) × (answer ≡ code_of NoEngine)
-ReadsFile path (Some W) at out written before count answer =
-    CopiesPath (path_in path) W at out written before count answer ⊎ ((written ≡ out) × (count ≡ before) × (answer ≡ code_of Memory))
+ReadsFile path (Some W) at out written before count answer = CopiesPath (path_in path) W at out written before count answer

@@ -1,59 +1,55 @@
-//! What an engine tells of its filestore. Nothing here changes anything; the path takes memory while it is looked up.
-ghost use Rattle.std.specs.Prelude.{◌≡◌, IsFalse};
+//! What an engine tells of its filestore. Nothing here changes anything, or takes memory.
+ghost use Rattle.std.specs.Prelude.{◌≡◌, All};
 ghost use Rattle.cfdp_actions.specs.Filestore.{node_at};
+ghost use Rattle.cfdp_paths.specs.Paths.{IsName};
 ghost use Rattle.cfdp_c.specs.Answers.{code_of};
 ghost use Rattle.cfdp_c.specs.Stored.{CopiesFile, LooksUp, ReadsFile, looked};
 
 use crate::answer::Answer;
 use crate::fields::{EntryFields, PathFields};
 use crate::handle::Handle;
-use crate::paths::path_of;
-use cfdp_actions::{Filestore, Kind};
-use cfdp_paths::Path;
+use crate::paths::names_of;
+use cfdp_actions::Kind;
+use cfdp_paths::Names;
 use cfdp_transactions::Core;
 use cfdp_tree::TreeStore;
 use std::alloc::Global;
 
-/// What stands at a path.
-fn look_up(core: &Core<TreeStore>, path: &Path) -> Option<EntryFields>
-    ensures { result ≡ looked core.now.world.filestore path.now }
+/// What stands at the path of these names.
+fn look_up(core: &Core<TreeStore>, names: Names<'_>) -> Option<EntryFields>
+    requires { All IsName names }
+    ensures { result ≡ looked core.now.world.filestore names.entry }
 {
-    let store = core.store();
-    match store.kind(path) {
-        None => None,
-        Some(Kind::Directory) => Some(EntryFields {
-            kind: 2,
-            checksum: 0,
-            size: 0,
-        }),
-        Some(Kind::File) => Some(EntryFields {
-            kind: 1,
-            checksum: store.checksum(path),
-            size: store.size(path),
-        }),
-    }
+    let found = core.store().find(names)?;
+    let kind = match found.kind {
+        Kind::File => 1,
+        Kind::Directory => 2,
+    };
+    Some(EntryFields {
+        kind,
+        checksum: found.checksum,
+        size: found.size,
+    })
 }
 
 /// Copies a file's octets from a place on, as many as there are and as fit.
 fn copy_file(
     core: &Core<TreeStore>,
-    path: &Path,
+    names: Names<'_>,
     at: u64,
     out: &mut [u8],
     count: &mut usize,
 ) -> Answer
-    ensures { CopiesFile (node_at core.now.world.filestore path.now) at out.old out.new count.old count.new (code_of result) }
+    requires { All IsName names }
+    ensures { CopiesFile (node_at core.now.world.filestore names.entry) at out.old out.new count.old count.new (code_of result) }
 {
-    let store = core.store();
-    let Some(Kind::File) = store.kind(path) else {
-        return Answer::Nothing;
-    };
-    let size = store.size(path);
-    let beginning = at.min(size);
-    let fitting = (size - beginning).min(out.len() as u64);
-    store.read(path, beginning, &mut out[..fitting as usize]);
-    *count = fitting as usize;
-    Answer::Done
+    match core.store().read_at(names, at, out) {
+        None => Answer::Nothing,
+        Some(copied) => {
+            *count = copied;
+            Answer::Done
+        }
+    }
 }
 
 /// What stands at a path.
@@ -70,9 +66,10 @@ pub extern "C" fn cfdp_look_up(
     let Some(entity) = engine.take(alloc) else {
         return Answer::NoEngine.code();
     };
-    let answer = match path_of(alloc, path) {
+    let mut path = *path;
+    let answer = match names_of(&mut path) {
         Err(answer) => answer,
-        Ok(path) => match look_up(entity.core(), &path) {
+        Ok(names) => match look_up(entity.core(), names) {
             None => Answer::Nothing,
             Some(found) => {
                 *entry = found;
@@ -100,9 +97,10 @@ pub extern "C" fn cfdp_read(
     let Some(entity) = engine.take(alloc) else {
         return Answer::NoEngine.code();
     };
-    let answer = match path_of(alloc, path) {
+    let mut path = *path;
+    let answer = match names_of(&mut path) {
         Err(answer) => answer,
-        Ok(path) => copy_file(entity.core(), &path, at, out, count),
+        Ok(names) => copy_file(entity.core(), names, at, out, count),
     };
     engine.put(entity);
     answer.code()
