@@ -1,8 +1,9 @@
 //! Worked scripts, with the statuses, the ticks and the free blocks that they come to, on two stores; scripts made at
-//! random on both side by side; the store inside an arena at its limits; octets of sizes around those of blocks; and what a store
+//! random on both side by side; the store inside an arena at its limits, and by lent names; octets of sizes around those of blocks; and what a store
 //! shows where memory is refused.
 
 mod calls;
+mod lent;
 mod limits;
 mod many;
 mod random;
