@@ -1,11 +1,13 @@
 //! Worked paths and faults, and how paths stand to one another.
 
 mod answers;
+mod lent;
 mod limits;
 mod maps;
 
 use super::{Row, all_hold};
 use cfdp_paths::{LONGEST_NAME, Memory, Path, PathFault};
+use lent::lent_fault;
 use std::alloc::{AllocError, Global};
 use std::cmp::Ordering;
 
@@ -49,7 +51,10 @@ static FAULTS: [Fault; 24] = [
 
 impl Row for Fault {
     fn holds(&self, alloc: Global) -> Result<bool, Memory> {
-        Ok(Path::parse(alloc, self.0).err() == Some(self.1))
+        Ok(
+            Path::parse(alloc, self.0).err() == Some(self.1)
+                && lent_fault(alloc, self.0)? == Some(self.1),
+        )
     }
 }
 
@@ -84,7 +89,10 @@ fn around_a_long_name(alloc: Global, before: &[u8], behind: &[u8]) -> Result<Vec
 impl Row for AroundALongName {
     fn holds(&self, alloc: Global) -> Result<bool, Memory> {
         let octets = around_a_long_name(alloc, self.0, self.1)?;
-        Ok(Path::parse(alloc, &octets).err() == Some(self.2))
+        Ok(
+            Path::parse(alloc, &octets).err() == Some(self.2)
+                && lent_fault(alloc, &octets)? == Some(self.2),
+        )
     }
 }
 

@@ -1,4 +1,4 @@
-use Rattle.std.proofs.Common.{◌≡◌, Bool, true, false, cond, Option, Some, None, refl, ap, ◌∙◌, take}
+use Rattle.std.proofs.Common.{◌≡◌, Bool, true, false, cond, Option, None, refl, take}
 use Rattle.std.specs.Prelude.{nat_le}
 use Rattle.cfdp_paths.specs.Paths.{Path}
 use Rattle.cfdp_paths.proofs.Faulty.{no_path_from_fault}

@@ -6,7 +6,7 @@ use cfdp_paths::{LONGEST_NAME, Memory, Path};
 use std::alloc::Global;
 
 /// The octets that spell it: 96 times the first name, 96 times `2`, 96 times `3` and so on.
-fn longest(alloc: Global, first: u8) -> Result<Vec<u8>, Memory> {
+pub fn longest(alloc: Global, first: u8) -> Result<Vec<u8>, Memory> {
     let mut octets = Vec::from_slice(alloc, &[first; LONGEST_NAME])?;
     for name in b'2'..=b'8' {
         octets.push(b'/')?;

@@ -1,0 +1,129 @@
+//! The store inside an arena, looked up and read by names that are lent out of octets.
+
+use super::calls::Asked;
+use super::steps::{BLOCKS, Stands, Step, take};
+use cfdp_actions::{Kind, Protected};
+use cfdp_paths::{Memory, Names};
+use cfdp_status::Action;
+use cfdp_tree::TreeStore;
+use std::alloc::Global;
+use std::process::Abort;
+
+/// Makes what stands in [`FOUND`].
+const MAKES: &[Step<'static>] = &[
+    Step::Performs(Action::CreateDirectory, b"d", b"", 0x50, 1, 63),
+    Step::Performs(Action::CreateFile, b"e", b"", 0x00, 1, 62),
+    Step::Takes(Asked::Extend(0, 5), 1, 61),
+    Step::Puts(0, 0, b"abcde"),
+    Step::Takes(Asked::Install(0, b"d/f"), 1, 60),
+];
+
+/// What stands, also with a `/` in front. The octets of `d/f` are the words 61 62 63 64 and 65 00 00 00.
+const FOUND: &[Stands<'static>] = &[
+    (b"d", Kind::Directory, 0, 0),
+    (b"/d", Kind::Directory, 0, 0),
+    (b"e", Kind::File, 0, 0),
+    (b"d/f", Kind::File, 5, 0xc662_6364),
+    (b"/d/f", Kind::File, 5, 0xc662_6364),
+];
+
+/// Where nothing stands: other names, and names below a file.
+const ABSENT: &[&[u8]] = &[
+    b"f",
+    b"D",
+    b"d/e",
+    b"d/ff",
+    b"d/f/g",
+    b"e/d",
+    b"d/f/d/f/d/f/d/f",
+];
+
+/// A file, the place from which on it is read, and what stands in four octets `.` then.
+const READ: &[(&[u8], u64, &[u8])] = &[
+    (b"d/f", 0, b"abcd"),
+    (b"/d/f", 1, b"bcde"),
+    (b"d/f", 2, b"cde."),
+    (b"d/f", 5, b"...."),
+    (b"d/f", u64::MAX, b"...."),
+    (b"e", 0, b"...."),
+];
+
+/// A store of [`MAKES`].
+fn made(rt: &impl Abort, alloc: Global) -> Result<TreeStore, Memory> {
+    let mut store = TreeStore::new(alloc, BLOCKS)?;
+    take(rt, alloc, &mut store, &Protected::new(), "lent", MAKES)?;
+    Ok(store)
+}
+
+/// Whether this stands there; `None`: nothing.
+fn is_found(
+    alloc: Global,
+    store: &TreeStore,
+    octets: &[u8],
+    want: Option<(Kind, u64, u32)>,
+) -> Result<bool, Memory> {
+    let mut octets = Vec::from_slice(alloc, octets)?;
+    match Names::parse(&mut octets) {
+        Ok(names) => {
+            let found = store.find(names);
+            Ok(found.map(|found| (found.kind, found.size, found.checksum)) == want)
+        }
+        Err(_) => Ok(false),
+    }
+}
+
+#[test]
+fn finds_what_stands(rt: HostRuntime) -> Result<(), Memory> {
+    let alloc = rt.alloc();
+    let store = made(&rt, alloc)?;
+    for (path, kind, size, sum) in FOUND {
+        assert!(&rt;
+            is_found(alloc, &store, path, Some((*kind, *size, *sum)))?,
+            "{}",
+            path.escape_ascii()
+        );
+    }
+    for path in ABSENT {
+        assert!(&rt;
+            is_found(alloc, &store, path, None)?,
+            "{}",
+            path.escape_ascii()
+        );
+    }
+    Ok(())
+}
+
+/// What is read of the file into four octets `.`, and how many octets that is; `None` where no file stands.
+fn read(
+    alloc: Global,
+    store: &TreeStore,
+    octets: &[u8],
+    at: u64,
+) -> Result<Option<(usize, [u8; 4])>, Memory> {
+    let mut octets = Vec::from_slice(alloc, octets)?;
+    let mut buffer = *b"....";
+    match Names::parse(&mut octets) {
+        Ok(names) => {
+            let count = store.read_at(names, at, &mut buffer);
+            Ok(count.map(|count| (count, buffer)))
+        }
+        Err(_) => Ok(None),
+    }
+}
+
+#[test]
+fn reads_files_alone(rt: HostRuntime) -> Result<(), Memory> {
+    let alloc = rt.alloc();
+    let store = made(&rt, alloc)?;
+    for (number, (path, at, want)) in READ.iter().enumerate() {
+        let read = read(alloc, &store, path, *at)?;
+        let count = want.iter().filter(|octet| **octet != b'.').count();
+        assert!(&rt;
+            read.is_some_and(|read| read.0 == count && read.1.as_slice() == *want),
+            "row {number}"
+        );
+    }
+    assert!(&rt; read(alloc, &store, b"d", 0)?.is_none(), "a directory");
+    assert!(&rt; read(alloc, &store, b"d/f/g", 0)?.is_none(), "below a file");
+    Ok(())
+}
