@@ -10,7 +10,7 @@ returns c =
     let is = subst (λ F. IsNextEntry F c.args.after octets found) c.store.ensures.filestore c.in-Some.ensures.next in
     inl (
       next_told c.args.core.now.world.filestore c.args.after octets found is _ _
-      (c.path_fields.ensures ∙ ap spelled_fields c.split_at.ensures.back)
-      (λ i. record { kind = c.kind_number.ensures i; checksum = found.checksum; size = found.size }),
+          (c.path_fields.ensures ∙ ap spelled_fields c.split_at.ensures.back)
+          (λ i. record { kind = c.kind_number.ensures i; checksum = found.checksum; size = found.size }),
       refl,
     )
