@@ -75,10 +75,9 @@ fn push_names(names: &mut Vec<String>, alloc: Global, directory: char) -> Result
 
 /// The numbers below 4,096, each once, far from those before and after it.
 fn scattered(number: u32) -> u32
-    requires { number ≤ 4095 }
     ensures { result ≤ 4095 }
 {
-    number * 2731 % ENTRIES
+    number.wrapping_mul(2731) % ENTRIES
 }
 
 /// The name of the place; empty behind the last one.
