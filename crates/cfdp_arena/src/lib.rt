@@ -25,6 +25,3 @@ pub const BLOCK_OCTETS: usize = 128;
 
 /// The octets of a block: 8 for its owner's links, and a payload of 120.
 pub type Block = [u8; BLOCK_OCTETS];
-
-#[cfg(test)]
-mod tests;

@@ -1,10 +1,8 @@
-use super::*;
-use plain::PlainRegion;
-use std::alloc::AllocError;
+//! The arena under the store: what it hands out, what stands in a block, and that it may move to another thread.
+
+use cfdp_arena::{Arena, BLOCK_OCTETS, Block, BlockId};
 use std::test::Fail;
 use std::thread;
-
-mod plain;
 
 /// Whether all octets of a block are 0.
 fn is_blank(block: &Block) -> bool {
@@ -86,25 +84,4 @@ fn an_arena_moves_to_a_thread(rt: HostRuntime) -> Result<(), Fail> {
 #[test]
 fn numbers(rt: HostRuntime) {
     assert_eq!(rt; BlockId::of_number(65535).number(), 65535);
-}
-
-const BLOCKS: usize = 16;
-
-#[test]
-fn the_region_does_what_the_plain_one_does(rt: HostRuntime) -> Result<(), AllocError> {
-    let mut plain = PlainRegion::new(rt.alloc(), BLOCKS)?;
-    let mut region = Region::new(&rt.alloc(), BLOCKS)?;
-    for step in 0..2000usize {
-        let number = step * 7 % BLOCKS;
-        let place = step * 31 % 128;
-        let octet = (step % 251) as u8;
-        region.block_mut(number)[place] = octet;
-        plain.block_mut(number)[place] = octet;
-        assert!(rt; region.block(number) == plain.block(number));
-    }
-    for number in 0..BLOCKS {
-        assert!(rt; region.block(number) == plain.block(number));
-    }
-    region.release(&rt.alloc());
-    Ok(())
 }
