@@ -29,12 +29,8 @@ fn main(rt: HostRuntime) -> ExitCode {
         let _ = eprintln!(rt; "cfdp_soak EVENTS SEED: two numbers");
         return ExitCode::from(2);
     };
-    let mut soak = match Soak::new(rt.alloc(), seed) {
-        Ok(soak) => soak,
-        Err(_) => return ExitCode::from(1),
-    };
-    let ran = soak.run(rt.alloc(), events);
-    let _ = eprintln!(rt; "{}", soak.counts);
+    let (ran, handed_in, counts) = run(rt.alloc(), events, seed);
+    let _ = eprintln!(rt; "{counts}");
     match ran {
         Ok(()) => {
             let _ = println!(rt;
@@ -47,9 +43,17 @@ fn main(rt: HostRuntime) -> ExitCode {
             ExitCode::from(1)
         }
         Err(Fault::Wrong(wrong)) => {
-            let _ = println!(rt; "event {}: {wrong}", soak.handed_in);
+            let _ = println!(rt; "event {handed_in}: {wrong}");
             ExitCode::from(1)
         }
+    }
+}
+
+/// Hands in so many events of this seed: how that ended, how many were handed in, and what was replied.
+fn run(alloc: Global, events: u64, seed: u64) -> (Result<(), Fault>, u64, Counts) {
+    match Soak::new(alloc, seed) {
+        Ok(mut soak) => (soak.run(alloc, events), soak.handed_in, soak.counts),
+        Err(fault) => (Err(fault), 0, Counts::new()),
     }
 }
 

@@ -220,26 +220,30 @@ impl<'a> Script<'a> {
         }
         Ok(true)
     }
+
+    /// Hands in lines, cancels each live transaction behind them, and takes each outcome.
+    fn ends(&mut self, alloc: Global, lines: &[Line]) -> Result<bool, Memory> {
+        Ok(self.pass_all(alloc, lines)? && self.cancel_all() && self.take_all(alloc)?)
+    }
+
+    /// The same, with a cancel of each live transaction in between.
+    fn goes_on(&mut self, alloc: Global, before: &[Line], behind: &[Line]) -> Result<bool, Memory> {
+        Ok(self.pass_all(alloc, before)? && self.cancel_all() && self.ends(alloc, behind)?)
+    }
 }
 
 /// Whether all is well where the cancels come behind so many lines, and the row goes on behind them.
 fn is_well_behind(alloc: Global, row: &Row, place: usize) -> Result<bool, Memory> {
     let (before, behind) = row.lines.split_at(place.min(row.lines.len()));
     let mut script = Script::new(alloc, row)?;
-    Ok(
-        script.pass_all(alloc, before)?
-            && script.cancel_all()
-            && script.pass_all(alloc, behind)?
-            && script.cancel_all()
-            && script.take_all(alloc)?,
-    )
+    script.goes_on(alloc, before, behind)
 }
 
 /// Whether all is well where the cancels come behind so many lines, and the outcomes are taken then.
 fn ends_behind(alloc: Global, row: &Row, place: usize) -> Result<bool, Memory> {
     let (before, _) = row.lines.split_at(place.min(row.lines.len()));
     let mut script = Script::new(alloc, row)?;
-    Ok(script.pass_all(alloc, before)? && script.cancel_all() && script.take_all(alloc)?)
+    script.ends(alloc, before)
 }
 
 fn try_row(rt: &impl Abort, alloc: Global, row: &Row) -> Result<(), Memory> {

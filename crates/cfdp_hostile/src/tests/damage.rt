@@ -54,13 +54,26 @@ fn replay(alloc: Global, row: &Row, entity: &mut Entity, lines: &[Line]) -> Resu
 fn is_taken(alloc: Global, row: &Row, place: usize, octets: &[u8]) -> Result<bool, Memory> {
     let (before, behind) = row.lines.split_at(place.min(row.lines.len()));
     let mut entity = row.entity(alloc)?;
-    let mut well = replay(alloc, row, &mut entity, before)?;
+    Ok(
+        replay(alloc, row, &mut entity, before)?
+            && goes_on(alloc, row, &mut entity, octets, behind)?,
+    )
+}
+
+/// Whether the octets are taken and no step fails behind them, and all that was reserved comes back.
+fn goes_on(
+    alloc: Global,
+    row: &Row,
+    entity: &mut Entity,
+    octets: &[u8],
+    behind: &[Line],
+) -> Result<bool, Memory> {
     let Ok((id, _)) = entity.receive(alloc, octets) else {
         return Ok(false);
     };
-    well = replay(alloc, row, &mut entity, behind)? && well;
+    let well = replay(alloc, row, entity, behind)?;
     entity.cancel(id);
-    Ok(row.cancel_all(&mut entity) && has_no_reserve(&entity) && well)
+    Ok(well && row.cancel_all(entity) && has_no_reserve(entity))
 }
 
 /// A place in a row, and the entity there.
@@ -73,6 +86,18 @@ struct There<'a> {
 }
 
 impl<'a> There<'a> {
+    /// The beginning of a row.
+    fn new(alloc: Global, row: &'a Row) -> Result<Self, Memory> {
+        let entity = row.entity(alloc)?;
+        let seen = seen(alloc, row, &entity)?;
+        Ok(There {
+            row,
+            place: 0,
+            entity,
+            seen,
+        })
+    }
+
     /// Whether octets that are no event change nothing.
     fn is_passed_over(&mut self, alloc: Global, octets: &[u8]) -> Result<bool, Memory> {
         let refused = self.entity.receive(alloc, octets).is_err();
@@ -133,35 +158,34 @@ impl<'a> There<'a> {
         self.place = self.place.saturating_add(1);
         Ok(())
     }
+
+    /// Passes all lines.
+    fn pass_all(&mut self, rt: &impl Abort, alloc: Global, lines: &[Line]) -> Result<(), Memory> {
+        for line in lines {
+            self.pass(rt, alloc, *line)?;
+        }
+        Ok(())
+    }
 }
 
 fn try_row(rt: &impl Abort, alloc: Global, row: &Row) -> Result<(), Memory> {
-    let entity = row.entity(alloc)?;
-    let seen = seen(alloc, row, &entity)?;
-    let mut there = There {
-        row,
-        place: 0,
-        entity,
-        seen,
-    };
-    for line in row.lines {
-        there.pass(rt, alloc, *line)?;
+    let mut there = There::new(alloc, row)?;
+    there.pass_all(rt, alloc, row.lines)
+}
+
+fn try_rows(rt: &impl Abort, alloc: Global, rows: &[Row]) -> Result<(), Memory> {
+    for row in rows {
+        try_row(rt, alloc, row)?;
     }
     Ok(())
 }
 
 #[test]
 fn in_each_row(rt: HostRuntime) -> Result<(), Memory> {
-    for row in &ROWS {
-        try_row(&rt, rt.alloc(), row)?;
-    }
-    Ok(())
+    try_rows(&rt, rt.alloc(), &ROWS)
 }
 
 #[test]
 fn in_each_large_row(rt: HostRuntime) -> Result<(), Memory> {
-    for row in &LARGE_ROWS {
-        try_row(&rt, rt.alloc(), row)?;
-    }
-    Ok(())
+    try_rows(&rt, rt.alloc(), &LARGE_ROWS)
 }

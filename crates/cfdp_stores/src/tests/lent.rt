@@ -38,14 +38,17 @@ const ABSENT: &[&[u8]] = &[
     b"d/f/d/f/d/f/d/f",
 ];
 
-/// A file, the place from which on it is read, and what stands in four octets `.` then.
-const READ: &[(&[u8], u64, &[u8])] = &[
-    (b"d/f", 0, b"abcd"),
-    (b"/d/f", 1, b"bcde"),
-    (b"d/f", 2, b"cde."),
-    (b"d/f", 5, b"...."),
-    (b"d/f", u64::MAX, b"...."),
-    (b"e", 0, b"...."),
+/// A path, the place from which on its file is read, and, where a file stands there, how many octets that is and what stands in
+/// four octets `.` then.
+const READ: &[(&[u8], u64, Option<(usize, [u8; 4])>)] = &[
+    (b"d/f", 0, Some((4, *b"abcd"))),
+    (b"/d/f", 1, Some((4, *b"bcde"))),
+    (b"d/f", 2, Some((3, *b"cde."))),
+    (b"d/f", 5, Some((0, *b"...."))),
+    (b"d/f", u64::MAX, Some((0, *b"...."))),
+    (b"e", 0, Some((0, *b"...."))),
+    (b"d", 0, None),
+    (b"d/f/g", 0, None),
 ];
 
 /// A store of [`MAKES`].
@@ -117,13 +120,7 @@ fn reads_files_alone(rt: HostRuntime) -> Result<(), Memory> {
     let store = made(&rt, alloc)?;
     for (number, (path, at, want)) in READ.iter().enumerate() {
         let read = read(alloc, &store, path, *at)?;
-        let count = want.iter().filter(|octet| **octet != b'.').count();
-        assert!(&rt;
-            read.is_some_and(|read| read.0 == count && read.1.as_slice() == *want),
-            "row {number}"
-        );
+        assert!(&rt; read == *want, "row {number}");
     }
-    assert!(&rt; read(alloc, &store, b"d", 0)?.is_none(), "a directory");
-    assert!(&rt; read(alloc, &store, b"d/f/g", 0)?.is_none(), "below a file");
     Ok(())
 }

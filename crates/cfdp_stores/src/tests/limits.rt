@@ -1,8 +1,6 @@
 //! A `TreeStore` of as many blocks as there may be: a staged list that takes all that is left, a directory of 4,096 entries, and
 //! a path of as many and as long names as there may be.
 
-ghost use Rattle.std.specs.Prelude.{◌≤◌};
-
 use super::calls::{Asked, deepest, parsed};
 use super::steps::{Script, Shown, Stands, Step, are_listed, are_standing, run, take};
 use cfdp_actions::{Filestore, Kind, Protected};
@@ -74,10 +72,8 @@ fn push_names(names: &mut Vec<String>, alloc: Global, directory: char) -> Result
 }
 
 /// The numbers below 4,096, each once, far from those before and after it.
-fn scattered(number: u32) -> u32
-    ensures { result ≤ 4095 }
-{
-    number.wrapping_mul(2731) % ENTRIES
+fn scattered(number: u32) -> u32 {
+    number.wrapping_mul(2731) & (ENTRIES - 1)
 }
 
 /// The name of the place; empty behind the last one.
@@ -88,13 +84,15 @@ fn name(names: &[String], place: u32) -> &[u8] {
     }
 }
 
-/// Makes two directories and the entries in the one.
+/// Makes two directories.
+const DIRECTORIES: &[Step<'static>] = &[
+    Step::Performs(Action::CreateDirectory, b"d", b"", 0x50, 1, 65_535),
+    Step::Performs(Action::CreateDirectory, b"e", b"", 0x50, 1, 65_534),
+];
+
+/// Makes the entries in the one.
 fn entries(alloc: Global, names: &[String]) -> Result<Vec<Step<'_>>, Memory> {
     let mut steps = Vec::new(alloc);
-    steps.extend_from_slice(&[
-        Step::Performs(Action::CreateDirectory, b"d", b"", 0x50, 1, 65_535),
-        Step::Performs(Action::CreateDirectory, b"e", b"", 0x50, 1, 65_534),
-    ])?;
     for number in 0..ENTRIES {
         let name = name(names, scattered(number));
         steps.push(Step::Performs(Action::CreateFile, name, b"", 0x00, 1, 65_533 - number))?;
@@ -102,7 +100,7 @@ fn entries(alloc: Global, names: &[String]) -> Result<Vec<Step<'_>>, Memory> {
     Ok(steps)
 }
 
-/// Moves each entry of the one directory into the other, where the numbers run the other way.
+/// Moves each entry of the one directory into the other, where its number is another one.
 fn renames<'a>(
     alloc: Global,
     old: &'a [String],
@@ -111,25 +109,27 @@ fn renames<'a>(
     let mut steps = Vec::new(alloc);
     for number in 0..ENTRIES {
         let old = name(old, scattered(number));
-        let new = name(new, ENTRIES - 1 - scattered(number));
+        let new = name(new, scattered(ENTRIES - 1 - number));
         steps.push(Step::Performs(Action::RenameFile, old, new, 0x20, 0, 61_438))?;
     }
     Ok(steps)
 }
 
-/// Removes the entries and the two directories.
+/// Removes the entries.
 fn removals(alloc: Global, names: &[String]) -> Result<Vec<Step<'_>>, Memory> {
     let mut steps = Vec::new(alloc);
     for number in 0..ENTRIES {
         let name = name(names, number);
         steps.push(Step::Performs(Action::DeleteFile, name, b"", 0x10, 1, 61_439 + number))?;
     }
-    steps.extend_from_slice(&[
-        Step::Performs(Action::RemoveDirectory, b"d", b"", 0x60, 1, 65_535),
-        Step::Performs(Action::RemoveDirectory, b"e", b"", 0x60, 1, BLOCKS),
-    ])?;
     Ok(steps)
 }
+
+/// Removes the two directories.
+const NO_DIRECTORIES: &[Step<'static>] = &[
+    Step::Performs(Action::RemoveDirectory, b"d", b"", 0x60, 1, 65_535),
+    Step::Performs(Action::RemoveDirectory, b"e", b"", 0x60, 1, BLOCKS),
+];
 
 /// Adds the empty files of these names.
 fn push_files<'a>(rows: &mut Vec<Stands<'a>>, names: &'a [String]) -> Result<(), Memory> {
@@ -153,24 +153,30 @@ fn listing(alloc: Global, names: &[String], is_first: bool) -> Result<Vec<Stands
     Ok(rows)
 }
 
-/// Each name is found as that of an empty file; the next number, and the first and the last of the others, stand nowhere.
-fn finds<'a>(
-    alloc: Global,
-    names: &'a [String],
-    absent: &'a [String],
-) -> Result<Vec<Step<'a>>, Memory> {
+/// Each name is found as that of an empty file.
+fn finds(alloc: Global, names: &[String]) -> Result<Vec<Step<'_>>, Memory> {
     let mut steps = Vec::new(alloc);
     for name in names {
         steps.push(Step::Shows(Shown::Octets(name.as_bytes(), 0, 0, b"")))?;
     }
-    steps.extend_from_slice(&[
-        Step::Shows(Shown::Deepest(b"d/4096", None)),
-        Step::Shows(Shown::Deepest(b"e/4096", None)),
-        Step::Shows(Shown::Deepest(name(absent, 0), None)),
-        Step::Shows(Shown::Deepest(name(absent, 4095), None)),
-    ])?;
     Ok(steps)
 }
+
+/// The next number, and the first and the last of the entries in the second directory, stand nowhere.
+const FIRST_FULL: &[Step<'static>] = &[
+    Step::Shows(Shown::Deepest(b"d/4096", None)),
+    Step::Shows(Shown::Deepest(b"e/4096", None)),
+    Step::Shows(Shown::Deepest(b"e/0000", None)),
+    Step::Shows(Shown::Deepest(b"e/4095", None)),
+];
+
+/// The same of the entries in the first one.
+const SECOND_FULL: &[Step<'static>] = &[
+    Step::Shows(Shown::Deepest(b"d/4096", None)),
+    Step::Shows(Shown::Deepest(b"e/4096", None)),
+    Step::Shows(Shown::Deepest(b"d/0000", None)),
+    Step::Shows(Shown::Deepest(b"d/4095", None)),
+];
 
 /// Whether just these are listed, those at and below the directory stand there, and the longest path has so many names.
 fn shows_rows<S: Filestore>(
@@ -209,12 +215,14 @@ fn has_entries<S: Filestore>(
     rt: &impl Abort,
     alloc: Global,
     store: &mut S,
-    names: (&[String], &[String]),
+    names: &[String],
     is_first: bool,
 ) -> Result<(), Memory> {
-    let steps = finds(alloc, names.0, names.1)?;
-    take(rt, alloc, store, &Protected::new(), "finds", &steps)?;
-    let holds = shows_entries(alloc, store, names.0, is_first)?;
+    let none = Protected::new();
+    let absent = if is_first { FIRST_FULL } else { SECOND_FULL };
+    take(rt, alloc, store, &none, "finds", &finds(alloc, names)?)?;
+    take(rt, alloc, store, &none, "absent", absent)?;
+    let holds = shows_entries(alloc, store, names, is_first)?;
     assert!(rt; holds);
     Ok(())
 }
@@ -228,8 +236,9 @@ fn fill<'a, S: Filestore>(
     new: &'a [String],
 ) -> Result<(), Memory> {
     let none = Protected::new();
+    take(rt, alloc, store, &none, "directories", DIRECTORIES)?;
     take(rt, alloc, store, &none, "entries", &entries(alloc, old)?)?;
-    has_entries(rt, alloc, store, (old, new), true)?;
+    has_entries(rt, alloc, store, old, true)?;
     take(
         rt,
         alloc,
@@ -238,8 +247,9 @@ fn fill<'a, S: Filestore>(
         "renames",
         &renames(alloc, old, new)?,
     )?;
-    has_entries(rt, alloc, store, (new, old), false)?;
-    take(rt, alloc, store, &none, "removals", &removals(alloc, new)?)
+    has_entries(rt, alloc, store, new, false)?;
+    take(rt, alloc, store, &none, "removals", &removals(alloc, new)?)?;
+    take(rt, alloc, store, &none, "no directories", NO_DIRECTORIES)
 }
 
 #[test]
@@ -294,10 +304,7 @@ fn long_rows(alloc: Global, paths: &[Vec<u8>]) -> Result<Vec<Stands<'_>>, Memory
 
 /// All paths but the last one.
 fn directories(paths: &[Vec<u8>]) -> &[Vec<u8>] {
-    match paths {
-        [directories @ .., _] => directories,
-        [] => paths,
-    }
+    paths.get(..7).unwrap_or(paths)
 }
 
 /// The path of the place; empty behind the last one.
@@ -308,7 +315,7 @@ fn path(paths: &[Vec<u8>], place: usize) -> &[u8] {
     }
 }
 
-/// Makes the directories in one another, and the file.
+/// Makes the directories in one another.
 fn made(alloc: Global, paths: &[Vec<u8>]) -> Result<Vec<Step<'_>>, Memory> {
     let mut steps = Vec::new(alloc);
     let mut free = BLOCKS;
@@ -316,13 +323,17 @@ fn made(alloc: Global, paths: &[Vec<u8>]) -> Result<Vec<Step<'_>>, Memory> {
         free = free.wrapping_sub(1);
         steps.push(Step::Performs(Action::CreateDirectory, path, b"", 0x50, 1, free))?;
     }
-    steps.extend_from_slice(&[
+    Ok(steps)
+}
+
+/// Makes the file.
+fn delivered(file: &[u8]) -> [Step<'_>; 4] {
+    [
         Step::Takes(Asked::Extend(0, 6), 1, 65_528),
         Step::Puts(0, 0, b"octets"),
-        Step::Takes(Asked::Install(0, path(paths, 7)), 1, 65_527),
-        Step::Shows(Shown::Octets(path(paths, 7), 6, 0, b"octets")),
-    ])?;
-    Ok(steps)
+        Step::Takes(Asked::Install(0, file), 1, 65_527),
+        Step::Shows(Shown::Octets(file, 6, 0, b"octets")),
+    ]
 }
 
 /// The first directory gets another name.
@@ -370,6 +381,14 @@ fn move_long<S: Filestore>(
 ) -> Result<(), Memory> {
     let none = Protected::new();
     take(rt, alloc, store, &none, "makes", &made(alloc, old)?)?;
+    take(
+        rt,
+        alloc,
+        store,
+        &none,
+        "delivers",
+        &delivered(path(old, 7)),
+    )?;
     stands_long(rt, alloc, store, old)?;
     take(
         rt,

@@ -35,8 +35,14 @@ const ROWS: &[Stands<'static>] = &[
     (b"b", Kind::File, 0, 0),
 ];
 
-/// Paths where nothing stands, and the row that comes next behind each.
+/// Paths, and the row that comes next behind each: those that stand there, and others.
 const ASKED: &[(&[u8], usize)] = &[
+    (b"a", 1),
+    (b"a/b", 2),
+    (b"a/b/c", 3),
+    (b"a!", 4),
+    (b"ab", 5),
+    (b"b", 6),
     (b"A", 0),
     (b"a/a", 1),
     (b"a/a/c/d", 1),
@@ -61,21 +67,6 @@ fn goes_through_in_path_order(rt: HostRuntime) -> Result<(), Memory> {
         is_next(&store, Names::none(), ROWS.first()),
         "the first one"
     );
-    for (place, (path, _, _, _)) in ROWS.iter().enumerate() {
-        let path = parsed(alloc, path)?;
-        assert!(&rt;
-            is_next(&store, path.names(), ROWS.get(place + 1)),
-            "behind row {place}"
-        );
-    }
-    Ok(())
-}
-
-#[test]
-fn goes_on_behind_paths_that_do_not_stand_there(rt: HostRuntime) -> Result<(), Memory> {
-    let alloc = rt.alloc();
-    let mut store = TreeStore::new(alloc, BLOCKS)?;
-    take(&rt, alloc, &mut store, &Protected::new(), "next", MAKES)?;
     for (number, (path, place)) in ASKED.iter().enumerate() {
         let path = parsed(alloc, path)?;
         assert!(&rt;

@@ -259,8 +259,7 @@ impl Operation {
     }
 }
 
-/// What a store says of itself and of the path of an operation, and the octets at its place, in the file and in the slot;
-/// `None` where there are no such places.
+/// What a store says of itself and of a path.
 #[derive(Drop, PartialEq)]
 struct Told {
     free: u32,
@@ -269,27 +268,33 @@ struct Told {
     has_entries: bool,
     deepest: Option<u8>,
     checksum: Option<u32>,
-    octets: Option<Vec<u8>>,
-    staged: Option<Vec<u8>>,
 }
 
-fn says<S: Filestore>(
-    alloc: Global,
-    store: &S,
-    path: &Path,
-    operation: &Operation,
-) -> Result<Told, Memory> {
-    let count = operation.octets.len() as u64;
-    Ok(Told {
+fn tells<S: Filestore>(store: &S, path: &Path) -> Told {
+    Told {
         free: store.free(),
         kind: store.kind(path),
         parent_is_good: store.parent_is_good(path),
         has_entries: store.has_entries(path),
         deepest: deepest(store, path),
         checksum: checksum(store, path),
-        octets: read(alloc, store, path, operation.at, count)?,
-        staged: read_staged(alloc, store, operation.slot, operation.at, count)?,
-    })
+    }
+}
+
+/// The same of the path of an operation, and the octets at its place, in the file and in the slot; `None` where there are no
+/// such places.
+type Said = (Told, Option<Vec<u8>>, Option<Vec<u8>>);
+
+fn says<S: Filestore>(
+    alloc: Global,
+    store: &S,
+    path: &Path,
+    operation: &Operation,
+) -> Result<Said, Memory> {
+    let count = operation.octets.len() as u64;
+    let octets = read(alloc, store, path, operation.at, count)?;
+    let staged = read_staged(alloc, store, operation.slot, operation.at, count)?;
+    Ok((tells(store, path), octets, staged))
 }
 
 /// What stands at a path and below it, with the octets of the file.

@@ -1,6 +1,7 @@
 //! Each call that can answer want of memory, for runs in which one allocation is refused (`rt try --test --fail-alloc N`):
-//! a call whose own allocation it is answers `Memory` and leaves the store as before, and made once more it succeeds. With
-//! every allocation granted each call succeeds at once. Of a `TreeStore` no change can be refused.
+//! a call whose own allocation it is answers `Memory` and leaves the store as before, and made once more it succeeds; where it
+//! is the test's own, the test ends. With every allocation granted each call succeeds at once. Of a `TreeStore` no change can be
+//! refused.
 
 use super::calls::{Asked, read_staged, staged_size};
 use super::steps::{BLOCKS, Script, Shown, Step};
@@ -30,31 +31,15 @@ fn picture_of<S: Filestore>(alloc: Global, store: &S) -> Result<Picture, Memory>
     })
 }
 
-/// The same; where it is refused memory, that is told, and it is made once more.
-fn picture_at_last<S: Filestore, R: Abort + Print>(
-    rt: &R,
-    alloc: Global,
-    store: &S,
-) -> Result<Picture, Memory> {
-    match picture_of(alloc, store) {
-        Err(AllocError) => {
-            let _ = println!(rt; "a picture was refused memory");
-            picture_of(alloc, store)
-        }
-        answer => answer,
-    }
-}
-
 /// Whether the step, which was refused memory, may want it, and left the store as it was.
-fn leaves<S: Filestore, R: Abort + Print>(
-    rt: &R,
+fn leaves<S: Filestore>(
     alloc: Global,
     store: &S,
     step: &Step<'_>,
     before: &Picture,
 ) -> Result<bool, Memory> {
     let may_want = !step.is_change() || !store.takes_no_memory();
-    Ok(may_want && picture_at_last(rt, alloc, store)? == *before)
+    Ok(may_want && picture_of(alloc, store)? == *before)
 }
 
 /// Takes a step: whether all is as it says. Where it is refused memory, that is told, and it is taken once more.
@@ -64,14 +49,11 @@ fn holds_at_last<S: Filestore, R: Abort + Print>(
     store: &mut S,
     step: &Step<'_>,
 ) -> Result<bool, Memory> {
-    let before = picture_at_last(rt, alloc, store)?;
+    let before = picture_of(alloc, store)?;
     match step.holds(alloc, store, &Protected::new()) {
         Err(AllocError) => {
             let _ = println!(rt; "the step was refused memory");
-            Ok(
-                leaves(rt, alloc, store, step, &before)?
-                    && step.holds(alloc, store, &Protected::new())?,
-            )
+            Ok(leaves(alloc, store, step, &before)? && step.holds(alloc, store, &Protected::new())?)
         }
         answer => answer,
     }
@@ -90,28 +72,6 @@ fn take_at_last<S: Filestore, R: Abort + Print>(
         assert!(rt; holds, "{name}: step {number}");
     }
     Ok(())
-}
-
-/// An empty store in a list.
-fn new_lists<R: Abort + Print>(rt: &R, alloc: Global) -> Result<ListStore, Memory> {
-    match ListStore::new(alloc, BLOCKS) {
-        Err(AllocError) => {
-            let _ = println!(rt; "a new store was refused memory");
-            ListStore::new(alloc, BLOCKS)
-        }
-        answer => answer,
-    }
-}
-
-/// An empty store inside an arena.
-fn new_tree<R: Abort + Print>(rt: &R, alloc: Global) -> Result<TreeStore, Memory> {
-    match TreeStore::new(alloc, BLOCKS) {
-        Err(AllocError) => {
-            let _ = println!(rt; "a new store was refused memory");
-            TreeStore::new(alloc, BLOCKS)
-        }
-        answer => answer,
-    }
 }
 
 /// Of an empty store.
@@ -238,7 +198,10 @@ static SCRIPTS: [Script<'static>; 8] = [
 
 /// Runs the script in a new store of each kind.
 fn run_at_last<R: Abort + Print>(rt: &R, alloc: Global, script: &Script<'_>) -> Result<(), Memory> {
-    let (mut lists, mut tree) = (new_lists(rt, alloc)?, new_tree(rt, alloc)?);
+    let (mut lists, mut tree) = (
+        ListStore::new(alloc, BLOCKS)?,
+        TreeStore::new(alloc, BLOCKS)?,
+    );
     for steps in script.parts {
         take_at_last(rt, alloc, &mut lists, script.name, steps)?;
         take_at_last(rt, alloc, &mut tree, script.name, steps)?;

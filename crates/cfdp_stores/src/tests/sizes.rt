@@ -1,7 +1,8 @@
 //! Octets of sizes around those of whole blocks: staged in pieces, appended to others and to themselves, and replaced.
 
 use super::calls::Asked;
-use super::steps::{BLOCKS, Shown, Step, take_on_both};
+use super::steps::{BLOCKS, Script, Shown, Step, run_on_both};
+use cfdp_actions::Protected;
 use cfdp_paths::Memory;
 use cfdp_status::Action;
 use std::alloc::Global;
@@ -101,7 +102,11 @@ fn files_are_appended(rt: HostRuntime) -> Result<(), Memory> {
             )?;
         }
     }
-    take_on_both(&rt, rt.alloc(), "appends", &steps)
+    let script = Script {
+        name: "appends",
+        parts: &[&steps],
+    };
+    run_on_both(&rt, rt.alloc(), &Protected::new(), &script)
 }
 
 /// A file is appended to itself, which is the first half of these octets.
@@ -142,7 +147,11 @@ fn files_are_appended_to_themselves(rt: HostRuntime) -> Result<(), Memory> {
     for twice in &doubles {
         push_double(&mut steps, twice)?;
     }
-    take_on_both(&rt, rt.alloc(), "doubles", &steps)
+    let script = Script {
+        name: "doubles",
+        parts: &[&steps],
+    };
+    run_on_both(&rt, rt.alloc(), &Protected::new(), &script)
 }
 
 /// With how many octets a list begins, how many it has after the first piece, and how many after the second.
@@ -199,5 +208,9 @@ fn what_is_staged_grows(rt: HostRuntime) -> Result<(), Memory> {
     for growth in &GROWTHS {
         push_growth(&mut steps, &octets, growth)?;
     }
-    take_on_both(&rt, rt.alloc(), "grows", &steps)
+    let script = Script {
+        name: "grows",
+        parts: &[&steps],
+    };
+    run_on_both(&rt, rt.alloc(), &Protected::new(), &script)
 }

@@ -134,7 +134,15 @@ fn has_octets<S: Filestore>(
     octets: &[u8],
 ) -> Result<bool, Memory> {
     let found = read(alloc, store, path, at, octets.len() as u64)?;
-    Ok(size(store, path) == Some(count) && found.as_deref() == Some(octets))
+    Ok(size(store, path) == Some(count) && is_just(found, octets))
+}
+
+/// Whether these octets were read.
+fn is_just(found: Option<Vec<u8>>, octets: &[u8]) -> bool {
+    match found {
+        Some(found) => found.as_slice() == octets,
+        None => false,
+    }
 }
 
 fn has_staged<S: Filestore>(
@@ -146,7 +154,7 @@ fn has_staged<S: Filestore>(
     octets: &[u8],
 ) -> Result<bool, Memory> {
     let found = read_staged(alloc, store, slot, at, octets.len() as u64)?;
-    Ok(staged_size(store, slot) == count && found.as_deref() == Some(octets))
+    Ok(staged_size(store, slot) == count && is_just(found, octets))
 }
 
 fn has_staged_checksum<S: Filestore>(store: &S, slot: u8, sum: u32) -> bool {
@@ -247,19 +255,4 @@ pub fn run_on_both(
         protected,
         script,
     )
-}
-
-/// Takes the steps one after another in an empty store of each kind.
-pub fn take_on_both(
-    rt: &impl Abort,
-    alloc: Global,
-    name: &str,
-    steps: &[Step<'_>],
-) -> Result<(), Memory> {
-    let (mut lists, mut tree) = (
-        ListStore::new(alloc, BLOCKS)?,
-        TreeStore::new(alloc, BLOCKS)?,
-    );
-    take(rt, alloc, &mut lists, &Protected::new(), name, steps)?;
-    take(rt, alloc, &mut tree, &Protected::new(), name, steps)
 }

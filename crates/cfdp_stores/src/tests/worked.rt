@@ -233,22 +233,22 @@ static EIGHT_PATHS: [Protects; 11] = [
     (b"hi", false, false, false),
 ];
 
+/// Whether a row holds.
+fn is_so(alloc: Global, protected: &mut Protected, row: &Protects) -> Result<bool, Memory> {
+    let (path, before, added, behind) = row;
+    Ok(
+        covers(alloc, protected, path)? == *before
+            && adds(alloc, protected, path)? == *added
+            && covers(alloc, protected, path)? == *behind,
+    )
+}
+
 #[test]
 fn protects_eight_paths(rt: HostRuntime) -> Result<(), Memory> {
     let mut protected = Protected::new();
-    for (path, before, added, behind) in &EIGHT_PATHS {
-        assert!(rt;
-            covers(rt.alloc(), &protected, path)? == *before,
-            "at {path:?}"
-        );
-        assert!(rt;
-            adds(rt.alloc(), &mut protected, path)? == *added,
-            "at {path:?}"
-        );
-        assert!(rt;
-            covers(rt.alloc(), &protected, path)? == *behind,
-            "at {path:?}"
-        );
+    for row in &EIGHT_PATHS {
+        let holds = is_so(rt.alloc(), &mut protected, row)?;
+        assert!(rt; holds, "at {:?}", row.0);
     }
     Ok(())
 }
