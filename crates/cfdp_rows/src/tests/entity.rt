@@ -453,20 +453,11 @@ fn run<S: Filestore>(
     meet(rt, alloc, &mut core, rows, twice)
 }
 
-fn try_rows(rt: &impl Abort, alloc: Global, rows: &[Row], trial: Trial) -> Result<(), Memory> {
+fn check_rows(rt: &impl Abort, alloc: Global, rows: &[Row], trial: Trial) -> Result<(), Memory> {
     if trial.tree {
         run(rt, alloc, rows, trial.twice, TreeStore::new(alloc, 64)?)
     } else {
         run(rt, alloc, rows, trial.twice, ListStore::new(alloc, 64)?)
-    }
-}
-
-/// Hands rows to an entity. Where memory is refused beside the events all is tried once more: `rt try --test --fail-alloc N`
-/// refuses one growth.
-fn check_rows(rt: &impl Abort, alloc: Global, rows: &[Row], trial: Trial) -> Result<(), Memory> {
-    match try_rows(rt, alloc, rows, trial) {
-        Ok(()) => Ok(()),
-        Err(_) => try_rows(rt, alloc, rows, trial),
     }
 }
 

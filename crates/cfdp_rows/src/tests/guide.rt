@@ -151,20 +151,13 @@ fn is_told(alloc: Global, scene: &Scene, quota: &Quota, call: &Call) -> Result<b
     Ok(tell(alloc, scene, quota, &proposal)?.as_str() == *told)
 }
 
-fn try_call(rt: &impl Abort, alloc: Global) -> Result<(), Memory> {
-    let scene = Scene::new(rt, alloc, 32, &BEFORE)?;
-    let quota = scene.quota(rt);
+#[test]
+fn the_call_of_the_guide(rt: HostRuntime) -> Result<(), Memory> {
+    let scene = Scene::new(&rt, rt.alloc(), 32, &BEFORE)?;
+    let quota = scene.quota(&rt);
     for (place, call) in CALLS.iter().enumerate() {
-        let holds = is_told(alloc, &scene, &quota, call)?;
+        let holds = is_told(rt.alloc(), &scene, &quota, call)?;
         assert!(rt; holds, "call {place}");
     }
     Ok(())
-}
-
-#[test]
-fn the_call_of_the_guide(rt: HostRuntime) -> Result<(), Memory> {
-    match try_call(&rt, rt.alloc()) {
-        Ok(()) => Ok(()),
-        Err(_) => try_call(&rt, rt.alloc()),
-    }
 }

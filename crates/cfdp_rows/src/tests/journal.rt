@@ -182,10 +182,10 @@ fn replies(
     given: Given,
     told: Told,
 ) -> Result<bool, Memory> {
-    let mut reply = accept(rt, alloc, engine, given)?;
-    if matches!(reply, Reply::Memory) {
-        reply = accept(rt, alloc, engine, given)?;
-    }
+    let reply = match accept(rt, alloc, engine, given)? {
+        Reply::Memory => accept(rt, alloc, engine, given)?,
+        reply => reply,
+    };
     is_told(rt, alloc, &reply, told)
 }
 
@@ -224,20 +224,12 @@ fn go_on(
     Ok(())
 }
 
-fn try_behind(rt: &impl Abort, alloc: Global, count: usize) -> Result<(), Memory> {
+fn check_behind(rt: &impl Abort, alloc: Global, count: usize) -> Result<(), Memory> {
     let mut engine = engine(alloc, 16)?;
     fill(rt, alloc, &mut engine, count)?;
     go_on(rt, alloc, &mut engine, &FOUR)?;
     assert!(rt; engine.journal().len() == 16);
     Ok(())
-}
-
-/// Where memory is refused beside the events, all is tried once more: `rt try --test --fail-alloc N` refuses one growth.
-fn check_behind(rt: &impl Abort, alloc: Global, count: usize) -> Result<(), Memory> {
-    match try_behind(rt, alloc, count) {
-        Ok(()) => Ok(()),
-        Err(_) => try_behind(rt, alloc, count),
-    }
 }
 
 #[test]
@@ -248,15 +240,8 @@ fn fills_behind_any_number_of_entries(rt: HostRuntime) -> Result<(), Memory> {
     Ok(())
 }
 
-fn try_two_more(rt: &impl Abort, alloc: Global) -> Result<(), Memory> {
-    let mut engine = engine(alloc, 16)?;
-    go_on(rt, alloc, &mut engine, &TWO_MORE)
-}
-
 #[test]
 fn goes_on_where_memory_is_refused(rt: HostRuntime) -> Result<(), Memory> {
-    match try_two_more(&rt, rt.alloc()) {
-        Ok(()) => Ok(()),
-        Err(_) => try_two_more(&rt, rt.alloc()),
-    }
+    let mut engine = engine(rt.alloc(), 16)?;
+    go_on(&rt, rt.alloc(), &mut engine, &TWO_MORE)
 }

@@ -89,31 +89,14 @@ fn happen(
     Ok(())
 }
 
-fn happen_all(
-    rt: &impl Abort,
-    alloc: Global,
-    leases: &mut Leases,
-    plain: &mut Plain,
-    events: &[Event],
-) -> Result<(), Memory> {
-    for event in events {
-        happen(rt, alloc, leases, plain, *event)?;
-    }
-    Ok(())
-}
-
-fn try_events(rt: &impl Abort, alloc: Global, events: &[Event]) -> Result<(), Memory> {
+/// Goes through the events on leases of nothing, and on the plain list.
+fn check(rt: &impl Abort, alloc: Global, events: &[Event]) -> Result<(), Memory> {
     let mut leases = Leases::new(alloc);
     let mut plain = Plain::new(alloc);
-    happen_all(rt, alloc, &mut leases, &mut plain, events)
-}
-
-/// Goes through the events on leases of nothing, and on the plain list. Where memory is refused all is tried once more.
-fn check(rt: &impl Abort, alloc: Global, events: &[Event]) -> Result<(), Memory> {
-    match try_events(rt, alloc, events) {
-        Ok(()) => Ok(()),
-        Err(_) => try_events(rt, alloc, events),
+    for event in events {
+        happen(rt, alloc, &mut leases, &mut plain, *event)?;
     }
+    Ok(())
 }
 
 /// What [`a_directory_is_shared_and_not_removed`] goes through.
@@ -212,17 +195,10 @@ fn compare(rt: &impl Abort, alloc: Global, held: &Footprint) -> Result<(), Memor
     Ok(())
 }
 
-fn try_covers(rt: &impl Abort, alloc: Global) -> Result<(), Memory> {
-    let held = three_kinds(alloc)?;
-    compare(rt, alloc, &held)
-}
-
 #[test]
 fn a_footprint_covers_its_paths(rt: HostRuntime) -> Result<(), Memory> {
-    match try_covers(&rt, rt.alloc()) {
-        Ok(()) => Ok(()),
-        Err(_) => try_covers(&rt, rt.alloc()),
-    }
+    let held = three_kinds(rt.alloc())?;
+    compare(&rt, rt.alloc(), &held)
 }
 
 /// The first transaction whose footprint conflicts with each of these, how the first of them holds the paths, and which of
@@ -312,25 +288,17 @@ fn are_all_granted(leases: &Leases, asked: &Asked) -> bool {
 }
 
 /// Five grants one after another. All else that takes memory comes before them, so that only a grant can be refused
-/// from then on.
-fn grant_five(rt: &impl Abort, alloc: Global) -> Result<(), Memory> {
+/// from then on. It shows its point where `rt try --test --fail-alloc N` refuses each growth in turn.
+#[test]
+fn a_refused_grant_changes_nothing(rt: HostRuntime) -> Result<(), Memory> {
+    let alloc = rt.alloc();
     let asked = make_asked(alloc)?;
     let footprints = five(alloc)?;
     let again = five(alloc)?;
     let mut leases = Leases::new(alloc);
-    grant_each(rt, &mut leases, footprints, again, &asked);
+    grant_each(&rt, &mut leases, footprints, again, &asked);
     assert!(rt; are_all_granted(&leases, &asked));
     Ok(())
-}
-
-/// Shows its point where `rt try --test --fail-alloc N` refuses each growth in turn. Where that is one before the grants,
-/// all is tried once more.
-#[test]
-fn a_refused_grant_changes_nothing(rt: HostRuntime) -> Result<(), Memory> {
-    match grant_five(&rt, rt.alloc()) {
-        Ok(()) => Ok(()),
-        Err(_) => grant_five(&rt, rt.alloc()),
-    }
 }
 
 /// A create of a file below seven directories, the same for each number.

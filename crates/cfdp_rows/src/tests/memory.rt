@@ -75,7 +75,7 @@ fn is_judged(
 }
 
 /// Asks for the verdict.
-fn ask_again(rt: &impl Abort, alloc: Global, tlvs: &[&[u8]], told: Told) -> Result<(), Memory> {
+fn ask(rt: &impl Abort, alloc: Global, tlvs: &[&[u8]], told: Told) -> Result<(), Memory> {
     let scene = Scene::new(rt, alloc, 64, &BEFORE)?;
     let judged = is_judged(rt, alloc, &scene, tlvs, told)?;
     assert!(rt; judged);
@@ -86,14 +86,6 @@ const USER: TransactionId = TransactionId {
     source: 1,
     number: 22,
 };
-
-/// Once more where memory is refused before or after the verdict.
-fn ask(rt: &impl Abort, alloc: Global, tlvs: &[&[u8]], told: Told) -> Result<(), Memory> {
-    match ask_again(rt, alloc, tlvs, told) {
-        Ok(()) => Ok(()),
-        Err(_) => ask_again(rt, alloc, tlvs, told),
-    }
-}
 
 #[test]
 fn a_list_is_granted_or_memory_is_refused(rt: HostRuntime) -> Result<(), Memory> {

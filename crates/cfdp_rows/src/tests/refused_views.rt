@@ -122,16 +122,8 @@ fn try_in(rt: &impl Abort, alloc: Global, scene: &Scene) -> Result<(), Memory> {
 
 /// All else that takes memory comes before the install and the requests, so that only one of these can be refused from
 /// then on: that changes no answer, and the same is done when it is asked for again.
-fn run(rt: &impl Abort, alloc: Global) -> Result<(), Memory> {
-    let scene = Scene::new(rt, alloc, 8, &BEFORE)?;
-    try_in(rt, alloc, &scene)
-}
-
-/// Where memory was refused before the first item, all is tried once more; where an item was refused it, the test goes on.
 #[test]
 fn a_refused_item_changes_nothing(rt: HostRuntime) -> Result<(), Memory> {
-    match run(&rt, rt.alloc()) {
-        Ok(()) => Ok(()),
-        Err(_) => run(&rt, rt.alloc()),
-    }
+    let scene = Scene::new(&rt, rt.alloc(), 8, &BEFORE)?;
+    try_in(&rt, rt.alloc(), &scene)
 }

@@ -364,7 +364,8 @@ impl Scene {
     }
 }
 
-fn try_rows(
+/// Compares the verdicts on lists that are judged after the same events on a store of so many blocks.
+pub fn check(
     rt: &impl Abort,
     alloc: Global,
     blocks: u32,
@@ -379,21 +380,6 @@ fn try_rows(
     Ok(())
 }
 
-/// Compares the verdicts on lists that are judged after the same events on a store of so many blocks. Where memory is
-/// refused, which is no verdict, all is tried once more: `rt try --test --fail-alloc N` refuses one growth.
-pub fn check(
-    rt: &impl Abort,
-    alloc: Global,
-    blocks: u32,
-    before: &[Before],
-    rows: &[Row],
-) -> Result<(), Memory> {
-    match try_rows(rt, alloc, blocks, before, rows) {
-        Ok(()) => Ok(()),
-        Err(_) => try_rows(rt, alloc, blocks, before, rows),
-    }
-}
-
 /// Compares the verdicts of each case.
 pub fn check_all(rt: &impl Abort, alloc: Global, cases: &[Case]) -> Result<(), Memory> {
     for (blocks, before, rows) in cases {
@@ -402,32 +388,7 @@ pub fn check_all(rt: &impl Abort, alloc: Global, cases: &[Case]) -> Result<(), M
     Ok(())
 }
 
-/// Whether this is the verdict on a list without a file.
-fn is_judged(
-    rt: &impl Abort,
-    alloc: Global,
-    scene: &Scene,
-    tlvs: &[&[u8]],
-    told: Told,
-) -> Result<bool, Memory> {
-    let verdict = scene.judge(rt, alloc, None, tlvs)?;
-    Ok(Told::of(rt, &verdict) == told)
-}
-
-fn try_list(
-    rt: &impl Abort,
-    alloc: Global,
-    blocks: u32,
-    tlvs: &[&[u8]],
-    told: Told,
-) -> Result<(), Memory> {
-    let scene = Scene::new(rt, alloc, blocks, &[])?;
-    let judged = is_judged(rt, alloc, &scene, tlvs, told)?;
-    assert!(rt; judged);
-    Ok(())
-}
-
-/// The same for one list that a test puts together, on an empty store.
+/// The same for one list without a file that a test puts together, on an empty store.
 pub fn check_list(
     rt: &impl Abort,
     alloc: Global,
@@ -435,8 +396,8 @@ pub fn check_list(
     tlvs: &[&[u8]],
     told: Told,
 ) -> Result<(), Memory> {
-    match try_list(rt, alloc, blocks, tlvs, told) {
-        Ok(()) => Ok(()),
-        Err(_) => try_list(rt, alloc, blocks, tlvs, told),
-    }
+    let scene = Scene::new(rt, alloc, blocks, &[])?;
+    let verdict = scene.judge(rt, alloc, None, tlvs)?;
+    assert!(rt; Told::of(rt, &verdict) == told);
+    Ok(())
 }

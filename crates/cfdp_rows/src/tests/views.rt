@@ -120,7 +120,8 @@ fn run_all(rt: &impl Abort, alloc: Global, scene: &Scene, rows: &[Row]) -> Resul
     Ok(())
 }
 
-fn try_rows(
+/// Runs each row on a view of a store of so many blocks, after the events.
+fn check(
     rt: &impl Abort,
     alloc: Global,
     blocks: u32,
@@ -129,20 +130,6 @@ fn try_rows(
 ) -> Result<(), Memory> {
     let scene = Scene::new(rt, alloc, blocks, before)?;
     run_all(rt, alloc, &scene, rows)
-}
-
-/// Runs each row on a view of a store of so many blocks, after the events. Where memory is refused all is tried once more.
-fn check(
-    rt: &impl Abort,
-    alloc: Global,
-    blocks: u32,
-    before: &[Before],
-    rows: &[Row],
-) -> Result<(), Memory> {
-    match try_rows(rt, alloc, blocks, before, rows) {
-        Ok(()) => Ok(()),
-        Err(_) => try_rows(rt, alloc, blocks, before, rows),
-    }
 }
 
 /// Runs the rows of each case.
@@ -257,12 +244,18 @@ fn each_case(rt: HostRuntime) -> Result<(), Memory> {
 /// Paths at which no file can be installed.
 static REFUSED: [&[u8]; 3] = [b"sys/a", b"sys", b"x/y"];
 
+/// What the view tells of the size at the path, and the blocks and the steps that it took.
+fn answers(view: &View<'_>, path: &Path) -> (Option<u64>, u32, u32) {
+    (view.bound(path), view.need(), view.steps())
+}
+
 /// Whether an install at the path is refused and changes nothing, and one at the other path is not.
 fn is_refused(view: &mut View<'_>, path: &Path, allowed: &Path) -> Result<bool, Memory> {
     let bound = view.bound(path);
     let is_refused = !view.install(path, 15)?;
-    let is_same = view.bound(path) == bound && view.need() == 0 && view.steps() == 0;
-    Ok(is_refused && is_same && view.install(allowed, 15)? && view.need() == 2 && view.steps() == 2)
+    let is_same = answers(view, path) == (bound, 0, 0);
+    let is_installed = view.install(allowed, 15)?;
+    Ok(is_refused && is_same && is_installed && answers(view, allowed) == (Some(15), 2, 2))
 }
 
 fn is_refused_at(
@@ -291,19 +284,12 @@ fn refuse_all(
     Ok(())
 }
 
-fn install_refused(rt: &impl Abort, alloc: Global) -> Result<(), Memory> {
-    let scene = Scene::new(rt, alloc, 64, PROTECTED)?;
-    let kept = requests(alloc, KEPT)?;
-    refuse_all(rt, alloc, &scene, &kept)
-}
-
 /// In place of a protected file, of a directory, and where there is no parent; the view then goes on.
 #[test]
 fn an_install_that_is_not_allowed_changes_nothing(rt: HostRuntime) -> Result<(), Memory> {
-    match install_refused(&rt, rt.alloc()) {
-        Ok(()) => Ok(()),
-        Err(_) => install_refused(&rt, rt.alloc()),
-    }
+    let scene = Scene::new(&rt, rt.alloc(), 64, PROTECTED)?;
+    let kept = requests(rt.alloc(), KEPT)?;
+    refuse_all(&rt, rt.alloc(), &scene, &kept)
 }
 
 /// A directory with a file.
@@ -343,15 +329,8 @@ fn compare(rt: &impl Abort, alloc: Global, scene: &Scene) -> Result<(), Memory> 
     Ok(())
 }
 
-fn see(rt: &impl Abort, alloc: Global) -> Result<(), Memory> {
-    let scene = Scene::new(rt, alloc, 64, &DIRECTORY)?;
-    compare(rt, alloc, &scene)
-}
-
 #[test]
 fn a_view_sees_what_is_leased_alone(rt: HostRuntime) -> Result<(), Memory> {
-    match see(&rt, rt.alloc()) {
-        Ok(()) => Ok(()),
-        Err(_) => see(&rt, rt.alloc()),
-    }
+    let scene = Scene::new(&rt, rt.alloc(), 64, &DIRECTORY)?;
+    compare(&rt, rt.alloc(), &scene)
 }

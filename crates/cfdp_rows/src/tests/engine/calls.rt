@@ -1,9 +1,10 @@
 //! The journal and its closing, in one thread.
 
+use super::super::journal::Engine;
 use super::scene::{Given, event, journaled, shared};
-use cfdp_actions::ListStore;
-use cfdp_engine::{Closed, Entry, Fault, Journaled, NotClosed, Seat, Shared, close};
+use cfdp_engine::{Closed, Entry, Fault, NotClosed, Seat, Shared, close};
 use cfdp_transactions::Reply;
+use cfdp_tree::TreeStore;
 use std::alloc::Global;
 use std::process::Abort;
 use std::sync::Wait;
@@ -29,7 +30,7 @@ fn is_told(reply: &Reply, told: Told) -> bool {
 /// Hands in an event, for which this is the reply.
 fn replies(
     rt: &impl Abort,
-    journaled: &mut Journaled<ListStore>,
+    journaled: &mut Engine,
     seat: u8,
     alloc: Global,
     given: Given,
@@ -60,7 +61,7 @@ static TWICE: [(u8, Given, Told); 2] = [
 ];
 
 /// Hands in an event from two seats, and looks at the journal.
-fn hand_in_twice(rt: &impl Abort, alloc: Global, journaled: &mut Journaled<ListStore>) {
+fn hand_in_twice(rt: &impl Abort, alloc: Global, journaled: &mut Engine) {
     for (seat, given, told) in &TWICE {
         replies(rt, journaled, *seat, alloc, *given, *told);
     }
@@ -77,7 +78,7 @@ fn a_duplicate_is_journaled(rt: HostRuntime) {
 fn has_handed_in(
     rt: &(impl Abort + Wait),
     alloc: Global,
-    shared: &Shared<ListStore>,
+    shared: &Shared<TreeStore>,
     seat: &mut Seat,
     given: Given,
 ) -> bool {
@@ -89,7 +90,7 @@ fn has_handed_in(
 fn seat(
     rt: &(impl Abort + Wait),
     alloc: Global,
-    shared: &Shared<ListStore>,
+    shared: &Shared<TreeStore>,
     number: u8,
     given: Given,
 ) -> Seat {
@@ -148,17 +149,17 @@ fn seats(rt: &impl Abort, alloc: Global, one: Seat, two: Seat, from: usize) -> V
 /// The fault, if any, and how many entries and seats are handed back.
 type HandedBack = (Option<Fault>, usize, usize);
 
-fn told_of_closed(closed: &Closed<ListStore>) -> HandedBack {
+fn told_of_closed(closed: &Closed<TreeStore>) -> HandedBack {
     (None, closed.journal.len(), closed.seats.len())
 }
 
-fn told_of_refused(refused: &NotClosed<ListStore>) -> HandedBack {
+fn told_of_refused(refused: &NotClosed<TreeStore>) -> HandedBack {
     let entries = refused.journaled.journal().len();
     (Some(refused.fault), entries, refused.seats.len())
 }
 
 /// Closes with the seats.
-pub fn closed(journaled: Journaled<ListStore>, seats: Vec<Seat>) -> HandedBack {
+pub fn closed(journaled: Engine, seats: Vec<Seat>) -> HandedBack {
     match close(journaled, seats) {
         Ok(closed) => told_of_closed(&closed),
         Err(refused) => told_of_refused(&refused),

@@ -111,13 +111,8 @@ fn are_well<R: Wait>(rt: &R, alloc: Global) -> Result<bool, Memory> {
     }
 }
 
-/// Where memory is refused beside the workers, all is tried once more.
 #[test]
 fn two_workers(rt: HostRuntime) -> Result<(), Memory> {
-    let well = match are_well(&rt, rt.alloc()) {
-        Ok(well) => well,
-        Err(AllocError) => are_well(&rt, rt.alloc())?,
-    };
-    assert!(rt; well);
+    assert!(rt; are_well(&rt, rt.alloc())?);
     Ok(())
 }

@@ -1,12 +1,13 @@
 //! An engine, and what it is handed. Where there is no memory a test ends, and fails.
 
 use super::super::entity::{event_in, id};
-use cfdp_actions::{ListStore, Protected};
-use cfdp_engine::{Journaled, Message, Shared};
+use super::super::journal::{Engine, engine};
+use cfdp_engine::{Message, Shared};
 use cfdp_paths::Memory;
-use cfdp_transactions::{Config, Core, Event};
+use cfdp_transactions::Event;
+use cfdp_tree::TreeStore;
 use crossbeam_channel::{Receiver, Sender, bounded};
-use std::alloc::{AllocError, Global};
+use std::alloc::Global;
 use std::process::Abort;
 use std::sync::{Arc, Wait};
 
@@ -105,21 +106,12 @@ pub fn inbox(
     inbox
 }
 
-/// Entity 2 that has just begun, of 64 blocks, with room for so many entries in its journal.
-fn make(alloc: Global, entries: u32) -> Result<Journaled<ListStore>, Memory> {
-    let Ok(config) = Config::new(2, 64, 2400, 2, entries, Protected::new()) else {
-        return Err(AllocError);
-    };
-    let store = ListStore::new(alloc, 64)?;
-    let core = Core::new(alloc, config, store)?;
-    Journaled::new(alloc, core)
-}
-
-pub fn journaled(rt: &impl Abort, alloc: Global, entries: u32) -> Journaled<ListStore> {
-    make(alloc, entries).expect(rt, "memory")
+/// Entity 2 that has just begun, with room for so many entries in its journal.
+pub fn journaled(rt: &impl Abort, alloc: Global, entries: u32) -> Engine {
+    engine(alloc, entries).expect(rt, "memory")
 }
 
 /// The same, to be shared.
-pub fn shared(rt: &impl Abort, alloc: Global, entries: u32) -> Shared<ListStore> {
+pub fn shared(rt: &impl Abort, alloc: Global, entries: u32) -> Shared<TreeStore> {
     Shared::new(journaled(rt, alloc, entries))
 }

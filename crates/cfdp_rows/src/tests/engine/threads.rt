@@ -1,11 +1,12 @@
 //! Several workers at once.
 
+use super::super::journal::Engine;
 use super::calls::closed;
 use super::scene::{Given, inbox, message, send, shared};
 use super::workers::{Open, is_closed};
-use cfdp_actions::ListStore;
-use cfdp_engine::{Gate, Journaled, Message, Seat, Shared, Worked, work};
+use cfdp_engine::{Gate, Message, Seat, Shared, Worked, work};
 use cfdp_transactions::Reply;
+use cfdp_tree::TreeStore;
 use crossbeam_channel::{Receiver, Sender, bounded};
 use std::alloc::Global;
 use std::process::Abort;
@@ -64,7 +65,7 @@ impl<C: Clock + Drop> Gate for Crossing<C> {
 fn work_as<R: Wait, G: Gate>(
     rt: &R,
     alloc: Global,
-    shared: &Shared<ListStore>,
+    shared: &Shared<TreeStore>,
     gate: &G,
     number: u8,
     inbox: Receiver<Message, Global>,
@@ -76,7 +77,7 @@ fn work_as<R: Wait, G: Gate>(
 fn two<R: Threads + Wait + Sync, G: Gate + Sync>(
     rt: &R,
     alloc: Global,
-    shared: &Shared<ListStore>,
+    shared: &Shared<TreeStore>,
     gate: &G,
     (one, ones): (u8, Receiver<Message, Global>),
     (other, others): (u8, Receiver<Message, Global>),
@@ -89,7 +90,7 @@ fn two<R: Threads + Wait + Sync, G: Gate + Sync>(
 }
 
 /// Whether the journal begins with an event of this seat that was admitted.
-fn begins_with(journaled: &Journaled<ListStore>, seat: u8) -> bool {
+fn begins_with(journaled: &Engine, seat: u8) -> bool {
     match journaled.journal().first() {
         Some(entry) => match &entry.reply {
             Reply::Admitted(0, 0) => entry.seat == seat,
@@ -111,7 +112,7 @@ fn both(rt: &impl Abort, alloc: Global, one: Seat, two: Seat) -> Vec<Seat> {
 fn is_crossed(
     rt: &impl Abort,
     alloc: Global,
-    engine: Shared<ListStore>,
+    engine: Shared<TreeStore>,
     zero: Worked,
     one: Worked,
 ) -> bool {
@@ -196,7 +197,7 @@ fn ends(
 fn four<R: Threads + Wait + Abort + Sync>(
     rt: &R,
     alloc: Global,
-    shared: &Shared<ListStore>,
+    shared: &Shared<TreeStore>,
 ) -> ((Worked, Worked), (Worked, Worked)) {
     let mut senders = Vec::new(alloc);
     let zero = ends(rt, alloc, &mut senders);

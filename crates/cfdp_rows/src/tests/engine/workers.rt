@@ -2,10 +2,10 @@
 
 use super::calls::closed;
 use super::scene::{Given, inbox, shared};
-use cfdp_actions::ListStore;
 use cfdp_engine::{Gate, Seat, Shared, Stop, Worked, work};
 use cfdp_status::{Action, Status};
 use cfdp_transactions::Reply;
+use cfdp_tree::TreeStore;
 use std::alloc::Global;
 use std::process::Abort;
 use std::sync::Wait;
@@ -49,7 +49,7 @@ fn are_of_one_life(seat: &Seat) -> bool {
 }
 
 /// That the receipts of the seats, for which there is room, are the journal.
-pub fn is_closed(shared: Shared<ListStore>, seats: Vec<Seat>) -> bool {
+pub fn is_closed(shared: Shared<TreeStore>, seats: Vec<Seat>) -> bool {
     closed(shared.into_journaled(), seats).0.is_none()
 }
 
@@ -125,7 +125,7 @@ fn told(worked: &Worked) -> (usize, usize, Option<Stop>) {
 fn work_on(
     rt: &(impl Wait + Abort),
     alloc: Global,
-    engine: &Shared<ListStore>,
+    engine: &Shared<TreeStore>,
     seat: u8,
     given: &[Given],
 ) -> (usize, usize, Option<Stop>) {
