@@ -227,28 +227,48 @@ fn has_entries<S: Filestore>(
     Ok(())
 }
 
-/// Makes the entries, moves them into the other directory, and removes them.
-fn fill<'a, S: Filestore>(
+/// Makes the directories, and the entries in the first one.
+fn make_entries<S: Filestore>(
     rt: &impl Abort,
     alloc: Global,
     store: &mut S,
-    old: &'a [String],
-    new: &'a [String],
+    names: &[String],
 ) -> Result<(), Memory> {
     let none = Protected::new();
     take(rt, alloc, store, &none, "directories", DIRECTORIES)?;
-    take(rt, alloc, store, &none, "entries", &entries(alloc, old)?)?;
-    has_entries(rt, alloc, store, old, true)?;
+    take(rt, alloc, store, &none, "entries", &entries(alloc, names)?)?;
+    has_entries(rt, alloc, store, names, true)
+}
+
+/// Moves the entries into the second directory.
+fn move_entries<S: Filestore>(
+    rt: &impl Abort,
+    alloc: Global,
+    store: &mut S,
+    old: &[String],
+    new: &[String],
+) -> Result<(), Memory> {
+    let moves = renames(alloc, old, new)?;
+    take(rt, alloc, store, &Protected::new(), "renames", &moves)?;
+    has_entries(rt, alloc, store, new, false)
+}
+
+/// Removes them, and the directories.
+fn remove_entries<S: Filestore>(
+    rt: &impl Abort,
+    alloc: Global,
+    store: &mut S,
+    names: &[String],
+) -> Result<(), Memory> {
+    let none = Protected::new();
     take(
         rt,
         alloc,
         store,
         &none,
-        "renames",
-        &renames(alloc, old, new)?,
+        "removals",
+        &removals(alloc, names)?,
     )?;
-    has_entries(rt, alloc, store, new, false)?;
-    take(rt, alloc, store, &none, "removals", &removals(alloc, new)?)?;
     take(rt, alloc, store, &none, "no directories", NO_DIRECTORIES)
 }
 
@@ -259,7 +279,9 @@ fn a_directory_has_4096_entries(rt: HostRuntime) -> Result<(), Memory> {
     push_names(&mut old, rt.alloc(), 'd')?;
     push_names(&mut new, rt.alloc(), 'e')?;
     let mut store = TreeStore::new(rt.alloc(), BLOCKS)?;
-    fill(&rt, rt.alloc(), &mut store, &old, &new)
+    make_entries(&rt, rt.alloc(), &mut store, &old)?;
+    move_entries(&rt, rt.alloc(), &mut store, &old, &new)?;
+    remove_entries(&rt, rt.alloc(), &mut store, &new)
 }
 
 /// All rows but the last one.
@@ -278,50 +300,39 @@ fn last_rows<'a>(rows: &'a [Stands<'a>]) -> &'a [Stands<'a>] {
     }
 }
 
-/// Paths of one to eight names of 96 octets: equal letters, the first name those of one letter, and the others `n`.
-fn long(alloc: Global, first: u8) -> Result<Vec<Vec<u8>>, Memory> {
+/// A path of as many and as long names as there may be: 96 equal letters each, the first name those of one letter, and the others `n`.
+fn long(alloc: Global, first: u8) -> Result<Vec<u8>, Memory> {
     let mut path = Vec::from_slice(alloc, &[first; 96])?;
-    let mut paths = Vec::new(alloc);
-    for _ in 0..8 {
-        paths.push(path.clone()?)?;
+    for _ in 1..8 {
         path.push(b'/')?;
         path.extend_from_slice(&[b'n'; 96])?;
     }
-    Ok(paths)
+    Ok(path)
 }
 
-/// What stands where the last path is that of a file with six octets, and the others are directories.
-fn long_rows(alloc: Global, paths: &[Vec<u8>]) -> Result<Vec<Stands<'_>>, Memory> {
+/// The path of its first names, so many of them.
+fn beginning(path: &[u8], names: u32) -> &[u8] {
+    let len = names.wrapping_mul(97).wrapping_sub(1);
+    path.get(..len as usize).unwrap_or(path)
+}
+
+/// What stands where the path is that of a file with six octets, and those of its first names are directories.
+fn long_rows(alloc: Global, path: &[u8]) -> Result<Vec<Stands<'_>>, Memory> {
     let mut rows = Vec::new(alloc);
-    for path in paths {
-        rows.push((path.as_slice(), Kind::Directory, 0, 0))?;
+    for names in 1..8u32 {
+        rows.push((beginning(path, names), Kind::Directory, 0, 0))?;
     }
-    if let Some(last) = rows.last_mut() {
-        (last.1, last.2, last.3) = (Kind::File, 6, 0xe3d6_7465);
-    }
+    rows.push((path, Kind::File, 6, 0xe3d6_7465))?;
     Ok(rows)
 }
 
-/// All paths but the last one.
-fn directories(paths: &[Vec<u8>]) -> &[Vec<u8>] {
-    paths.get(..7).unwrap_or(paths)
-}
-
-/// The path of the place; empty behind the last one.
-fn path(paths: &[Vec<u8>], place: usize) -> &[u8] {
-    match paths.get(place) {
-        Some(path) => path,
-        None => b"",
-    }
-}
-
 /// Makes the directories in one another.
-fn made(alloc: Global, paths: &[Vec<u8>]) -> Result<Vec<Step<'_>>, Memory> {
+fn made(alloc: Global, path: &[u8]) -> Result<Vec<Step<'_>>, Memory> {
     let mut steps = Vec::new(alloc);
-    let mut free = BLOCKS;
-    for path in directories(paths) {
-        free = free.wrapping_sub(1);
-        steps.push(Step::Performs(Action::CreateDirectory, path, b"", 0x50, 1, free))?;
+    for names in 1..8u32 {
+        let directory = beginning(path, names);
+        let free = BLOCKS - names;
+        steps.push(Step::Performs(Action::CreateDirectory, directory, b"", 0x50, 1, free))?;
     }
     Ok(steps)
 }
@@ -344,16 +355,21 @@ fn renamed<'a>(old: &'a [u8], new: &'a [u8]) -> [Step<'a>; 2] {
     ]
 }
 
-/// The file has its octets. It is removed, and then the directories are.
-fn unmade(alloc: Global, paths: &[Vec<u8>]) -> Result<Vec<Step<'_>>, Memory> {
+/// The file has its octets, and is removed.
+fn deleted(file: &[u8]) -> [Step<'_>; 2] {
+    [
+        Step::Shows(Shown::Octets(file, 6, 0, b"octets")),
+        Step::Performs(Action::DeleteFile, file, b"", 0x10, 2, 65_529),
+    ]
+}
+
+/// Removes the directories, the deepest one first.
+fn unmade(alloc: Global, path: &[u8]) -> Result<Vec<Step<'_>>, Memory> {
     let mut steps = Vec::new(alloc);
-    let mut free = 65_529u32;
-    let file = path(paths, 7);
-    steps.push(Step::Shows(Shown::Octets(file, 6, 0, b"octets")))?;
-    steps.push(Step::Performs(Action::DeleteFile, file, b"", 0x10, 2, free))?;
-    for path in directories(paths).iter().rev() {
-        free = free.wrapping_add(1);
-        steps.push(Step::Performs(Action::RemoveDirectory, path, b"", 0x60, 1, free))?;
+    for above in 0..7u32 {
+        let directory = beginning(path, 7 - above);
+        let free = 65_530 + above;
+        steps.push(Step::Performs(Action::RemoveDirectory, directory, b"", 0x60, 1, free))?;
     }
     Ok(steps)
 }
@@ -363,43 +379,50 @@ fn stands_long<S: Filestore>(
     rt: &impl Abort,
     alloc: Global,
     store: &S,
-    paths: &[Vec<u8>],
+    path: &[u8],
 ) -> Result<(), Memory> {
-    let rows = long_rows(alloc, paths)?;
-    let holds = shows_rows(alloc, store, &rows, path(paths, 0), &rows, 8)?;
+    let rows = long_rows(alloc, path)?;
+    let holds = shows_rows(alloc, store, &rows, beginning(path, 1), &rows, 8)?;
     assert!(rt; holds);
     Ok(())
 }
 
-/// Makes all at the one paths, moves it to the others, and removes it.
+/// Makes all at the path.
+fn make_long<S: Filestore>(
+    rt: &impl Abort,
+    alloc: Global,
+    store: &mut S,
+    path: &[u8],
+) -> Result<(), Memory> {
+    let none = Protected::new();
+    take(rt, alloc, store, &none, "makes", &made(alloc, path)?)?;
+    take(rt, alloc, store, &none, "delivers", &delivered(path))?;
+    stands_long(rt, alloc, store, path)
+}
+
+/// Moves it to another one.
 fn move_long<S: Filestore>(
     rt: &impl Abort,
     alloc: Global,
     store: &mut S,
-    old: &[Vec<u8>],
-    new: &[Vec<u8>],
+    old: &[u8],
+    new: &[u8],
+) -> Result<(), Memory> {
+    let moves = renamed(beginning(old, 1), beginning(new, 1));
+    take(rt, alloc, store, &Protected::new(), "renames", &moves)?;
+    stands_long(rt, alloc, store, new)
+}
+
+/// Removes it.
+fn remove_long<S: Filestore>(
+    rt: &impl Abort,
+    alloc: Global,
+    store: &mut S,
+    path: &[u8],
 ) -> Result<(), Memory> {
     let none = Protected::new();
-    take(rt, alloc, store, &none, "makes", &made(alloc, old)?)?;
-    take(
-        rt,
-        alloc,
-        store,
-        &none,
-        "delivers",
-        &delivered(path(old, 7)),
-    )?;
-    stands_long(rt, alloc, store, old)?;
-    take(
-        rt,
-        alloc,
-        store,
-        &none,
-        "renames",
-        &renamed(path(old, 0), path(new, 0)),
-    )?;
-    stands_long(rt, alloc, store, new)?;
-    take(rt, alloc, store, &none, "removes", &unmade(alloc, new)?)
+    take(rt, alloc, store, &none, "deletes", &deleted(path))?;
+    take(rt, alloc, store, &none, "removes", &unmade(alloc, path)?)
 }
 
 /// The first directory gets another name, of which only the letters differ.
@@ -408,5 +431,7 @@ fn a_path_has_eight_names_of_96_octets(rt: HostRuntime) -> Result<(), Memory> {
     let old = long(rt.alloc(), b'n')?;
     let new = long(rt.alloc(), b'm')?;
     let mut store = TreeStore::new(rt.alloc(), BLOCKS)?;
-    move_long(&rt, rt.alloc(), &mut store, &old, &new)
+    make_long(&rt, rt.alloc(), &mut store, &old)?;
+    move_long(&rt, rt.alloc(), &mut store, &old, &new)?;
+    remove_long(&rt, rt.alloc(), &mut store, &new)
 }
