@@ -222,25 +222,39 @@ impl Scene {
 
     fn happen(&mut self, rt: &impl Abort, alloc: Global, event: Before) -> Result<(), Memory> {
         match event {
-            Before::Protected(name) => {
-                assert!(rt; protects(alloc, &mut self.protected, name)?);
-            }
-            Before::Delivered(name, size) => {
-                assert!(rt; size <= 7_864_320);
-                let path = path_of(alloc, name)?;
-                assert!(rt; deliver(&mut self.store, &path, size)?);
-            }
-            Before::Performed(tlv) => self.perform(rt, alloc, tlv)?,
+            Before::Protected(name) => self.protect(rt, alloc, name),
+            Before::Delivered(name, size) => self.deliver(rt, alloc, name, size),
+            Before::Performed(tlv) => self.perform(rt, alloc, tlv),
             Before::Admitted(number, tlvs, blocks, steps) => {
-                let told = Told::Granted(blocks, steps);
-                self.admit(rt, alloc, number, tlvs, told)?;
+                self.admit(rt, alloc, number, tlvs, Told::Granted(blocks, steps))
             }
-            Before::Stepped(number, tlv) => self.step(rt, alloc, slot_of(rt, number), tlv)?,
+            Before::Stepped(number, tlv) => self.step(rt, alloc, slot_of(rt, number), tlv),
             Before::Completed(number) => {
                 self.leases.release(id(number));
                 self.reserves[slot_of(rt, number)] = None;
+                Ok(())
             }
         }
+    }
+
+    fn protect(&mut self, rt: &impl Abort, alloc: Global, name: &[u8]) -> Result<(), Memory> {
+        let is_added = protects(alloc, &mut self.protected, name)?;
+        assert!(rt; is_added);
+        Ok(())
+    }
+
+    /// Delivers a file of so many octets.
+    fn deliver(
+        &mut self,
+        rt: &impl Abort,
+        alloc: Global,
+        name: &[u8],
+        size: u64,
+    ) -> Result<(), Memory> {
+        assert!(rt; size <= 7_864_320);
+        let path = path_of(alloc, name)?;
+        let is_delivered = deliver(&mut self.store, &path, size)?;
+        assert!(rt; is_delivered);
         Ok(())
     }
 
