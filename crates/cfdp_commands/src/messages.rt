@@ -1,5 +1,5 @@
 //! Messages to workers, copied and compared.
-ghost use Rattle.std.specs.Prelude.{◌≡◌, map, IfOk, IsTrue};
+ghost use Rattle.std.specs.Prelude.{◌≡◌, ◌↔◌, map, IfOk, IsTrue};
 ghost use Rattle.cfdp_commands.specs.Links.{Came, Happened, said_of};
 
 use cfdp_engine::Message;
@@ -20,7 +20,7 @@ pub(crate) fn copy_of(alloc: Global, message: &Message) -> Result<Message, Alloc
 
 /// Whether a message is a PDU of these octets.
 fn is_pdu(message: &Message, octets: &[u8]) -> bool
-    ensures { IsTrue result → said_of message.now ≡ Came octets.now }
+    ensures { IsTrue result ↔ (said_of message.now ≡ Came octets.now) }
 {
     match message {
         Message::Pdu(others) => others.as_slice() == octets,
@@ -30,7 +30,7 @@ fn is_pdu(message: &Message, octets: &[u8]) -> bool
 
 /// Whether a message is this event.
 fn is_event(message: &Message, event: &Event) -> bool
-    ensures { IsTrue result → said_of message.now ≡ Happened event.now }
+    ensures { IsTrue result ↔ (said_of message.now ≡ Happened event.now) }
 {
     match message {
         Message::Event(other) => event.same(other),
@@ -40,7 +40,7 @@ fn is_event(message: &Message, event: &Event) -> bool
 
 /// Whether two messages say the same.
 fn is_same(taken: &Message, due: &Message) -> bool
-    ensures { IsTrue result → said_of taken.now ≡ said_of due.now }
+    ensures { IsTrue result ↔ (said_of taken.now ≡ said_of due.now) }
 {
     match taken {
         Message::Pdu(octets) => is_pdu(due, octets),
@@ -51,7 +51,7 @@ fn is_same(taken: &Message, due: &Message) -> bool
 
 /// Whether messages say the same, one after the other.
 pub fn are_same(taken: &[Message], due: &[Message]) -> bool
-    ensures { IsTrue result → map said_of taken.now ≡ map said_of due.now }
+    ensures { IsTrue result ↔ (map said_of taken.now ≡ map said_of due.now) }
 {
     if taken.len() != due.len() {
         return false;
