@@ -185,12 +185,18 @@ static SORTED: [Sorted; 1] = [(
     b"D|d|d/x|d/x/z|d/y|d0|e|",
 )];
 
-/// These paths in order.
-fn sorted(alloc: Global, octets: &[&[u8]]) -> Result<Vec<Path>, Memory> {
+/// The paths that each of these spells.
+fn paths_of(alloc: Global, octets: &[&[u8]]) -> Result<Vec<Path>, Memory> {
     let mut paths = Vec::new(alloc);
     for path in octets {
         paths.push(parsed(alloc, path)?)?;
     }
+    Ok(paths)
+}
+
+/// These paths in order.
+fn sorted(alloc: Global, octets: &[&[u8]]) -> Result<Vec<Path>, Memory> {
+    let mut paths = paths_of(alloc, octets)?;
     paths.sort()?;
     Ok(paths)
 }

@@ -46,20 +46,23 @@ static LENT: [Lent; 8] = [
     },
 ];
 
+/// The names, with `|` behind each.
+fn joined(alloc: Global, names: Names<'_>) -> Result<Vec<u8>, Memory> {
+    let mut text = Vec::new(alloc);
+    for name in names {
+        text.extend_from_slice(name)?;
+        text.push(b'|')?;
+    }
+    Ok(text)
+}
+
 /// The names of the path that the octets spell, with `|` behind each. They spell one, so that only memory can be wanting.
 fn names(alloc: Global, octets: &[u8]) -> Result<Vec<u8>, Memory> {
     let mut octets = Vec::from_slice(alloc, octets)?;
-    let mut text = Vec::new(alloc);
     match Names::parse(&mut octets) {
-        Ok(names) => {
-            for name in names {
-                text.extend_from_slice(name)?;
-                text.push(b'|')?;
-            }
-        }
-        Err(_) => return Err(AllocError),
+        Ok(names) => joined(alloc, names),
+        Err(_) => Err(AllocError),
     }
-    Ok(text)
 }
 
 /// The fault of the octets. Only the copy of them that may change takes memory.

@@ -30,12 +30,17 @@ fn header() -> Header
 // The octets of a PDU, and what is written in them.
 type Written = (Vec<u8>, Pdu);
 
+// A request with a value of 254 octets.
+fn request(alloc: Global) -> Result<FilestoreRequest, AllocError> {
+    let second = Some([b'r'; 126].as_slice());
+    FilestoreRequest::new(alloc, Action::RenameFile, &[b'p'; 125], second)
+}
+
 // 64 requests with values of 254 octets, or none.
 fn requests(alloc: Global, are_many: bool) -> Result<Vec<FilestoreRequest>, AllocError> {
     let mut requests = Vec::new(alloc);
     for _ in 0..if are_many { 64 } else { 0 } {
-        let second = Some([b'r'; 126].as_slice());
-        requests.push(FilestoreRequest::new(alloc, Action::RenameFile, &[b'p'; 125], second)?)?;
+        requests.push(request(alloc)?)?;
     }
     Ok(requests)
 }
