@@ -16,58 +16,69 @@ fn ends_with_one(block: &Block) -> bool {
     *block == wanted
 }
 
+/// Whether three blocks can be taken, no two of them the same, and no fourth one. The first and the third are given back.
+fn takes_three(arena: &mut Arena) -> bool {
+    let (Some(first), Some(second), Some(third)) = (arena.take(), arena.take(), arena.take()) else {
+        return false;
+    };
+    let are_all = arena.take().is_none();
+    arena.give(first);
+    arena.give(third);
+    are_all && first != second && second != third && first != third
+}
+
+/// Whether a block can be taken, and all its octets are 0.
+fn takes_blank(arena: &mut Arena) -> bool {
+    match arena.take() {
+        Some(block) => is_blank(arena.bytes(block)),
+        None => false,
+    }
+}
+
 #[test]
 fn three_blocks(rt: HostRuntime) -> Result<(), Fail> {
     let mut arena = Arena::new(rt.alloc(), 3)?;
-    assert_eq!(rt; arena.free(), 3);
-    let first = arena.take().expect(&rt, "first");
-    let second = arena.take().expect(&rt, "second");
-    let third = arena.take().expect(&rt, "third");
-    assert_eq!(rt; arena.take(), None);
-    assert!(rt; first != second && second != third && first != third);
-
-    arena.give(first);
-    arena.give(third);
-    assert_eq!(rt; arena.free(), 2);
-    for _ in 0..2 {
-        let block = arena.take().expect(&rt, "given back");
-        assert!(rt; is_blank(arena.bytes(block)));
-    }
-    assert_eq!(rt; arena.take(), None);
-    assert_eq!(rt; arena.free(), 0);
+    let are_three = arena.free() == 3 && takes_three(&mut arena) && arena.free() == 2;
+    let are_blank = takes_blank(&mut arena) && takes_blank(&mut arena);
+    assert!(rt; are_three && are_blank && arena.take().is_none() && arena.free() == 0);
     Ok(())
 }
 
 #[test]
 fn the_most_blocks(rt: HostRuntime) -> Result<(), Fail> {
     let mut arena = Arena::new(rt.alloc(), 65_536)?;
-    assert_eq!(rt; arena.free(), 65_536);
-    let block = arena.take().expect(&rt, "the first");
-    assert_eq!(rt; arena.free(), 65_535);
-    assert!(rt; is_blank(arena.bytes(block)));
+    let is_whole = arena.free() == 65_536;
+    assert!(rt; is_whole && takes_blank(&mut arena) && arena.free() == 65_535);
     Ok(())
 }
 
-#[test]
-fn one_octet_is_copied(rt: HostRuntime) -> Result<(), Fail> {
-    let mut arena = Arena::new(rt.alloc(), 2)?;
-    let first = arena.take().expect(&rt, "first");
-    let second = arena.take().expect(&rt, "second");
+/// Whether one octet is copied to the last place of another block, and stays there when the block that it came from is given
+/// back, taken again and blank. Of two blocks that are free.
+fn copies_one_octet(arena: &mut Arena) -> bool {
+    let (Some(first), Some(second)) = (arena.take(), arena.take()) else {
+        return false;
+    };
     let octets = arena.bytes_mut(first);
     for place in 8..128 {
         octets[place] = 1;
     }
     let before = *arena.bytes(first);
-
     arena.copy_payload(first, 0, second, 119, 1);
-    assert!(rt; ends_with_one(arena.bytes(second)));
-    assert!(rt; *arena.bytes(first) == before);
-
+    let is_copied = ends_with_one(arena.bytes(second)) && *arena.bytes(first) == before;
     arena.give(first);
-    let again = arena.take().expect(&rt, "given back");
-    assert_eq!(rt; again, first);
-    assert!(rt; is_blank(arena.bytes(again)));
-    assert!(rt; ends_with_one(arena.bytes(second)));
+    match arena.take() {
+        Some(again) => {
+            let is_first = again == first && is_blank(arena.bytes(again));
+            is_copied && is_first && ends_with_one(arena.bytes(second))
+        }
+        None => false,
+    }
+}
+
+#[test]
+fn one_octet_is_copied(rt: HostRuntime) -> Result<(), Fail> {
+    let mut arena = Arena::new(rt.alloc(), 2)?;
+    assert!(rt; copies_one_octet(&mut arena));
     Ok(())
 }
 
