@@ -1,11 +1,13 @@
 //! Each module has the lists or the events of one kind. `scene` has what lists are judged on, and `entity` a receiving entity
-//! that is handed events; `guide` has the lists of the repository's `docs/GUIDE.md`, octet for octet.
+//! that is handed events; `guide` has the lists of the repository's `docs/GUIDE.md`, octet for octet; `hostile` has what means
+//! harm: PDUs that are cut or changed, and cancels at every moment.
 
 mod crowded;
 mod directories;
 mod engine;
 mod entity;
 mod guide;
+mod hostile;
 mod journal;
 mod leases;
 mod limits;

@@ -124,29 +124,9 @@ pub fn id(number: u8) -> TransactionId {
     }
 }
 
-fn digit(rt: &impl Abort, digit: u8) -> u8 {
-    match digit {
-        b'0'..=b'9' => digit - b'0',
-        b'a'..=b'f' => digit - b'a' + 10,
-        _ => {
-            assert!(rt; false);
-            0
-        }
-    }
-}
-
-/// The octets of a hexadecimal text.
-pub fn octets_of(rt: &impl Abort, alloc: Global, text: &str) -> Result<Vec<u8>, Memory> {
-    let digits = text.as_bytes();
-    let mut octets = Vec::with_capacity(alloc, digits.len() / 2)?;
-    for pair in digits.chunks_exact(2) {
-        octets.push(
-            digit(rt, pair[0])
-                .wrapping_mul(16)
-                .wrapping_add(digit(rt, pair[1])),
-        )?;
-    }
-    Ok(octets)
+/// The octets of a hexadecimal text, which has some: only memory can be wanting.
+pub fn octets_of(alloc: Global, text: &str) -> Result<Vec<u8>, Memory> {
+    hex::decode(alloc, text).map_err(|_| AllocError)
 }
 
 /// The PDU of octets, which are one: only memory can be wanting.
@@ -179,9 +159,9 @@ fn file_data(
 }
 
 impl Given {
-    pub fn event(self, rt: &impl Abort, alloc: Global) -> Result<Event, Memory> {
+    pub fn event(self, alloc: Global) -> Result<Event, Memory> {
         match self {
-            Given::Pdu(text) => event_in(alloc, &octets_of(rt, alloc, text)?),
+            Given::Pdu(text) => event_in(alloc, &octets_of(alloc, text)?),
             Given::Octets(number, offset, count, octet) => {
                 file_data(alloc, number, offset, count, octet)
             }
@@ -228,13 +208,8 @@ impl Told {
 }
 
 /// Whether the outcome is sent as this Finished PDU.
-fn is_sent_as(
-    rt: &impl Abort,
-    alloc: Global,
-    outcome: &Outcome,
-    text: &str,
-) -> Result<bool, Memory> {
-    match pdu_in(alloc, &octets_of(rt, alloc, text)?)? {
+fn is_sent_as(alloc: Global, outcome: &Outcome, text: &str) -> Result<bool, Memory> {
+    match pdu_in(alloc, &octets_of(alloc, text)?)? {
         Pdu::Finished(header, finished) => {
             Ok(outcome.send && outcome.header == header && outcome.finished == finished)
         }
@@ -243,9 +218,9 @@ fn is_sent_as(
 }
 
 /// Whether the outcome that is handed out, if one is, is sent as this Finished PDU.
-fn is_finished(rt: &impl Abort, alloc: Global, reply: &Reply, text: &str) -> Result<bool, Memory> {
+fn is_finished(alloc: Global, reply: &Reply, text: &str) -> Result<bool, Memory> {
     match reply {
-        Reply::Taken(shared) => is_sent_as(rt, alloc, shared.outcome(), text),
+        Reply::Taken(shared) => is_sent_as(alloc, shared.outcome(), text),
         _ => Ok(false),
     }
 }
@@ -253,7 +228,7 @@ fn is_finished(rt: &impl Abort, alloc: Global, reply: &Reply, text: &str) -> Res
 /// Whether the reply is the one that is told.
 pub fn is_told(rt: &impl Abort, alloc: Global, reply: &Reply, told: Told) -> Result<bool, Memory> {
     match told {
-        Told::Finished(text) => is_finished(rt, alloc, reply, text),
+        Told::Finished(text) => is_finished(alloc, reply, text),
         _ => Ok(reply.same(&told.reply(rt))),
     }
 }
@@ -354,7 +329,7 @@ fn replies<S: Filestore>(
     (given, told): (Given, Told),
     twice: bool,
 ) -> Result<bool, Memory> {
-    let event = given.event(rt, alloc)?;
+    let event = given.event(alloc)?;
     let reply = hand_in(rt, alloc, core, &event, twice)?;
     is_told(rt, alloc, &reply, told)
 }

@@ -165,7 +165,7 @@ fn accept(
     given: Given,
 ) -> Result<Reply, Memory> {
     let before = seen(alloc, engine)?;
-    let event = Arc::new(alloc, given.event(rt, alloc)?)?;
+    let event = Arc::new(alloc, given.event(alloc)?)?;
     let reply = engine.accept(0, event);
     if matches!(reply, Reply::Memory | Reply::JournalFull) {
         let same = is_as_before(alloc, engine, &before)?;

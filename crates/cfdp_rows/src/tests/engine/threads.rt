@@ -108,6 +108,17 @@ fn both(rt: &impl Abort, alloc: Global, one: Seat, two: Seat) -> Vec<Seat> {
     seats
 }
 
+/// Whether a worker was not stopped, and has so many receipts.
+fn is_done(worked: &Worked, receipts: usize) -> bool {
+    worked.stopped.is_none() && worked.seat.receipts().len() == receipts
+}
+
+/// Whether the engine begins with the second seat, and closes with both.
+fn is_closed_in_turn(engine: Shared<TreeStore>, seats: Vec<Seat>) -> bool {
+    let journaled = engine.into_journaled();
+    begins_with(&journaled, 1) && closed(journaled, seats).0.is_none()
+}
+
 /// Whether the workers took all of one and two messages, and the engine closes with their seats and begins with the second.
 fn is_crossed(
     rt: &impl Abort,
@@ -116,12 +127,9 @@ fn is_crossed(
     zero: Worked,
     one: Worked,
 ) -> bool {
-    let are_done = zero.stopped.is_none() && one.stopped.is_none();
-    let are_counted = zero.seat.receipts().len() == 1 && one.seat.receipts().len() == 2;
-    let journaled = engine.into_journaled();
-    let begins = begins_with(&journaled, 1);
+    let are_done = is_done(&zero, 1) && is_done(&one, 2);
     let seats = both(rt, alloc, zero.seat, one.seat);
-    are_done && are_counted && begins && closed(journaled, seats).0.is_none()
+    are_done && is_closed_in_turn(engine, seats)
 }
 
 #[test]

@@ -3,7 +3,7 @@ use Rattle.std.proofs.lemmas.Bool.Decides.{nat_tests}
 use Rattle.std.specs.List.{list_any}
 use Rattle.cfdp_paths.specs.Paths.{Path}
 use Rattle.cfdp_paths.specs.PathMaps.{is_too_deep, tree_in}
-use Rattle.cfdp_octets.proofs.tests.paths.maps.relocate.Goals as goal
+use Rattle.cfdp_stores.proofs.tests.octets.paths.maps.relocate.Goals as goal
 
 -- with a names before and b in their place, c names are more than 8
 same_test : (a b c : ℕ) → b ≤ 8 → nat_lt 8 (b + (c - a)) ≡ nat_lt (8 + a) (c + b)

@@ -1,4 +1,4 @@
-//! Each module has the tests of one crate.
+//! What is read and written octet by octet. Each module has the tests of one crate.
 
 mod checksums;
 mod paths;

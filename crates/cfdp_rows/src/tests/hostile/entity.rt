@@ -1,5 +1,6 @@
 //! An entity that is handed the lines of a row.
 
+use super::super::entity::octets_of;
 use super::rows::{Line, MOST_NUMBER, Row};
 use cfdp_actions::{Filestore, Protected};
 use cfdp_entity::{Entity, NotHeard, NotTaken};
@@ -8,24 +9,6 @@ use cfdp_pdus::PduFault;
 use cfdp_status::TransactionId;
 use cfdp_transactions::{Config, Phase, Reply};
 use std::alloc::{AllocError, Global};
-
-/// The value of a hexadecimal digit.
-fn digit(octet: u8) -> u8 {
-    match octet {
-        b'0'..=b'9' => octet - b'0',
-        b'a'..=b'f' => octet - b'a' + 10,
-        _ => 0,
-    }
-}
-
-/// The octets that hexadecimal digits say.
-fn octets_of(alloc: Global, text: &str) -> Result<Vec<u8>, Memory> {
-    let mut octets = Vec::new(alloc);
-    for pair in text.as_bytes().chunks_exact(2) {
-        octets.push(digit(pair[0]).wrapping_mul(16).wrapping_add(digit(pair[1])))?;
-    }
-    Ok(octets)
-}
 
 /// So many equal octets behind others.
 fn repeated(alloc: Global, before: &str, octet: u8, count: usize) -> Result<Vec<u8>, Memory> {

@@ -5,19 +5,12 @@ mod lent;
 mod limits;
 mod maps;
 
+use super::super::calls::parsed;
 use super::{Row, all_hold};
 use cfdp_paths::{LONGEST_NAME, Memory, Path, PathFault};
 use lent::lent_fault;
-use std::alloc::{AllocError, Global};
+use std::alloc::Global;
 use std::cmp::Ordering;
-
-/// The path that the octets spell. They spell one, so that only memory can be wanting.
-fn parsed(alloc: Global, octets: &[u8]) -> Result<Path, Memory> {
-    match Path::parse(alloc, octets) {
-        Ok(path) => Ok(path),
-        Err(_) => Err(AllocError),
-    }
-}
 
 /// Octets that spell no path, and their fault.
 type Fault = (&'static [u8], PathFault);

@@ -148,32 +148,15 @@ static OTHERS: [&str; 6] = [
     "24000100010502 0c",
 ];
 
-// The value of a hexadecimal digit.
-fn digit(octet: u8) -> u8 {
-    match octet {
-        b'0'..=b'9' => octet - b'0',
-        b'a'..=b'f' => octet - b'a' + 10,
-        _ => 0,
-    }
-}
-
-// The octets that hexadecimal digits say, spaces apart.
+// The octets that hexadecimal digits say, spaces apart: only memory can be wanting.
 fn octets(alloc: Global, text: &str) -> Result<Vec<u8>, AllocError> {
-    let mut out = Vec::new(alloc);
-    let mut high = None;
+    let mut digits = Vec::new(alloc);
     for octet in text.as_bytes() {
-        if *octet == b' ' {
-            continue;
-        }
-        match high {
-            None => high = Some(digit(*octet)),
-            Some(first) => {
-                out.push(first.wrapping_mul(16).wrapping_add(digit(*octet)))?;
-                high = None;
-            }
+        if *octet != b' ' {
+            digits.push(*octet)?;
         }
     }
-    Ok(out)
+    hex::decode(alloc, digits).map_err(|_| AllocError)
 }
 
 // Whether the two readers agree.
