@@ -8,8 +8,11 @@ use cfdp_paths::{Memory, Path};
 use cfdp_status::Action;
 use std::alloc::{AllocError, Global};
 
-/// The path that the octets spell. They spell one, so that only memory can be wanting.
+/// The path that the octets spell, also where memory is refused at first. They spell one, so that only memory can be wanting.
 pub fn parsed(alloc: Global, octets: &[u8]) -> Result<Path, Memory> {
+    if let Ok(path) = Path::parse(alloc, octets) {
+        return Ok(path);
+    }
     match Path::parse(alloc, octets) {
         Ok(path) => Ok(path),
         Err(_) => Err(AllocError),
