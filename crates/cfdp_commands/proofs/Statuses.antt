@@ -8,9 +8,11 @@ use Rattle.cfdp_paths.specs.Paths.{Path, path_of}
 use Rattle.cfdp_actions.specs.Filestore.{Node, Directory, File, Filestore, blocks, node_at, parent_is_good, tree_at, has_entries}
 use Rattle.cfdp_paths.specs.Paths.{same_path, is_at_or_below}
 use Rattle.std.specs.Prelude.{nat_le, ◌+◌}
-use Rattle.cfdp_actions.specs.Actions.{Request, CreateFile, DeleteFile, RenameFile, AppendFile, ReplaceFile, CreateDirectory, RemoveDirectory, DenyFile, DenyDirectory, action_in, request_of, Outcome, create, delete_file, rename, append, replace, remove_directory, deny_file, deny_directory, table, is_too_deep, Perform, denied, act, bars}
+use Rattle.cfdp_actions.specs.Actions.{Request, CreateFile, DeleteFile, RenameFile, AppendFile, ReplaceFile, CreateDirectory, RemoveDirectory, DenyFile, DenyDirectory, action_in, Outcome, create, delete_file, rename, append, replace, remove_directory, deny_file, deny_directory, table, is_too_deep, Perform, denied, act, bars}
 use Rattle.cfdp_tlv.specs.Values.{RequestFields}
-use Rattle.cfdp_commands.specs.Plain.{PlainState, when_stopped, performed_on, status_in, with_both, with_first, outcome_by, outcome_on, plain_blocks}
+use Rattle.cfdp_verifier.specs.Verdict.{named, request_by}
+use Rattle.cfdp_transactions.proofs.Parsing.{IsOfAction, of_action}
+use Rattle.cfdp_commands.specs.Plain.{PlainState, when_stopped, performed_on, status_in, outcome_by, outcome_on, plain_blocks}
 
 -- the outcome is a status of this action
 abbrev SpeaksOf : Action → Outcome → Type 0
@@ -98,32 +100,16 @@ act_speaks prefixes F free request =
     (SpeaksOf-if (action_in request) (bars prefixes request) (denied (Perform request)) (table F request) refl (table_speaks F request))
     refl
 
-action_in-request_of : (a : Action) (first : Path) (second : Option Path) → action_in (request_of a first second) ≡ a
-action_in-request_of action.CreateFile first second = refl
-action_in-request_of action.DeleteFile first second = refl
-action_in-request_of action.RenameFile first second = refl
-action_in-request_of action.AppendFile first second = refl
-action_in-request_of action.ReplaceFile first second = refl
-action_in-request_of action.CreateDirectory first second = refl
-action_in-request_of action.RemoveDirectory first second = refl
-action_in-request_of action.DenyFile first second = refl
-action_in-request_of action.DenyDirectory first second = refl
-
 made_speaks : (F : Filestore) (free : ℕ) (a : Action) (request : Request) → action_in request ≡ a → SpeaksOf a (act [] F free request)
 made_speaks F free a request e = subst (λ (b : Action). SpeaksOf b (act [] F free request)) e (act_speaks [] F free request)
 
-second_speaks : (F : Filestore) (a : Action) (first : Path) (second : Option Path) → SpeaksOf a (outcome_by F a (with_both a first second))
-second_speaks F a first None = refl
-second_speaks F a first (Some second) = made_speaks F (plain_blocks - blocks F) a (request_of a first (Some second)) (action_in-request_of a first (Some second))
-
-first_speaks : (F : Filestore) (a : Action) (first : Option Path) (second : Option (List ℕ)) → SpeaksOf a (outcome_by F a (with_first a first second))
-first_speaks F a None second = refl
-first_speaks F a (Some first) None = made_speaks F (plain_blocks - blocks F) a (request_of a first None) (action_in-request_of a first None)
-first_speaks F a (Some first) (Some second) = second_speaks F a first (path_of second)
+by_speaks : (F : Filestore) (a : Action) (request : Option Request) → IsOfAction a request → SpeaksOf a (outcome_by F a request)
+by_speaks F a None own = refl
+by_speaks F a (Some request) own = made_speaks F (plain_blocks - blocks F) a request own
 
 -- the status of a request's outcome is one of its action
 outcome_on_speaks : (F : Filestore) (fields : RequestFields) → action_of (status_in fields.action (outcome_on F fields).answer) ≡ fields.action
-outcome_on_speaks F fields = first_speaks F fields.action (path_of fields.first) fields.second
+outcome_on_speaks F fields = by_speaks F fields.action (request_by fields) (of_action fields.action (path_of fields.first) (named fields.second))
 
 stopped_speaks : (stopped : Bool) (state : PlainState) (fields : RequestFields) → action_of (when_stopped stopped state fields).1 ≡ fields.action
 stopped_speaks true state fields = refl

@@ -5,8 +5,7 @@
 --   plain_state      what a store and that flag are seen as
 --   at_start         an empty filestore, and no such request
 --   new_list         the next list on the same filestore
---   request_by       the request with its names read as paths (with_first, with_second, with_both), if they are paths
---   outcome_by       what that request comes to, by the action table with nothing protected; of no paths: not allowed
+--   outcome_by       what a request by its paths comes to, by the action table with nothing protected; of no paths: not allowed
 --   outcome_on       the same, of the request as it was spelled
 --   status_in        the status in an outcome's answer
 --   comes_to         the state after an outcome, and the status that answers the request
@@ -20,11 +19,11 @@ use Rattle.cfdp_status.specs.Codes.{is_successful}
 use Rattle.cfdp_status.specs.declared.action.Action.{Action}
 use Rattle.cfdp_status.specs.declared.status.Status.{Status}
 use Rattle.cfdp_status.specs.declared.status.Status.TheVariants.{Successful, NotAllowed, NotPerformed}
-use Rattle.cfdp_paths.specs.Paths.{Path, path_of}
 use Rattle.cfdp_actions.specs.Filestore.{Filestore, empty_filestore, blocks, after}
-use Rattle.cfdp_actions.specs.Actions.{Request, request_of, Answer, Performed, Installed, NotInstalled, Outcome, act, refused}
+use Rattle.cfdp_actions.specs.Actions.{Request, Answer, Performed, Installed, NotInstalled, Outcome, act, refused}
 use Rattle.cfdp_actions.specs.Store.{Store}
 use Rattle.cfdp_tlv.specs.Values.{RequestFields}
+use Rattle.cfdp_verifier.specs.Verdict.{request_by}
 use Rattle.cfdp_commands.specs.declared.dropped.Dropped.{Dropped}
 use Rattle.cfdp_commands.specs.Hexadecimal.{hex_octets}
 use Rattle.cfdp_lines.specs.Report.{Report, script_report}
@@ -48,22 +47,6 @@ at_start = record { filestore = empty_filestore; stopped = false }
 -- an empty line: the next list on the same filestore
 abbrev pub new_list : PlainState → PlainState
 new_list state = record state { stopped = false }
-
--- the request by its paths, if the names spell paths
-abbrev pub with_both : Action → Path → Option Path → Option Request
-with_both action first None = None
-with_both action first (Some second) = Some (request_of action first (Some second))
-
-abbrev pub with_second : Action → Path → Option (List ℕ) → Option Request
-with_second action first None = Some (request_of action first None)
-with_second action first (Some name) = with_both action first (path_of name)
-
-abbrev pub with_first : Action → Option Path → Option (List ℕ) → Option Request
-with_first action None second = None
-with_first action (Some first) second = with_second action first second
-
-abbrev pub request_by : RequestFields → Option Request
-request_by fields = with_first fields.action (path_of fields.first) fields.second
 
 -- a name that is no path is not allowed
 abbrev pub outcome_by : Filestore → Action → Option Request → Outcome

@@ -17,12 +17,10 @@
 use Rattle.std.specs.Prelude.{ℕ, zero, suc, nat_lt, Bool, true, false, if◌then◌else◌, List, [], ◌∷◌, ◌++◌, length, Option, Some, None, Result, Ok, Err}
 use Rattle.cfdp_status.specs.declared.transaction.TransactionId.{TransactionId}
 use Rattle.cfdp_paths.specs.Paths.{Path, path_of}
-use Rattle.cfdp_pdus.specs.First.{pdu_at}
-use Rattle.cfdp_pdus.specs.declared.pdu.Pdu.{Pdu}
 use Rattle.cfdp_pdus.specs.declared.fault.PduFault.{PduFault}
 use Rattle.cfdp_transactions.specs.Config.{Config, first_fault}
 use Rattle.cfdp_transactions.specs.declared.config.ConfigFault.{ConfigFault}
-use Rattle.cfdp_transactions.specs.Events.{event_of}
+use Rattle.cfdp_transactions.specs.Events.{event_at}
 use Rattle.cfdp_transactions.specs.declared.event.Event.{Event}
 use Rattle.cfdp_transactions.specs.declared.event.Event.TheVariants as events
 use Rattle.cfdp_transactions.specs.Next.{next, run, replies}
@@ -106,19 +104,16 @@ unfoldable pub steps_from : ℕ → World → List Event
 steps_from zero W = []
 steps_from (suc more) W = steps_by (next_runnable W.table) (λ id. steps_from more (next W (events.Step id)).0)
 
-abbrev pub event_told : World → Option Event → Stage × List ℕ
-event_told W None = (Running W, not_ours)
-event_told W (Some event) = told W (event ∷ [])
-
-abbrev pub read_told : World → Result Pdu PduFault → Stage × List ℕ
+abbrev pub read_told : World → Result (Option Event) PduFault → Stage × List ℕ
 read_told W (Err fault) = (Running W, fault_line fault)
-read_told W (Ok pdu) = event_told W (event_of pdu)
+read_told W (Ok None) = (Running W, not_ours)
+read_told W (Ok (Some event)) = told W (event ∷ [])
 
 -- a line without a pair of digits is bad
 abbrev pub pdu_told : World → Option (List ℕ) → Option (Stage × List ℕ)
 pdu_told W None = None
 pdu_told W (Some []) = None
-pdu_told W (Some (octet ∷ octets)) = Some (read_told W (pdu_at (octet ∷ octets)))
+pdu_told W (Some (octet ∷ octets)) = Some (read_told W (event_at (octet ∷ octets)))
 
 -- ---- lines
 

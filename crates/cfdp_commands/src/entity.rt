@@ -1,9 +1,7 @@
 //! A receiving entity that a script tells what happens.
 ghost use Rattle.std.specs.Prelude.{◌≡◌, ◌++◌, ℕ, List, IfOk, OnOk};
 ghost use Rattle.cfdp_actions.specs.Store.{empty_store};
-ghost use Rattle.cfdp_transactions.specs.Entry.{id_of};
-ghost use Rattle.cfdp_transactions.specs.Events.{about};
-ghost use Rattle.cfdp_pdus.specs.First.{pdu_at};
+ghost use Rattle.cfdp_transactions.specs.Events.{about, event_at};
 ghost use Rattle.cfdp_transactions.specs.Next.{next, replies, run};
 ghost use Rattle.cfdp_transactions.specs.World.{start};
 ghost use Rattle.cfdp_transactions.specs.Writable.{IsReadable};
@@ -12,36 +10,13 @@ ghost use Rattle.cfdp_commands.specs.Replay.{Running, most_runs, read_told, step
 ghost use Rattle.cfdp_texts.specs.Replies.{listing_text, reply_line, told_lines};
 
 use cfdp_actions::Filestore;
-use cfdp_pdus::{Header, PduFault, read_pdu};
-use cfdp_status::TransactionId;
+use cfdp_pdus::PduFault;
 use cfdp_texts::{fault_line, not_ours_line, write_listing, write_reply};
-use cfdp_transactions::{Config, Core, Event, Reply, event_of, laws};
+use cfdp_transactions::{Config, Core, Event, Reply, laws, read_event};
 use std::alloc::{AllocError, Global};
 
 /// How many steps `run` takes at most.
 const MOST_RUNS: u32 = 4_224;
-
-/// The transaction that a PDU belongs to.
-fn id_of(header: &Header) -> TransactionId
-    ensures { result ≡ id_of header.now }
-{
-    TransactionId {
-        source: header.source,
-        number: header.number,
-    }
-}
-
-/// The transaction that an event is about.
-pub(crate) fn about(event: &Event) -> TransactionId
-    ensures { result ≡ about event.now }
-{
-    match event {
-        Event::Metadata(header, _) | Event::Data(header, _) | Event::Eof(header, _) => {
-            id_of(header)
-        }
-        Event::Step(id) | Event::Cancel(id) | Event::Check(id) | Event::Take(id) => *id,
-    }
-}
 
 /// A receiving entity, whose events all come from a script.
 #[derive(Drop)]
@@ -75,7 +50,7 @@ impl<S: Filestore> Entity<S> {
     {
         match self.core.apply(event) {
             Reply::Memory => Err(AllocError),
-            reply => write_reply(alloc, about(event), &reply, text),
+            reply => write_reply(alloc, event.transaction(), &reply, text),
         }
     }
 
@@ -86,18 +61,14 @@ impl<S: Filestore> Entity<S> {
         octets: &[u8],
         text: &mut Vec<u8>,
     ) -> Result<(), AllocError>
-        ensures { OnOk result ((lines : List ℕ) × (read_told self.old.core.world (pdu_at octets.now) ≡ (Running self.new.core.world, lines))
+        ensures { OnOk result ((lines : List ℕ) × (read_told self.old.core.world (event_at octets.now) ≡ (Running self.new.core.world, lines))
             × (text.new.items ≡ text.old.items ++ lines)) }
     {
-        laws::what_was_read_is_readable();
-        let pdu = match read_pdu(alloc, octets) {
-            Ok(pdu) => pdu,
-            Err(PduFault::Memory) => return Err(AllocError),
-            Err(fault) => return text.extend_from_slice(fault_line(fault)),
-        };
-        match event_of(pdu) {
-            Ok(event) => self.tell(alloc, &event, text),
-            Err(_) => text.extend_from_slice(not_ours_line()),
+        match read_event(alloc, octets) {
+            Ok(Some(event)) => self.tell(alloc, &event, text),
+            Ok(None) => text.extend_from_slice(not_ours_line()),
+            Err(PduFault::Memory) => Err(AllocError),
+            Err(fault) => text.extend_from_slice(fault_line(fault)),
         }
     }
 

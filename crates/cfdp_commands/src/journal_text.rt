@@ -6,7 +6,6 @@ ghost use Rattle.cfdp_engine.specs.Journal.{replies_of};
 ghost use Rattle.cfdp_commands.specs.JournalTexts.{entry_text, entry_texts, journal_text, seat_text, seat_texts};
 ghost use Rattle.cfdp_texts.specs.Replies.{labelled, line};
 
-use crate::entity::about;
 use cfdp_actions::Filestore;
 use cfdp_engine::{Entry, Seat};
 use cfdp_texts::{push_labelled, push_number, write_listing, write_reply};
@@ -26,7 +25,8 @@ fn push_entry(
     push_number(place, text)?;
     push_labelled(b" ", u64::from(entry.seat), text)?;
     text.push(b' ')?;
-    write_reply(alloc, about(entry.event.event()), &entry.reply, text)
+    let event = entry.event.event();
+    write_reply(alloc, event.transaction(), &entry.reply, text)
 }
 
 /// Appends the lines of the entries, in order.

@@ -1,46 +1,17 @@
 //! Filestore requests in lists, performed on one filestore (CCSDS 727.0-B-5 §4.9).
 ghost use Rattle.std.specs.Prelude.{◌≡◌, ◌≤◌, ◌++◌, ℕ, List, false, length, Some, Ok, IfOk, OnOk, OnErr, Err};
-ghost use Rattle.cfdp_paths.specs.Paths.{path_of};
-ghost use Rattle.cfdp_commands.specs.Plain.{plain_blocks, request_by, performed_on, plain_answer};
+ghost use Rattle.cfdp_commands.specs.Plain.{plain_blocks, performed_on, plain_answer};
 ghost use Rattle.cfdp_lines.specs.declared.script.LineFault.TheVariants.{Bad};
 
 use crate::hexadecimal::decode_line;
 use crate::request_lines::{NoRequest, read_line, write_answer};
-use cfdp_actions::{Filestore, Protected, Request, perform};
+use cfdp_actions::{Filestore, Protected, perform};
 use cfdp_lines::{LineFault, Script};
-use cfdp_paths::{Path, PathFault};
 use cfdp_status::Status;
 use cfdp_tlv::FilestoreRequest;
+use cfdp_verifier::parse_request;
 use std::alloc::{AllocError, Global};
 use std::mem;
-
-/// The path that a name spells, if it spells one.
-fn parse_name(alloc: Global, name: &[u8]) -> Result<Option<Path>, AllocError>
-    ensures { IfOk result (λ path. path_of name.now ≡ path) }
-{
-    match Path::parse(alloc, name) {
-        Ok(path) => Ok(Some(path)),
-        Err(PathFault::Memory) => Err(AllocError),
-        Err(_) => Ok(None),
-    }
-}
-
-/// The request by the paths that its names spell, if they spell paths.
-fn parse_names(alloc: Global, request: &FilestoreRequest) -> Result<Option<Request>, AllocError>
-    ensures { IfOk result (λ made. request_by request.now ≡ made) }
-{
-    let Some(first) = parse_name(alloc, request.first())? else {
-        return Ok(None);
-    };
-    let second = match request.second() {
-        None => None,
-        Some(name) => match parse_name(alloc, name)? {
-            None => return Ok(None),
-            Some(path) => Some(path),
-        },
-    };
-    Ok(Request::new(request.action(), first, second))
-}
 
 /// Lists of filestore requests on one filestore.
 #[derive(Drop)]
@@ -79,7 +50,7 @@ impl<S: Filestore> Requests<S> {
         if self.stopped {
             return Ok(Status::not_performed(request.action()));
         }
-        let status = match parse_names(alloc, request)? {
+        let status = match parse_request(alloc, request)? {
             None => Status::not_allowed(request.action()),
             Some(request) => perform(&mut self.store, &Protected::new(), &request)?.status,
         };

@@ -3,7 +3,7 @@ ghost use Rattle.std.specs.Prelude.{◌≡◌, ◌≤◌, ◌^◌, ◌++◌, ℕ
 ghost use Rattle.cfdp_transactions.specs.Config.{first_fault};
 ghost use Rattle.cfdp_transactions.specs.World.{start};
 ghost use Rattle.cfdp_transactions.specs.Writable.{IsReadable};
-ghost use Rattle.cfdp_pdus.specs.First.{pdu_at};
+ghost use Rattle.cfdp_transactions.specs.Events.{event_at};
 ghost use Rattle.cfdp_commands.specs.Replay.{Running as IsRunning, at_first, configured, default_config, most_runs, protected, read_told, steps_from, told, world_of};
 ghost use Rattle.cfdp_texts.specs.Replies.{listing_text};
 ghost use Rattle.cfdp_commands.specs.Stages.{stage_of};
@@ -214,7 +214,7 @@ impl Stage {
         octets: &[u8],
         text: &mut Vec<u8>,
     ) -> Result<(), AllocError>
-        ensures { OnOk result ((lines : List ℕ) × (read_told (world_of (stage_of self.old)) (pdu_at octets.now) ≡ (stage_of self.new, lines))
+        ensures { OnOk result ((lines : List ℕ) × (read_told (world_of (stage_of self.old)) (event_at octets.now) ≡ (stage_of self.new, lines))
             × (text.new.items ≡ text.old.items ++ lines)) }
     {
         self.begin(alloc)?;

@@ -10,21 +10,19 @@ use Rattle.std.specs.Prelude.{◌≡◌, ℕ, ◌+◌, ◌≤◌, Bool, true, fa
 use Rattle.std.specs.Option.{is_none, option_to_list}
 use Rattle.std.specs.List.{AllByRecursion}
 use Rattle.std.specs.Arc.{arc_value}
-use Rattle.cfdp_pdus.specs.declared.pdu.Pdu.{Pdu}
 use Rattle.cfdp_pdus.specs.declared.fault.PduFault.{PduFault}
-use Rattle.cfdp_pdus.specs.First.{pdu_at}
 use Rattle.cfdp_transactions.specs.declared.event.Event.{Event}
 use Rattle.cfdp_transactions.specs.declared.event.Event.TheVariants.{Step}
-use Rattle.cfdp_transactions.specs.Events.{event_of}
+use Rattle.cfdp_transactions.specs.Events.{event_at}
 pub use Rattle.cfdp_engine.specs.declared.message.Message.{Message}
 use Rattle.cfdp_engine.specs.declared.message.Message.TheVariants as messages
 
-abbrev pub event_read : Result Pdu PduFault → Option Event
-event_read (Ok pdu) = event_of pdu
+abbrev pub event_read : Result (Option Event) PduFault → Option Event
+event_read (Ok event) = event
 event_read (Err fault) = None
 
 abbrev pub event_in : List ℕ → Option Event
-event_in octets = event_read (pdu_at octets)
+event_in octets = event_read (event_at octets)
 
 abbrev pub is_passed_over : Message → Bool
 is_passed_over (messages.Pdu octets) = is_none (event_in octets.items)

@@ -12,8 +12,8 @@ use crate::shared::Shared;
 use crate::stop::Stop;
 use cfdp_actions::Filestore;
 use cfdp_paths::Memory;
-use cfdp_pdus::{PduFault, read_pdu};
-use cfdp_transactions::{Event, event_of};
+use cfdp_pdus::PduFault;
+use cfdp_transactions::{Event, read_event};
 use crossbeam_channel::Receiver;
 use std::alloc::Global;
 use std::sync::{Arc, Wait};
@@ -35,11 +35,11 @@ pub struct Worked {
 }
 
 /// The event of a PDU's octets. `None` where they spell no PDU, or one that is no event of a receiving entity.
-fn read_event(alloc: Global, octets: &[u8]) -> Result<Option<Event>, Stop>
+fn event_in(alloc: Global, octets: &[u8]) -> Result<Option<Event>, Stop>
     ensures { IfOk result (λ event. event ≡ event_in octets.now) }
 {
-    match read_pdu(alloc, octets) {
-        Ok(pdu) => Ok(event_of(pdu).ok()),
+    match read_event(alloc, octets) {
+        Ok(event) => Ok(event),
         Err(PduFault::Memory) => Err(Stop::Memory),
         Err(_) => Ok(None),
     }
@@ -104,7 +104,7 @@ fn serve<S: Filestore, R: Wait>(
             shared.accept(rt, seat, event)?;
         }
         Message::Pdu(octets) => {
-            let Some(event) = read_event(alloc, octets)? else {
+            let Some(event) = event_in(alloc, octets)? else {
                 return Ok(true);
             };
             hand_in(rt, alloc, shared, seat, event)?;

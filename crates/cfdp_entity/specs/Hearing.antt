@@ -8,21 +8,18 @@ use Rattle.cfdp_pdus.specs.declared.pdu.Pdu.{Pdu}
 use Rattle.cfdp_pdus.specs.declared.pdu.Pdu.TheVariants as pdus
 use Rattle.cfdp_pdus.specs.declared.fault.PduFault.{PduFault}
 use Rattle.cfdp_pdus.specs.declared.fault.PduFault.TheVariants.{Memory}
-use Rattle.cfdp_transactions.specs.Events.{event_of}
+use Rattle.cfdp_transactions.specs.Events.{event_at}
 use Rattle.cfdp_transactions.specs.declared.event.Event.{Event}
 use Rattle.cfdp_entity.specs.declared.fault.NotHeard.{NotHeard}
 use Rattle.cfdp_entity.specs.declared.fault.NotHeard.TheVariants.{Fault, NotOurs}
 
-abbrev pub brought : Option Event → Result Event NotHeard
-brought None = Err NotOurs
-brought (Some event) = Ok event
-
-abbrev pub heard_in : Result Pdu PduFault → Result Event NotHeard
-heard_in (Ok pdu) = brought (event_of pdu)
+abbrev pub heard_in : Result (Option Event) PduFault → Result Event NotHeard
+heard_in (Ok None) = Err NotOurs
+heard_in (Ok (Some event)) = Ok event
 heard_in (Err fault) = Err (Fault fault)
 
 abbrev pub heard : List ℕ → Result Event NotHeard
-heard octets = heard_in (pdu_at octets)
+heard octets = heard_in (event_at octets)
 
 abbrev pub IsCopied : Result Pdu PduFault → Type 0
 IsCopied (Ok (pdus.Metadata header metadata)) = ⊤

@@ -5,7 +5,7 @@ ghost use Rattle.cfdp_pdus.specs.First.{pdu_at};
 ghost use Rattle.cfdp_pdus.specs.Sound.{IsNoFileData};
 ghost use Rattle.cfdp_pdus.specs.Canonical.{IsHeader};
 ghost use Rattle.cfdp_pdus.specs.declared.fault.PduFault.TheVariants.{Memory as OutOfMemory};
-ghost use Rattle.cfdp_transactions.specs.Entry.{gaps, id_of};
+ghost use Rattle.cfdp_transactions.specs.Entry.{gaps};
 ghost use Rattle.cfdp_transactions.specs.Engine.{AsksForNone, outcome_in, read_of};
 ghost use Rattle.cfdp_transactions.specs.Events.{about};
 ghost use Rattle.cfdp_transactions.specs.declared.event.Event.{Event as EventOf};
@@ -23,34 +23,12 @@ ghost use Rattle.cfdp_entity.specs.declared.fault.NotTaken.TheVariants.{Memory a
 
 use crate::{NotHeard, NotTaken};
 use cfdp_paths::Memory;
-use cfdp_pdus::{Header, PduFault, Piece, read_for_receiver, read_piece};
+use cfdp_pdus::{Header, PduFault, Piece, read_piece};
 use cfdp_status::TransactionId;
-use cfdp_transactions::{Config, Core, Event, Reply, event_of, laws};
+use cfdp_transactions::{Config, Core, Event, Reply, laws, read_event, transaction_of};
 use cfdp_tree::TreeStore;
 use std::alloc::Global;
 use std::marker::Model;
-
-/// The transaction that a PDU belongs to.
-fn id_of(header: &Header) -> TransactionId
-    ensures { result ≡ id_of header.now }
-{
-    TransactionId {
-        source: header.source,
-        number: header.number,
-    }
-}
-
-/// The transaction that an event is about.
-fn about(event: &Event) -> TransactionId
-    ensures { result ≡ about event.now }
-{
-    match event {
-        Event::Metadata(header, _) | Event::Data(header, _) | Event::Eof(header, _) => {
-            id_of(header)
-        }
-        Event::Step(id) | Event::Cancel(id) | Event::Check(id) | Event::Take(id) => *id,
-    }
-}
 
 /// A receiving entity (CCSDS 727.0-B-5 §4.6) over a filestore inside an arena.
 ///
@@ -154,16 +132,12 @@ impl Entity {
         ensures err { IfErr result (IsUnheard octets.now) }
         ensures unchanged { OnErr result (self.new ≡ self.old) }
     {
-        laws::what_was_read_is_readable();
-        let pdu = match read_for_receiver(alloc, octets) {
-            Ok(Some(pdu)) => pdu,
+        let event = match read_event(alloc, octets) {
+            Ok(Some(event)) => event,
             Ok(None) => return Err(NotHeard::NotOurs),
             Err(fault) => return Err(NotHeard::Fault(fault)),
         };
-        let Ok(event) = event_of(pdu) else {
-            return Err(NotHeard::NotOurs);
-        };
-        let id = about(&event);
+        let id = event.transaction();
         match self.apply(&event) {
             Reply::Memory => Err(NotHeard::Fault(PduFault::Memory)),
             reply => Ok((id, reply)),
@@ -193,7 +167,7 @@ impl Entity {
         if header.toward_sender {
             return Err(NotHeard::NotOurs);
         }
-        Ok((id_of(&header), self.keep(&header, &piece)))
+        Ok((transaction_of(&header), self.keep(&header, &piece)))
     }
 
     /// The octets that are to be sent of a transaction's outcome once it is taken: none where there is no outcome.

@@ -15,7 +15,7 @@ use Rattle.cfdp_leases.specs.Footprint.{Footprint, footprint_of, is_conflict, re
 use Rattle.cfdp_leases.specs.Leases.{first_conflict}
 use Rattle.cfdp_states.specs.Alone.{statuses, alone, statuses_alone, need_alone, steps_alone}
 use Rattle.cfdp_tlv.specs.Values.{RequestFields}
-use Rattle.cfdp_verifier.specs.Verdict.{Proposal, Verdict, Refuse, Grant, Parsed, Bad, Good, named, request_named, and_then, parsed_from, with_file, with_destination, parsed, first_failure, destination_allowed, judged, judged_apart, verdict_of, verdict}
+use Rattle.cfdp_verifier.specs.Verdict.{Proposal, Verdict, Refuse, Grant, Parsed, Bad, Good, request_by, and_then, parsed_from, with_file, with_destination, parsed, first_failure, destination_allowed, judged, judged_apart, verdict_of, verdict}
 use Rattle.cfdp_transactions.specs.Entry.{is_live, Entry, name_of, footprint}
 use Rattle.cfdp_transactions.specs.World.{leases_of}
 use Rattle.cfdp_transactions.specs.Sound.{Each, is_next_install, requests_in}
@@ -53,7 +53,7 @@ and_then_listed (Some r) i n (Good items) h = record { all = (tt, h.all); count 
 
 parsed_listed : (i : ℕ) (rs : List RequestFields) → GoodListed (length rs) (parsed_from i rs)
 parsed_listed i [] = record { all = tt; count = refl }
-parsed_listed i (r ∷ rs) = and_then_listed (request_named r.action (path_of r.first) (named r.second)) i (length rs) (parsed_from (i + 1) rs) (parsed_listed (i + 1) rs)
+parsed_listed i (r ∷ rs) = and_then_listed (request_by r) i (length rs) (parsed_from (i + 1) rs) (parsed_listed (i + 1) rs)
 
 pub record IsProposed (destination : Option (List ℕ)) (n : ℕ) (items : List Item) : Type 0 where
   pub shape : AreItems items

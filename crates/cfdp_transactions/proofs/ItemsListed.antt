@@ -18,7 +18,7 @@ use Rattle.cfdp_leases.specs.Footprint.{Footprint}
 use Rattle.cfdp_leases.specs.Laws.{NamesPaths}
 use Rattle.cfdp_tlv.specs.Values.{RequestFields}
 use Rattle.cfdp_pdus.specs.Values.{MetadataFields}
-use Rattle.cfdp_verifier.specs.Verdict.{Grant, Parsed, Bad, Good, named, request_named, and_then, parsed_from, with_file, with_destination, verdict}
+use Rattle.cfdp_verifier.specs.Verdict.{Grant, Parsed, Bad, Good, named, request_named, request_by, and_then, parsed_from, with_file, with_destination, verdict}
 use Rattle.cfdp_transactions.specs.Config.{Config}
 use Rattle.cfdp_transactions.specs.Entry.{has_file}
 use Rattle.cfdp_transactions.specs.Admission.{proposal_of}
@@ -106,7 +106,7 @@ and_then_requests (Some r) i (Good items) own h = record { paths = (own, h.paths
 from_requests : (i : ℕ) (rs : List RequestFields) → OfRequests (parsed_from i rs)
 from_requests i [] = record { paths = tt; none = refl }
 from_requests i (r ∷ rs) =
-    and_then_requests (request_named r.action (path_of r.first) (named r.second)) i (parsed_from (i + 1) rs)
+    and_then_requests (request_by r) i (parsed_from (i + 1) rs)
     (of_paths r.action (path_of r.first) (named r.second) (path_of_path r.first (path_of r.first) refl) (named_path r.second)) (from_requests (i + 1) rs)
 
 -- lists ------------------------------------------------------------------------------

@@ -12,16 +12,16 @@ use Rattle.cfdp_actions.specs.Actions.{action_in, Request, Item}
 use Rattle.cfdp_leases.specs.Footprint.{Footprint}
 use Rattle.cfdp_states.specs.Alone.{alone, statuses_alone, need_alone, steps_alone}
 use Rattle.cfdp_tlv.specs.Values.{RequestFields}
-use Rattle.cfdp_verifier.specs.Verdict.{Proposal, Verdict, Grant, Parsed, Bad, Good, named, request_named, and_then, parsed_from, with_file, with_destination, parsed, first_failure, destination_allowed, judged, judged_apart, verdict_of, verdict}
+use Rattle.cfdp_verifier.specs.Verdict.{Proposal, Verdict, Grant, Parsed, Bad, Good, named, request_named, request_by, and_then, parsed_from, with_file, with_destination, parsed, first_failure, destination_allowed, judged, judged_apart, verdict_of, verdict}
 use Rattle.cfdp_transactions.specs.Sound.{successes, all_successful}
 
 -- actions ----------------------------------------------------------------------------
 
-abbrev IsOfAction : Action → Option Request → Type 0
+abbrev pub IsOfAction : Action → Option Request → Type 0
 IsOfAction a None = ⊤
 IsOfAction a (Some r) = action_in r ≡ a
 
-of_action : (a : Action) (p q : Option Path) → IsOfAction a (request_named a p q)
+pub of_action : (a : Action) (p q : Option Path) → IsOfAction a (request_named a p q)
 of_action action.CreateFile None q = tt
 of_action action.CreateFile (Some p) q = refl
 of_action action.DeleteFile None q = tt
@@ -56,7 +56,7 @@ and_then_order f rs (Some r) i (Good items) own h = rw (own, h) refl
 
 from_order : (i : ℕ) (rs : List RequestFields) → InOrder rs (parsed_from i rs)
 from_order i [] = refl
-from_order i (r ∷ rs) = and_then_order r rs (request_named r.action (path_of r.first) (named r.second)) i (parsed_from (i + 1) rs) (of_action r.action (path_of r.first) (named r.second)) (from_order (i + 1) rs)
+from_order i (r ∷ rs) = and_then_order r rs (request_by r) i (parsed_from (i + 1) rs) (of_action r.action (path_of r.first) (named r.second)) (from_order (i + 1) rs)
 
 file_order : (p : Option Path) (rs : List RequestFields) (q : Parsed) → InOrder rs q → InOrder rs (with_file p q)
 file_order None rs q h = tt

@@ -1,12 +1,16 @@
 -- What was read is readable.
 use Rattle.std.proofs.Common.{◌≡◌, List, [], ◌∷◌}
-use Rattle.std.specs.Prelude.{Bool, true, false, Some, None, if◌then◌else◌}
+use Rattle.std.specs.Prelude.{Bool, true, false, Some, None, Result, Ok, Err, IfOk, IfSome, if◌then◌else◌}
+use Rattle.std.specs.Result.{result_ok}
 use Rattle.std.specs.List.{AllByRecursion}
 use Rattle.cfdp_tlv.specs.Values.{RequestFields}
 use Rattle.cfdp_pdus.specs.Canonical.{IsAnswerable}
+use Rattle.cfdp_pdus.specs.Sound.{IsSound}
+use Rattle.cfdp_pdus.specs.declared.pdu.Pdu.{Pdu}
 use Rattle.cfdp_pdus.specs.declared.pdu.Pdu.TheVariants as pdus
-use Rattle.cfdp_transactions.specs.Events.{Event, MetadataCame, DataCame, EofCame}
-use Rattle.cfdp_transactions.specs.Writable.{IsShort, ReadIsReadable}
+use Rattle.cfdp_transactions.specs.Events.{Event, MetadataCame, DataCame, EofCame, event_of}
+use Rattle.cfdp_transactions.specs.Writable.{IsReadable, IsShort, ReadIsReadable}
+use Rattle.cfdp_transactions.specs.declared.event.NotOurs.{NotOurs}
 
 answerable_short : (rs : List RequestFields) → AllByRecursion IsAnswerable rs → AllByRecursion IsShort rs
 answerable_short [] all = tt
@@ -22,3 +26,8 @@ read_is_readable (pdus.FileData h piece) event s is = rw (← came_from h.toward
 read_is_readable (pdus.Eof h eof) event s is = rw (← came_from h.toward_sender (EofCame h eof) event is) (s.0, s.1.condition)
 read_is_readable (pdus.Finished h finished) event s is = absurd cc
 read_is_readable (pdus.NotOurs h directive) event s is = absurd cc
+
+-- the event that is made of a PDU that was read, where one is
+pub made_readable : (pdu : Pdu) (made : Result Event NotOurs) → IsSound pdu → IfOk made (λ event. event_of pdu ≡ Some event) → IfSome (result_ok made) IsReadable
+made_readable pdu (Ok event) sound is = read_is_readable pdu event sound is
+made_readable pdu (Err why) sound is = tt

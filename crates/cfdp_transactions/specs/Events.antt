@@ -6,8 +6,13 @@
 --     about      whose transaction an event is
 --     is_take, hands_out      the request for the outcome;  the reply that has one
 --     event_of   the event that a PDU is: none, where it goes toward the sender or the core does not take it
-use Rattle.std.specs.Prelude.{Bool, true, false, if◌then◌else◌, Option, Some, None}
+--     event_at octets         the event of the PDU that they spell, if it is one, or the first fault where they spell none
+--                             (event_from read, of what reading them gives)
+use Rattle.std.specs.Prelude.{ℕ, Bool, true, false, if◌then◌else◌, List, Option, Some, None, Result, Ok}
 use Rattle.cfdp_status.specs.declared.transaction.TransactionId.{TransactionId}
+use Rattle.cfdp_tlv.specs.Reading.{◌>>=◌}
+use Rattle.cfdp_pdus.specs.First.{pdu_at}
+use Rattle.cfdp_pdus.specs.declared.fault.PduFault.{PduFault}
 use Rattle.cfdp_pdus.specs.declared.header.Header.{Header}
 use Rattle.cfdp_pdus.specs.declared.pdu.Pdu.{Pdu}
 use Rattle.cfdp_pdus.specs.declared.pdu.Pdu.TheVariants as pdu
@@ -43,3 +48,9 @@ event_of (pdu.FileData h piece) = to_receiver h (DataCame h piece)
 event_of (pdu.Eof h eof) = to_receiver h (EofCame h eof)
 event_of (pdu.Finished h finished) = None
 event_of (pdu.NotOurs h directive) = None
+
+abbrev pub event_from : Result Pdu PduFault → Result (Option Event) PduFault
+event_from read = read >>= λ came. Ok (event_of came)
+
+abbrev pub event_at : List ℕ → Result (Option Event) PduFault
+event_at octets = event_from (pdu_at octets)

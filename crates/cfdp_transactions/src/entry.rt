@@ -4,11 +4,12 @@ ghost use Rattle.std.specs.Prelude.{◌≡◌, false, suc, if◌then◌else◌, 
 ghost use Rattle.cfdp_actions.specs.Actions.{Perform};
 ghost use Rattle.cfdp_transactions.specs.Items.{item_of};
 ghost use Rattle.cfdp_leases.specs.Items.{items_of};
-ghost use Rattle.cfdp_transactions.specs.Entry.{Done, Executing, awaited, id_of};
+ghost use Rattle.cfdp_transactions.specs.Entry.{Done, Executing, awaited};
 ghost use Rattle.cfdp_transactions.specs.Pieces.{is_all, with_range};
 ghost use Rattle.cfdp_transactions.specs.Rows.{fresh_row, row_ended, row_gaps, row_name, row_stepped, row_stored, row_turned};
 
 use crate::Phase;
+use crate::event::transaction_of;
 use crate::item::Item;
 use crate::ranges::{MOST_GAPS, Range, Ranges};
 use arrayvec::ArrayVec;
@@ -105,7 +106,7 @@ impl Entry {
     pub(crate) fn name(&self) -> TransactionId
         ensures { result ≡ row_name self.now }
     {
-        name_of(&self.header)
+        transaction_of(&self.header)
     }
 
     /// How far it is.
@@ -315,16 +316,6 @@ impl Entry {
         self.phase = phase;
         self.eof = eof;
         self.complete = complete;
-    }
-}
-
-/// The name of the transaction that a PDU belongs to: source entity ID and transaction sequence number.
-pub(crate) fn name_of(header: &Header) -> TransactionId
-    ensures { result ≡ id_of header.now }
-{
-    TransactionId {
-        source: header.source,
-        number: header.number,
     }
 }
 

@@ -1,10 +1,17 @@
 //! What happens to the receiving entity.
 
-ghost use Rattle.std.specs.Prelude.{◌≡◌, codes, Some, None, IfOk, OnErr};
-ghost use Rattle.cfdp_transactions.specs.Events.{event_of};
+ghost use Rattle.std.specs.Prelude.{◌≡◌, codes, Some, None, IfOk, IfSome, OnErr, Err};
+ghost use Rattle.cfdp_tlv.specs.Reading.{Gives};
+ghost use Rattle.cfdp_pdus.specs.First.{pdu_at};
+ghost use Rattle.cfdp_pdus.specs.Receiving.{IsCopied};
+ghost use Rattle.cfdp_pdus.specs.declared.fault.PduFault.TheVariants.{Memory};
+ghost use Rattle.cfdp_transactions.specs.Entry.{id_of};
+ghost use Rattle.cfdp_transactions.specs.Events.{about, event_at, event_of};
+ghost use Rattle.cfdp_transactions.specs.Writable.{IsReadable};
 
-use cfdp_pdus::{Eof, FileData, Header, Metadata, Pdu};
+use cfdp_pdus::{Eof, FileData, Header, Metadata, Pdu, PduFault, read_for_receiver};
 use cfdp_status::TransactionId;
+use std::alloc::Global;
 use std::error::Error;
 use std::fmt;
 
@@ -25,6 +32,30 @@ pub enum Event {
     Check(TransactionId),
     /// The transaction's outcome is to be handed out.
     Take(TransactionId),
+}
+
+/// The transaction that a PDU belongs to: its source entity ID and transaction sequence number (CCSDS 727.0-B-5 §5.1).
+pub fn transaction_of(header: &Header) -> TransactionId
+    ensures { result ≡ id_of header.now }
+{
+    TransactionId {
+        source: header.source,
+        number: header.number,
+    }
+}
+
+impl Event {
+    /// The transaction that the event is about.
+    pub fn transaction(&self) -> TransactionId
+        ensures { result ≡ about self.now }
+    {
+        match self {
+            Event::Metadata(header, _) | Event::Data(header, _) | Event::Eof(header, _) => {
+                transaction_of(header)
+            }
+            Event::Step(id) | Event::Cancel(id) | Event::Check(id) | Event::Take(id) => *id,
+        }
+    }
 }
 
 /// A PDU that is no event of the receiving entity: it goes toward the sender, or is neither a Metadata nor a File Data nor
@@ -63,4 +94,22 @@ pub fn event_of(pdu: Pdu) -> Result<Event, NotOurs>
     } else {
         Ok(event)
     }
+}
+
+/// The event of the PDU that the octets spell; `None` exactly where [`event_of`] makes none of it.
+///
+/// # Errors
+///
+/// The first fault, where they spell no PDU; want of memory, of a Metadata PDU or a File Data PDU alone.
+///
+/// Cost: that of [`read_for_receiver`].
+pub fn read_event(alloc: Global, octets: &[u8]) -> Result<Option<Event>, PduFault>
+    ensures exact { Gives Memory (λ event. event) result (event_at octets.now) }
+    ensures memory { result ≡ Err Memory → IsCopied (pdu_at octets.now) }
+    ensures readable { IfOk result (λ event. IfSome event IsReadable) }
+{
+    let Some(pdu) = read_for_receiver(alloc, octets)? else {
+        return Ok(None);
+    };
+    Ok(event_of(pdu).ok())
 }

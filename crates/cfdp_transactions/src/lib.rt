@@ -30,7 +30,7 @@ mod table;
 mod taking;
 
 pub use config::{Config, ConfigFault};
-pub use event::{Event, NotOurs, event_of};
+pub use event::{Event, NotOurs, event_of, read_event, transaction_of};
 pub use outcome::{Outcome, SharedOutcome};
 pub use phase::Phase;
 pub use receiver::Core;

@@ -12,7 +12,7 @@ ghost use Rattle.std.specs.Option.{option_map};
 ghost use Rattle.cfdp_transactions.specs.Engine.{AsksForNone, outcome_in, read_of};
 
 use crate::books::Books;
-use crate::entry::name_of;
+use crate::event::transaction_of;
 use crate::ranges::{MOST_GAPS, Range};
 use crate::table::Table;
 use crate::{
@@ -246,7 +246,7 @@ impl<S: Filestore> Core<S> {
         if header.destination != self.books.config.entity() {
             return Reply::NotForUs;
         }
-        match self.books.table.find(name_of(header)) {
+        match self.books.table.find(transaction_of(header)) {
             Some(_) => Reply::Duplicate,
             None => admission::admit(self.alloc, &self.store, &mut self.books, header, metadata),
         }
@@ -265,7 +265,7 @@ impl<S: Filestore> Core<S> {
         if header.destination != self.books.config.entity() {
             return Reply::NotForUs;
         }
-        let Some(place) = self.books.table.find(name_of(header)) else {
+        let Some(place) = self.books.table.find(transaction_of(header)) else {
             return Reply::Unknown;
         };
         file_data::receive(&mut self.store, &mut self.books, place, piece)
@@ -281,7 +281,7 @@ impl<S: Filestore> Core<S> {
         if header.destination != self.books.config.entity() {
             return Reply::NotForUs;
         }
-        let Some(place) = self.books.table.find(name_of(header)) else {
+        let Some(place) = self.books.table.find(transaction_of(header)) else {
             return Reply::Unknown;
         };
         delivery::eof(&mut self.store, &mut self.books, place, eof)

@@ -2,7 +2,7 @@
 -- (CCSDS 727.0-B-5 §4.9 performs the requests once the file is there; that they are judged before is this project's own.)
 --     Proposal                  a list as it was sent, with its file's destination and the bound of its length
 --     Verdict                   why it is refused (a Refusal, which may name a Place), or what it is granted
---     named, request_named      the path of a second name;  a request of its paths
+--     named, request_named      the path of a second name;  a request of its paths;  request_by: of its names
 --     Parsed, parsed P          its items, or the first name that is no path: parsed_from (and_then) goes through the requests, and
 --                               with_destination (with_file) puts the install before them
 --     first_failure i answers   the first request that is not successful, counted from i
@@ -63,6 +63,10 @@ request_named action.DenyFile (Some p) q = Some (DenyFile p)
 request_named action.DenyDirectory (Some p) q = Some (DenyDirectory p)
 request_named action p q = None
 
+-- a request by what its names spell
+abbrev pub request_by : RequestFields → Option Request
+request_by r = request_named r.action (path_of r.first) (named r.second)
+
 abbrev pub and_then : Option Request → ℕ → Parsed → Parsed
 and_then None i rest = Bad (places.Request i)
 and_then (Some r) i (Bad place) = Bad place
@@ -71,7 +75,7 @@ and_then (Some r) i (Good items) = Good (Perform r ∷ items)
 -- the first name that is no path, from the left, or the items; requests count from i
 abbrev pub parsed_from : ℕ → List RequestFields → Parsed
 parsed_from i [] = Good []
-parsed_from i (r ∷ rs) = and_then (request_named r.action (path_of r.first) (named r.second)) i (parsed_from (i + 1) rs)
+parsed_from i (r ∷ rs) = and_then (request_by r) i (parsed_from (i + 1) rs)
 
 abbrev pub with_file : Option Path → Parsed → Parsed
 with_file None parsed = Bad Destination

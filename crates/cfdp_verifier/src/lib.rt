@@ -14,6 +14,7 @@ mod refusal;
 mod verdict;
 mod verifying;
 
+pub use parsing::parse_request;
 pub use proposal::Proposal;
 pub use refusal::{Place, Refusal};
 pub use verdict::{Grant, Verdict};

@@ -2,7 +2,7 @@
 
 ghost use Rattle.std.specs.Prelude.{◌≡◌, ◌≤◌, IfOk, is_some, length, vec_len};
 ghost use Rattle.cfdp_paths.specs.Paths.{path_of};
-ghost use Rattle.cfdp_verifier.specs.Verdict.{named, parsed, parsed_from, request_named};
+ghost use Rattle.cfdp_verifier.specs.Verdict.{parsed, parsed_from, request_by};
 ghost use Rattle.cfdp_verifier.specs.Answers.{HasItems, HasRequests};
 
 use crate::proposal::Proposal;
@@ -64,9 +64,12 @@ fn parse_requests(alloc: Global, requests: &[FilestoreRequest]) -> Result<Vec<Re
 }
 
 /// A request with paths for its names; `None` where one of them is no path.
-fn parse_request(alloc: Global, request: &FilestoreRequest) -> Result<Option<Request>, Memory>
-    ensures { IfOk result (λ parsed.
-        parsed ≡ request_named request.now.action (path_of request.now.first) (named request.now.second)) }
+///
+/// # Errors
+///
+/// Want of memory. Cost: a pass over the names, and an allocation for each.
+pub fn parse_request(alloc: Global, request: &FilestoreRequest) -> Result<Option<Request>, Memory>
+    ensures { IfOk result (λ parsed. parsed ≡ request_by request.now) }
 {
     let Some(first) = parse_name(alloc, request.first())? else {
         return Ok(None);

@@ -8,7 +8,7 @@ use cfdp_actions::{Entry, Filestore, Kind, ListStore, Protected};
 use cfdp_paths::Memory;
 use cfdp_pdus::{FileData, Header, Pdu, read_pdu};
 use cfdp_status::{Action, Status, TransactionId};
-use cfdp_transactions::{Config, Core, Event, Outcome, Phase, Reply, event_of};
+use cfdp_transactions::{Config, Core, Event, Outcome, Phase, Reply, read_event};
 use cfdp_tree::TreeStore;
 use cfdp_verifier::{Place, Refusal};
 use std::alloc::{AllocError, Global};
@@ -139,9 +139,9 @@ fn pdu_in(alloc: Global, octets: &[u8]) -> Result<Pdu, Memory> {
 
 /// The event of octets, which bring one.
 pub fn event_in(alloc: Global, octets: &[u8]) -> Result<Event, Memory> {
-    match event_of(pdu_in(alloc, octets)?) {
-        Ok(event) => Ok(event),
-        Err(_) => Err(AllocError),
+    match read_event(alloc, octets) {
+        Ok(Some(event)) => Ok(event),
+        _ => Err(AllocError),
     }
 }
 
@@ -254,19 +254,6 @@ fn apply<S: Filestore>(rt: &impl Abort, core: &mut Core<S>, event: &Event, twice
     reply
 }
 
-/// The transaction that an event is about.
-fn id_of(event: &Event) -> TransactionId {
-    match event {
-        Event::Metadata(header, _) | Event::Data(header, _) | Event::Eof(header, _) => {
-            TransactionId {
-                source: header.source,
-                number: header.number,
-            }
-        }
-        Event::Step(id) | Event::Cancel(id) | Event::Check(id) | Event::Take(id) => *id,
-    }
-}
-
 /// What no want of memory changes: how far a transaction is, what it was granted and whether it holds leases, the free blocks and
 /// those to spare, and the first transaction that is performed.
 type Books = (
@@ -311,10 +298,13 @@ fn hand_in<S: Filestore>(
     event: &Event,
     twice: bool,
 ) -> Result<Reply, Memory> {
-    let before = (books(core, id_of(event)), core.store().listing(alloc)?);
+    let before = (
+        books(core, event.transaction()),
+        core.store().listing(alloc)?,
+    );
     let reply = apply(rt, core, event, twice);
     if let Reply::Memory = reply {
-        let same = is_as_before(alloc, core, id_of(event), &before)?;
+        let same = is_as_before(alloc, core, event.transaction(), &before)?;
         assert!(rt; same && may_want_memory(core, event));
         return Ok(apply(rt, core, event, twice));
     }

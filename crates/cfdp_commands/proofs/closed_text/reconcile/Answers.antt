@@ -1,4 +1,4 @@
-use Rattle.std.proofs.Common.{◌≡◌, ◌∙◌, ap, refl, sym, true, false}
+use Rattle.std.proofs.Common.{◌≡◌, refl}
 use Rattle.cfdp_commands.proofs.SameConfig.{config_same, configs_differ}
 use Rattle.cfdp_commands.proofs.closed_text.reconcile.Goals as goal
 

@@ -16,7 +16,7 @@ pub returns-clause-ok : goal.returns-clause-ok
 returns-clause-ok c =
     let h = c.in-Some.header in
     let d = c.in-Some.piece in
-    (Data h d, data_heard c.args.octets.now h d c.in-Some.ensures.found c.if-header.false, c.id_of.ensures, c.keep.ensures)
+    (Data h d, data_heard c.args.octets.now h d c.in-Some.ensures.found c.if-header.false, c.transaction_of.ensures, c.keep.ensures)
 
 pub returns-in_default-clause-memory : goal.returns-in_default-clause-memory
 returns-in_default-clause-memory c = wanting c.args.octets.now c.hear.result c.hear.ensures.err

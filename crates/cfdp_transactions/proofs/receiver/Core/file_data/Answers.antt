@@ -14,7 +14,7 @@ invariant_of-self g c =
     let b = c.self.inside.books in
     let t = g.S.Filestore.state c.receive.new.store in
     let d = c.receive.new.books in
-    let carried = found_carries s b (id_of c.args.header.now) (λ k o. data_came (world_of s b) k c.args.piece.now o) (world_of t d) c.receive.result c.in-Some.place (rw c.name_of.ensures at c.in-Some.ensures.found) c.in-Some.ensures.within c.receive.ensures.answer in
+    let carried = found_carries s b (id_of c.args.header.now) (λ k o. data_came (world_of s b) k c.args.piece.now o) (world_of t d) c.receive.result c.in-Some.place (rw c.transaction_of.ensures at c.in-Some.ensures.found) c.in-Some.ensures.within c.receive.ensures.answer in
     let mine : (c.args.header.now.destination == b.config.entity) ≡ true = eq-eqb _ _ (c.if-header-entity.false ∙ c.entity.ensures) in
     let follows = carries_follows (world_of s b) (world_of t d) (DataCame c.args.header.now c.args.piece.now) c.receive.result (ours (world_of s b) _ c.args.header.now _ _ mine carried) in
     still_whole c.follows_is_sound.ensures s t b d (DataCame c.args.header.now c.args.piece.now) c.receive.result c.self.invariant follows c.receive.ensures.booked
@@ -25,7 +25,7 @@ returns-clause-follows g c =
     let b = c.self.inside.books in
     let t = g.S.Filestore.state c.receive.new.store in
     let d = c.receive.new.books in
-    let carried = found_carries s b (id_of c.args.header.now) (λ k o. data_came (world_of s b) k c.args.piece.now o) (world_of t d) c.receive.result c.in-Some.place (rw c.name_of.ensures at c.in-Some.ensures.found) c.in-Some.ensures.within c.receive.ensures.answer in
+    let carried = found_carries s b (id_of c.args.header.now) (λ k o. data_came (world_of s b) k c.args.piece.now o) (world_of t d) c.receive.result c.in-Some.place (rw c.transaction_of.ensures at c.in-Some.ensures.found) c.in-Some.ensures.within c.receive.ensures.answer in
     let mine : (c.args.header.now.destination == b.config.entity) ≡ true = eq-eqb _ _ (c.if-header-entity.false ∙ c.entity.ensures) in
     let follows = carries_follows (world_of s b) (world_of t d) (DataCame c.args.header.now c.args.piece.now) c.receive.result (ours (world_of s b) _ c.args.header.now _ _ mine carried) in
     rw (← c.self.view_is) follows
@@ -34,7 +34,7 @@ pub returns-in_default-clause-follows : goal.returns-in_default-clause-follows
 returns-in_default-clause-follows g c =
     let s = g.S.Filestore.state c.self.inside.store in
     let b = c.self.inside.books in
-    let none = absent_entry s b (id_of c.args.header.now) (rw (c.in_default.is, c.name_of.ensures) at c.find.ensures.absent) in
+    let none = absent_entry s b (id_of c.args.header.now) (rw (c.in_default.is, c.transaction_of.ensures) at c.find.ensures.absent) in
     let mine : (c.args.header.now.destination == b.config.entity) ≡ true = eq-eqb _ _ (c.if-header-entity.false ∙ c.entity.ensures) in
     rw (← c.self.view_is, mine, none) refl
 

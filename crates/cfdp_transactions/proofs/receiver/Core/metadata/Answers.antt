@@ -14,7 +14,7 @@ returns-in-Some-clause-follows g c =
     let s = g.S.Filestore.state c.self.inside.store in
     let b = c.self.inside.books in
     let mine : (c.args.header.now.destination == b.config.entity) ≡ true = eq-eqb _ _ (c.if-header-entity.false ∙ c.entity.ensures) in
-    let there = found_entry s b (id_of c.args.header.now) c.in-Some.field-0 (rw c.name_of.ensures at c.in-Some.ensures.found) c.in-Some.ensures.within in
+    let there = found_entry s b (id_of c.args.header.now) c.in-Some.field-0 (rw c.transaction_of.ensures at c.in-Some.ensures.found) c.in-Some.ensures.within in
     rw (← c.self.view_is, mine, there.1) refl
 
 pub invariant_of-self : goal.invariant_of-self
@@ -23,7 +23,7 @@ invariant_of-self g c =
     let b = c.self.inside.books in
     let d = c.admit.new.books in
     let id = id_of c.args.header.now in
-    let gone = rw (c.in-None.is, c.name_of.ensures) at c.find.ensures.absent in
+    let gone = rw (c.in-None.is, c.transaction_of.ensures) at c.find.ensures.absent in
     let none = absent_entry s b id gone in
     let mine : (c.args.header.now.destination == b.config.entity) ≡ true = eq-eqb _ _ (c.if-header-entity.false ∙ c.entity.ensures) in
     let carried : Carries (world_of s b) (world_of s d) (metadata_came (world_of s b) c.args.header.now c.args.metadata.now (entry_of (world_of s b) id)) c.admit.result = rw none c.admit.ensures.answer in
@@ -37,7 +37,7 @@ returns-in-None-clause-follows g c =
     let b = c.self.inside.books in
     let d = c.admit.new.books in
     let id = id_of c.args.header.now in
-    let gone = rw (c.in-None.is, c.name_of.ensures) at c.find.ensures.absent in
+    let gone = rw (c.in-None.is, c.transaction_of.ensures) at c.find.ensures.absent in
     let none = absent_entry s b id gone in
     let mine : (c.args.header.now.destination == b.config.entity) ≡ true = eq-eqb _ _ (c.if-header-entity.false ∙ c.entity.ensures) in
     let carried : Carries (world_of s b) (world_of s d) (metadata_came (world_of s b) c.args.header.now c.args.metadata.now (entry_of (world_of s b) id)) c.admit.result = rw none c.admit.ensures.answer in
