@@ -2,11 +2,13 @@
 --     path_antisym                 only a path ties with itself
 --     less_back, greater_back      a comparison the other way round
 --     prefix_len_of_point          what `partition_point` finds
---     ranks_parted                 the entries before a path stand at the front
+--     ranks_parted                 the entries before a path stand at the front;  all_before: where the last is one
 --     put-.., find-.., without-..  by the comparison with the first entry
 --     there, found_there           what is found stands at its place
 --     put-there, put-new, without_at  what a change of one entry does
-use Rattle.std.proofs.Common.{◌≡◌, ◌≢◌, ℕ, zero, suc, ◌<◌, ◌≤◌, Bool, true, false, List, [], ◌∷◌, ◌++◌, Some, None, is_some, length, take, drop, set, get_or, refl, sym, ap, subst, ◌∙◌, arith}
+use Rattle.std.specs.List.{slice_get}
+use Rattle.std.proofs.lemmas.Option.{get_or_from_slice_get}
+use Rattle.std.proofs.Common.{◌≡◌, ◌≢◌, ℕ, zero, suc, ◌-◌, ◌<◌, ◌≤◌, Bool, true, false, List, [], ◌∷◌, ◌++◌, Some, None, is_some, length, take, drop, set, get_or, refl, sym, ap, subst, ◌∙◌, arith}
 use Rattle.std.specs.Cmp.{tied_itself, Equal-is}
 use Rattle.std.specs.FinMap.{find, put, is_sorted, IsAntisymmetric, slice_cmp-IsAntisymmetric, nat_cmp-IsAntisymmetric}
 use Rattle.std.specs.FinMap.Entries.{below_all, where_key, is_sorted-put, is_sorted-where_key}
@@ -151,6 +153,15 @@ module _ {X : Type 0} where
   ranks_parted k (e ∷ es) s (suc i) zero d le less h = absurd (omega arith)
   ranks_parted k (e ∷ es) s (suc i) (suc j) d le less h =
       ranks_parted k es (and_parts (below_all path_cmp e.0 es) (is_sorted path_cmp es) s).1 i j d (omega arith) (omega arith) h
+
+  -- where the last entry stands before k, all do
+  pub all_before : (k : Path) (es : List (Path × X)) (last : Path × X) → is_sorted path_cmp es ≡ true → slice_get es (length es - 1) ≡ Some last → is_lt (path_cmp last.0 k) ≡ true → length es ≡ rank k es
+  all_before k es last sorted is less =
+      prefix_len_of_point (λ e. is_lt (path_cmp e.0 k)) es (length es) (omega arith) (
+        (λ i d from within. ranks_parted k es sorted i (length es - 1) d (omega arith) (omega arith)
+            (subst (λ (e : Path × X). is_lt (path_cmp e.0 k) ≡ true) (sym (get_or_from_slice_get es (length es - 1) last d is)) less)),
+        (λ i d from within. absurd (omega arith)),
+      )
 
   module _ (k : Path) (d : Path × X) where
     -- what ties with the path at its place is found, and nothing else

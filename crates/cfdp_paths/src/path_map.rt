@@ -165,13 +165,17 @@ impl<T> PathMap<T> {
     }
 }
 
-/// How many entries stand before the path that is looked up.
+/// How many entries stand before the path that is looked up. One comparison where all do, as where entries come in path
+/// order.
 fn rank<T>(entries: &[(Path, T)], sought: Option<&[u8]>) -> usize
     requires { IsOrdered entries.now }
     ensures value { result ≡ rank (path_in (option_copied sought.entry)) entries.now }
     ensures within { result ≤ length entries.now }
 {
-    entries.partition_point(|entry| entry.0.cmp_sought(sought).is_lt())
+    match entries.last() {
+        Some(last) if last.0.cmp_sought(sought).is_lt() => entries.len(),
+        _ => entries.partition_point(|entry| entry.0.cmp_sought(sought).is_lt()),
+    }
 }
 
 /// The place of the entry at the path that is looked up; where there is none, the place at which it would stand.

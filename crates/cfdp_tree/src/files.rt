@@ -28,7 +28,7 @@ pub(crate) struct FoundFile {
     pub(crate) contents: Contents,
 }
 
-/// The file at a path. In expected time linear in the octets of the path for each name.
+/// The file at a path. In expected time linear in the octets of the path.
 pub(crate) fn find_file(arena: &Arena, heads: &[Head], path: &Path) -> FoundFile
     requires tree { IsTree (nodes_in arena.now) }
     requires index { IsIndex (nodes_in arena.now) heads.now None }

@@ -87,7 +87,7 @@ impl TreeStore {
         })
     }
 
-    /// Makes an empty file or directory. In expected time linear in the octets of the path for each name.
+    /// Makes an empty file or directory. In expected time linear in the octets of the path.
     fn make_node(&mut self, path: &Path, kind: Kind)
         requires absent { node_at self.old.filestore path.now ≡ None }
         requires parent { IsTrue (parent_is_good self.old.filestore path.now) }
