@@ -1,7 +1,7 @@
 -- The blocks of a filestore after one change.
 --     nodes_sorted, entries-without     the entries of a map are in order, and without one of them
 --     blocks-becomes, blocks-stages     a path has another node;  a slot another list
-use Rattle.std.proofs.Common.{◌≡◌, ℕ, ◌+◌, ◌<◌, true, not, List, [], length, Option, Some, None, sym, ap, ◌∙◌, T, arith}
+use Rattle.std.proofs.Common.{◌≡◌, ℕ, ◌+◌, ◌<◌, true, not, List, [], length, Option, Some, None, sym, ap, ◌∙◌, arith}
 use Rattle.std.proofs.lemmas.List.Sums.{sum_by-set}
 use Rattle.std.specs.FinMap as finite
 use Rattle.std.specs.FinMap.{is_sorted, entries_sorted, entries-from_sorted, entries-insert, get-entries, same_entries_map}

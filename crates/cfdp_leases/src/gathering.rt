@@ -158,5 +158,6 @@ fn find_beginning(paths: &[Path], path: &Path, depth: usize) -> Result<usize, us
     ensures place { IfErr result (λ place. place ≤ length paths.now) }
     ensures gap { IfErr result (λ place. IsStrictlySortedBy path_cmp (insert paths.now place (take depth path.now))) }
 {
-    paths.binary_search_by(|held| held.cmp_beginning(path, depth))
+    let beginning = path.first_names(depth);
+    paths.binary_search_by(|held| held.cmp_names(&beginning))
 }

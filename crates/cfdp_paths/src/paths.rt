@@ -137,13 +137,11 @@ impl Path {
         self.is_at_or_below(other) && self.depth() == other.depth() + 1
     }
 
-    /// How this path stands to the path of the first `depth` names of `other`. Takes no memory. Cost: one pass over those
-    /// names, and one comparison.
-    pub fn cmp_beginning(&self, other: &Path, depth: usize) -> Ordering
-        requires { depth ≤ length other.now }
-        ensures { result ≡ path_cmp self.now (take depth other.now) }
+    /// How this path stands to the path of these names. Takes no memory. Cost: one comparison.
+    pub fn cmp_names(&self, names: &Names<'_>) -> Ordering
+        ensures { result ≡ path_cmp self.now names.now }
     {
-        self.cmp_sought(other.first_octets(depth))
+        self.cmp_sought(names.octets)
     }
 
     /// The octets of the whole path, to look it up by.

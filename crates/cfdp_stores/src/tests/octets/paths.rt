@@ -144,7 +144,7 @@ fn order(path: &Path, other: &Path, depth: usize) -> Option<Ordering> {
     if other.depth() < depth {
         return None;
     }
-    Some(path.cmp_beginning(other, depth))
+    Some(path.cmp_names(&other.first_names(depth)))
 }
 
 impl Row for Beginning {
