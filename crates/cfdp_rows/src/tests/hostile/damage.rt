@@ -8,15 +8,15 @@ use super::rows::{Line, MOST_NUMBER, ROWS, Row};
 use cfdp_actions::{Entry, Filestore};
 use cfdp_entity::Entity;
 use cfdp_paths::Memory;
-use cfdp_pdus::PduFault;
-use cfdp_transactions::{Phase, read_event};
+use cfdp_pdus::{PduFault, read_pdu};
+use cfdp_transactions::{Phase, event_of};
 use std::alloc::{AllocError, Global};
 use std::process::Abort;
 
 /// Whether the octets spell an event.
 fn is_event(alloc: Global, octets: &[u8]) -> Result<bool, Memory> {
-    match read_event(alloc, octets) {
-        Ok(event) => Ok(event.is_some()),
+    match read_pdu(alloc, octets) {
+        Ok(pdu) => Ok(event_of(pdu).is_ok()),
         Err(PduFault::Memory) => Err(AllocError),
         Err(_) => Ok(false),
     }
