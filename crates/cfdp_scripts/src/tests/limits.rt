@@ -62,6 +62,23 @@ impl Row for Line {
     }
 }
 
+/// A File Data PDU with 65,535 octets behind its header: the offset, of 4, and those of the file.
+#[test]
+fn the_longest_piece_of_a_file(rt: HostRuntime) -> Result<(), AllocError> {
+    let before = b"pdu 34ffff0001320200000000";
+    let script = repeated(rt.alloc(), before, b'1', 2 * 65_531, b"\n")?;
+    let holds = has_text(
+        &rt,
+        rt.alloc(),
+        Kind::Replay,
+        &script,
+        "1/50 unknown\n",
+        Ok(()),
+    );
+    assert!(rt; holds);
+    Ok(())
+}
+
 /// A line has at most 200,000 octets, be it a comment or not.
 #[test]
 fn lines(rt: HostRuntime) {
