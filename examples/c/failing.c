@@ -37,6 +37,9 @@ static const uint8_t metadata[] = {0x24, 0x00, 0x1b, 0x00, 0x01, 0x01, 0x02, 0x0
     'a', 'p', 'p', 0x00, 0x0a, 0x00, 0x08, 'a', 'p', 'p', '/', 'p', 'r', 'o', 'g'};
 static const uint8_t eof[] = {0x24, 0x00, 0x0a, 0x00, 0x01, 0x01, 0x02, 0x04, 0x00, 0x00, 0x00, 0x00, 0x00, 0x00, 0x00, 0x00, 0x00};
 
+/* Transaction 1/2: create file 'b'. It has not ended when the engine is freed. */
+static const uint8_t live[] = {0x24, 0x00, 0x0d, 0x00, 0x01, 0x02, 0x02, 0x07, 0x40, 0x00, 0x00, 0x00, 0x00, 0x00, 0x00, 0x00, 0x03, 0x00, 0x01, 'b'};
+
 static unsigned refused;
 
 /* Counts the answers that there is no memory: at most one in a whole run. */
@@ -62,8 +65,10 @@ static int run(void) {
     wrong |= calls != before; /* no memory was asked for */
     while (again(cfdp_take(&engine, 1, 1, pdu, sizeof pdu, &count, &reply))) {}
     wrong |= reply.kind != CFDP_TAKEN || count != 30;
+    while (again(cfdp_receive(&engine, live, sizeof live, &reply))) {}
+    wrong |= reply.kind != CFDP_ADMITTED;
     wrong |= cfdp_free(&engine) != CFDP_DONE;
-    return wrong | (out != 0);
+    return wrong | (out != 0); /* all memory was given back */
 }
 
 int main(void) {

@@ -1,11 +1,14 @@
 //! What the program ends with: its status, and its line on standard error.
-use super::fakes::Stream;
+use super::fakes::{Stream, Writer};
+use super::links::{CREATED, SEVENTEENTH, SIXTEEN, run};
 use super::runs::{Kind, Run};
 use super::{Row, all_hold};
-use cfdp_sim::{ProgramEnd, RunFault};
+use cfdp_sim::{LinkFault, Open, ProgramEnd, RunFault};
 use std::alloc::{AllocError, Global};
 use std::fmt::Display;
 use std::process::Abort;
+use std::sync::Wait;
+use std::thread::Threads;
 
 /// Whether this is the end's line.
 fn has_line(alloc: Global, end: ProgramEnd, line: &str) -> Result<bool, AllocError> {
@@ -22,7 +25,7 @@ fn is_end(alloc: Global, end: ProgramEnd, status: u8, line: &str) -> bool {
 /// An end, its status and its line.
 type End = (ProgramEnd, u8, &'static str);
 
-static ENDS: [End; 6] = [
+static ENDS: [End; 11] = [
     (ProgramEnd::Fine, 0, ""),
     (ProgramEnd::Usage, 2, "cfdpsim: usage"),
     (ProgramEnd::Run(RunFault::Read), 1, "cfdpsim: read failed"),
@@ -33,6 +36,31 @@ static ENDS: [End; 6] = [
         "cfdpsim: out of memory",
     ),
     (ProgramEnd::Run(RunFault::BadLine(7)), 3, "cfdpsim: line 7"),
+    (
+        ProgramEnd::Link(LinkFault::Write),
+        1,
+        "cfdpsim: write failed",
+    ),
+    (
+        ProgramEnd::Link(LinkFault::Memory),
+        1,
+        "cfdpsim: out of memory",
+    ),
+    (
+        ProgramEnd::Link(LinkFault::JournalFull),
+        1,
+        "cfdpsim: journal full",
+    ),
+    (
+        ProgramEnd::Link(LinkFault::ReceiptsDiffer),
+        1,
+        "cfdpsim: receipts differ",
+    ),
+    (
+        ProgramEnd::Link(LinkFault::BadLine(1, 5)),
+        3,
+        "cfdpsim: line 5",
+    ),
 ];
 
 impl Row for End {
@@ -49,8 +77,18 @@ fn ends(rt: HostRuntime) {
 /// Creates a file.
 const CREATE: &str = "0003000161\n";
 
+/// What is written of it.
+const CREATE_REPORT: &str = "010400016100\n";
+
 /// The same before a line that is bad.
 const BAD: &str = "0003000161\n\n00 0\n";
+
+/// A line of `replay` with a word too few.
+const SHORT_STEP: &str = "step 1\n";
+
+/// One protected prefix more than there may be.
+const NINE_PREFIXES: &str = "\
+    protect 61\nprotect 62\nprotect 63\nprotect 64\nprotect 65\nprotect 66\nprotect 67\nprotect 68\nprotect 69\n";
 
 /// No call fails.
 const SOUND: Stream = Stream {
@@ -70,24 +108,82 @@ const SECOND_FAILS: Stream = Stream {
     fails_at: Some(1),
 };
 
-/// A script, its reads and its writes, and the status and the line of the end that its run comes to.
-type Ending = (&'static str, Stream, Stream, u8, &'static str);
+/// A script, a beginning of what it writes, its reads and its writes, and the status and the line of the end that its run comes to.
+struct Ending {
+    kind: Kind,
+    script: &'static str,
+    report: &'static str,
+    reads: Stream,
+    writes: Stream,
+    status: u8,
+    line: &'static str,
+}
 
-static ENDINGS: [Ending; 4] = [
-    (CREATE, SOUND, SOUND, 0, ""),
-    (CREATE, SECOND_FAILS, SOUND, 1, "cfdpsim: read failed"),
-    (CREATE, SOUND, FIRST_FAILS, 1, "cfdpsim: write failed"),
-    (BAD, SOUND, SOUND, 3, "cfdpsim: line 3"),
+static ENDINGS: [Ending; 6] = [
+    Ending {
+        kind: Kind::Plain,
+        script: CREATE,
+        report: CREATE_REPORT,
+        reads: SOUND,
+        writes: SOUND,
+        status: 0,
+        line: "",
+    },
+    Ending {
+        kind: Kind::Plain,
+        script: CREATE,
+        report: CREATE_REPORT,
+        reads: SECOND_FAILS,
+        writes: SOUND,
+        status: 1,
+        line: "cfdpsim: read failed",
+    },
+    Ending {
+        kind: Kind::Plain,
+        script: CREATE,
+        report: CREATE_REPORT,
+        reads: SOUND,
+        writes: FIRST_FAILS,
+        status: 1,
+        line: "cfdpsim: write failed",
+    },
+    Ending {
+        kind: Kind::Plain,
+        script: BAD,
+        report: CREATE_REPORT,
+        reads: SOUND,
+        writes: SOUND,
+        status: 3,
+        line: "cfdpsim: line 3",
+    },
+    Ending {
+        kind: Kind::Replay,
+        script: SHORT_STEP,
+        report: "",
+        reads: SOUND,
+        writes: SOUND,
+        status: 3,
+        line: "cfdpsim: line 1",
+    },
+    Ending {
+        kind: Kind::Replay,
+        script: NINE_PREFIXES,
+        report: "",
+        reads: SOUND,
+        writes: SOUND,
+        status: 3,
+        line: "cfdpsim: line 9",
+    },
 ];
 
-/// What the program ends with where a run of `plain` comes to this.
+/// What the program ends with where the run of a script comes to this.
 fn end_of<R: Abort + Print>(rt: &R, alloc: Global, ending: &Ending) -> ProgramEnd {
     let run = Run {
-        kind: Kind::Plain,
-        script: ending.0.as_bytes(),
-        report: "010400016100\n",
-        reads: ending.1,
-        writes: ending.2,
+        kind: ending.kind,
+        script: ending.script.as_bytes(),
+        report: ending.report,
+        reads: ending.reads,
+        writes: ending.writes,
     };
     match run.run(rt, alloc).end {
         Ok(()) => ProgramEnd::Fine,
@@ -97,11 +193,76 @@ fn end_of<R: Abort + Print>(rt: &R, alloc: Global, ending: &Ending) -> ProgramEn
 
 impl Row for Ending {
     fn holds<R: Abort + Print>(&self, rt: &R, alloc: Global) -> bool {
-        is_end(alloc, end_of(rt, alloc, self), self.3, self.4)
+        is_end(alloc, end_of(rt, alloc, self), self.status, self.line)
     }
 }
 
 #[test]
 fn ends_of_runs(rt: HostRuntime) {
     all_hold(&rt, rt.alloc(), &ENDINGS);
+}
+
+/// The files of `links`, its writes, and the status and the line of the end that the run comes to.
+struct LinkEnding {
+    name: &'static str,
+    files: &'static [&'static [&'static str]],
+    writes: Stream,
+    status: u8,
+    line: &'static str,
+}
+
+static LINK_ENDINGS: [LinkEnding; 4] = [
+    LinkEnding {
+        name: "one file",
+        files: &[&[CREATED]],
+        writes: SOUND,
+        status: 0,
+        line: "",
+    },
+    LinkEnding {
+        name: "a writer that fails",
+        files: &[&[CREATED]],
+        writes: FIRST_FAILS,
+        status: 1,
+        line: "cfdpsim: write failed",
+    },
+    LinkEnding {
+        name: "a bad line in the second file",
+        files: &[&[CREATED], &[CREATED, "step 1\n"]],
+        writes: SOUND,
+        status: 3,
+        line: "cfdpsim: line 5",
+    },
+    LinkEnding {
+        name: "seventeen events and a journal of sixteen",
+        files: &[&[SIXTEEN, SEVENTEENTH]],
+        writes: SOUND,
+        status: 1,
+        line: "cfdpsim: journal full",
+    },
+];
+
+/// What the program ends with where a run of `links` comes to this.
+fn end_of_links<R: Abort + Threads + Wait + Sync>(
+    rt: &R,
+    alloc: Global,
+    ending: &LinkEnding,
+) -> ProgramEnd {
+    let mut writer = Writer::new(alloc, ending.writes);
+    match run(rt, alloc, ending.files, &Open, &mut writer) {
+        Ok(()) => ProgramEnd::Fine,
+        Err(fault) => ProgramEnd::Link(fault),
+    }
+}
+
+#[test]
+fn ends_of_links(rt: HostRuntime) {
+    for ending in &LINK_ENDINGS {
+        let end = end_of_links(&rt, rt.alloc(), ending);
+        assert!(rt;
+            is_end(rt.alloc(), end, ending.status, ending.line),
+            "{}",
+            ending.name
+        );
+    }
 }

@@ -2,7 +2,7 @@
 use super::fakes::{Stream, Writer};
 use super::runs::{End, Kind, has_text};
 use super::{Row, all_hold};
-use cfdp_sim::{Failed, RunFault, ScriptIn, plain};
+use cfdp_sim::{Failed, RunFault, ScriptIn, plain, replay};
 use std::alloc::{AllocError, Global};
 use std::process::Abort;
 
@@ -112,21 +112,34 @@ impl ScriptIn for Endless {
     }
 }
 
-/// What it ends with.
-fn end_of_endless(alloc: Global, writer: &mut Writer) -> End {
-    plain(alloc, &mut Endless, writer)
+/// What a run of it ends with.
+fn end_of_endless(alloc: Global, kind: Kind, writer: &mut Writer) -> End {
+    match kind {
+        Kind::Plain => plain(alloc, &mut Endless, writer),
+        Kind::Replay => replay(alloc, &mut Endless, writer),
+    }
 }
 
-/// An input has at most 268,435,456 octets: one that never ends is a read fault.
+/// Whether it is a read fault and nothing was written. A run to which memory was refused is made once more.
+fn is_bounded(alloc: Global, kind: Kind) -> bool {
+    let mut writer = Writer::new(alloc, Stream::sound(1));
+    let mut end = end_of_endless(alloc, kind, &mut writer);
+    if end == Err(RunFault::Memory) {
+        end = end_of_endless(alloc, kind, &mut writer);
+    }
+    end == Err(RunFault::Read) && writer.text.is_empty()
+}
+
+/// An input has at most 268,435,456 octets: one that never ends is a read fault of `plain` ..
 #[test]
 fn inputs(rt: HostRuntime) {
-    let mut writer = Writer::new(rt.alloc(), Stream::sound(1));
-    let mut end = end_of_endless(rt.alloc(), &mut writer);
-    if end == Err(RunFault::Memory) {
-        let _ = println!(rt; "plain was refused memory");
-        end = end_of_endless(rt.alloc(), &mut writer);
-    }
-    assert!(rt; end == Err(RunFault::Read) && writer.text.is_empty());
+    assert!(rt; is_bounded(rt.alloc(), Kind::Plain));
+}
+
+/// .. and of `replay`.
+#[test]
+fn inputs_of_replay(rt: HostRuntime) {
+    assert!(rt; is_bounded(rt.alloc(), Kind::Replay));
 }
 
 /// The hexadecimal of a name of so many octets.

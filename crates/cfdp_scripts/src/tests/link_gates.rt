@@ -1,4 +1,4 @@
-//! Workers of `links` that are at work at once.
+//! Workers of `links` that are at work at once, and are fed in turn.
 use super::fakes::{Stream, Writer};
 use super::links::run;
 use cfdp_engine::Gate;
@@ -14,6 +14,17 @@ const FIRST: &str = "pdu 24000D00010502 07 40 00000000 00 00 00 03 00 01 61\n";
 const SECOND: &str = "\
     pdu 24000800010602 0740 00000000 0000\n\
     pdu 24000a00010602 0400 00000000 00000000\n";
+
+/// Looks at a flag up to 10,000 times, about a millisecond apart, until it is set; else gives up.
+fn wait_for<C: Clock>(clock: &C, flag: &AtomicBool, gave_up: &AtomicBool) {
+    for _look in 0..10_000 {
+        if flag.load(Ordering::SeqCst) {
+            return;
+        }
+        thread::sleep(clock, Duration::from_millis(1));
+    }
+    gave_up.store(true, Ordering::SeqCst);
+}
 
 /// Two workers cross: each waits, at its first message, for the other. Seat 1 goes on when seat 0 has come, and seat 0 when
 /// seat 1 has come to its second message; or both after 10,000 looks, with about a millisecond between two.
@@ -36,13 +47,7 @@ impl<C: Clock + Drop> Cross<C> {
     }
 
     fn wait_for(&self, other: &AtomicBool) {
-        for _look in 0..10_000 {
-            if other.load(Ordering::SeqCst) {
-                return;
-            }
-            thread::sleep(&self.clock, Duration::from_millis(1));
-        }
-        self.gave_up.store(true, Ordering::SeqCst);
+        wait_for(&self.clock, other, &self.gave_up);
     }
 }
 
@@ -76,4 +81,64 @@ fn two_workers_of_links_cross(rt: HostRuntime) {
     let end = run(&rt, rt.alloc(), &SCRIPTS, &gate, &mut writer);
     assert!(rt; end == Ok(()) && !gate.gave_up.load(Ordering::SeqCst));
     assert!(rt; writer.text.starts_with(BEGIN) && writer.text.ends_with(END));
+}
+
+/// Holds one of two seats at its first message until the other seat has come to its sixteenth. An inbox has room for 16 messages, so
+/// a feeder that sent all of one file first would wait for the held seat, and this gate would give up.
+#[derive(Drop)]
+struct Hold<C: Clock + Drop> {
+    clock: C,
+    held: u8,
+    came: AtomicBool,
+    gave_up: AtomicBool,
+}
+
+impl<C: Clock + Drop> Hold<C> {
+    fn new(clock: C, held: u8) -> Hold<C> {
+        Hold {
+            clock,
+            held,
+            came: AtomicBool::new(false),
+            gave_up: AtomicBool::new(false),
+        }
+    }
+}
+
+impl<C: Clock + Drop> Gate for Hold<C> {
+    fn pass<R: Wait>(&self, _rt: &R, seat: u8, turn: u64) {
+        if seat == self.held && turn == 0 {
+            wait_for(&self.clock, &self.came, &self.gave_up);
+        }
+        if seat != self.held && turn == 15 {
+            self.came.store(true, Ordering::SeqCst);
+        }
+    }
+}
+
+/// Five events of a transaction that is not known.
+const FIVE: &str = "check 3 1\ncheck 3 1\ncheck 3 1\ncheck 3 1\ncheck 3 1\n";
+
+/// Two files of twenty events.
+static TWENTY_EACH: [&[&str]; 2] = [&[FIVE, FIVE, FIVE, FIVE], &[FIVE, FIVE, FIVE, FIVE]];
+
+/// How the text of their journal ends.
+static TWENTY_END: &[u8] =
+    b"\nseat 0 20 dropped 0\nseat 1 20 dropped 0\njournal 40\nstore used 0 free 64 spare 64\n";
+
+#[test]
+fn links_feeds_the_second_file_while_the_first_is_held(rt: HostRuntime) {
+    let mut writer = Writer::new(rt.alloc(), Stream::sound(100));
+    let gate = Hold::new(rt, 0);
+    let end = run(&rt, rt.alloc(), &TWENTY_EACH, &gate, &mut writer);
+    assert!(rt; end == Ok(()) && !gate.gave_up.load(Ordering::SeqCst));
+    assert!(rt; writer.text.ends_with(TWENTY_END));
+}
+
+#[test]
+fn links_feeds_the_first_file_while_the_second_is_held(rt: HostRuntime) {
+    let mut writer = Writer::new(rt.alloc(), Stream::sound(100));
+    let gate = Hold::new(rt, 1);
+    let end = run(&rt, rt.alloc(), &TWENTY_EACH, &gate, &mut writer);
+    assert!(rt; end == Ok(()) && !gate.gave_up.load(Ordering::SeqCst));
+    assert!(rt; writer.text.ends_with(TWENTY_END));
 }

@@ -61,7 +61,7 @@ const DENIED: &str = "\
     take 1 14\n";
 
 /// Sixteen transactions, and a journal with room for sixteen entries.
-const SIXTEEN: &str = "\
+pub(super) const SIXTEEN: &str = "\
     config 2 64 2400 2 16\n\
     pdu 240008000301020740000000000000\n\
     pdu 240008000302020740000000000000\n\
@@ -81,7 +81,7 @@ const SIXTEEN: &str = "\
     pdu 240008000310020740000000000000\n";
 
 /// One more.
-const SEVENTEENTH: &str = "pdu 240008000311020740000000000000\n";
+pub(super) const SEVENTEENTH: &str = "pdu 240008000311020740000000000000\n";
 
 /// What is written: this text; one that ends so; or nothing, for this fault.
 enum Written {

@@ -24,10 +24,50 @@ pub enum Given {
     Cut,
     /// An ACK PDU, which no receiving entity takes.
     Ack,
+    /// These octets.
+    Octets(&'static [u8]),
+    /// A Metadata PDU whose one request, create file, has a value of 255 octets, so that no response can repeat it.
+    TooLongRequest,
+    /// The Metadata PDU of a transaction of entity 1 whose number has two octets: 64 times deny file, of one name of one octet.
+    Denials(u16, u8),
+    /// The EOF PDU of such a transaction.
+    LongEnd(u16),
     /// Steps, until there is nothing to step.
     Run,
     Cancel(u8),
     Take(u8),
+}
+
+/// Octets followed by others, `count` times.
+fn with_repeated(
+    alloc: Global,
+    start: &[u8],
+    piece: &[u8],
+    count: usize,
+) -> Result<Vec<u8>, Memory> {
+    let mut octets = Vec::from_slice(alloc, start)?;
+    for _ in 0..count {
+        octets.extend_from_slice(piece)?;
+    }
+    Ok(octets)
+}
+
+/// A list of 64 requests.
+fn denials(alloc: Global, number: u16, name: u8) -> Result<Vec<u8>, Memory> {
+    let [high, low] = number.to_be_bytes();
+    let start = [
+        0x24, 0x01, 0x48, 0x01, 1, high, low, 2, 7, 0x40, 0, 0, 0, 0, 0, 0,
+    ];
+    with_repeated(alloc, &start, &[0, 3, 0x70, 1, name], 64)
+}
+
+/// The end of such a list.
+fn long_end(alloc: Global, number: u16) -> Result<Vec<u8>, Memory> {
+    let [high, low] = number.to_be_bytes();
+    let octets = [
+        0x24, 0, 10, 0x01, 1, high, low, 2, 4, 0, 0, 0, 0, 0, 0, 0, 0, 0,
+    ];
+    Vec::from_slice(alloc, &octets)
 }
 
 /// The octets of a PDU.
@@ -47,6 +87,15 @@ fn octets(alloc: Global, given: Given) -> Result<Vec<u8>, Memory> {
         ),
         Given::Cut => Vec::from_slice(alloc, b"\x24\x00\x0d"),
         Given::Ack => Vec::from_slice(alloc, b"\x24\x00\x03\x00\x01\x05\x02\x06\x50\x00"),
+        Given::Octets(octets) => Vec::from_slice(alloc, octets),
+        Given::TooLongRequest => with_repeated(
+            alloc,
+            b"\x24\x01\x09\x00\x01\x05\x02\x07\x40\0\0\0\0\0\0\0\xff\x00\xfd",
+            b"a",
+            253,
+        ),
+        Given::Denials(number, name) => denials(alloc, number, name),
+        Given::LongEnd(number) => long_end(alloc, number),
         Given::Run | Given::Cancel(_) | Given::Take(_) => Ok(Vec::new(alloc)),
     }
 }
@@ -95,13 +144,13 @@ fn send_all(
     }
 }
 
-/// A closed inbox of at most 16 messages.
+/// A closed inbox of at most 80 messages.
 pub fn inbox(
     rt: &(impl Abort + Wait),
     alloc: Global,
     given: &[Given],
 ) -> Receiver<Message, Global> {
-    let (to, inbox) = bounded(alloc, 16).expect(rt, "memory");
+    let (to, inbox) = bounded(alloc, 80).expect(rt, "memory");
     send_all(rt, alloc, &to, given);
     inbox
 }

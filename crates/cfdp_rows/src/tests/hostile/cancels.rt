@@ -249,10 +249,10 @@ fn ends_behind(alloc: Global, row: &Row, place: usize) -> Result<bool, Memory> {
 fn try_row(rt: &impl Abort, alloc: Global, row: &Row) -> Result<(), Memory> {
     for place in 0..row.lines.len() {
         let well = is_well_behind(alloc, row, place)? && ends_behind(alloc, row, place)?;
-        assert!(rt; well, "behind {place} lines");
+        assert!(rt; well, "{}, after {place} lines", row.name);
     }
     let well = ends_behind(alloc, row, row.lines.len())?;
-    assert!(rt; well, "behind all lines");
+    assert!(rt; well, "{}, after all lines", row.name);
     Ok(())
 }
 

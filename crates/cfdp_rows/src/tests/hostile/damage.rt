@@ -118,7 +118,7 @@ impl<'a> There<'a> {
         for len in 0..octets.len() {
             let well = self.is_well(alloc, &octets[..len])?;
             let place = self.place;
-            assert!(rt; well, "line {place}, {len} octets");
+            assert!(rt; well, "{}, line {place}, {len} octets", self.row.name);
         }
         Ok(())
     }
@@ -136,7 +136,11 @@ impl<'a> There<'a> {
                 let well = self.is_well(alloc, octets)?;
                 octets[at] ^= 1 << bit;
                 let place = self.place;
-                assert!(rt; well, "line {place}, bit {bit} of octet {at}");
+                assert!(rt;
+                    well,
+                    "{}, line {place}, bit {bit} of octet {at}",
+                    self.row.name
+                );
             }
         }
         Ok(())

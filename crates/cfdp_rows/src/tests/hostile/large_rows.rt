@@ -14,6 +14,7 @@ pub static LARGE_ROWS: [Row; 6] = [
 
 /// The longest rename that can be answered.
 const LONGEST_RENAME: Row = Row {
+    name: "longest rename",
     blocks: 64,
     cap: 2400,
     source: 1,
@@ -33,6 +34,7 @@ const LONGEST_RENAME: Row = Row {
 
 /// One octet more.
 const TOO_LONG_A_RENAME: Row = Row {
+    name: "too long a rename",
     blocks: 64,
     cap: 2400,
     source: 1,
@@ -49,6 +51,7 @@ const TOO_LONG_A_RENAME: Row = Row {
 
 /// 64 transactions, and one more.
 const FULL_TABLE: Row = Row {
+    name: "full table",
     blocks: 64,
     cap: 2400,
     source: 3,
@@ -126,6 +129,7 @@ const FULL_TABLE: Row = Row {
 
 /// 32 pieces, and one more.
 const PIECES: Row = Row {
+    name: "pieces",
     blocks: 64,
     cap: 2400,
     source: 1,
@@ -171,6 +175,7 @@ const PIECES: Row = Row {
 
 /// Too many steps, and too many blocks.
 const TOO_LONG_OR_TOO_LARGE: Row = Row {
+    name: "too long or too large",
     blocks: 64,
     cap: 2400,
     source: 1,
@@ -197,6 +202,7 @@ const TOO_LONG_OR_TOO_LARGE: Row = Row {
 
 /// 64 requests, and one more.
 const MOST_REQUESTS: Row = Row {
+    name: "most requests",
     blocks: 64,
     cap: 2400,
     source: 1,

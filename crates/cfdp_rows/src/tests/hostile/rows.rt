@@ -12,9 +12,10 @@ pub enum Line {
     Take(u8),
 }
 
-/// The blocks of the filestore, the cap on a file of unbounded size, the source entity, and what comes.
+/// Its name, the blocks of the filestore, the cap on a file of unbounded size, the source entity, and what comes.
 #[derive(Clone, Copy)]
 pub struct Row {
+    pub name: &'static str,
     pub blocks: u32,
     pub cap: u64,
     pub source: u64,
@@ -55,6 +56,7 @@ pub static ROWS: [Row; 25] = [
 
 /// A file is created.
 pub const CREATED: Row = Row {
+    name: "created",
     blocks: 64,
     cap: 2400,
     source: 1,
@@ -68,6 +70,7 @@ pub const CREATED: Row = Row {
 
 /// The same Metadata PDU twice.
 pub const TWICE: Row = Row {
+    name: "twice",
     blocks: 64,
     cap: 2400,
     source: 1,
@@ -79,6 +82,7 @@ pub const TWICE: Row = Row {
 
 /// Neither a file nor requests.
 pub const BARE: Row = Row {
+    name: "bare",
     blocks: 64,
     cap: 2400,
     source: 1,
@@ -92,6 +96,7 @@ pub const BARE: Row = Row {
 
 /// A list whose last request would fail.
 pub const WOULD_FAIL: Row = Row {
+    name: "would fail",
     blocks: 64,
     cap: 2400,
     source: 1,
@@ -103,6 +108,7 @@ pub const WOULD_FAIL: Row = Row {
 
 /// Two spellings of one path.
 pub const TWO_SPELLINGS: Row = Row {
+    name: "two spellings",
     blocks: 64,
     cap: 2400,
     source: 1,
@@ -117,6 +123,7 @@ pub const TWO_SPELLINGS: Row = Row {
 
 /// A file of 120 octets, appended to itself.
 pub const DOUBLED_120: Row = Row {
+    name: "doubled 120",
     blocks: 64,
     cap: 2400,
     source: 1,
@@ -131,6 +138,7 @@ pub const DOUBLED_120: Row = Row {
 
 /// A file of 119 octets, appended to itself.
 pub const DOUBLED_119: Row = Row {
+    name: "doubled 119",
     blocks: 64,
     cap: 2400,
     source: 1,
@@ -145,6 +153,7 @@ pub const DOUBLED_119: Row = Row {
 
 /// A file replaced by itself, and an empty one by it.
 pub const REPLACED_BY_ITSELF: Row = Row {
+    name: "replaced by itself",
     blocks: 64,
     cap: 2400,
     source: 1,
@@ -169,6 +178,7 @@ pub const REPLACED_BY_ITSELF: Row = Row {
 
 /// A directory that others create files in is not removed.
 pub const SHARED_DIRECTORY: Row = Row {
+    name: "shared directory",
     blocks: 64,
     cap: 2400,
     source: 1,
@@ -185,6 +195,7 @@ pub const SHARED_DIRECTORY: Row = Row {
 
 /// Blocks that are given back stay reserved.
 pub const RESERVED: Row = Row {
+    name: "reserved",
     blocks: 16,
     cap: 600,
     source: 1,
@@ -215,6 +226,7 @@ pub const RESERVED: Row = Row {
 
 /// One octet above the cap.
 pub const ABOVE_THE_CAP: Row = Row {
+    name: "above the cap",
     blocks: 64,
     cap: 240,
     source: 1,
@@ -228,6 +240,7 @@ pub const ABOVE_THE_CAP: Row = Row {
 
 /// A file as long as the cap.
 pub const AT_THE_CAP: Row = Row {
+    name: "at the cap",
     blocks: 64,
     cap: 240,
     source: 1,
@@ -240,6 +253,7 @@ pub const AT_THE_CAP: Row = Row {
 
 /// A file in two pieces, the second first.
 pub const TWO_PIECES: Row = Row {
+    name: "two pieces",
     blocks: 64,
     cap: 2400,
     source: 1,
@@ -255,6 +269,7 @@ pub const TWO_PIECES: Row = Row {
 
 /// A wrong checksum.
 pub const WRONG_CHECKSUM: Row = Row {
+    name: "wrong checksum",
     blocks: 64,
     cap: 2400,
     source: 1,
@@ -268,6 +283,7 @@ pub const WRONG_CHECKSUM: Row = Row {
 
 /// Checks up to the limit.
 pub const CHECKS: Row = Row {
+    name: "checks",
     blocks: 64,
     cap: 2400,
     source: 1,
@@ -282,6 +298,7 @@ pub const CHECKS: Row = Row {
 
 /// Octets that come behind the EOF PDU.
 pub const BEHIND_THE_EOF: Row = Row {
+    name: "behind the eof",
     blocks: 64,
     cap: 2400,
     source: 1,
@@ -298,6 +315,7 @@ pub const BEHIND_THE_EOF: Row = Row {
 
 /// A list that is cancelled after its first request.
 pub const CANCELLED: Row = Row {
+    name: "cancelled",
     blocks: 64,
     cap: 2400,
     source: 1,
@@ -313,6 +331,7 @@ pub const CANCELLED: Row = Row {
 
 /// Denials of what is not there, and of a directory that has an entry.
 pub const DENIED: Row = Row {
+    name: "denied",
     blocks: 64,
     cap: 2400,
     source: 1,
@@ -331,16 +350,26 @@ pub const DENIED: Row = Row {
     ],
 };
 
-/// PDUs that are none, or not ours.
+/// PDUs that bring no event: an ACK PDU, and the Metadata PDU of [`CREATED`] with another version, with the CRC flag, with one octet
+/// more, with a request of an action that does not exist, and with a directive code that does not exist.
 pub const NO_PDUS: Row = Row {
+    name: "no pdus",
     blocks: 64,
     cap: 2400,
     source: 1,
-    lines: &[Line::Pdu("24000300010502065000")],
+    lines: &[
+        Line::Pdu("24000300010502065000"),
+        Line::Pdu("04000d0001050207400000000000000003000161"),
+        Line::Pdu("26000d0001050207400000000000000003000161"),
+        Line::Pdu("24000d000105020740000000000000000300016100"),
+        Line::Pdu("24000d0001050207400000000000000003900161"),
+        Line::Pdu("24000d000105020a400000000000000003000161"),
+    ],
 };
 
 /// A file of the greatest size.
 pub const GREATEST_SIZE: Row = Row {
+    name: "greatest size",
     blocks: 64,
     cap: 2400,
     source: 1,
@@ -352,6 +381,7 @@ pub const GREATEST_SIZE: Row = Row {
 
 /// Acknowledged.
 pub const ACKNOWLEDGED: Row = Row {
+    name: "acknowledged",
     blocks: 64,
     cap: 2400,
     source: 1,
@@ -364,6 +394,7 @@ pub const ACKNOWLEDGED: Row = Row {
 
 /// Unacknowledged, closure not requested.
 pub const UNACKNOWLEDGED: Row = Row {
+    name: "unacknowledged",
     blocks: 64,
     cap: 2400,
     source: 1,
@@ -376,6 +407,7 @@ pub const UNACKNOWLEDGED: Row = Row {
 
 /// Names that are no paths.
 pub const BAD_NAMES: Row = Row {
+    name: "bad names",
     blocks: 64,
     cap: 2400,
     source: 1,
@@ -387,6 +419,7 @@ pub const BAD_NAMES: Row = Row {
 
 /// A fault that comes with the EOF PDU.
 pub const ENDED_BY_THE_EOF: Row = Row {
+    name: "ended by the eof",
     blocks: 64,
     cap: 2400,
     source: 1,
@@ -399,6 +432,7 @@ pub const ENDED_BY_THE_EOF: Row = Row {
 
 /// A checksum type that is not known.
 pub const UNKNOWN_CHECKSUM: Row = Row {
+    name: "unknown checksum",
     blocks: 64,
     cap: 2400,
     source: 1,

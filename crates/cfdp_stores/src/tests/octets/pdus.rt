@@ -54,8 +54,9 @@ static WRITTEN: [&str; 38] = [
 ];
 
 // The other PDUs of worked transactions, but for runs of equal octets and PDUs that differ in one octet.
-static FURTHER: [&str; 50] = [
+static FURTHER: [&str; 51] = [
     "24000a0001060204000000000000000000",
+    "24000a0003070204000000000000000000",
     "24000a0001080204000000000000000000",
     "240011000132020740000000780173016100053001610161",
     "24000a0001320204001e1e1e1e00000078",
@@ -148,6 +149,16 @@ static OTHERS: [&str; 6] = [
     "24000100010502 0c",
 ];
 
+// A Metadata PDU with another version, with the CRC flag, with one octet more, with a request of an action that does not exist, and with
+// a directive code that does not exist: none is a PDU.
+static FAULTY: [&str; 5] = [
+    "04000d00010502 0740 00000000 0000 0003000161",
+    "26000d00010502 0740 00000000 0000 0003000161",
+    "24000d00010502 0740 00000000 0000 0003000161 00",
+    "24000d00010502 0740 00000000 0000 0003900161",
+    "24000d00010502 0a40 00000000 0000 0003000161",
+];
+
 // The octets that hexadecimal digits say, spaces apart: only memory can be wanting.
 fn octets(alloc: Global, text: &str) -> Result<Vec<u8>, AllocError> {
     let mut digits = Vec::new(alloc);
@@ -209,6 +220,14 @@ fn as_the_slow_reader(rt: HostRuntime) -> Result<(), AllocError> {
     agree_around_each(&rt, rt.alloc(), &FURTHER)?;
     agree_around(&rt, rt.alloc(), &mut octets(rt.alloc(), TOO_LONG)?);
     agree_around_each(&rt, rt.alloc(), &OTHERS)
+}
+
+#[test]
+fn faulty_as_the_slow_reader(rt: HostRuntime) -> Result<(), AllocError> {
+    for example in &FAULTY {
+        agree_around(&rt, rt.alloc(), &mut octets(rt.alloc(), example)?);
+    }
+    Ok(())
 }
 
 // Headers and offsets of File Data PDUs, and how many equal octets stand behind them.
