@@ -1,0 +1,5 @@
+pub mod Placing
+pub mod Tabulating
+pub mod Dividing
+pub mod Noticing
+pub mod AddedAndTaken
