@@ -12,6 +12,8 @@ mod parsing;
 mod path_map;
 mod paths;
 mod relocating;
+#[cfg(test)]
+mod tests;
 
 pub use fault::PathFault;
 pub use names::Names;

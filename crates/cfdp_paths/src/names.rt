@@ -45,7 +45,8 @@ impl<'a> Names<'a> {
     ///
     /// # Errors
     ///
-    /// The fault of octets that spell no path, as [`Path::parse`] says; never [`PathFault::Memory`].
+    /// The fault of octets that spell no path, as [`Path::parse`] says; never [`PathFault::Memory`]. The octets are then as
+    /// before.
     ///
     /// [`Path::parse`]: crate::Path::parse
     pub fn parse(octets: &'a mut [u8]) -> Result<Names<'a>, PathFault>
