@@ -6,6 +6,7 @@
 #![tactic(auto)]
 
 mod blocks;
+mod checksums;
 mod content;
 mod filestore;
 mod kind;
@@ -19,6 +20,7 @@ mod staging;
 mod survey;
 
 pub use blocks::PAYLOAD_OCTETS;
+pub use checksums::entry_checksum;
 pub use filestore::Filestore;
 pub use kind::{Entry, Kind, Standing};
 pub use kinds::{Kinds, refusal};

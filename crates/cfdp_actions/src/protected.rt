@@ -66,7 +66,8 @@ impl Protected {
 
     /// How many paths are protected: at most eight.
     pub fn len(&self) -> usize
-        ensures { result ≡ length self.now }
+        ensures value { result ≡ length self.now }
+        ensures within { result ≤ 8 }
     {
         self.prefixes.len()
     }
