@@ -21,6 +21,8 @@ mod number;
 mod pdu;
 mod put;
 mod read;
+#[cfg(test)]
+mod tests;
 
 pub use cfdp_checksum::modular_checksum;
 pub use eof::{Eof, write_eof};
