@@ -1,5 +1,7 @@
 //! The check value, and worked PDUs without and with their CRC.
 
+ghost use Rattle.std.specs.Prelude.{◌<◌};
+
 use crate::{CrcFault, SealFault, crc16, seal, unseal};
 use std::process::Abort;
 

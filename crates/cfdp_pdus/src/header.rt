@@ -29,13 +29,14 @@ pub struct Header {
     pub destination: u64,
 }
 
-/// A PDU's header, what kind of PDU it is, and its data field.
+/// A PDU taken apart (CCSDS 727.0-B-5 §5.1): its header, what kind of PDU it is, and its data field.
 #[derive(Debug, Drop)]
 pub struct Start<'a> {
     /// A File Data PDU, and not a directive.
     pub file_data: bool,
     /// The segment metadata flag.
     pub segment_metadata: bool,
+    /// The header.
     pub header: Header,
     /// The data field, whole.
     pub field: &'a [u8],
@@ -49,7 +50,13 @@ impl<'a> Model for Start<'a> {
     ghost view = { λ s. record { file_data = s.file_data; segment_metadata = s.segment_metadata; header = s.header; field = s.field.now } };
 }
 
-/// The header of a PDU, where the octets are as many as it says.
+/// Takes a PDU apart: its header (CCSDS 727.0-B-5 §5.1), and the data field that is lent. The data field is not looked at. Takes no memory.
+/// Cost: constant.
+///
+/// # Errors
+///
+/// The first of: Truncated (no octet), BadVersion, CrcNotSupported, Truncated (the header is cut, or the data field is shorter than the header
+/// says), LengthMismatch (it is longer).
 #[tactic(auto, unfolding(crate::specs::First::start_at))]
 pub fn read_start(octets: &[u8]) -> Result<Start<'_>, PduFault>
     ensures { result ≡ start_at octets.now }

@@ -6,9 +6,12 @@
 //! copies nothing of a Finished PDU, and [`read_piece`] reads a File Data PDU where it lies. A writer appends the one canonical spelling of
 //! `specs/Canonical.antt`, or answers [`WriteFault::TooLong`] exactly where a length does not fit. It
 //! asks for room once, for the whole PDU, before it writes.
+//!
+//! What every PDU has in common is public too, for crates that read and write further PDUs: [`read_start`] reads a header,
+//! [`push_header`] appends one, [`read_number`] and [`push_number`] do so with numbers, and [`directive`] has the directive codes.
 #![tactic(auto)]
 
-mod directive;
+pub mod directive;
 mod eof;
 mod fault;
 mod field;
@@ -29,7 +32,9 @@ pub use eof::{Eof, write_eof};
 pub use fault::{PduFault, WriteFault};
 pub use file_data::{FileData, Piece, write_file_data};
 pub use finished::{Finished, write_finished};
-pub use header::Header;
+pub use header::{Header, Start, read_start};
 pub use metadata::{Metadata, write_metadata};
+pub use number::{bit, read_number, size_len};
 pub use pdu::Pdu;
+pub use put::{MAX_FIELD_LEN, header_len, push_header, push_number};
 pub use read::{read_for_receiver, read_pdu, read_piece};

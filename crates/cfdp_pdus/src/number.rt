@@ -8,7 +8,7 @@ ghost use Rattle.cfdp_pdus.specs.First.{number_at};
 use crate::PduFault;
 use byteorder::{BigEndian, ByteOrder};
 
-/// The number in the first `len` octets, and what stands after them; `fault` where there are fewer.
+/// The number in the first `len` octets, the most significant first, and the octets after them; `fault` if there are fewer. Cost: constant.
 #[tactic(auto, unfolding(crate::specs::First::number_at))]
 pub fn read_number(octets: &[u8], len: usize, fault: PduFault) -> Result<(u64, &[u8]), PduFault>
     requires low { 1 ≤ len }
@@ -22,7 +22,7 @@ pub fn read_number(octets: &[u8], len: usize, fault: PduFault) -> Result<(u64, &
     Ok((BigEndian::read_uint(octets, len), &octets[len..]))
 }
 
-/// Whether the bit at a place is 1, the lowest being place 0.
+/// Whether a bit is 1. The lowest bit is number 0.
 pub fn bit(octet: u8, place: u32) -> bool
     requires { place ≤ 7 }
     ensures { result ≡ flag place octet }
@@ -30,7 +30,7 @@ pub fn bit(octet: u8, place: u32) -> bool
     (octet >> place) % 2 == 1
 }
 
-/// How many octets a file size or an offset has.
+/// How many octets a file size or an offset has: 8 with the large file flag, else 4.
 pub fn size_len(large: bool) -> usize
     ensures { result ≡ fss large }
 {

@@ -13,7 +13,7 @@ use byteorder::{BigEndian, ByteOrder};
 /// The longest data field, in octets: its length is two octets.
 pub const MAX_FIELD_LEN: usize = 65_535;
 
-/// Appends a number of `len` octets.
+/// Appends a number of `len` octets, the most significant first. There is room for them, so no memory is asked for.
 pub fn push_number(out: &mut Vec<u8>, number: u64, len: usize)
     requires low { 1 ≤ len }
     requires high { len ≤ 8 }
@@ -68,14 +68,15 @@ pub fn push_fault(out: &mut Vec<u8>, fault: Option<u64>, id_len: u8)
     }
 }
 
-/// How many octets a header has.
+/// How many octets a header has: 7 to 28.
 pub fn header_len(header: &Header) -> usize
     ensures { result ≡ 4 + 2 * header.now.id_len + header.now.number_len }
 {
     4 + 2 * usize::from(header.id_len) + usize::from(header.number_len)
 }
 
-/// Appends a header, whose data field has `len` octets.
+/// Appends the header (CCSDS 727.0-B-5 §5.1) of a PDU whose data field has `len` octets: the version is 001, the CRC flag, the
+/// segmentation control bit and the segment metadata flag are 0. There is room for it, so no memory is asked for.
 pub fn push_header(out: &mut Vec<u8>, file_data: bool, header: &Header, len: u16)
     requires valid { IsHeader header.now }
     requires room { vec_len out.old + (4 + 2 * header.now.id_len + header.now.number_len) ≤ vec_capacity out.old }
