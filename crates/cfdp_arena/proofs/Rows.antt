@@ -4,25 +4,28 @@
 --     block_out, block_in       a block out of the row, and back with other octets
 --     block_seen                a block of those that a `&` reaches
 --     row_append                a block after those that are there
-use Rattle.cfdp_arena.proofs.Steps.{◌≡◌, ℕ, suc, zero, ◌+◌, ◌*◌, ◌^◌, ◌<◌, List, [], ◌∷◌, ◌++◌, length, get_or, set, refl, sym, ap, ◌∙◌, arith, w64, Ura, full_share, ent, sep, emp, Fml, Lft, fsep, Val, vint, vstruct, vcons, vnil, of_list, Logic, sem, ‵, ◌⊛◌, ◌$◌, ◌∵◌, !, qed, done, by, move, drop, use1, use2, split, fsplit, fsplit3, fjoin, fpick, fpack, flt_i, rewrite, peeks, Is, shows, cell_at, part_at, shared_of, shares, RattleType, Ptr, block_ptr, ptr_val, w8, lit<, fat, ty_int, ty_array, u8, owned, froom, some, pick, null_ptr}
+--     front_out, front_in       the first blocks, as a slice has them, and those after them;  the two as one row again
+use Rattle.cfdp_arena.proofs.Steps.{◌≡◌, ℕ, suc, zero, ◌+◌, ◌*◌, ◌^◌, ◌<◌, ◌≤◌, List, [], ◌∷◌, ◌++◌, length, get_or, set, refl, sym, ap, ◌∙◌, arith, w64, Ura, full_share, ent, sep, emp, Fml, Lft, fsep, Val, vint, vstruct, vcons, vnil, of_list, Logic, sem, ‵, ◌⊛◌, ◌$◌, ◌∵◌, !, qed, done, by, move, drop, use1, use2, split, fsplit, fsplit3, fjoin, fpick, fpack, flt_i, rewrite, peeks, Is, shows, cell_at, part_at, shared_of, shares, RattleType, Ptr, block_ptr, ptr_val, w8, lit<, fat, ty_int, ty_array, u8, owned, froom, some, pick, null_ptr}
 use base.Logic.{guard}
 use types.Kit.{check}
 use lib.Dec.{T}
 use mir.Val.{has_ty, WT}
-use denote.Memory.{lone}
-use lib.ListN.{replicate, length-replicate}
+use denote.Memory.{lone, mem}
+use lib.ListN.{replicate, length-replicate, take, drop as drop_l, take-append-drop}
+use borrow.Table.Elements.{at, at_mul, length-take-le, cut_app, join_app}
 use borrow.Table.OneValue.{part_in, part_out}
 use denote.Array.{Array, array_val, each, Array-Typed, Array-Makes}
 use denote.Laws.{Typed}
 use denote.Plain.{uint_Lawful, uint_Makes}
 use denote.Copied.{Struct-Copied, uint_Copied}
 use denote.Memory.{part_of}
-use denote.Index.{others, takes, puts, place_is, place as nth}
+use denote.Index.{others, takes, puts, place_is, place as nth, whole_in, whole_out}
 use denote.Opens.{Opens}
 use denote.Shadow.{makes_shadow, shadow}
 use denote.Struct.Laws.{RawPtr-copy}
 use denote.Struct.Struct.{Struct}
 use denote.Struct.Owning.{shape}
+use types.SemTy.{cells}
 use Rattle.cfdp_arena.specs.Ownership.{Block, block_type, blocks_own, rest_own, blocks_lend, region_owns}
 use Rattle.cfdp_arena.specs.contracts.region.Region as C
 
@@ -76,6 +79,25 @@ module _ {M : Type 1} {𝓤 : Ura M} (𝓛 : Logic 𝓤) where
   row_append b o (x ∷ xs) y at e =
       qed 𝓛 (‵ (blocks_own b o (x ∷ xs)) ∷ ‵ (part_at Block full_share y b at) ∷ []) ∵ fsplit ! $ move ! (1 ∷ 2 ∷ []) $
       use2 𝓛 (‵ (blocks_own b (o + 128) (xs ++ y ∷ []))) (row_append b (o + 128) xs y at (omega arith)) $ move ! (1 ∷ 0 ∷ []) $ fjoin ! $ done !
+
+  pub front_out : (b o : ℕ) (xs : List (List ℕ)) (n : ℕ) → n ≤ length xs
+      → ent 𝓤 (sem 𝓛 (blocks_own b o xs)) (sep 𝓤 (sem 𝓛 (cells (mem Block) (take n xs) b o)) (sem 𝓛 (cells (mem Block) (drop_l n xs) b (n * 128 + o))))
+  front_out b o xs n within =
+      let there : at o 128 (length (take n xs)) ≡ n * 128 + o = at_mul o 128 (length (take n xs)) ∙ ap (λ k. k * 128 + o) (length-take-le n xs within) in
+      qed 𝓛 (‵ (blocks_own b o xs) ∷ []) ∵
+      use1 𝓛 (‵ (cells (mem Block) xs b o)) (whole_in 𝓛 Block xs b o) $
+      rewrite ! 0 (λ (l : List (List ℕ)). ‵ (cells (mem Block) l b o)) (sym (take-append-drop n xs)) refl $
+      use1 𝓛 (‵ (cells (mem Block) (take n xs) b o) ⊛ ‵ (cells (mem Block) (drop_l n xs) b (at o 128 (length (take n xs)))))
+      (cut_app 𝓛 (mem Block) (take n xs) (drop_l n xs) b o) $ split ! $
+      rewrite ! 1 (λ (k : ℕ). ‵ (cells (mem Block) (drop_l n xs) b k)) there refl $ done !
+
+  pub front_in : (b o : ℕ) (ws zs : List (List ℕ)) (n : ℕ) → length ws ≡ n
+      → ent 𝓤 (sep 𝓤 (sem 𝓛 (cells (mem Block) ws b o)) (sem 𝓛 (cells (mem Block) zs b (n * 128 + o)))) (sem 𝓛 (blocks_own b o (ws ++ zs)))
+  front_in b o ws zs n long =
+      let there : at o 128 (length ws) ≡ n * 128 + o = at_mul o 128 (length ws) ∙ ap (λ k. k * 128 + o) long in
+      qed 𝓛 (‵ (cells (mem Block) ws b o) ∷ ‵ (cells (mem Block) zs b (n * 128 + o)) ∷ []) ∵
+      rewrite ! 1 (λ (k : ℕ). ‵ (cells (mem Block) zs b k)) (sym there) refl $
+      use2 𝓛 (‵ (cells (mem Block) (ws ++ zs) b o)) (join_app 𝓛 (mem Block) ws zs b o) $ by ! (whole_out 𝓛 Block (ws ++ zs) b o)
 
   -- a block has 128 octets
   pub block_whole : (x : List ℕ) (b o : ℕ) → ent 𝓤 (sem 𝓛 (part_at Block full_share x b o)) (guard 𝓤 (length x ≡ 128) (sem 𝓛 (part_at Block full_share x b o)))

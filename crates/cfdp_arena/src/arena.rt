@@ -1,20 +1,20 @@
 //! The arena: which blocks are live, and what they hold.
-ghost use Rattle.std.specs.Prelude.{◌≡◌, ◌≢◌, ◌+◌, ◌<◌, ◌≤◌, ◌↔◌, length, Some, IsNone, IfNone, IfSome, IfOk};
+ghost use Rattle.std.specs.Prelude.{◌≡◌, ◌+◌, ◌<◌, ◌≤◌, ◌↔◌, length, Some, IsNone, IfNone, IfSome, IfOk};
 ghost use Rattle.std.specs.Borrow.{sem};
 ghost use Rattle.cfdp_arena.specs.Blocks.{blank_block, copied};
 ghost use Rattle.cfdp_arena.specs.Arena.{octets_at, IsLive, octets_of, free_count, all_free, with_block, without_block};
 
 use crate::block_id::BlockId;
 use crate::region::Region;
-use crate::{BLOCK_OCTETS, Block, Memory, links};
+use crate::{Block, Memory, links};
 use std::alloc::Global;
 use std::marker::Model;
 
-/// The octets of a block before its payload.
-const LINK_OCTETS: usize = 8;
-
 /// A fixed number of blocks of 128 octets, each of them free or live. A clause sees a list with an entry for each
 /// block: its octets where it is live.
+///
+/// The blocks and the links between the free ones are in the arena's memory. Beside it are only four numbers: the
+/// address of the memory, the number of its blocks, the first free block and the number of free blocks.
 pub struct Arena {
     alloc: Global,
     region: Region,
@@ -37,11 +37,12 @@ impl Arena {
     ghost use Rattle.cfdp_arena.specs.Lending.{LendsOctets};
 
     /// Takes the memory of `blocks` blocks, from 1 to 65,536, all of them free. This is the only call that takes
-    /// memory: 128 octets a block, which go back when the arena is dropped. In time linear in `blocks`.
+    /// memory: 128 octets a block, which go back when the arena is dropped. The arena never grows after it. In time
+    /// linear in `blocks`.
     ///
     /// # Errors
     ///
-    /// `Memory` where the allocator refuses.
+    /// [`Memory`] when out of memory.
     pub fn new(alloc: Global, blocks: u32) -> Result<Arena, Memory>
         requires some { 0 < blocks }
         requires at_most { blocks ≤ 65536 }
@@ -111,9 +112,12 @@ impl Arena {
         self.region.block_mut(block.number() as usize)
     }
 
-    /// Copies `len` octets of the payload of `from`, from the place `from_at` on, into the payload of `to`, to the
-    /// place `to_at` on. Places count within the payload, from 0 to 119. The octets go as one slice, by way of the
-    /// stack, since two blocks are not lent at once. In time linear in `len`.
+    /// Copies `len` octets of the payload of `from`, from the offset `from_at` on, over those of the payload of `to`,
+    /// from the offset `to_at` on. Offsets count within the payload, from 0 to 119. The two blocks may be the same, and
+    /// the two ranges in it may overlap.
+    ///
+    /// The octets go straight from block to block, with no buffer: `copy_from_slice` copies them between two blocks
+    /// that are lent at the same time, and `copy_within` inside one block. In time linear in `len`.
     pub fn copy_payload(
         &mut self,
         from: BlockId,
@@ -124,17 +128,13 @@ impl Arena {
     )
         requires from_live { IsLive self.old from }
         requires to_live { IsLive self.old to }
-        requires apart { from ≢ to }
         requires from_within { from_at + len ≤ 120 }
         requires to_within { to_at + len ≤ 120 }
         ensures target { self.new ≡ with_block self.old to (copied (octets_of self.old from) from_at (octets_of self.old to) to_at len) }
     {
-        let mut piece = [0; BLOCK_OCTETS];
-        let piece = &mut piece[..len];
-        let start = LINK_OCTETS + from_at;
-        piece.copy_from_slice(&self.bytes(from)[start..start + len]);
-        let start = LINK_OCTETS + to_at;
-        self.bytes_mut(to)[start..start + len].copy_from_slice(piece);
+        let from = from.number() as usize;
+        let to = to.number() as usize;
+        self.region.copy_payload(from, from_at, to, to_at, len);
     }
 
     /// Returns how many blocks are free: the capacity less the number of live blocks. In constant time.

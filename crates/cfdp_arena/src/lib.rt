@@ -1,14 +1,16 @@
 //! The block arena of the receiver's filestore: a fixed number of blocks of 128 octets, all taken from memory at once.
 //!
 //! An `Arena` hands out blocks and takes them back, and never asks for memory again after `new`. A block has 8
-//! octets for its owner's links and a payload of 120 octets. The free blocks are a list whose links stand in the
-//! free blocks themselves. Callers see a capacity and a map from the live blocks to their octets. The memory is one
-//! region behind a raw pointer, which stands in `region` alone.
+//! octets for its owner's links and a payload of 120 octets. The free blocks are a list whose links are in the
+//! free blocks themselves (`links`). Octets go from payload to payload with no buffer (`payload`). Callers see a
+//! capacity and a map from the live blocks to their octets. The memory is one region, reached through a raw pointer
+//! that only `region` uses.
 #![tactic(auto)]
 
 mod arena;
 mod block_id;
 mod links;
+mod payload;
 mod region;
 
 pub use arena::Arena;
@@ -17,7 +19,7 @@ pub use block_id::BlockId;
 #[doc(hidden)]
 pub use region::Region;
 
-/// Want of memory: the one refusal of `Arena::new`.
+/// Out of memory: the one error of `Arena::new`.
 pub type Memory = std::alloc::AllocError;
 
 /// How many octets a block has.

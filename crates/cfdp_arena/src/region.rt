@@ -1,16 +1,19 @@
-//! The memory of an arena: one block of the allocator's, reached through a raw pointer, in which blocks of 128 octets
-//! stand side by side.
-ghost use Rattle.std.specs.Prelude.{◌≡◌, ◌*◌, ◌^◌, ◌<◌, ℕ, List, [], ◌∷◌, ◌++◌, length, replicate, slice_index_or, IfOk};
+//! The memory of an arena: one allocation, reached through a raw pointer, in which blocks of 128 octets are side by
+//! side.
+ghost use Rattle.std.specs.Prelude.{◌≡◌, ◌+◌, ◌*◌, ◌^◌, ◌<◌, ◌≤◌, ℕ, List, [], ◌∷◌, ◌++◌, length, replicate, take};
+ghost use Rattle.std.specs.Prelude.{slice_index_or, slice_set, IfOk};
 ghost use Rattle.std.specs.Borrow.{sem};
-ghost use Rattle.cfdp_arena.specs.Blocks.{blank_block};
+ghost use Rattle.cfdp_arena.specs.Blocks.{blank_block, copied};
 ghost use Rattle.cfdp_arena.specs.Ownership.{region_owns, region_lends};
 
+use crate::payload::{copy_between, copy_within};
 use crate::{BLOCK_OCTETS, Block};
 use std::alloc::{AllocError, Allocator, Global};
 use std::marker::{Model, Send};
+use std::slice::from_raw_parts_mut;
 
-/// A row of blocks in memory that it owns, with room for more until each place has its block. It has no `Drop`, so
-/// that a region which is not given to `release` is refused.
+/// A row of blocks in memory that it owns, with room for more until all blocks are made. It has no `Drop`, so that the
+/// check refuses code that does not give a region to `release`.
 pub struct Region {
     base: *mut Block,
     room: usize,
@@ -26,7 +29,7 @@ impl Model for Region {
 unsafe impl Send for Region {}
 
 impl Region {
-    ghost use Rattle.cfdp_arena.specs.Region.{LendsBlock};
+    ghost use Rattle.cfdp_arena.specs.Region.{LendsBlock, LendsFront};
 
     /// Takes the memory of `blocks` blocks, and sets every octet to 0.
     pub(crate) fn new(alloc: &Global, blocks: usize) -> Result<Region, AllocError>
@@ -55,7 +58,7 @@ impl Region {
         }
     }
 
-    /// Makes a block of zeros at the place after the blocks that are there.
+    /// Makes a block of zeros after the blocks that exist.
     fn append_blank(&mut self, number: usize)
         requires next { number ≡ length self.old.blocks }
         requires room { number < self.old.room }
@@ -88,5 +91,41 @@ impl Region {
         ensures whole { length result.now ≡ 128 }
     {
         unsafe { &mut *self.base.add(number) }
+    }
+
+    /// Lends the first `count` blocks as one slice, and changes no other.
+    fn front_mut(&mut self, count: usize) -> &mut [Block]
+        requires within { count ≤ length self.old.blocks }
+        ensures* writes_back { sem 𝓛 (LendsFront self.entry count result) }
+        ensures value { result.now ≡ take count self.old.blocks }
+        ensures count { length result.now ≡ count }
+    {
+        unsafe { from_raw_parts_mut(self.base, count) }
+    }
+
+    /// Copies octets from the payload of the block `from` to that of the block `to`, which may be the same block. In
+    /// time linear in `len`.
+    pub(crate) fn copy_payload(
+        &mut self,
+        from: usize,
+        from_at: usize,
+        to: usize,
+        to_at: usize,
+        len: usize,
+    )
+        requires small { length self.old.blocks ≤ 65536 }
+        requires from { from < length self.old.blocks }
+        requires to { to < length self.old.blocks }
+        requires from_within { from_at + len ≤ 120 }
+        requires to_within { to_at + len ≤ 120 }
+        ensures blocks { self.new.blocks ≡ slice_set self.old.blocks to
+            (copied (slice_index_or self.old.blocks from []) from_at (slice_index_or self.old.blocks to []) to_at len) }
+    {
+        if from == to {
+            copy_within(self.block_mut(from), from_at, to_at, len);
+        } else {
+            let blocks = self.front_mut(from.max(to) + 1);
+            copy_between(blocks, from, from_at, to, to_at, len);
+        }
     }
 }

@@ -3,6 +3,7 @@ pub mod Counts
 pub mod BlockLaws
 pub mod RunLaws
 pub mod HeldLaws
+pub mod FrontLaws
 pub mod NodeLaws
 pub mod GrowLaws
 pub mod SpareLaws

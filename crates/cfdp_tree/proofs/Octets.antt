@@ -2,10 +2,10 @@
 --     overwritten-left, overwritten-right     in the first of them, in the second
 --     overwritten-join, overwritten-none      one part after another, and no octets
 --     overwritten-extended                    octets put behind a list that was lengthened by zeros
---     slice-front                             a slice before the part
+--     take-front, slice-first                 the first octets, before the part;  a slice of first octets that are the same
 --     take_parts, slice_is, slice_join        the first octets in two parts;  a slice, and two of them joined
 --     reached, step_write, step_read, step_copy   how far a walk by blocks has come, and what one block more adds
---     slice-left, slice-right, slice-before   a slice of two lists joined
+--     slice-left, slice-right                 a slice of two lists joined
 use Rattle.std.proofs.Common.{◌≡◌, ℕ, suc, zero, ◌+◌, ◌-◌, ◌*◌, ◌<◌, ◌≤◌, min, max, List, [], ◌∷◌, ◌++◌, length, take, drop, replicate, sym, ap, ◌∙◌, arith, append_assoc, append-nil, length-append, length-drop}
 use Rattle.std.proofs.lemmas.List.{take-append-le, drop-append-le, length-take-le, take_at, drop-drop, drop-replicate, take-append-drop, take-take}
 use Rattle.std.proofs.lemmas.Slice.{between_is, take-put_mid}
@@ -78,11 +78,6 @@ slice-right xs ys at j count e = ap (λ zs. take count zs) (drop-right xs ys at 
 pub slice_is : (xs : List ℕ) (at end count : ℕ) → end ≡ at + count → slice_range xs at end ≡ take count (drop at xs)
 slice_is xs at end count e = let same : end - at ≡ count = omega arith in ap (λ n. take n (drop at xs)) same
 
-pub slice-before : (xs ys : List ℕ) (a b : ℕ) → a ≤ b → b ≤ length xs → slice_range (xs ++ ys) a b ≡ slice_range xs a b
-slice-before xs ys a b order within =
-    let end : b ≡ a + (b - a) = omega arith in
-    slice_is (xs ++ ys) a b (b - a) end ∙ slice-left xs ys a (b - a) (omega arith) ∙ sym (slice_is xs a b (b - a) end)
-
 -- a part of the list, and the part behind it
 pub slice_join : (xs : List ℕ) (a b c : ℕ) → a ≤ b → b ≤ c → slice_range xs a b ++ slice_range xs b c ≡ slice_range xs a c
 slice_join xs a b c ab bc =
@@ -93,13 +88,17 @@ slice_join xs a b c ab bc =
     sym (take_parts (drop a xs) m (c - a) (omega arith)
     ∙ (λ k. take m (drop a xs) ++ take (fewer k) (behind k)))
 
--- a slice that ends before the part
-pub slice-front : (xs part : List ℕ) (at a b : ℕ) → b ≤ at → at ≤ length xs → slice_range (overwritten xs at part) a b ≡ slice_range xs a b
-slice-front xs part at a b before within =
+-- the first octets, where the part comes after them, and a slice of them
+pub take-front : (xs part : List ℕ) (at b : ℕ) → b ≤ at → at ≤ length xs → take b (overwritten xs at part) ≡ take b xs
+take-front xs part at b before within =
     let front : length (take at xs) ≡ at = length-take-le at xs within in
-    between_is (overwritten xs at part) a b
-    ∙ ap (drop a) (ap (take b) (append_assoc (take at xs) part (drop (at + length part) xs)) ∙ take-append-le b (take at xs) (part ++ drop (at + length part) xs) (omega arith) ∙ take-take b at xs before)
-    ∙ sym (between_is xs a b)
+    ap (take b) (append_assoc (take at xs) part (drop (at + length part) xs))
+    ∙ take-append-le b (take at xs) (part ++ drop (at + length part) xs) (omega arith)
+    ∙ take-take b at xs before
+
+pub slice-first : (xs ys : List ℕ) (n a b : ℕ) → b ≤ n → take n xs ≡ take n ys → slice_range xs a b ≡ slice_range ys a b
+slice-first xs ys n a b before same =
+    between_is xs a b ∙ ap (drop a) (sym (take-take b n xs before) ∙ ap (take b) same ∙ take-take b n ys before) ∙ sym (between_is ys a b)
 
 -- how many octets of those from at to end lie before a block
 abbrev pub reached : ℕ → ℕ → ℕ → ℕ

@@ -15,6 +15,8 @@
 --     RunsStay old new               each run that was held stays
 --     Spares old new before after    each run that was held and had no block of the one before stays, and has no block of the
 --                                    one after
+--     KeepsFront run at source end    a write to the run from the offset `at` on keeps the first `end` octets of the source:
+--                                    the source is another run, or it is this one and `end` is no more than `at`
 --     IsAt arena run cursor           the cursor's block is the one at its index, which is no more than the run's blocks
 use Rattle.std.specs.Prelude.{◌≡◌, ◌≢◌, ℕ, suc, zero, ◌-◌, ◌<◌, ◌≤◌, List, [], ◌++◌, length, Option, IsSome, unwrap_or}
 use Rattle.cfdp_arena.specs.Arena.{Blocks, octets_at, IsLive}
@@ -83,3 +85,6 @@ Spares old new before after = (other : Run) → IsHeld old other → Apart befor
 
 abbrev pub IsAt : Blocks → Run → Cursor → Type 0
 IsAt arena run cursor = (cursor.index ≤ run.count) × (cursor.block ≡ nth arena run.first cursor.index)
+
+abbrev pub KeepsFront : Run → ℕ → Run → ℕ → Type 0
+KeepsFront run at source end = run.first ≡ source.first → (source ≡ run) × (end ≤ at)

@@ -148,7 +148,7 @@ impl Contents {
         if none { self.run.start() } else { tail }
     }
 
-    /// Puts the octets of another list behind these, from block to block. In time linear in them.
+    /// Puts the octets of another list after these, from block to block. In time linear in them.
     pub(crate) fn append(&mut self, arena: &mut Arena, source: &Contents)
         requires filled { IsFilled arena.old self.old }
         requires source { IsFilled arena.old source.now }
@@ -173,7 +173,7 @@ impl Contents {
             .copy(arena, to, size, &source.run, source.size as usize);
     }
 
-    /// Puts the octets behind themselves, block by block. In time linear in them.
+    /// Puts the octets after themselves, from block to block. In time linear in them.
     pub(crate) fn append_self(&mut self, arena: &mut Arena)
         requires filled { IsFilled arena.old self.old }
         requires most { 2 * self.old.size ≤ 7864320 }
@@ -188,16 +188,9 @@ impl Contents {
         ensures nodes { nodes_in arena.new ≡ nodes_in arena.old }
     {
         let size = self.size;
-        let mut to = self.make_room(arena, size);
-        let mut from = self.run.start();
-        let mut piece = [0; PAYLOAD_OCTETS];
-        for index in 0..blocks_of(size) {
-            let at = index * PAYLOAD_OCTETS as u32;
-            let count = (size - at).min(PAYLOAD_OCTETS as u32);
-            let part = &mut piece[..count as usize];
-            from = self.get(arena, from, at, part);
-            to = self.put(arena, to, size + at, part);
-        }
+        let to = self.make_room(arena, size);
+        self.run
+            .copy(arena, to, size as usize, &self.run, size as usize);
     }
 
     /// Puts the octets of another list in the place of these, whose blocks go back first. In time linear in both.

@@ -1,9 +1,9 @@
 //! Octets from run to run, by slices of a block.
-ghost use Rattle.std.specs.Prelude.{◌≡◌, ◌≢◌, ℕ, ◌+◌, ◌*◌, ◌<◌, ◌≤◌, length, take, slice_range};
+ghost use Rattle.std.specs.Prelude.{◌≡◌, ℕ, ◌+◌, ◌*◌, ◌<◌, ◌≤◌, take, length, slice_range};
 ghost use Rattle.cfdp_arena.specs.Arena.{free_count};
 ghost use Rattle.cfdp_actions.specs.Store.{overwritten};
 ghost use Rattle.cfdp_tree.specs.Nodes.{nodes_in};
-ghost use Rattle.cfdp_tree.specs.Runs.{IsHeld, IsAt, OthersStay, octets_in, nth};
+ghost use Rattle.cfdp_tree.specs.Runs.{IsHeld, IsAt, OthersStay, KeepsFront, octets_in, nth};
 
 use crate::cursor::Cursor;
 use crate::header::PAYLOAD_OCTETS;
@@ -18,11 +18,11 @@ pub(crate) struct Spot {
 }
 
 impl Run {
-    /// Puts `len` octets of one block of another run into one block of this run. In time linear in the octets.
+    /// Puts `len` octets of one block of a run, which may be this one, into one block of this run. In time linear in
+    /// the octets.
     fn copy_in(&self, arena: &mut Arena, to: &Spot, source: &Run, from: &Spot, len: usize)
         requires held { IsHeld arena.old self.now }
         requires source { IsHeld arena.old source.now }
-        requires apart { self.now.first ≢ source.now.first }
         requires to { IsAt arena.old self.now to.now.cursor }
         requires to_within { to.now.cursor.index < self.now.count }
         requires to_fits { to.now.at + len ≤ 120 }
@@ -42,12 +42,14 @@ impl Run {
         arena.copy_payload(from.cursor.block, from.at, to.cursor.block, to.at, len);
     }
 
-    /// Puts the first `count` octets of one block of another run into this run, from the octet `to` on: into its block,
-    /// and where they reach past its end into the next block. In time linear in the octets.
+    /// Puts the first `count` octets of one block of another run, or of an earlier block of this one, into this run,
+    /// from the octet `to` on: into its block, and where they reach past its end into the next block. In time linear in
+    /// the octets.
     fn copy_block(&self, arena: &mut Arena, to: &Spot, source: &Run, from: &Cursor, count: usize)
         requires held { IsHeld arena.old self.now }
         requires source { IsHeld arena.old source.now }
-        requires apart { self.now.first ≢ source.now.first }
+        requires source_stays { KeepsFront self.now (120 * to.now.cursor.index + to.now.at)
+            source.now (120 * from.now.index + count) }
         requires to { IsAt arena.old self.now to.now.cursor }
         requires to_at { to.now.at < 120 }
         requires to_within { 120 * to.now.cursor.index + to.now.at + count ≤ 120 * self.now.count }
@@ -86,12 +88,13 @@ impl Run {
         self.copy_in(arena, &next, source, &rest, count - room);
     }
 
-    /// Puts the first `len` octets of another run in the place of those of this run from the place `at` on. In time
-    /// linear in the octets, and in the steps from the place `to` to the first block that is written.
+    /// Puts the first `len` octets of another run, or of this one where they end at `at` or before, over those of this
+    /// run from the offset `at` on. In time linear in the octets, and in the steps from the place `to` to the first
+    /// block that is written.
     pub(crate) fn copy(&self, arena: &mut Arena, to: Cursor, at: usize, source: &Run, len: usize)
         requires held { IsHeld arena.old self.now }
         requires source { IsHeld arena.old source.now }
-        requires apart { self.now.first ≢ source.now.first }
+        requires source_stays { KeepsFront self.now at source.now len }
         requires to { IsAt arena.old self.now to }
         requires within { at + len ≤ 120 * self.now.count }
         requires there { len ≤ 120 * source.now.count }

@@ -8,13 +8,13 @@ use Rattle.cfdp_tree.proofs.ContentsLaws.{length-contents, written_filled, writt
 use Rattle.cfdp_tree.proofs.SpareLaws.{spares_kept, spares_then}
 use Rattle.cfdp_tree.proofs.contents.Contents.append.Goals as goal
 
-pub copy-requires-clause-apart : goal.copy-requires-clause-apart
-copy-requires-clause-apart c =
+pub copy-requires-clause-source_stays : goal.copy-requires-clause-source_stays
+copy-requires-clause-source_stays c =
     let s = c.args.source.now in let m = c.make_room-to in let r = c.requires in
     let spared = m.ensures.spares s.run r.source.held r.apart in
     let some = blocks_of-some s.size (omega arith) in
     let more = blocks_of-some m.new.self.size (omega (arith, m.ensures.size)) in
-    (λ e. spared.1 (omega (arith, m.ensures.filled.blocks, more)) (omega (arith, r.source.blocks, some)) (sym e))
+    (λ e. absurd (spared.1 (omega (arith, m.ensures.filled.blocks, more)) (omega (arith, r.source.blocks, some)) (sym e)))
 
 pub copy-requires-clause-within : goal.copy-requires-clause-within
 copy-requires-clause-within c =

@@ -1,80 +1,48 @@
-use Rattle.std.proofs.Common.{◌≡◌, ◌+◌, ◌*◌, ◌≤◌, ℕ, length, length-take, length-append, min, take, replicate, ◌-◌, sym, ap, ◌∙◌, arith}
-use Rattle.std.proofs.lemmas.List.{take-take}
-use Rattle.std.specs.Prelude.{slice_range}
-use Rattle.cfdp_actions.specs.Store.{extended, overwritten}
+use Rattle.std.proofs.Common.{◌≡◌, ◌+◌, ◌-◌, ◌≤◌, ℕ, length, length-take, take, replicate, refl, sym, ap, ◌∙◌, arith}
+use Rattle.std.proofs.lemmas.List.{take-take, take-append-le, take_all}
+use Rattle.cfdp_actions.specs.Store.{overwritten}
 use Rattle.cfdp_tree.specs.Runs.{octets_in}
 use Rattle.cfdp_tree.specs.Contents.{contents_in}
-use Rattle.cfdp_tree.proofs.Octets.{overwritten-extended, slice-front, slice-before, step_copy}
-use Rattle.cfdp_tree.proofs.Filling.{blocks_of-within, blocks_of-fits}
-use Rattle.cfdp_tree.proofs.ContentsLaws.{length-contents}
-use Rattle.cfdp_tree.proofs.SpareLaws.{spares_then}
+use Rattle.cfdp_tree.proofs.Octets.{overwritten-extended}
+use Rattle.cfdp_tree.proofs.Filling.{blocks_of-fits}
+use Rattle.cfdp_tree.proofs.ContentsLaws.{length-contents, written_filled, written_contents}
+use Rattle.cfdp_tree.proofs.SpareLaws.{spares_kept, spares_then}
 use Rattle.cfdp_tree.proofs.contents.Contents.append_self.Goals as goal
 
-pub overflow_mul-at : goal.overflow_mul-at
-overflow_mul-at c =
-    omega (arith, blocks_of-within c.args.self.now.size c.loop-index.index (omega (arith, c.blocks_of-index-end.ensures)), c.requires.most)
+pub copy-requires-clause-source_stays : goal.copy-requires-clause-source_stays
+copy-requires-clause-source_stays c = (λ _. (refl, omega arith))
 
-pub overflow_sub-size : goal.overflow_sub-size
-overflow_sub-size c =
-    omega (arith, blocks_of-within c.args.self.now.size c.loop-index.index (omega (arith, c.blocks_of-index-end.ensures)))
+pub copy-requires-clause-within : goal.copy-requires-clause-within
+copy-requires-clause-within c =
+    let m = c.make_room-to in omega (arith, m.ensures.filled.blocks, m.ensures.size, blocks_of-fits m.new.self.size)
 
-pub get-from-requires-clause-range : goal.get-from-requires-clause-range
-get-from-requires-clause-range c =
-    omega (arith, length-take {A = ℕ}, c.make_room-to.ensures.size, blocks_of-within c.args.self.now.size c.loop-index.index (omega (arith, c.blocks_of-index-end.ensures)))
+pub copy-requires-clause-there : goal.copy-requires-clause-there
+copy-requires-clause-there c =
+    let m = c.make_room-to in omega (arith, m.ensures.filled.blocks, m.ensures.size, blocks_of-fits m.new.self.size)
 
-pub overflow_add-size : goal.overflow_add-size
-overflow_add-size c =
-    omega (arith, blocks_of-within c.args.self.now.size c.loop-index.index (omega (arith, c.blocks_of-index-end.ensures)), c.requires.most)
-
-pub put-to-requires-clause-range : goal.put-to-requires-clause-range
-put-to-requires-clause-range c =
-    omega (arith, length-take {A = ℕ}, c.get-from.auto.buffer, c.make_room-to.ensures.size, blocks_of-within c.args.self.now.size c.loop-index.index (omega (arith, c.blocks_of-index-end.ensures)))
-
-pub loop-index-preserved : goal.loop-index-preserved
-loop-index-preserved c =
-    let l = c.loop-index in let inv = l.invariant in let old = c.args.self.now in let n = old.size in let i = l.index in
-    let middle = c.make_room-to.new.arena in let after = c.make_room-to.new.self in let get = c.get-from in let put = c.put-to.ensures in
-    let octets = contents_in c.args.arena.now old in
-    let count = c.min-count.result in let at = i * 120 in
-    let piece = take count l.piece in
-    let before = blocks_of-within n i (omega (arith, c.blocks_of-index-end.ensures)) in
-    let long : length octets ≡ n = length-contents c.args.arena.now old c.requires.filled in
-    let there : n ≤ length (extended octets (n + n)) = omega (arith, length-append octets (replicate (n + n - length octets) 0)) in
-    let whole : length piece ≡ count = omega (arith, length-take {A = ℕ}) in
-    let end : at + length piece ≤ n = omega arith in
-    let start : at ≡ 120 * i = omega arith in
-    let stop : at + length piece ≡ 120 * i + count = omega arith in
-    let part_is : get.new.buffer ≡ slice_range octets (120 * i) (120 * i + count) =
-    get.ensures.octets
-    ∙ ap (λ xs. slice_range xs at (at + length piece)) inv.octets
-    ∙ slice-front (extended octets (n + n)) (take (min n (120 * i)) octets) n at (at + length piece) end there
-    ∙ slice-before octets (replicate (n + n - length octets) 0) at (at + length piece) (omega arith) (omega arith)
-    ∙ (λ k. slice_range octets (start k) (stop k)) in
-    record {
-      filled = put.filled;
-      octets = put.octets
-          ∙ (λ k. overwritten (inv.octets k) (n + at) (part_is k))
-          ∙ step_copy (extended octets (n + n)) octets n n i count (n + at) there (omega arith) before (omega arith) (omega arith);
-      from = (get.ensures.place.0, get.ensures.place.1 ∙ sym (put.places get.result.index get.ensures.place.0));
-      to = put.place;
-      free = put.free ∙ inv.free;
-      capacity = put.capacity ∙ inv.capacity;
-      spares = spares_then middle l.arena c.put-to.new.arena after.run after.run after.run inv.spares put.spares;
-      nodes = put.nodes ∙ inv.nodes;
-    }
+pub returns-clause-filled : goal.returns-clause-filled
+returns-clause-filled c =
+    let m = c.make_room-to in let n = c.args.self.now.size in let copy = c.copy.ensures in
+    let part = take n (octets_in m.new.arena m.new.self.run) in let fits : n + length part ≤ m.new.self.size = omega (arith, m.ensures.size, length-take {A = ℕ}) in
+    written_filled m.new.arena m.new.self m.ensures.filled c.copy.new.arena n part fits copy.held copy.octets
 
 pub returns-clause-octets : goal.returns-clause-octets
 returns-clause-octets c =
-    let l = c.loop-index in let old = c.args.self.now in let n = old.size in let a = c.args.arena.now in
-    let octets = contents_in a old in
-    let all : min n (120 * l.index) ≡ n = omega (arith, blocks_of-fits n, c.blocks_of-index-end.ensures) in
-    let long : length octets ≡ n = length-contents a old c.requires.filled in
-    l.invariant.octets
-    ∙ ap (λ m. overwritten (extended octets (n + n)) n (take m octets)) all
-    ∙ ap (overwritten (extended octets (n + n)) n) (take-take n n (octets_in a old.run) (omega arith))
+    let old = c.args.self.now in let n = old.size in let m = c.make_room-to in let run = octets_in m.new.arena m.new.self.run in
+    let octets = contents_in c.args.arena.now old in
+    let long : length octets ≡ n = length-contents c.args.arena.now old c.requires.filled in
+    let front : take n run ≡ octets =
+    sym (take-take n m.new.self.size run (omega (arith, m.ensures.size)))
+    ∙ ap (take n) m.ensures.octets
+    ∙ take-append-le n octets (replicate (n + n - length octets) 0) (omega arith)
+    ∙ take_all n octets (omega arith) in
+    let fits : n + length (take n run) ≤ m.new.self.size = omega (arith, m.ensures.size, length-take {A = ℕ}) in
+    written_contents m.new.arena m.new.self m.ensures.filled c.copy.new.arena n (take n run) fits c.copy.ensures.held c.copy.ensures.octets
+    ∙ (λ k. overwritten (m.ensures.octets k) n (front k))
     ∙ overwritten-extended octets octets n (n + n) long (omega arith)
 
 pub returns-clause-spares : goal.returns-clause-spares
 returns-clause-spares c =
-    let m = c.make_room-to in
-    spares_then c.args.arena.now m.new.arena c.loop-index.arena c.args.self.now.run m.new.self.run m.new.self.run m.ensures.spares c.loop-index.invariant.spares
+    let m = c.make_room-to in let after = m.new.self.run in
+    spares_then c.args.arena.now m.new.arena c.copy.new.arena c.args.self.now.run after after m.ensures.spares
+    (spares_kept m.new.arena c.copy.new.arena after c.copy.ensures.others)

@@ -12,7 +12,7 @@ invariant-loop-index l = record {
   target : IsAt l.arena l.self l.target;
   target_index : l.target.index ≡ l.at / 120 + l.index;
   source : IsHeld l.arena l.source;
-  source_octets : octets_in l.arena l.source ≡ octets_in l.fn.arena l.source;
+  source_octets : take l.len (octets_in l.arena l.source) ≡ take l.len (octets_in l.fn.arena l.source);
   from : IsAt l.arena l.source l.from;
   from_index : l.from.index ≡ l.index;
   free : free_count l.arena ≡ free_count l.fn.arena;

@@ -5,7 +5,7 @@ use Rattle.cfdp_arena.specs.Blocks.{with_part, payload_part}
 use Rattle.cfdp_actions.specs.Store.{overwritten}
 use Rattle.cfdp_tree.specs.Block.{payload}
 use Rattle.cfdp_tree.specs.Nodes.{nodes_in}
-use Rattle.cfdp_tree.specs.Runs.{octets, header_in, octets_in, nth, IsHeld, OthersStay}
+use Rattle.cfdp_tree.specs.Runs.{octets, octets_in, nth, IsHeld, OthersStay}
 use Rattle.cfdp_tree.proofs.Counts.{free_count-written}
 use Rattle.cfdp_tree.proofs.BlockLaws.{header-part, payload-part, whole-part}
 use Rattle.cfdp_tree.proofs.Octets.{slice_is}
@@ -22,7 +22,6 @@ copy_payload-requires c =
     record {
       from_live = from.live;
       to_live = to.live;
-      apart = (λ e. r.apart (sym to.owner_is ∙ sym (ap (λ b. (header_in (octets_at a b)).owner) e) ∙ from.owner_is));
       from_within = r.from_fits;
       to_within = r.to_fits;
     }
