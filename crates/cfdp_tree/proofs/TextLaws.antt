@@ -1,16 +1,15 @@
 -- The octets of a path.
 --     text-push, text_home      one name more;  a node's path by its directory
 --     text_slash                a slash, and the names with slashes between them
---     text_spells               they spell the path
 --     path_good                 a node's path is one
-use Rattle.std.proofs.Common.{◌≡◌, ℕ, zero, suc, List, [], ◌∷◌, ◌++◌, length, length-append, Option, Some, None, refl, ap, ◌∙◌, inr, arith}
+use Rattle.std.proofs.Common.{◌≡◌, ℕ, zero, suc, List, [], ◌∷◌, ◌++◌, length, length-append, Option, Some, None, refl, ap, ◌∙◌, arith}
 use Rattle.std.proofs.lemmas.Grind.{flat_map-append}
 use Rattle.std.proofs.lemmas.List.{append-nil, append_assoc}
 use Rattle.std.proofs.lemmas.List.Elements.{All-append, All-cons, All-nil}
 use Rattle.std.specs.Option.{option_map_or}
 use Rattle.std.specs.Prelude.{All}
 use Rattle.cfdp_arena.specs.Arena.{Blocks}
-use Rattle.cfdp_paths.specs.Paths.{Name, Path, IsName, IsPath, slash, joined, Spells}
+use Rattle.cfdp_paths.specs.Paths.{Name, Path, IsName, IsPath, slash, joined}
 use Rattle.cfdp_tree.specs.Tree.{IsNode, name_at, home, climb, most_names, path_of, Ends, IsTree}
 use Rattle.cfdp_tree.specs.Places.{path_at}
 use Rattle.cfdp_tree.specs.Text.{slashed, text_of}
@@ -30,10 +29,6 @@ text_joined name (other ∷ p) = ap (λ t. slash ∷ name ++ t) (text_joined oth
 pub text_slash : (p : Path) → IsPath p → text_of p ≡ slash ∷ joined p
 text_slash [] good = absurd (omega (arith, good.some))
 text_slash (name ∷ p) good = text_joined name p
-
-pub text_spells : (p : Path) → IsPath p → Spells (text_of p) p
-text_spells [] good = absurd (omega (arith, good.some))
-text_spells (name ∷ p) good = (good, inr (text_joined name p))
 
 module _ (nodes : Blocks) (tree : IsTree nodes) where
   names_good : (n b : ℕ) → IsNode nodes b → Ends nodes n b → All IsName (climb nodes n b)

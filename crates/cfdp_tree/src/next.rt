@@ -1,7 +1,7 @@
 //! What comes next behind a path in path order.
 ghost use Rattle.std.specs.Option.{option_map};
 ghost use Rattle.std.specs.Ordering.{is_lt};
-ghost use Rattle.std.specs.Prelude.{◌≡◌, ◌≤◌, ◌++◌, ◌↔◌, ℕ, None, All, IsTrue, IfSome, IfNone, drop, length};
+ghost use Rattle.std.specs.Prelude.{◌≡◌, ◌≤◌, ◌++◌, ◌↔◌, ℕ, None, All, IsTrue, IfSome, IfNone, take, drop, length};
 ghost use Rattle.cfdp_paths.specs.Paths.{IsName};
 ghost use Rattle.cfdp_tree.specs.Nodes.{nodes_in};
 ghost use Rattle.cfdp_tree.specs.Tree.{IsTree, IsNode, name_at};
@@ -34,22 +34,27 @@ pub struct NextEntry {
 }
 
 impl TreeStore {
-    /// What stands next behind a path in path order: the least path of all that stand in the store and are greater than
-    /// it. The path need not stand there, and with no name what comes first is found. The octets that spell the found
-    /// path, with no `/` at the start, are written to the end of the buffer, which has room for 776 octets at least. `None`
-    /// where no path that stands there is greater; the buffer is then what it was. Takes no memory. In expected time
-    /// linear in the entries of the directories on the way, of which there are 8 at most, and in the octets of a file.
+    /// Finds what comes next after a path in path order: the least path of all in the store that are greater than it.
+    /// The path itself need not exist, and with no names the first path of all is found.
+    ///
+    /// The octets that spell the found path, with no `/` at the start, go to the end of the buffer, which has room for
+    /// at least 776 octets. They begin at [`NextEntry::start`], and the octets before that stay as they were. `None`
+    /// where no path in the store is greater: the whole buffer then stays as it was.
+    ///
+    /// Takes no memory. In expected time linear in the entries of the directories on the way, which are at most 8, and
+    /// in the octets of the found file, for its checksum.
     pub fn next_entry(&self, after: Names<'_>, text: &mut [u8]) -> Option<NextEntry>
         requires names { All IsName after }
         requires room { 776 ≤ length text.old }
         ensures next { IfSome result (λ entry. IsNextEntry self.now.filestore after.entry (drop entry.start text.new) entry) }
         ensures within { IfSome result (λ entry. entry.start ≤ length text.new) }
+        ensures before { IfSome result (λ entry. take entry.start text.new ≡ take entry.start text.old) }
         ensures none { IfNone result (IsLast self.now.filestore after.entry) }
         ensures unchanged { IfNone result (text.new ≡ text.old) }
         ensures length { length text.new ≡ length text.old }
     {
         let node = next_below(&self.arena, &self.heads, None, &self.root, after)?;
-        let start = write_path(&self.arena, &node, text) + 1;
+        let start = write_path(&self.arena, &node, text);
         let told = tell(&self.arena, &node);
         Some(NextEntry {
             start,
@@ -60,9 +65,9 @@ impl TreeStore {
     }
 }
 
-/// The first node in path order behind the path that a place and more names make, among the nodes at and below the place;
-/// `None` is the root. The list is that of the entries of the place. Takes no memory. In expected time linear in the
-/// entries of the directories on the way, by at most 9 calls within one another.
+/// The first node in path order behind the path that a place and more names make, among the nodes at and below the
+/// place; `None` is the root. The list is that of the entries of the place. Takes no memory. In expected time linear in
+/// the entries of the directories on the way, by at most 9 calls within one another.
 fn next_below(
     arena: &Arena,
     heads: &[Head],

@@ -1,9 +1,8 @@
 //! The paths of nodes.
-ghost use Rattle.std.specs.Prelude.{◌≡◌, ◌+◌, ◌≤◌, ◌∷◌, ◌++◌, IfOk, drop, length};
-ghost use Rattle.cfdp_paths.specs.Paths.{slash};
+ghost use Rattle.std.specs.Prelude.{◌≡◌, ◌+◌, ◌≤◌, ◌++◌, IfOk, take, drop, length};
+ghost use Rattle.cfdp_paths.specs.Paths.{joined};
 ghost use Rattle.cfdp_tree.specs.Nodes.{nodes_in};
 ghost use Rattle.cfdp_tree.specs.Tree.{IsTree, IsNode, path_of};
-ghost use Rattle.cfdp_tree.specs.Text.{text_of};
 
 use crate::rows::{home_of, name_in};
 use cfdp_arena::{Arena, BlockId};
@@ -28,38 +27,42 @@ pub(crate) fn path_of(alloc: Global, arena: &Arena, node: &BlockId) -> Result<Pa
     Path::parse(alloc, &text[start..]).map_err(|_| Memory {})
 }
 
-/// Writes the names of a node's path, a slash before each, to the end of the buffer. Answers where they begin. In time
-/// linear in the octets.
+/// Writes the names of a node's path, with slashes between them, to the end of the buffer. Answers where they begin.
+/// The octets before that stay. In time linear in the octets.
 pub(crate) fn write_path(arena: &Arena, node: &BlockId, text: &mut [u8]) -> usize
     requires tree { IsTree (nodes_in arena.now) }
     requires node { IsNode (nodes_in arena.now) node.now }
     requires room { 776 ≤ length text.old }
     ensures length { length text.new ≡ length text.old }
     ensures within { result ≤ length text.new }
-    ensures text { drop result text.new ≡ text_of (path_of (nodes_in arena.now) node.now) }
+    ensures text { drop result text.new ≡ joined (path_of (nodes_in arena.now) node.now) }
+    ensures before { take result text.new ≡ take result text.old }
 {
     let mut start = text.len();
     let mut node = *node;
     loop {
         let block = arena.bytes(node);
-        start = prepend(text, start, name_in(block));
+        start = put_before(text, start, name_in(block));
         match home_of(block, &node) {
-            Some(parent) => node = parent,
+            Some(parent) => {
+                start = put_before(text, start, b"/");
+                node = parent;
+            }
             None => return start,
         }
     }
 }
 
-/// Writes a slash and a name before the place `end`. Answers where they begin.
-fn prepend(text: &mut [u8], end: usize, name: &[u8]) -> usize
+/// Writes octets right before the place `end`. Answers where they begin.
+fn put_before(text: &mut [u8], end: usize, octets: &[u8]) -> usize
     requires within { end ≤ length text.old }
-    requires room { length name.now + 1 ≤ end }
-    ensures start { result + (length name.now + 1) ≡ end }
-    ensures text { drop result text.new ≡ slash ∷ name.now ++ drop end text.old }
+    requires room { length octets.now ≤ end }
+    ensures start { result + length octets.now ≡ end }
+    ensures text { drop result text.new ≡ octets.now ++ drop end text.old }
+    ensures before { take result text.new ≡ take result text.old }
     ensures length { length text.new ≡ length text.old }
 {
-    let start = end - name.len();
-    text[start..end].copy_from_slice(name);
-    text[start - 1] = b'/';
-    start - 1
+    let start = end - octets.len();
+    text[start..end].copy_from_slice(octets);
+    start
 }

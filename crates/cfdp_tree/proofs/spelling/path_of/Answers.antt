@@ -1,10 +1,10 @@
-use Rattle.std.proofs.Common.{◌≡◌, ◌-◌, ℕ, List, take, drop, IfOk, IsErrAnd, MatchResult, Result, Ok, Err, sym, ◌∙◌, subst, arith}
+use Rattle.std.proofs.Common.{◌≡◌, ◌-◌, ℕ, List, take, drop, IfOk, IsErrAnd, MatchResult, Result, Ok, Err, refl, sym, ◌∙◌, subst, inl, arith}
 use Rattle.std.proofs.lemmas.List.{take_all, length-drop}
 use Rattle.cfdp_paths.specs.Paths.{Path, Spells}
 use Rattle.cfdp_paths.proofs.Spelling.{spelled_once}
 use Rattle.cfdp_tree.specs.Nodes.{nodes_in}
 use Rattle.cfdp_tree.specs.Tree.{path_of}
-use Rattle.cfdp_tree.proofs.TextLaws.{text_spells, path_good}
+use Rattle.cfdp_tree.proofs.TextLaws.{path_good}
 use Rattle.cfdp_tree.proofs.spelling.path_of.Goals as goal
 
 -- another fault
@@ -24,5 +24,5 @@ returns c =
     let whole : take (776 - start) (drop start text) ≡ drop start text = take_all (776 - start) (drop start text) (omega (arith, length-drop start text, c.write_path-start.ensures.length)) in
     renamed _ (λ p. p ≡ path) c.parse.result c.map_err.result c.map_err.ensures.cases
     (one_path _ path c.parse.result
-    (subst (λ t. Spells t path) (sym (whole ∙ c.write_path-start.ensures.text)) (text_spells path (path_good nodes c.requires.tree c.args.node.now c.requires.node)))
+    (subst (λ t. Spells t path) (sym (whole ∙ c.write_path-start.ensures.text)) (path_good nodes c.requires.tree c.args.node.now c.requires.node, inl refl))
     c.parse.ensures.path)

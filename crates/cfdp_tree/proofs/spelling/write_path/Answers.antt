@@ -1,6 +1,6 @@
-use Rattle.std.proofs.Common.{◌≡◌, ◌≤◌, [], ◌∷◌, ◌++◌, drop, length, length-append, Some, None, sym, ap, ◌∙◌, subst, arith}
-use Rattle.std.proofs.lemmas.List.{drop_all, append-nil}
-use Rattle.cfdp_paths.specs.Paths.{slash}
+use Rattle.std.proofs.Common.{◌≡◌, ◌≤◌, ℕ, List, [], ◌∷◌, ◌++◌, take, drop, length, length-append, Some, None, refl, sym, ap, ◌∙◌, subst, arith}
+use Rattle.std.proofs.lemmas.List.{drop_all, append-nil, take-take}
+use Rattle.cfdp_paths.specs.Paths.{slash, joined}
 use Rattle.cfdp_tree.specs.Nodes.{nodes_in}
 use Rattle.cfdp_tree.specs.Row.{row_of, name_of}
 use Rattle.cfdp_tree.specs.Places.{path_at}
@@ -9,8 +9,12 @@ use Rattle.cfdp_tree.specs.Text.{text_of}
 use Rattle.cfdp_tree.proofs.TreeLaws.{node_octets}
 use Rattle.cfdp_tree.proofs.ClimbLaws.{path_by_home}
 use Rattle.cfdp_tree.proofs.WalkLaws.{few_names}
-use Rattle.cfdp_tree.proofs.TextLaws.{text_home, path_good}
+use Rattle.cfdp_tree.proofs.TextLaws.{text_home, text_slash, path_good}
 use Rattle.cfdp_tree.proofs.spelling.write_path.Goals as goal
+
+-- fewer octets are the same, where more are
+fewer : (m n : ℕ) (xs ys : List ℕ) → m ≤ n → take n xs ≡ take n ys → take m xs ≡ take m ys
+fewer m n xs ys le same = sym (take-take m n xs le) ∙ ap (take m) same ∙ take-take m n ys le
 
 pub loop-parent-init : goal.loop-parent-init
 loop-parent-init c =
@@ -21,6 +25,7 @@ loop-parent-init c =
       within = omega arith;
       long = λ _. length text;
       text = ap (λ t. text_of path ++ t) (drop_all (length text) text (omega arith)) ∙ append-nil (text_of path);
+      before = refl;
     }
 
 pub name_in-requires-clause-fits : goal.name_in-requires-clause-fits
@@ -29,8 +34,8 @@ name_in-requires-clause-fits c =
     let same = node_octets c.args.arena.now b c.loop-parent.invariant.node c.bytes-block.result.now c.bytes-block.ensures.octets in
     subst (λ o. (row_of o).name_length ≤ 96) (sym same) (c.requires.tree.named b c.loop-parent.invariant.node).fits
 
-pub prepend-start-requires-clause-room : goal.prepend-start-requires-clause-room
-prepend-start-requires-clause-room c =
+pub put_before-start-requires-clause-room : goal.put_before-start-requires-clause-room
+put_before-start-requires-clause-room c =
     let nodes = nodes_in c.args.arena.now in let b = c.loop-parent.node in let node = c.loop-parent.invariant.node in
     let same = node_octets c.args.arena.now b node c.bytes-block.result.now c.bytes-block.ensures.octets in
     let good = path_good nodes c.requires.tree b node in
@@ -44,32 +49,51 @@ loop-parent-smaller c =
     let way : path_of nodes b ≡ path_of nodes c.in-Some.parent ++ name_at nodes b ∷ [] = path_by_home nodes c.requires.tree b node ∙ ap (λ x. path_at nodes x ++ name_at nodes b ∷ []) there in
     omega (arith, ap length way, length-append (path_of nodes c.in-Some.parent) (name_at nodes b ∷ []))
 
+pub put_before-start-requires-in-Some-clause-room : goal.put_before-start-requires-in-Some-clause-room
+put_before-start-requires-in-Some-clause-room c =
+    let nodes = nodes_in c.args.arena.now in let b = c.loop-parent.node in let node = c.loop-parent.invariant.node in
+    let same = node_octets c.args.arena.now b node c.bytes-block.result.now c.bytes-block.ensures.octets in
+    let good = path_good nodes c.requires.tree b node in
+    let long = ap length (c.name_in.ensures ∙ ap name_of same) in
+    omega (arith, c.put_before-start.ensures.start, c.loop-parent.invariant.room, good.some, (c.requires.tree.named b node).name.short, long)
+
 pub loop-parent-preserved : goal.loop-parent-preserved
 loop-parent-preserved c =
-    let nodes = nodes_in c.args.arena.now in let b = c.loop-parent.node in let node = c.loop-parent.invariant.node in
+    let l = c.loop-parent in let nodes = nodes_in c.args.arena.now in let b = l.node in let node = l.invariant.node in
+    let one = c.put_before-start in let two = c.put_before-start-in-Some in
     let same = node_octets c.args.arena.now b node c.bytes-block.result.now c.bytes-block.ensures.octets in
     let name : c.name_in.result.now ≡ name_at nodes b = c.name_in.ensures ∙ ap name_of same in
     let there : home nodes b ≡ Some c.in-Some.parent = ap (home_in b) (sym same) ∙ sym c.in-Some.ensures in
-    let above = path_of nodes c.in-Some.parent in
+    let short = (c.requires.tree.named b node).name.short in let above = path_of nodes c.in-Some.parent in
     let way : path_of nodes b ≡ above ++ name_at nodes b ∷ [] = path_by_home nodes c.requires.tree b node ∙ ap (λ x. path_at nodes x ++ name_at nodes b ∷ []) there in
     record {
       node = (c.requires.tree.homes b c.in-Some.parent node there).node;
-      room = omega (arith, ap length way, length-append above (name_at nodes b ∷ []), c.loop-parent.invariant.room, c.prepend-start.ensures.start, ap length name, (c.requires.tree.named b node).name.short);
-      within = omega (arith, c.prepend-start.ensures.start, c.prepend-start.ensures.length, c.loop-parent.invariant.within);
-      long = c.prepend-start.ensures.length ∙ c.loop-parent.invariant.long;
-      text = ap (λ t. text_of above ++ t) (c.prepend-start.ensures.text ∙ ap (λ n. slash ∷ (n ++ drop c.loop-parent.start c.loop-parent.text)) name)
-          ∙ sym (text_home above (path_of nodes b) (name_at nodes b) (drop c.loop-parent.start c.loop-parent.text) way)
-          ∙ c.loop-parent.invariant.text;
+      room = omega (arith, ap length way, length-append above (name_at nodes b ∷ []), l.invariant.room, one.ensures.start, two.ensures.start, ap length name, short);
+      within = omega (arith, one.ensures.start, one.ensures.length, two.ensures.start, two.ensures.length, l.invariant.within);
+      long = two.ensures.length ∙ one.ensures.length ∙ l.invariant.long;
+      text = ap (λ t. text_of above ++ t) (two.ensures.text ∙ ap (λ t. slash ∷ t) (one.ensures.text ∙ ap (λ n. n ++ drop l.start l.text) name))
+          ∙ sym (text_home above (path_of nodes b) (name_at nodes b) (drop l.start l.text) way)
+          ∙ l.invariant.text;
+      before = two.ensures.before
+          ∙ fewer two.result one.result one.new.text l.text (omega (arith, two.ensures.start)) one.ensures.before
+          ∙ fewer two.result l.start l.text c.args.text.now (omega (arith, one.ensures.start, two.ensures.start)) l.invariant.before;
     }
 
 pub returns-in-None-clause-text : goal.returns-in-None-clause-text
 returns-in-None-clause-text c =
-    let nodes = nodes_in c.args.arena.now in let b = c.loop-parent.node in let node = c.loop-parent.invariant.node in
+    let l = c.loop-parent in let nodes = nodes_in c.args.arena.now in let b = l.node in let node = l.invariant.node in
+    let whole = path_of nodes c.args.node.now in
     let same = node_octets c.args.arena.now b node c.bytes-block.result.now c.bytes-block.ensures.octets in
     let name : c.name_in.result.now ≡ name_at nodes b = c.name_in.ensures ∙ ap name_of same in
     let there : home nodes b ≡ None = ap (home_in b) (sym same) ∙ sym c.in-None.ensures in
     let way : path_of nodes b ≡ name_at nodes b ∷ [] = path_by_home nodes c.requires.tree b node ∙ ap (λ x. path_at nodes x ++ name_at nodes b ∷ []) there in
-    c.prepend-start.ensures.text
-    ∙ ap (λ n. slash ∷ (n ++ drop c.loop-parent.start c.loop-parent.text)) name
-    ∙ sym (text_home [] (path_of nodes b) (name_at nodes b) (drop c.loop-parent.start c.loop-parent.text) way)
-    ∙ c.loop-parent.invariant.text
+    let slashes : slash ∷ (name_at nodes b ++ drop l.start l.text) ≡ slash ∷ joined whole =
+    sym (text_home [] (path_of nodes b) (name_at nodes b) (drop l.start l.text) way)
+    ∙ l.invariant.text
+    ∙ text_slash whole (path_good nodes c.requires.tree c.args.node.now c.requires.node) in
+    c.put_before-start.ensures.text ∙ ap (λ n. n ++ drop l.start l.text) name ∙ ap (λ (t : List ℕ). drop 1 t) slashes
+
+pub returns-in-None-clause-before : goal.returns-in-None-clause-before
+returns-in-None-clause-before c =
+    let l = c.loop-parent in let one = c.put_before-start in
+    one.ensures.before ∙ fewer one.result l.start l.text c.args.text.now (omega (arith, one.ensures.start)) l.invariant.before

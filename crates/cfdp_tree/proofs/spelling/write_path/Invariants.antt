@@ -1,4 +1,4 @@
-use Rattle.std.proofs.Common.{◌≡◌, ◌*◌, ◌≤◌, ◌++◌, drop, length}
+use Rattle.std.proofs.Common.{◌≡◌, ◌*◌, ◌≤◌, ◌++◌, take, drop, length}
 use Rattle.cfdp_tree.specs.Nodes.{nodes_in}
 use Rattle.cfdp_tree.specs.Tree.{IsNode, path_of}
 use Rattle.cfdp_tree.specs.Text.{text_of}
@@ -11,6 +11,7 @@ invariant-loop-parent l = record {
   within : l.start ≤ length l.text;
   long : length l.text ≡ length l.fn.text;
   text : text_of (path_of (nodes_in l.arena) l.node) ++ drop l.start l.text ≡ text_of (path_of (nodes_in l.arena) l.fn.node);
+  before : take l.start l.text ≡ take l.start l.fn.text;
 }
 
 abbrev pub decreases-loop-parent : goal.decreases-loop-parent

@@ -1,5 +1,4 @@
-use Rattle.std.proofs.Common.{ℕ, List, drop, length, length-drop, sym, ap, ◌∙◌, subst, arith}
-use Rattle.std.proofs.lemmas.List.{drop-drop}
+use Rattle.std.proofs.Common.{sym, subst}
 use Rattle.std.specs.Prelude.{IfNone}
 use Rattle.cfdp_arena.specs.Arena.{octets_of}
 use Rattle.cfdp_tree.specs.Nodes.{nodes_in}
@@ -8,7 +7,7 @@ use Rattle.cfdp_tree.specs.Kept.{node_of}
 use Rattle.cfdp_tree.specs.Next.{IsLast}
 use Rattle.cfdp_tree.proofs.SeenLaws.{shows}
 use Rattle.cfdp_tree.proofs.SoundLaws.{node_sound}
-use Rattle.cfdp_tree.proofs.TextLaws.{path_good, text_slash}
+use Rattle.cfdp_tree.proofs.TextLaws.{path_good}
 use Rattle.cfdp_tree.proofs.NextLaws.{list_of_root, first_next, none_last}
 use Rattle.cfdp_tree.proofs.tree_store.TreeStore.next_entry.Goals as goal
 
@@ -34,21 +33,14 @@ returns-clause-next c =
     let first = c.in_ok-node.ensures.first in
     let shown = shows _ _ _ _ c.self.invariant _ c.self.view_is in
     let good = path_good nodes c.self.invariant.kept.tree b first.follows.node in
-    let text = c.write_path-start.new.text in let start = c.write_path-start.result in
     record {
       path = path_of nodes b;
       node = node_of arena (octets_of nodes b);
       there = shown.each b first.follows.node;
       is_next = first_next arena nodes F shown c.args.after b first;
       good = good;
-      spelled = sym (drop-drop 1 start text) ∙ ap (λ (xs : List ℕ). drop 1 xs) (c.write_path-start.ensures.text ∙ text_slash (path_of nodes b) good);
+      spelled = c.write_path-start.ensures.text;
       kind = c.tell-told.ensures.kind;
       size = c.tell-told.ensures.size;
       checksum = c.tell-told.ensures.checksum;
     }
-
-pub returns-clause-within : goal.returns-clause-within
-returns-clause-within c =
-    let nodes = nodes_in c.self.inside.arena in let b = c.in_ok-node.node in let text = c.write_path-start.new.text in let start = c.write_path-start.result in
-    let good = path_good nodes c.self.invariant.kept.tree b c.in_ok-node.ensures.first.follows.node in
-    omega (arith, ap length (c.write_path-start.ensures.text ∙ text_slash (path_of nodes b) good), length-drop start text)
