@@ -1,4 +1,4 @@
-//! A store that is kept in an arena.
+//! The store whose files are in an arena.
 
 ghost use Rattle.std.specs.Prelude.{◌≡◌, ◌≤◌, true, IsTrue, IfOk, Some, None, [], ◌∷◌};
 ghost use Rattle.cfdp_actions.specs.Filestore.{Becomes, node_at, parent_is_good};
@@ -24,17 +24,23 @@ use cfdp_paths::{Memory, Path};
 use std::alloc::Global;
 use std::marker::Model;
 
-/// A store that is kept wholly in the blocks of an arena, of which a node takes one, and each 120 octets of a file or of
-/// a staged list one more. None of its changes takes memory: only `new`, `listing` and `standing` do.
+/// A store whose files and directories are in the blocks of an arena.
+///
+/// In the arena are the nodes, one block for each file or directory, with its name and its links to the others, and the
+/// octets of files and of staged lists, 120 in each block. Beside the arena are the heads of the index's lists, one for
+/// each block, the head of the list of the root's entries, and 64 slots, each with the size, the first and the last
+/// block of a staged list and where it was last written. [`TreeStore::new`] takes the memory of all of these, and none
+/// of them grows after it. `listing` and `standing` take memory for what they return, and no other call takes any.
 ///
 /// Cost: a call looks each name of its paths up by the directory and the name, in expected constant time whatever else
-/// stands in the directory. `kind`, `parent_is_good`, `has_entries`, `size`, `make_file`, `make_dir`, `install` where
-/// nothing stood, and `rename`, also of a directory, take no more than that; `free` and `staged_size` take constant time.
-/// `remove`, `unstage` and `install` over a file give back the blocks that are dropped, one by one; `stage_extend` makes
-/// zeros of those that it takes. `read`, `read_staged`, `stage_put`, `append` and `replace` copy the octets that they are asked
-/// for by slices of a block; `read_staged` and `stage_put` begin their search for the place where the slot was last written,
-/// where that is before it, and `read` at the file's first block. `deepest` and `standing` go through what stands at and below the
-/// path, `listing` through everything with all octets, and `next_entry` through the entries of the directories on the way.
+/// the directory has. `kind`, `parent_is_good`, `has_entries`, `size`, `make_file`, `make_dir`, `install` of a new
+/// file, and `rename`, also of a directory, take no more than that; `free` and `staged_size` take constant time.
+/// `remove`, `unstage` and `install` over a file give back the blocks that are dropped, one by one; `stage_extend`
+/// fills those that it takes with zeros. `read`, `read_staged`, `stage_put`, `append` and `replace` copy the octets
+/// that they are asked for by slices of a block; `append` and `replace` copy them from block to block with no buffer.
+/// `read_staged` and `stage_put` begin their search for the offset where the slot was last written, if that is before
+/// it, and `read` at the file's first block. `deepest` and `standing` go through what is at and below the path,
+/// `listing` through everything with all octets, and `next_entry` through the entries of the directories on the way.
 #[derive(Drop)]
 pub struct TreeStore {
     pub(crate) arena: Arena,
@@ -62,13 +68,13 @@ impl Model for TreeStore {
 const SLOTS: usize = 64;
 
 impl TreeStore {
-    /// A store of so many blocks, 1 to 65,536, in which nothing stands and nothing is staged. All the memory that it ever
-    /// takes is taken here: 128 octets for each block, the heads of the index, of which there are as many as blocks, and
-    /// the slots. In time linear in the blocks.
+    /// Makes a store of `blocks` blocks, from 1 to 65,536, with no files, no directories and no staged lists. It takes
+    /// all the memory that the store ever keeps: 128 octets for each block, a head of the index for each block, and the
+    /// 64 slots. In time linear in the blocks.
     ///
     /// # Errors
     ///
-    /// [`Memory`] where there was none.
+    /// [`Memory`] when out of memory.
     pub fn new(alloc: Global, blocks: u32) -> Result<TreeStore, Memory>
         requires some { 1 ≤ blocks }
         requires few { blocks ≤ 65536 }
