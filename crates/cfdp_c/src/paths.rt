@@ -35,8 +35,9 @@ pub(crate) fn names_of(fields: &mut PathFields) -> Result<Names<'_>, Answer>
     if length > PATH_OCTETS {
         return Err(Answer::BadPath);
     }
-    match Names::parse(&mut fields.octets[..length]) {
-        Ok(names) => Ok(names),
-        Err(_) => Err(Answer::BadPath),
+    let octets = &mut fields.octets[..length];
+    if Names::fault_in(octets).is_some() {
+        return Err(Answer::BadPath);
     }
+    Ok(Names::lend(octets))
 }

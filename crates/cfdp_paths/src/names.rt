@@ -1,18 +1,18 @@
 //! The names of a path, lent one after the other.
 
 ghost use Rattle.std.specs.Iterator.{YieldsFirstRef, item_count};
-ghost use Rattle.std.specs.Prelude.{◌≡◌, [], Some, IfOk, IfErr};
+ghost use Rattle.std.specs.Prelude.{◌≡◌, ◌≤◌, [], Some, None, drop, length};
 ghost use Rattle.cfdp_paths.specs.Faults.{fault_of};
-ghost use Rattle.cfdp_paths.specs.Paths.{IsPath, path_of};
+ghost use Rattle.cfdp_paths.specs.Paths.{IsPath, names_of, path_of};
 
 use crate::buffers::{SEPARATOR, replace};
 use crate::fault::PathFault;
-use crate::parsing::{find_fault, strip_slash_mut};
+use crate::parsing::{find_fault, slash_len};
 use memchr::memchr;
 use std::marker::Model;
 
 /// The names of a path that are still to come, in order. It lends them, and takes no memory: [`Path::names`] out of a
-/// path, [`Names::parse`] out of the octets that spell one.
+/// path, [`Names::lend`] out of the octets that spell one.
 ///
 /// Cost: going through all of them is one pass over the path's octets.
 ///
@@ -40,28 +40,39 @@ impl<'a> Names<'a> {
         Names { octets: None }
     }
 
-    /// The names of the path that the octets spell, as [`Path::parse`] reads them, lent out of these octets, which change
-    /// while they are lent. Takes no memory. Cost: a few passes over the octets.
-    ///
-    /// # Errors
-    ///
-    /// The fault of octets that spell no path, as [`Path::parse`] says; never [`PathFault::Memory`]. The octets are then as
-    /// before.
+    /// Why octets spell no path, as [`Path::parse`] says; `None` where they spell one. Never [`PathFault::Memory`]. Takes no
+    /// memory, and changes nothing. Cost: a few passes over the octets.
     ///
     /// [`Path::parse`]: crate::Path::parse
-    pub fn parse(octets: &'a mut [u8]) -> Result<Names<'a>, PathFault>
-        ensures names { IfOk result (λ names. path_of octets.old ≡ Some names) }
-        ensures within { IfOk result (λ names. IsPath names) }
-        ensures fault { IfErr result (λ fault. fault_of octets.old ≡ Some fault) }
+    pub fn fault_in(octets: &[u8]) -> Option<PathFault>
+        ensures { result ≡ fault_of octets.now }
     {
-        if let Some(fault) = find_fault(octets) {
-            return Err(fault);
+        find_fault(octets)
+    }
+
+    /// The names of the path that the octets spell, as [`Path::parse`] reads them. They are lent out of the octets, which
+    /// change while they are lent. Needs octets that spell a path: [`Names::fault_in`] tells. Takes no memory. Cost: one
+    /// pass over the octets.
+    ///
+    /// [`Path::parse`]: crate::Path::parse
+    pub fn lend(octets: &'a mut [u8]) -> Names<'a>
+        requires { fault_of octets.old ≡ None }
+        ensures names { path_of octets.old ≡ Some result }
+        ensures within { IsPath result }
+    {
+        let start = slash_len(octets);
+        replace(octets, b'/', SEPARATOR);
+        Names::from_offset(octets, start)
+    }
+
+    /// The names in the octets from an offset on, with separators between them.
+    fn from_offset(octets: &'a [u8], start: usize) -> Names<'a>
+        requires { start ≤ length octets.now }
+        ensures { result ≡ names_of (drop start octets.now) }
+    {
+        Names {
+            octets: Some(&octets[start..]),
         }
-        let names = strip_slash_mut(octets);
-        replace(names, b'/', SEPARATOR);
-        Ok(Names {
-            octets: Some(names),
-        })
     }
 }
 

@@ -1,6 +1,6 @@
 //! The leftmost fault among the names between the `/`.
 
-ghost use Rattle.std.specs.Prelude.{◌≡◌, ◌||◌, [], ◌∷◌};
+ghost use Rattle.std.specs.Prelude.{◌≡◌, ◌≤◌, ◌||◌, [], ◌∷◌, drop, length};
 ghost use Rattle.cfdp_paths.specs.Faults.{fault_of, fault_of_name};
 ghost use Rattle.cfdp_paths.specs.Paths.{dot, same_name, without_slash};
 
@@ -60,12 +60,13 @@ pub(crate) fn strip_slash(octets: &[u8]) -> &[u8]
     }
 }
 
-/// The same of octets that may change.
-pub(crate) fn strip_slash_mut(octets: &mut [u8]) -> &mut [u8]
-    ensures { result.now ≡ without_slash octets.old }
+/// How many octets that `/` takes: 1 or 0.
+pub(crate) fn slash_len(octets: &[u8]) -> usize
+    ensures rest { drop result octets.now ≡ without_slash octets.now }
+    ensures within { result ≤ length octets.now }
 {
     match octets {
-        [b'/', rest @ ..] => rest,
-        _ => octets,
+        [b'/', ..] => 1,
+        _ => 0,
     }
 }

@@ -7,8 +7,7 @@ mod maps;
 
 use super::super::calls::parsed;
 use super::{Row, all_hold};
-use cfdp_paths::{LONGEST_NAME, Memory, Path, PathFault};
-use lent::lent_fault;
+use cfdp_paths::{LONGEST_NAME, Memory, Names, Path, PathFault};
 use std::alloc::Global;
 use std::cmp::Ordering;
 
@@ -46,7 +45,7 @@ impl Row for Fault {
     fn holds(&self, alloc: Global) -> Result<bool, Memory> {
         Ok(
             Path::parse(alloc, self.0).err() == Some(self.1)
-                && lent_fault(alloc, self.0)? == Some(self.1),
+                && Names::fault_in(self.0) == Some(self.1),
         )
     }
 }
@@ -84,7 +83,7 @@ impl Row for AroundALongName {
         let octets = around_a_long_name(alloc, self.0, self.1)?;
         Ok(
             Path::parse(alloc, &octets).err() == Some(self.2)
-                && lent_fault(alloc, &octets)? == Some(self.2),
+                && Names::fault_in(&octets) == Some(self.2),
         )
     }
 }

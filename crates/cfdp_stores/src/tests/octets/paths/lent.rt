@@ -59,16 +59,10 @@ fn joined(alloc: Global, names: Names<'_>) -> Result<Vec<u8>, Memory> {
 /// The names of the path that the octets spell, with `|` behind each. They spell one, so that only memory can be wanting.
 fn names(alloc: Global, octets: &[u8]) -> Result<Vec<u8>, Memory> {
     let mut octets = Vec::from_slice(alloc, octets)?;
-    match Names::parse(&mut octets) {
-        Ok(names) => joined(alloc, names),
-        Err(_) => Err(AllocError),
+    if Names::fault_in(&octets).is_some() {
+        return Err(AllocError);
     }
-}
-
-/// The fault of the octets. Only the copy of them that may change takes memory.
-pub fn lent_fault(alloc: Global, octets: &[u8]) -> Result<Option<PathFault>, Memory> {
-    let mut octets = Vec::from_slice(alloc, octets)?;
-    Ok(Names::parse(&mut octets).err())
+    joined(alloc, Names::lend(&mut octets))
 }
 
 impl Row for Lent {
