@@ -18,8 +18,6 @@ mod request;
 mod rows;
 mod staging;
 mod survey;
-#[cfg(test)]
-mod tests;
 
 pub use blocks::PAYLOAD_OCTETS;
 pub use checksums::entry_checksum;

@@ -1,9 +1,9 @@
-//! The store inside an arena, looked up and read by names that are lent out of octets.
+//! The store inside an arena, looked up and read by names that are lent out of octets; and the checksum of a file in both stores.
 
-use super::calls::Asked;
+use super::calls::{Asked, parsed};
 use super::steps::{BLOCKS, Stands, Step, take};
-use cfdp_actions::{Kind, Protected};
-use cfdp_paths::{Memory, Names};
+use cfdp_actions::{Filestore, Kind, ListStore, Protected, entry_checksum};
+use cfdp_paths::{Memory, Names, Path};
 use cfdp_status::Action;
 use cfdp_tree::TreeStore;
 use std::alloc::Global;
@@ -119,4 +119,39 @@ fn reads_files_alone(rt: HostRuntime) -> Result<(), Memory> {
         assert!(&rt; read == *want, "row {number}");
     }
     Ok(())
+}
+
+/// The checksum of the file at a path; `None` where there is no file.
+fn checksum_of<S: Filestore>(store: &S, path: &Path) -> Option<u32> {
+    match store.kind(path) {
+        Some(Kind::File) => Some(entry_checksum(store, path)),
+        Some(Kind::Directory) | None => None,
+    }
+}
+
+/// Whether a file has its checksum.
+fn is_summed<S: Filestore>(alloc: Global, store: &S, row: &Stands<'_>) -> Result<bool, Memory> {
+    let (octets, kind, _size, sum) = row;
+    let path = parsed(alloc, octets)?;
+    let want = match kind {
+        Kind::File => Some(*sum),
+        Kind::Directory => None,
+    };
+    Ok(checksum_of(store, &path) == want)
+}
+
+/// Makes the files in a store, and looks at the checksum of each.
+fn sum_all<S: Filestore>(rt: &impl Abort, alloc: Global, store: &mut S) -> Result<(), Memory> {
+    take(rt, alloc, store, &Protected::new(), "summed", MAKES)?;
+    for row in FOUND {
+        assert!(rt; is_summed(alloc, store, row)?, "{}", row.0.escape_ascii());
+    }
+    Ok(())
+}
+
+#[test]
+fn each_store_sums_its_files(rt: HostRuntime) -> Result<(), Memory> {
+    let alloc = rt.alloc();
+    sum_all(&rt, alloc, &mut ListStore::new(alloc, BLOCKS)?)?;
+    sum_all(&rt, alloc, &mut TreeStore::new(alloc, BLOCKS)?)
 }
