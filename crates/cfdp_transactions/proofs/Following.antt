@@ -1,10 +1,12 @@
 -- From an event of the entry at a place to the next world.
-use Rattle.std.proofs.Common.{◌≡◌, ℕ, zero, suc, ◌<◌, List, [], ◌∷◌, length, refl, sym, ◌∙◌, arith}
-use Rattle.std.specs.Prelude.{Bool, true, false, ◌==◌, if◌then◌else◌, Option, Some, None, IsNone, IsTrue, slice_get}
+use Rattle.std.proofs.Common.{◌≡◌, ◌⊎◌, inl, inr, ℕ, zero, suc, ◌<◌, ◌≤◌, List, [], ◌∷◌, length, refl, sym, ◌∙◌, arith}
+use Rattle.std.specs.Prelude.{Bool, true, false, ◌&&◌, ◌==◌, if◌then◌else◌, nat_lt, nat_le, Option, Some, None, IsNone, IsTrue, IsFalse, slice_get}
+use Rattle.std.proofs.lemmas.Bool.{ltb-false, leb-false}
 use Rattle.cfdp_status.specs.declared.transaction.TransactionId.{TransactionId}
+use Rattle.cfdp_pdus.specs.Values.{MetadataFields}
 use Rattle.cfdp_pdus.specs.declared.header.Header.{Header}
 use Rattle.cfdp_actions.specs.Store.{Store}
-use Rattle.cfdp_transactions.specs.Entry.{Entry, is_live}
+use Rattle.cfdp_transactions.specs.Entry.{Entry, id_of, is_live}
 use Rattle.cfdp_transactions.specs.Events.{Event, Reply}
 use Rattle.cfdp_transactions.specs.World.{World, index_of, entry_of}
 use Rattle.cfdp_transactions.specs.Next.{for_us, next}
@@ -13,7 +15,7 @@ use Rattle.cfdp_transactions.specs.Outcome.{outcome_of}
 use Rattle.cfdp_transactions.specs.declared.outcome.Outcome.{Outcome}
 use Rattle.cfdp_transactions.specs.Rows.{entry_in, row_place}
 use Rattle.cfdp_transactions.specs.Books.{AnswersAt, Carries, IsBooked, IsLiveAt, world_of}
-use Rattle.cfdp_transactions.specs.Engine.{IsWhole, outcome_in}
+use Rattle.cfdp_transactions.specs.Engine.{IsWhole, begins, outcome_in}
 use Rattle.cfdp_transactions.specs.declared.books.Books.{Books}
 use Rattle.cfdp_transactions.proofs.RowWorld.{place_in, get_in, row_at}
 
@@ -73,3 +75,17 @@ still_whole law s t b d event reply whole follows booked = record { sound = law 
 
 pub ours : (W V : World) (h : Header) (answer : World × Reply) (reply : Reply) → (h.destination == W.config.entity) ≡ true → Carries W V answer reply → Carries W V (for_us W h answer) reply
 ours W V h answer reply mine carried = rw mine carried
+
+-- Metadata that begin no transaction ------------------------------------------------
+
+either_false : (a b : Bool) → (a && b) ≡ false → (a ≡ false) ⊎ (b ≡ false)
+either_false true b both = inr both
+either_false false b both = inl refl
+
+-- of a transaction that is not there: they meet a full table, or have too long a list
+pub begin_none : (W : World) (h : Header) (m : MetadataFields) → (h.destination == W.config.entity) ≡ true → entry_of W (id_of h) ≡ None → IsFalse (begins W h m) →
+    (64 ≤ length W.table) ⊎ (64 < length m.requests)
+begin_none W h m mine none begun = elim (either_false (nat_lt (length W.table) 64) (nat_le (length m.requests) 64) (rw (mine, none) at begun)) [
+  | inl full ↦ inl (ltb-false _ _ full)
+  | inr long ↦ inr (leb-false _ _ long)
+]

@@ -4,8 +4,11 @@
 --     IsWhole s b               a sound world, and books that say what it says: what is true of the core at all times
 --     read_of f W id            what is read of an entry, where the transaction is there
 --     outcome_in W id           the outcome of a transaction, where it is there and over
---     AsksForNone W event       a request for the outcome of a transaction that is live or not there
-use Rattle.std.specs.Prelude.{Bool, if◌then◌else◌, Option, Some, None, IsNone}
+--     begins W h m              a Metadata PDU may begin a transaction: it is for this entity, its transaction is not there, and
+--                               there is room for it and its list
+--     AsksForNone W event       an event that takes no memory, whatever the store: a Metadata PDU that begins none, and a request
+--                               for the outcome of a transaction that is live or not there
+use Rattle.std.specs.Prelude.{Bool, ◌&&◌, ◌==◌, if◌then◌else◌, nat_lt, nat_le, length, Option, Some, None, is_none, IsNone, IsFalse}
 use Rattle.std.specs.Coded.{Coded, coded_list, coded_ℕ}
 use Rattle.std.specs.FinMap as finite
 use Rattle.cfdp_paths.specs.Paths.{path_cmp}
@@ -14,8 +17,10 @@ use Rattle.cfdp_actions.specs.Codes.{node_code}
 use Rattle.std.specs.Option.{option_map}
 use Rattle.cfdp_status.specs.declared.transaction.TransactionId.{TransactionId}
 use Rattle.cfdp_actions.specs.Store.{Store}
-use Rattle.cfdp_transactions.specs.Entry.{Entry, is_live}
-use Rattle.cfdp_transactions.specs.Events.{Event, Outcome, Take}
+use Rattle.cfdp_pdus.specs.Values.{MetadataFields}
+use Rattle.cfdp_pdus.specs.declared.header.Header.{Header}
+use Rattle.cfdp_transactions.specs.Entry.{Entry, id_of, is_live}
+use Rattle.cfdp_transactions.specs.Events.{Event, MetadataCame, Outcome, Take}
 use Rattle.cfdp_transactions.specs.Outcome.{outcome_of}
 use Rattle.cfdp_transactions.specs.World.{World, entry_of}
 use Rattle.cfdp_transactions.specs.Sound.{Sound}
@@ -49,6 +54,11 @@ where_any (Some outcome) = outcome
 abbrev pub outcome_in : World → TransactionId → Option Outcome
 outcome_in W id = where_any (read_of outcome_when_over W id)
 
+abbrev pub begins : World → Header → MetadataFields → Bool
+begins W h m =
+    (h.destination == W.config.entity) && is_none (entry_of W (id_of h)) && nat_lt (length W.table) 64 && nat_le (length m.requests) 64
+
 abbrev pub AsksForNone : World → Event → Type 0
+AsksForNone W (MetadataCame h m) = IsFalse (begins W h m)
 AsksForNone W (Take id) = IsNone (outcome_in W id)
 AsksForNone W event = ⊥

@@ -11,7 +11,7 @@ ghost use Rattle.cfdp_transactions.specs.Adding.{AddsEntry, AddsGranted};
 ghost use Rattle.cfdp_transactions.specs.Admission.{is_known_checksum, metadata_came, proposal_of, refused_entry};
 ghost use Rattle.cfdp_verifier.specs.Answers.{answered, granted_items, HasFootprint};
 ghost use Rattle.cfdp_verifier.specs.Verdict.{verdict};
-ghost use Rattle.cfdp_transactions.specs.Books.{Carries, IsBooked, world_of};
+ghost use Rattle.cfdp_transactions.specs.Books.{Carries, IsAnswered, IsBooked, world_of};
 ghost use Rattle.cfdp_transactions.specs.Rows.{row_place};
 
 use crate::books::Books;
@@ -47,6 +47,8 @@ pub(crate) fn admit<S: Filestore>(
     requires absent { row_place (id_of header.now) books.old.table ≡ length books.old.table }
     ensures answer { let W = world_of (S.state store.now) books.old in
         Carries W (world_of (S.state store.now) books.new) (metadata_came W header.now metadata.now None) result }
+    ensures full { 64 ≤ length books.old.table → IsAnswered result }
+    ensures long { 64 < length metadata.now.requests → IsAnswered result }
     ensures booked { IsBooked (S.state store.now) books.new }
 {
     if books.table.len() >= MOST_TRANSACTIONS {

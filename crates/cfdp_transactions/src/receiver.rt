@@ -9,7 +9,7 @@ ghost use Rattle.cfdp_transactions.specs.Needs.{Follows, may_want_memory};
 ghost use Rattle.cfdp_transactions.specs.Books.{IsAnswered};
 ghost use Rattle.cfdp_transactions.specs.Entry.{gaps};
 ghost use Rattle.std.specs.Option.{option_map};
-ghost use Rattle.cfdp_transactions.specs.Engine.{AsksForNone, outcome_in, read_of};
+ghost use Rattle.cfdp_transactions.specs.Engine.{AsksForNone, begins, outcome_in, read_of};
 
 use crate::books::Books;
 use crate::event::transaction_of;
@@ -171,10 +171,12 @@ impl<S: Filestore> Core<S> {
         self.books.quota.spare()
     }
 
-    /// The store. It has as many blocks as the configuration says.
+    /// The store. It has as many blocks as the configuration says, and takes no memory exactly where the core's store takes
+    /// none.
     pub fn store(&self) -> &S
         ensures filestore { (S.state result.now).filestore ≡ self.now.world.filestore }
         ensures capacity { (S.state result.now).capacity ≡ self.now.world.config.blocks }
+        ensures thrift { (S.state result.now).takes_no_memory ≡ self.now.takes_no_memory }
     {
         &self.store
     }
@@ -196,8 +198,10 @@ impl<S: Filestore> Core<S> {
     /// Takes an event (CCSDS 727.0-B-5 §4.6): the reply, and the world after it, are those of the table of events.
     ///
     /// Where memory is refused the reply is [`Reply::Memory`] and the world is as before: the event can be handed in again.
-    /// Over a store that takes no memory that is the reply to Metadata and Take alone; an EOF PDU, a request to cancel and a
-    /// check never get it, nor does Take of a transaction that is live or not known. Journal-full is no reply of the core.
+    /// Over a store that takes no memory only Metadata and Take get that reply. Over any store an EOF PDU, a request to cancel and
+    /// a check never get it. Nor does Take of a transaction that is live or not known, nor a Metadata PDU that is for another
+    /// entity, that came before, that has more than 64 requests, or that comes while the table is full. Journal-full is no
+    /// reply of the core.
     ///
     /// Cost: that of what the event brings. Metadata costs what [`verify`](cfdp_verifier::verify) does and one copy of it;
     /// file data its octets and the pieces that they touch; an EOF PDU with a file one pass over what is staged; a step what
@@ -240,6 +244,7 @@ impl<S: Filestore> Core<S> {
     /// A Metadata PDU came (CCSDS 727.0-B-5 §5.2.5): it is copied where it begins a transaction.
     fn metadata(&mut self, header: &Header, metadata: &Metadata) -> Reply
         ensures follows { Follows self.old.world (MetadataCame header.now metadata.now) result self.new.world }
+        ensures lean { IsFalse (begins self.old.world header.now metadata.now) → IsAnswered result }
         ensures steady { self.new.takes_no_memory ≡ self.old.takes_no_memory }
     {
         laws::follows_is_sound();

@@ -1,4 +1,4 @@
-use Rattle.std.proofs.Common.{◌≡◌, ◌∙◌, refl, true}
+use Rattle.std.proofs.Common.{◌≡◌, ◌∙◌, inl, inr, refl, true}
 use Rattle.std.proofs.lemmas.Bool.{eq-eqb}
 use Rattle.std.specs.Prelude.{◌==◌}
 use Rattle.cfdp_transactions.specs.Entry.{id_of}
@@ -6,7 +6,8 @@ use Rattle.cfdp_transactions.specs.Events.{MetadataCame}
 use Rattle.cfdp_transactions.specs.World.{entry_of}
 use Rattle.cfdp_transactions.specs.Admission.{metadata_came}
 use Rattle.cfdp_transactions.specs.Books.{Carries, world_of}
-use Rattle.cfdp_transactions.proofs.Following.{carries_follows, found_entry, absent_entry, still_whole, ours}
+use Rattle.cfdp_transactions.proofs.Following.{carries_follows, found_entry, absent_entry, still_whole, ours, begin_none}
+use Rattle.cfdp_transactions.proofs.RowWorld.{length_in}
 use Rattle.cfdp_transactions.proofs.receiver.Core.metadata.Goals as goal
 
 pub returns-in-Some-clause-follows : goal.returns-in-Some-clause-follows
@@ -44,3 +45,16 @@ returns-in-None-clause-follows g c =
     let event = MetadataCame c.args.header.now c.args.metadata.now in
     let follows = carries_follows (world_of s b) (world_of s d) event c.admit.result (ours (world_of s b) _ c.args.header.now _ _ mine carried) in
     rw (← c.self.view_is) follows
+
+pub returns-in-None-clause-lean : goal.returns-in-None-clause-lean
+returns-in-None-clause-lean g c = λ begun.
+    let s = g.S.Filestore.state c.self.inside.store in
+    let b = c.self.inside.books in
+    let h = c.args.header.now in
+    let m = c.args.metadata.now in
+    let none = absent_entry s b (id_of h) (rw (c.in-None.is, c.transaction_of.ensures) at c.find.ensures.absent) in
+    let mine : (h.destination == b.config.entity) ≡ true = eq-eqb _ _ (c.if-header-entity.false ∙ c.entity.ensures) in
+    elim (begin_none (world_of s b) h m mine none (rw (← c.self.view_is) at begun)) [
+      | inl full ↦ c.admit.ensures.full (rw (length_in s.filestore b.table) at full)
+      | inr long ↦ c.admit.ensures.long long
+    ]
