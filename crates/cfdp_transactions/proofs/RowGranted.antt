@@ -21,7 +21,7 @@ use Rattle.cfdp_transactions.specs.Entry.{Receiving, Refused, has_file, is_live,
 use Rattle.cfdp_transactions.specs.World.{World, reserves, leases_of, place_of, has_slot, slot_from, free_slot}
 use Rattle.cfdp_transactions.specs.Admission.{new_entry, refused_entry, with_new, proposal_of, judged, is_known_checksum, metadata_came}
 use Rattle.cfdp_transactions.specs.Sound.{IsVacant, Sound}
-use Rattle.cfdp_transactions.specs.Adding.{AddsGranted}
+use Rattle.cfdp_transactions.specs.Adding.{AddsEntry}
 use Rattle.cfdp_transactions.specs.Rows.{Row, entry_in, table_of, row_place, fresh_row}
 use Rattle.cfdp_transactions.specs.Books.{FitsBudget, ArePiecesIn, IsBooked, world_of}
 use Rattle.cfdp_transactions.specs.declared.books.Books.{Books}
@@ -78,8 +78,8 @@ module _ (s : Store) (b : Books) (sound : Sound (world_of s b)) (booked : IsBook
   granted_entry : entry_in s.filestore row ≡ new
   granted_entry = rw (sound.vacant slot vacant) refl
 
-  pub granted_adds : AddsGranted W (world_of s (record b { table = b.table ++ row ∷ [] })) h m items blocks steps
-  granted_adds = record { slot = slot; is_free = free_is; adds = world_added s b row ∙ ap (with_new W) granted_entry }
+  pub granted_adds : AddsEntry W (world_of s (record b { table = b.table ++ row ∷ [] })) (new_entry h m Receiving (free_slot W.table) items blocks steps)
+  granted_adds = world_added s b row ∙ ap (with_new W) (granted_entry ∙ ap (λ n. new_entry h m Receiving n items blocks steps) free_is)
 
   module _ (q : Budget) (reserved : q ≡ reserving b.quota slot blocks) (opened : entry_at q slot ≡ Some blocks) (kept : spare q + blocks ≡ spare b.quota) where
     old_open : (k : ℕ) (d : Entry) → slice_get W.table k ≡ Some d → IsTrue (is_live d.phase) → entry_at q d.slot ≡ Some (reserve d)
@@ -142,11 +142,9 @@ judged_so s b booked h m v few short known is =
     ∙ ap (λ n. verdict b.config.prefixes s.filestore (leases_of W.table) n (proposal_of b.config m)) left in
     pass_three _ _ _ _ _ _ _ not_full not_many known ∙ ap (judged W h m) (sym told)
 
-pub granted_so : (W V : World) (h : Header) (m : MetadataFields) (items : List Item) (blocks steps : ℕ) → AddsGranted W V h m items blocks steps →
+pub granted_so : (W V : World) (h : Header) (m : MetadataFields) (items : List Item) (blocks steps : ℕ) → AddsEntry W V (new_entry h m Receiving (free_slot W.table) items blocks steps) →
     judged W h m (Grant items blocks steps) ≡ (V, Reply.Admitted blocks steps)
-granted_so W V h m items blocks steps added =
-    let slot : new_entry h m Receiving (free_slot W.table) items blocks steps ≡ new_entry h m Receiving added.slot items blocks steps = ap (λ n. new_entry h m Receiving n items blocks steps) (sym added.is_free) in
-    ap (λ (U : World). (U, Reply.Admitted blocks steps)) (ap (with_new W) slot ∙ sym added.adds)
+granted_so W V h m items blocks steps added = ap (λ (U : World). (U, Reply.Admitted blocks steps)) (sym added)
 
 pub refused_so : (W V : World) (h : Header) (m : MetadataFields) (r : Refusal) → V ≡ with_new W (refused_entry h m Refused) → judged W h m (Refuse r) ≡ (V, Reply.Refused r)
 refused_so W V h m r added = ap (λ (U : World). (U, Reply.Refused r)) (sym added)

@@ -4,11 +4,11 @@ ghost use Rattle.std.specs.Prelude.{◌≡◌, ◌<◌, ◌≤◌, ℕ, None, Is
 ghost use Rattle.cfdp_leases.specs.Footprint.{footprint_of};
 ghost use Rattle.cfdp_leases.specs.Leases.{first_conflict};
 ghost use Rattle.cfdp_quota.specs.Budget.{IsOpen, spare};
-ghost use Rattle.cfdp_transactions.specs.Entry.{id_of, has_file, is_live};
-ghost use Rattle.cfdp_transactions.specs.World.{bound};
+ghost use Rattle.cfdp_transactions.specs.Entry.{Receiving, id_of, has_file, is_live};
+ghost use Rattle.cfdp_transactions.specs.World.{bound, free_slot};
 ghost use Rattle.cfdp_transactions.specs.Sound.{Sound};
-ghost use Rattle.cfdp_transactions.specs.Adding.{AddsEntry, AddsGranted};
-ghost use Rattle.cfdp_transactions.specs.Admission.{is_known_checksum, metadata_came, proposal_of, refused_entry};
+ghost use Rattle.cfdp_transactions.specs.Adding.{AddsEntry};
+ghost use Rattle.cfdp_transactions.specs.Admission.{is_known_checksum, metadata_came, new_entry, proposal_of, refused_entry};
 ghost use Rattle.cfdp_verifier.specs.Answers.{answered, granted_items, HasFootprint};
 ghost use Rattle.cfdp_verifier.specs.Verdict.{verdict};
 ghost use Rattle.cfdp_transactions.specs.Books.{Carries, IsAnswered, IsBooked, world_of};
@@ -180,8 +180,8 @@ fn add_granted<S: Filestore>(
     requires footprint { grant.footprint ≡ footprint_of (granted_items grant) }
     requires apart { first_conflict books.old.leases grant.footprint ≡ None }
     requires room { grant.blocks ≤ spare books.old.quota }
-    ensures adds { OnOk result (AddsGranted (world_of (S.state store.now) books.old) (world_of (S.state store.now) books.new)
-        header.now metadata.now (granted_items grant) grant.blocks grant.steps) }
+    ensures adds { let W = world_of (S.state store.now) books.old in OnOk result (AddsEntry W (world_of (S.state store.now) books.new)
+        (new_entry header.now metadata.now Receiving (free_slot W.table) (granted_items grant) grant.blocks grant.steps)) }
     ensures err { OnErr result (world_of (S.state store.now) books.new ≡ world_of (S.state store.now) books.old) }
     ensures booked { IsBooked (S.state store.now) books.new }
 {

@@ -1,12 +1,12 @@
 //! The delivery of a transaction's file: its EOF, and what follows once all its octets are there.
 
-ghost use Rattle.std.specs.Prelude.{◌≡◌, ◌<◌, ◌==◌, ◌||◌, ℕ, nat_lt, Some, length, slice_get};
+ghost use Rattle.std.specs.Prelude.{◌≡◌, ◌<◌, ◌==◌, ◌||◌, nat_lt, Some, length, slice_get};
 ghost use Rattle.cfdp_actions.specs.Filestore.{staged_in};
 ghost use Rattle.cfdp_checksum.specs.Checksum.{checksum};
 ghost use Rattle.cfdp_transactions.specs.Entry.{Entry as Transaction};
 ghost use Rattle.cfdp_transactions.specs.World.{bound};
 ghost use Rattle.cfdp_transactions.specs.Sound.{Sound};
-ghost use Rattle.cfdp_transactions.specs.Delivery.{eof_came, is_right_checksum, whole};
+ghost use Rattle.cfdp_transactions.specs.Delivery.{eof_came, whole};
 ghost use Rattle.cfdp_transactions.specs.Books.{AnswersAt, IsAnswered, IsBooked, IsLiveAt, IsSteady, world_of};
 
 use crate::admission::{NULL_CHECKSUM, bound_of, names_file};
@@ -57,8 +57,7 @@ pub(crate) fn eof<S: Filestore>(store: &mut S, books: &mut Books, place: usize, 
         turn(store, books, place, Phase::Awaiting(0), Some(eof), complete);
         return Reply::Waiting;
     }
-    let is_right = is_right(store, entry, eof.checksum);
-    judge(store, books, place, is_right)
+    judge(store, books, place, eof.checksum)
 }
 
 /// Whether a transaction's file cannot have this size: it is above the bound, or octets came past it.
@@ -70,36 +69,31 @@ fn has_wrong_size<S: Filestore>(store: &S, config: &Config, entry: &Entry, size:
 }
 
 /// Whether what is staged for a transaction has the checksum, or it is not looked at.
-pub(crate) fn is_right<S: Filestore>(store: &S, entry: &Entry, sum: u32) -> bool
+fn is_right<S: Filestore>(store: &S, entry: &Entry, sum: u32) -> bool
     requires { entry.now.slot < 64 }
     ensures { result ≡ ((entry.now.metadata.checksum_type == 15) || (checksum (staged_in (S.state store.now).filestore entry.now.slot) == sum)) }
 {
     entry.metadata().checksum_type == NULL_CHECKSUM || store.staged_checksum(entry.slot()) == sum
 }
 
-/// All octets of the file of the transaction at a place are there (§4.6.1): its items are performed from now on where the
-/// checksum is right, and else it ends.
-pub(crate) fn judge<S: Filestore>(
-    store: &mut S,
-    books: &mut Books,
-    place: usize,
-    is_right: bool,
-) -> Reply
+/// All octets of the file of the transaction at a place are there (§4.6.1): its items are performed from now on where they have
+/// the checksum, and else it ends. Costs the checksum of what is staged.
+pub(crate) fn judge<S: Filestore>(store: &mut S, books: &mut Books, place: usize, sum: u32) -> Reply
     requires sound { Sound (world_of (S.state store.old) books.old) }
     requires booked { IsBooked (S.state store.old) books.old }
     requires live { IsLiveAt (world_of (S.state store.old) books.old) place }
     ensures answer { let W = world_of (S.state store.old) books.old in
-        (e : Transaction) (sum : ℕ) → slice_get W.table place ≡ Some e → is_right ≡ is_right_checksum e sum
-        → whole W place e sum ≡ (world_of (S.state store.new) books.new, result) }
+        (e : Transaction) → slice_get W.table place ≡ Some e → whole W place e sum ≡ (world_of (S.state store.new) books.new, result) }
     ensures answered { IsAnswered result }
     ensures booked { IsBooked (S.state store.new) books.new }
     ensures steady { IsSteady (S.state store.old) (S.state store.new) }
 {
-    if !is_right {
+    let entry = books.table.at(place);
+    let eof = entry.eof();
+    if !is_right(store, entry, sum) {
         end(store, books, place, false, FILE_CHECKSUM_FAILURE);
         return Reply::Faulted(FILE_CHECKSUM_FAILURE);
     }
-    let eof = books.table.at(place).eof();
     turn(store, books, place, Phase::Executing(0), eof, true);
     Reply::Complete
 }

@@ -13,7 +13,7 @@ use crate::admission::bound_of;
 use crate::books::Books;
 use crate::closing::end;
 use crate::conditions::FILE_SIZE_ERROR;
-use crate::delivery::{is_right, judge};
+use crate::delivery::judge;
 use crate::entry::Entry;
 use crate::keeping::keep;
 use crate::{Config, Phase, Reply};
@@ -135,6 +135,5 @@ fn judge_last<S: Filestore>(store: &mut S, books: &mut Books, place: usize) -> R
     if !entry.is_whole(eof.size) {
         return Reply::Stored;
     }
-    let is_right = is_right(store, entry, eof.checksum);
-    judge(store, books, place, is_right)
+    judge(store, books, place, eof.checksum)
 }

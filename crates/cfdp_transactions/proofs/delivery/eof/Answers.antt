@@ -8,7 +8,7 @@ use Rattle.cfdp_transactions.specs.Books.{world_of}
 use Rattle.cfdp_transactions.proofs.Answering.{live_at, entry_is, carry}
 use Rattle.cfdp_transactions.proofs.RowChange.{slot_below}
 use Rattle.cfdp_transactions.proofs.Turning.{empty_by_length}
-use Rattle.cfdp_transactions.proofs.EofAnswers.{eof_fault, eof_again, eof_first, eof_bare, eof_no_file, eof_size, eof_waits, eof_whole, is_wrong_size, received_size, whole_row, right_row}
+use Rattle.cfdp_transactions.proofs.EofAnswers.{eof_fault, eof_again, eof_first, eof_bare, eof_no_file, eof_size, eof_waits, eof_whole, is_wrong_size, received_size, whole_row}
 use Rattle.cfdp_transactions.proofs.delivery.eof.Goals as goal
 
 pub end-requires-clause-live : goal.end-requires-clause-live
@@ -176,16 +176,6 @@ returns-then-not-is_whole-clause-answer g c = λ e there.
     let all = whole_row s b c.requires.sound c.requires.booked k r at live c.args.eof.size ∙ sym c.is_whole.ensures ∙ c.if-not-is_whole.true in
     begin ∙ eof_waits _ _ k c.args.eof e there (rw same some) (rw same file) (rw same wrong) (rw same all) (rw same (rw c.is_complete-complete.ensures at c.turn-then-not-is_whole.ensures.turns))
 
-pub is_right-is_right-requires : goal.is_right-is_right-requires
-is_right-is_right-requires g c =
-    let s = g.S.Filestore.state c.args.store.now in
-    let b = c.args.books.now in
-    let k = c.args.place in
-    let r = c.at-entry.result.now in
-    let at = c.at-entry.ensures in
-    let live : is_live r.phase ≡ true = cc in
-    slot_below s b c.requires.sound c.requires.booked k r at live
-
 pub judge-requires-clause-live : goal.judge-requires-clause-live
 judge-requires-clause-live g c =
     let s = g.S.Filestore.state c.args.store.now in
@@ -213,5 +203,4 @@ returns-clause-answer g c = λ e there.
     let size = received_size s b c.requires.sound c.requires.booked k r at live in
     let wrong : is_wrong_size (world_of s b) c.args.eof (entry_in s.filestore r) ≡ false = rw size (sym c.has_wrong_size.ensures ∙ c.if-has_wrong_size.false) in
     let all = whole_row s b c.requires.sound c.requires.booked k r at live c.args.eof.size ∙ sym c.is_whole.ensures ∙ c.if-not-is_whole.false in
-    let right = c.is_right-is_right.ensures ∙ sym (right_row s b c.requires.sound c.requires.booked k r at live c.args.eof.checksum) in
-    carry _ _ _ _ c.judge.ensures.answered (begin ∙ eof_whole _ k c.args.eof e (rw same some) (rw same file) (rw same wrong) (rw same all) ∙ c.judge.ensures.answer e c.args.eof.checksum there (rw same right))
+    carry _ _ _ _ c.judge.ensures.answered (begin ∙ eof_whole _ k c.args.eof e (rw same some) (rw same file) (rw same wrong) (rw same all) ∙ c.judge.ensures.answer e there)

@@ -3,21 +3,9 @@ use Rattle.std.specs.Prelude.{true, Some}
 use Rattle.cfdp_transactions.specs.Entry.{Awaiting, is_live}
 use Rattle.cfdp_transactions.specs.Books.{world_of}
 use Rattle.cfdp_transactions.proofs.Answering.{live_at, entry_is}
-use Rattle.cfdp_transactions.proofs.EofAnswers.{whole_row, right_row}
+use Rattle.cfdp_transactions.proofs.EofAnswers.{whole_row}
 use Rattle.cfdp_transactions.proofs.DataAnswers.{last_waits, last_whole}
-use Rattle.cfdp_transactions.proofs.RowChange.{slot_below}
 use Rattle.cfdp_transactions.proofs.file_data.judge_last.Goals as goal
-
-pub is_right-is_right-requires : goal.is_right-is_right-requires
-is_right-is_right-requires g c =
-    let s = g.S.Filestore.state c.args.store.now in
-    let b = c.args.books.now in
-    let k = c.args.place in
-    let r = c.at-entry.result.now in
-    let at = c.at-entry.ensures in
-    let waits : r.phase ≡ Awaiting c.in-Awaiting.field-0 = cc in
-    let live : is_live r.phase ≡ true = rw waits refl in
-    slot_below s b c.requires.sound c.requires.booked k r at live
 
 pub judge-requires-clause-live : goal.judge-requires-clause-live
 judge-requires-clause-live g c =
@@ -56,5 +44,4 @@ returns-clause-answer g c = λ e there.
     let same = entry_is s b k r at e there in
     let came : r.eof ≡ Some c.in-Some.eof = cc in
     let all = whole_row s b c.requires.sound c.requires.booked k r at live c.in-Some.eof.size ∙ sym c.is_whole.ensures ∙ c.if-not-is_whole.false in
-    let right = c.is_right-is_right.ensures ∙ sym (right_row s b c.requires.sound c.requires.booked k r at live c.in-Some.eof.checksum) in
-    last_whole (world_of s b) k e c.in-Awaiting.field-0 c.in-Some.eof (rw same waits) (rw same came) (rw same all) ∙ c.judge.ensures.answer e c.in-Some.eof.checksum there (rw same right)
+    last_whole (world_of s b) k e c.in-Awaiting.field-0 c.in-Some.eof (rw same waits) (rw same came) (rw same all) ∙ c.judge.ensures.answer e there
