@@ -1,14 +1,14 @@
 -- What is missing of a transaction's file, by its ranges.
 use Rattle.std.proofs.Common.{◌≡◌, ℕ, List, length, refl, ap, sym, ◌∙◌, arith}
-use Rattle.std.specs.Prelude.{Some, slice_get, IsTrue}
+use Rattle.std.specs.Prelude.{Bool, true, false, if◌then◌else◌, Some, slice_get, IsTrue}
 use Rattle.std.proofs.lemmas.List.{length-replicate}
 use Rattle.cfdp_actions.specs.Filestore.{staged_in}
 use Rattle.cfdp_actions.specs.Store.{Store}
 use Rattle.cfdp_transactions.specs.Received.{Received, gaps_below}
 use Rattle.cfdp_transactions.specs.Pieces.{end_of, received_in}
-use Rattle.cfdp_transactions.specs.Entry.{Phase, Receiving, Awaiting, Executing, Refused, Done, Ended, Entry, awaited, gaps, gaps_in, is_live}
+use Rattle.cfdp_transactions.specs.Entry.{Phase, Receiving, Awaiting, Executing, Refused, Done, Ended, Entry, awaited, gaps, gaps_in, is_live, progress, reach, reach_in}
 use Rattle.cfdp_transactions.specs.Sound.{Sound}
-use Rattle.cfdp_transactions.specs.Rows.{Row, entry_in, row_gaps, row_gaps_in}
+use Rattle.cfdp_transactions.specs.Rows.{Row, entry_in, row_gaps, row_gaps_in, row_progress, row_reach, row_reach_in}
 use Rattle.cfdp_transactions.specs.Books.{IsBooked, world_of}
 use Rattle.cfdp_transactions.specs.declared.books.Books.{Books}
 use Rattle.cfdp_transactions.proofs.PieceRanges.{gaps_are_between}
@@ -44,3 +44,24 @@ module _ (s : Store) (b : Books) (sound : Sound (world_of s b)) (booked : IsBook
 
   pub gaps_row : gaps e ≡ row_gaps r
   gaps_row = gaps_by r.phase refl
+
+  -- the end of the last octet, and up to where the gaps tell
+  progress_by : (live : Bool) → is_live r.phase ≡ live → progress e ≡ (if live then end_of r.ranges else 0)
+  progress_by true is =
+      let live : IsTrue (is_live r.phase) = is in
+      ap (λ (rs : Received). length rs) (is_received live) ∙ length-received 0 r.ranges xs ∙ sym (booked.pieces k r at live).to_end
+  progress_by false is = rw is refl
+
+  pub progress_row : progress e ≡ row_progress r
+  progress_row = progress_by (is_live r.phase) refl
+
+  reach_by : (phase : Phase) → r.phase ≡ phase → reach_in phase e ≡ row_reach_in phase r
+  reach_by Receiving is = progress_by true (rw is refl)
+  reach_by (Awaiting checks) is = refl
+  reach_by (Executing next) is = refl
+  reach_by Refused is = refl
+  reach_by Done is = refl
+  reach_by (Ended condition) is = refl
+
+  pub reach_row : reach e ≡ row_reach r
+  reach_row = reach_by r.phase refl

@@ -1,12 +1,12 @@
 -- The program's rows, and the world that they and the store are.
-use Rattle.std.proofs.Common.{◌≡◌, ◌≢◌, ℕ, zero, suc, ◌≤◌, List, [], ◌∷◌, ◌++◌, length, drop, refl, ap, arith}
+use Rattle.std.proofs.Common.{◌≡◌, ◌≢◌, ℕ, zero, suc, ◌≤◌, List, [], ◌∷◌, ◌++◌, length, map, drop, refl, ap, arith}
 use Rattle.std.specs.Prelude.{Bool, true, false, Option, Some, None, slice_get, slice_set, remove, option_map, IsTrue}
 use Rattle.cfdp_status.specs.declared.transaction.TransactionId.{TransactionId}
 use Rattle.cfdp_actions.specs.Filestore.{Filestore, staged_in}
 use Rattle.cfdp_transactions.specs.Received.{Received}
-use Rattle.cfdp_transactions.specs.Entry.{Phase, Receiving, Awaiting, Executing, Refused, Done, Ended, is_live, Entry}
-use Rattle.cfdp_transactions.specs.World.{place_of, next_runnable}
-use Rattle.cfdp_transactions.specs.Rows.{Row, received_by, entry_in, table_of, row_name, row_place, first_executing}
+use Rattle.cfdp_transactions.specs.Entry.{Phase, Receiving, Awaiting, Executing, Refused, Done, Ended, is_live, name_of, Entry}
+use Rattle.cfdp_transactions.specs.World.{place_of, next_runnable, next_outcome}
+use Rattle.cfdp_transactions.specs.Rows.{Row, received_by, entry_in, table_of, row_name, row_place, first_executing, first_over}
 
 pub place_in : (F : Filestore) (id : TransactionId) (rows : List Row) → place_of id (table_of F rows) ≡ row_place id rows
 place_in F id [] = refl
@@ -80,6 +80,32 @@ executing_none [] zero h = refl
 executing_none [] (suc k) h = refl
 executing_none (r ∷ rows) zero h = absurd (omega arith)
 executing_none (r ∷ rows) (suc k) h = executing_none rows k (omega arith)
+
+-- the first one that is over -----------------------------------------------------------
+
+pub over_here : (rows : List Row) (k : ℕ) (r : Row) → slice_get rows k ≡ Some r → is_live r.phase ≡ false → first_over (drop k rows) ≡ Some (row_name r)
+over_here [] k r at over = absurd cc
+over_here (q ∷ rows) zero r at over = let same : q ≡ r = cc in rw (same, over) refl
+over_here (q ∷ rows) (suc k) r at over = over_here rows k r at over
+
+pub over_later : (rows : List Row) (k : ℕ) (r : Row) → slice_get rows k ≡ Some r → is_live r.phase ≡ true → first_over (drop k rows) ≡ first_over (drop (suc k) rows)
+over_later [] k r at live = absurd cc
+over_later (q ∷ rows) zero r at live = let same : q ≡ r = cc in rw (same, live) refl
+over_later (q ∷ rows) (suc k) r at live = over_later rows k r at live
+
+pub over_none : (rows : List Row) (k : ℕ) → length rows ≤ k → first_over (drop k rows) ≡ None
+over_none [] zero h = refl
+over_none [] (suc k) h = refl
+over_none (r ∷ rows) zero h = absurd (omega arith)
+over_none (r ∷ rows) (suc k) h = over_none rows k (omega arith)
+
+pub over_in : (F : Filestore) (rows : List Row) → next_outcome (table_of F rows) ≡ first_over rows
+over_in F [] = refl
+over_in F (r ∷ rows) = rw (over_in F rows) refl
+
+pub names_in : (F : Filestore) (rows : List Row) → map name_of (table_of F rows) ≡ map row_name rows
+names_in F [] = refl
+names_in F (r ∷ rows) = rw (names_in F rows) refl
 
 -- what is read by name -----------------------------------------------------------------
 

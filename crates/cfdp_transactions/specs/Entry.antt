@@ -11,6 +11,8 @@
 --     reserve e                 these, while the entry is live, else 0
 --     awaited eof               the size that the EOF gave
 --     gaps e, gaps_in           the offsets that a NAK would ask for (§4.6.4.3);  by the phase
+--     progress e                the end of the last octet kept: 0 where none is kept
+--     reach e, reach_in         the offset up to which gaps tells;  by the phase
 use Rattle.std.specs.Prelude.{ℕ, suc, ◌+◌, ◌-◌, ℤ, pos, negsuc, ◌+ℤ◌, ◌-ℤ◌, Bool, true, false, ◌==◌, if◌then◌else◌, List, [], drop, length, Option, Some, None}
 use Rattle.cfdp_status.specs.declared.status.Status.{Status}
 use Rattle.cfdp_status.specs.declared.transaction.TransactionId.{TransactionId}
@@ -108,3 +110,14 @@ gaps_in phase e = []
 
 abbrev pub gaps : Entry → List (ℕ × ℕ)
 gaps e = gaps_in e.phase e
+
+abbrev pub progress : Entry → ℕ
+progress e = length e.received
+
+abbrev pub reach_in : Phase → Entry → ℕ
+reach_in Receiving e = progress e
+reach_in (Awaiting checks) e = awaited e.eof
+reach_in phase e = 0
+
+abbrev pub reach : Entry → ℕ
+reach e = reach_in e.phase e

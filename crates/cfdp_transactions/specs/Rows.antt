@@ -5,6 +5,8 @@
 --     entry_in F r, table_of    the entry that it is, over a filestore;  all of them
 --     row_name, row_place       its name;  where a transaction is in the table: the length where it is not there
 --     first_executing           the first one in Executing
+--     first_over                the first one that is over
+--     row_progress, row_reach, row_reach_in     the end of its last octet;  up to where its gaps tell, by its phase
 --     row_gaps r, row_gaps_in   what is missing between its ranges, and up to the size of its EOF;  by its phase
 --     fresh_row                 a row with nothing received and nothing spent
 --     row_ended, row_turned     a row that ends, as `ended` says;  that comes to another phase
@@ -76,6 +78,21 @@ row_place id (r ∷ rs) = if is_same (row_name r) id then 0 else suc (row_place 
 abbrev pub first_executing : List Row → Option TransactionId
 first_executing [] = None
 first_executing (r ∷ rs) = if is_executing r.phase then Some (row_name r) else first_executing rs
+
+abbrev pub first_over : List Row → Option TransactionId
+first_over [] = None
+first_over (r ∷ rs) = if is_live r.phase then first_over rs else Some (row_name r)
+
+abbrev pub row_progress : Row → ℕ
+row_progress r = if is_live r.phase then end_of r.ranges else 0
+
+abbrev pub row_reach_in : Phase → Row → ℕ
+row_reach_in Receiving r = end_of r.ranges
+row_reach_in (Awaiting checks) r = awaited r.eof
+row_reach_in phase r = 0
+
+abbrev pub row_reach : Row → ℕ
+row_reach r = row_reach_in r.phase r
 
 abbrev pub row_gaps_in : Phase → Row → Ranges
 row_gaps_in Receiving r = between 0 r.ranges (end_of r.ranges)

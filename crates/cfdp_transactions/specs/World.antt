@@ -7,6 +7,7 @@
 --     free_slot                 the least slot that no live transaction has
 --     bound                     how long a transaction's file may be
 --     next_runnable             the first transaction in Executing
+--     next_outcome              the first transaction whose outcome can be taken: it is refused, done or ended
 --     change_at W k changes e   the filestore and the entry at k change, and nothing else
 use Rattle.std.specs.Prelude.{ℕ, zero, suc, ◌+◌, ◌-◌, Bool, ◌&&◌, ◌==◌, if◌then◌else◌, List, [], ◌∷◌, Option, Some, None, slice_get, slice_set}
 use Rattle.std.specs.List.{list_any}
@@ -69,6 +70,10 @@ bound c m = if has_file m then (if m.size == 0 then c.cap else m.size) else 0
 abbrev pub next_runnable : List Entry → Option TransactionId
 next_runnable [] = None
 next_runnable (e ∷ es) = if is_executing e.phase then Some (name_of e) else next_runnable es
+
+abbrev pub next_outcome : List Entry → Option TransactionId
+next_outcome [] = None
+next_outcome (e ∷ es) = if is_live e.phase then next_outcome es else Some (name_of e)
 
 abbrev pub change_at : World → ℕ → List Change → Entry → World
 change_at W k changes new = record W { filestore = after W.filestore changes; table = slice_set W.table k new }

@@ -6,7 +6,7 @@ ghost use Rattle.cfdp_transactions.specs.Items.{item_of};
 ghost use Rattle.cfdp_leases.specs.Items.{items_of};
 ghost use Rattle.cfdp_transactions.specs.Entry.{Done, Executing, awaited};
 ghost use Rattle.cfdp_transactions.specs.Pieces.{is_all, with_range};
-ghost use Rattle.cfdp_transactions.specs.Rows.{fresh_row, row_ended, row_gaps, row_name, row_stepped, row_stored, row_turned};
+ghost use Rattle.cfdp_transactions.specs.Rows.{fresh_row, row_ended, row_gaps, row_name, row_stepped, row_stored, row_turned, row_progress, row_reach};
 
 use crate::Phase;
 use crate::event::transaction_of;
@@ -218,6 +218,28 @@ impl Entry {
             Phase::Receiving => self.ranges.gaps(self.ranges.end()),
             Phase::Awaiting(_) => self.ranges.gaps(self.awaited_size()),
             _ => ArrayVec::new(),
+        }
+    }
+
+    /// The end of the last octet of its file that is kept.
+    pub(crate) fn progress(&self) -> u64
+        ensures { result ≡ row_progress self.now }
+    {
+        if self.phase.is_live() {
+            self.ranges.end()
+        } else {
+            0
+        }
+    }
+
+    /// The offset up to which its gaps tell what is missing.
+    pub(crate) fn reach(&self) -> u64
+        ensures { result ≡ row_reach self.now }
+    {
+        match self.phase {
+            Phase::Receiving => self.ranges.end(),
+            Phase::Awaiting(_) => self.awaited_size(),
+            _ => 0,
         }
     }
 

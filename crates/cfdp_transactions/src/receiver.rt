@@ -1,14 +1,14 @@
 //! The core of a receiving entity.
 
-ghost use Rattle.std.specs.Prelude.{◌≡◌, ◌∷◌, [], IfOk, IsOk, IsNone, IsTrue, IsFalse};
+ghost use Rattle.std.specs.Prelude.{◌≡◌, ◌∷◌, [], IfOk, IsOk, IsNone, IsTrue, IsFalse, map, slice_get};
 ghost use Rattle.cfdp_actions.specs.Store.{empty_store};
 ghost use Rattle.cfdp_transactions.specs.Sound.{Sound};
-ghost use Rattle.cfdp_transactions.specs.World.{leases_of, next_runnable, spare, start};
+ghost use Rattle.cfdp_transactions.specs.World.{leases_of, next_outcome, next_runnable, spare, start};
 ghost use Rattle.cfdp_transactions.specs.Events.{Cancel, Check, DataCame, EofCame, MetadataCame, Step, Take};
 ghost use Rattle.cfdp_transactions.specs.Needs.{Follows, may_want_memory};
 ghost use Rattle.cfdp_transactions.specs.Books.{IsAnswered};
-ghost use Rattle.cfdp_transactions.specs.Entry.{gaps};
-ghost use Rattle.std.specs.Option.{option_map};
+ghost use Rattle.cfdp_transactions.specs.Entry.{gaps, name_of, progress, reach};
+ghost use Rattle.std.specs.Option.{option_copied, option_map};
 ghost use Rattle.cfdp_transactions.specs.Engine.{AsksForNone, begins, outcome_in, read_of};
 
 use crate::books::Books;
@@ -145,6 +145,54 @@ impl<S: Filestore> Core<S> {
         Some(entry.gaps())
     }
 
+    /// The end of the last octet of a transaction's file that is kept, as an offset: 0 where none is kept.
+    pub fn progress(&self, id: TransactionId) -> Option<u64>
+        ensures { result ≡ read_of progress self.now.world id }
+    {
+        let Some(entry) = self.books.table.get(id) else {
+            return None;
+        };
+        Some(entry.progress())
+    }
+
+    /// The offset up to which [`gaps`](Core::gaps) tells what is missing: the end of the last octet kept, and once the EOF PDU came
+    /// the size that it gave. 0 where no file data is taken.
+    pub fn reach(&self, id: TransactionId) -> Option<u64>
+        ensures { result ≡ read_of reach self.now.world id }
+    {
+        let Some(entry) = self.books.table.get(id) else {
+            return None;
+        };
+        Some(entry.reach())
+    }
+
+    /// A transaction's Metadata (CCSDS 727.0-B-5 §5.2.5) as it came: the names, the size, whether closure was requested, the checksum
+    /// type and the requests. It is lent.
+    pub fn metadata(&self, id: TransactionId) -> Option<&Metadata>
+        ensures { option_copied result ≡ read_of (λ e. e.metadata) self.now.world id }
+    {
+        let Some(entry) = self.books.table.get(id) else {
+            return None;
+        };
+        Some(entry.metadata())
+    }
+
+    /// The transaction with this number in order of admission, counted from 0: `None` where there are not that many. Those
+    /// that are refused, done or ended count too, until their outcome is taken. Takes no memory. Cost: constant.
+    pub fn transaction_at(&self, index: usize) -> Option<TransactionId>
+        ensures { result ≡ slice_get (map name_of self.now.world.table) index }
+    {
+        self.books.table.name_at(index)
+    }
+
+    /// The first transaction, in order of admission, whose outcome can be taken: it is refused, done or ended. Goes through the
+    /// table. Takes no memory.
+    pub fn next_outcome(&self) -> Option<TransactionId>
+        ensures { result ≡ next_outcome self.now.world.table }
+    {
+        self.books.table.next_outcome()
+    }
+
     /// The outcome of a transaction that is over, as it will be handed out when it is taken: `None` where the transaction is
     /// live or not known.
     ///
@@ -213,7 +261,7 @@ impl<S: Filestore> Core<S> {
         ensures steady { self.new.takes_no_memory ≡ self.old.takes_no_memory }
     {
         match event {
-            Event::Metadata(header, metadata) => self.metadata(header, metadata),
+            Event::Metadata(header, metadata) => self.metadata_came(header, metadata),
             Event::Data(header, data) => self.file_data(header, &data.piece()),
             Event::Eof(header, eof) => self.eof(header, *eof),
             Event::Step(id) => self.step(*id),
@@ -242,7 +290,7 @@ impl<S: Filestore> Core<S> {
     }
 
     /// A Metadata PDU came (CCSDS 727.0-B-5 §5.2.5): it is copied where it begins a transaction.
-    fn metadata(&mut self, header: &Header, metadata: &Metadata) -> Reply
+    fn metadata_came(&mut self, header: &Header, metadata: &Metadata) -> Reply
         ensures follows { Follows self.old.world (MetadataCame header.now metadata.now) result self.new.world }
         ensures lean { IsFalse (begins self.old.world header.now metadata.now) → IsAnswered result }
         ensures steady { self.new.takes_no_memory ≡ self.old.takes_no_memory }

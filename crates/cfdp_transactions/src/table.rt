@@ -1,8 +1,8 @@
 //! The table of transactions.
 
-ghost use Rattle.std.specs.Prelude.{◌≡◌, ◌≤◌, ◌<◌, pos, negsuc, ◌≤ℤ◌, Some, None, [], IfSome, IfNone, IfOk, OnOk, OnErr, ◌∷◌, ◌++◌, length, slice_get, remove};
+ghost use Rattle.std.specs.Prelude.{◌≡◌, ◌≤◌, ◌<◌, pos, negsuc, ◌≤ℤ◌, Some, None, [], IfSome, IfNone, IfOk, OnOk, OnErr, ◌∷◌, ◌++◌, length, map, slice_get, remove};
 ghost use Rattle.std.specs.Option.{option_copied};
-ghost use Rattle.cfdp_transactions.specs.Rows.{first_executing, row_name, row_place, row_ended, row_stepped, row_stored, row_turned};
+ghost use Rattle.cfdp_transactions.specs.Rows.{first_executing, first_over, row_name, row_place, row_ended, row_stepped, row_stored, row_turned};
 ghost use Rattle.cfdp_transactions.specs.RowChanges.{Becomes, CanAdvance, CanStore};
 
 use crate::Phase;
@@ -66,6 +66,30 @@ impl Table {
             }
         }
         None
+    }
+
+    /// The first transaction that is over. Goes through them.
+    pub(crate) fn next_outcome(&self) -> Option<TransactionId>
+        ensures { result ≡ first_over self.now }
+    {
+        for place in 0..self.len() {
+            let entry = self.at(place);
+            if !entry.phase().is_live() {
+                return Some(entry.name());
+            }
+        }
+        None
+    }
+
+    /// The name of the transaction at a place, if there is one.
+    pub(crate) fn name_at(&self, place: usize) -> Option<TransactionId>
+        ensures { result ≡ slice_get (map row_name self.now) place }
+    {
+        if place < self.len() {
+            Some(self.at(place).name())
+        } else {
+            None
+        }
     }
 
     /// How many there are.

@@ -1,0 +1,6 @@
+use Rattle.std.proofs.Common.{◌≡◌, drop}
+use Rattle.cfdp_transactions.specs.Rows.{first_over}
+use Rattle.cfdp_transactions.proofs.table.Table.next_outcome.Given as goal
+
+abbrev pub invariant-loop-place : goal.invariant-loop-place
+invariant-loop-place l = first_over l.self ≡ first_over (drop l.place l.self)
