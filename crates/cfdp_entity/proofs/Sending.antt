@@ -1,7 +1,8 @@
--- The outcome that an entity tells of before it is taken can be written.
-use Rattle.std.proofs.Common.{◌≡◌, ℕ, [], ◌∷◌, Bool, true, false, Option, Some, sym, subst}
+-- The outcome that an entity tells of before it is taken can be written, and its Finished PDU has at most 16488 octets.
+use Rattle.std.proofs.Common.{◌≡◌, ℕ, ◌≤◌, List, [], ◌∷◌, length, Bool, true, false, Option, Some, sym, subst, arith}
 use Rattle.std.specs.Prelude.{⊤, None, if◌then◌else◌, remove}
 use Rattle.std.specs.Option.{option_map}
+use Rattle.std.proofs.lemmas.Bool.{cond_both}
 use Rattle.cfdp_status.specs.declared.transaction.TransactionId.{TransactionId}
 use Rattle.cfdp_transactions.specs.declared.outcome.Outcome.{Outcome}
 use Rattle.cfdp_transactions.specs.declared.reply.Reply.{Reply}
@@ -12,8 +13,10 @@ use Rattle.cfdp_transactions.specs.World.{World, index_of, entry_of}
 use Rattle.cfdp_transactions.specs.Outcome.{outcome_of}
 use Rattle.cfdp_transactions.specs.Ending.{taken_out}
 use Rattle.cfdp_transactions.specs.Engine.{outcome_when_over, where_any, outcome_in}
-use Rattle.cfdp_transactions.specs.Writable.{FitsReply, IsWritable}
+use Rattle.cfdp_transactions.specs.Writable.{FitsReply, IsWritable, longest_finished}
 use Rattle.cfdp_transactions.specs.Fitting.{OnlyWritable}
+use Rattle.cfdp_transactions.specs.Next.{next}
+use Rattle.cfdp_entity.specs.Sending.{sent}
 
 abbrev Fits : Option Outcome → Type 0
 Fits None = ⊤
@@ -34,3 +37,12 @@ fits_of W k (Some e) fits = fits_by (is_live e.phase) W (record W { table = remo
 -- an outcome can be written
 pub some_fits : (W : World) (id : TransactionId) (o : Outcome) → OnlyWritable W → Some o ≡ outcome_in W id → IsWritable o
 some_fits W id o only some = subst Fits (sym some) (fits_of W (index_of W id) (entry_of W id) (only (Take id ∷ []) (tt, tt)).0)
+
+-- its length -------------------------------------------------------------------------
+
+reply_len : (reply : Reply) → FitsReply reply → length (sent reply) ≤ longest_finished
+reply_len (replied.Taken o) fits = cond_both o.send _ _ (λ (octets : List ℕ). length octets ≤ longest_finished) (λ _. fits.most) (λ _. omega arith)
+reply_len reply fits = omega arith
+
+pub sent_len : (W : World) (id : TransactionId) → OnlyWritable W → length (sent (next W (Take id)).1) ≤ longest_finished
+sent_len W id only = reply_len (next W (Take id)).1 (only (Take id ∷ []) (tt, tt)).0

@@ -1,10 +1,9 @@
 //! The receiving entity.
-ghost use Rattle.std.specs.Prelude.{◌≡◌, ◌<◌, ◌++◌, ℕ, List, [], drop, length, true, IsFalse, IsNone, IsOk, IfOk, IfErr, OnErr, Ok, Err, Some, None};
+ghost use Rattle.std.specs.Prelude.{◌≡◌, ◌<◌, ◌≤◌, ◌++◌, ℕ, List, [], drop, length, true, IsFalse, IsNone, IsOk, IfOk, IfErr, OnErr, Ok, Err, Some, None};
 ghost use Rattle.cfdp_actions.specs.Filestore.{File, node_at};
 ghost use Rattle.cfdp_pdus.specs.First.{pdu_at};
 ghost use Rattle.cfdp_pdus.specs.Sound.{IsNoFileData};
 ghost use Rattle.cfdp_pdus.specs.Canonical.{IsHeader};
-ghost use Rattle.cfdp_pdus.specs.declared.fault.PduFault.TheVariants.{Memory as OutOfMemory};
 ghost use Rattle.cfdp_transactions.specs.Entry.{gaps};
 ghost use Rattle.cfdp_transactions.specs.Engine.{AsksForNone, outcome_in, read_of};
 ghost use Rattle.cfdp_transactions.specs.Events.{about};
@@ -14,11 +13,10 @@ ghost use Rattle.cfdp_transactions.specs.Fitting.{OnlyWritable, only_writable_pr
 ghost use Rattle.cfdp_transactions.specs.Next.{next};
 ghost use Rattle.cfdp_transactions.specs.World.{start};
 ghost use Rattle.cfdp_transactions.specs.Needs.{Follows, may_want_memory};
-ghost use Rattle.cfdp_transactions.specs.Writable.{FitsReply, IsReadable, IsWritable};
+ghost use Rattle.cfdp_transactions.specs.Writable.{FitsReply, IsReadable, IsWritable, longest_finished};
 ghost use Rattle.cfdp_transactions.specs.Books.{IsAnswered};
-ghost use Rattle.cfdp_entity.specs.Hearing.{IsUnheard, MayWantMemory, heard};
+ghost use Rattle.cfdp_entity.specs.Hearing.{IsUnheard, heard};
 ghost use Rattle.cfdp_entity.specs.Sending.{IsUntaken, sent};
-ghost use Rattle.cfdp_entity.specs.declared.fault.NotHeard.TheVariants.{Fault};
 ghost use Rattle.cfdp_entity.specs.declared.fault.NotTaken.TheVariants.{Memory as NoMemory, TooShort};
 
 use crate::{NotHeard, NotTaken};
@@ -158,7 +156,6 @@ impl Entity {
     ) -> Result<(TransactionId, Reply), NotHeard>
         ensures ok { IfOk result (λ told. (event : EventOf) × (heard octets.now ≡ Ok event) × (told.0 ≡ about event) × (next self.old event ≡ (self.new, told.1))) }
         ensures err { IfErr result (IsUnheard octets.now) }
-        ensures memory { result ≡ Err (Fault OutOfMemory) → MayWantMemory octets.now }
         ensures unchanged { OnErr result (self.new ≡ self.old) }
     {
         let Some((header, piece)) = read_piece(octets) else {
@@ -173,8 +170,8 @@ impl Entity {
     /// The octets that are to be sent of a transaction's outcome once it is taken: none where there is no outcome.
     fn octets_to_send(&self, alloc: Global, id: TransactionId) -> Result<Vec<u8>, Memory>
         ensures octets { IfOk result (λ octets. octets.items ≡ sent (next self.now (TakeCame id)).1) }
+        ensures most { length (sent (next self.now (TakeCame id)).1) ≤ longest_finished }
         ensures lean { IsNone (outcome_in self.now id) → IsOk result }
-        ensures none { IfOk result (λ octets. IsNone (outcome_in self.now id) → octets.items ≡ []) }
     {
         match self.core.outcome(id)? {
             None => Ok(Vec::new(alloc)),
@@ -184,7 +181,7 @@ impl Entity {
 
     /// The outcome of a transaction is taken, with which it is forgotten (CCSDS 727.0-B-5 §4.6.1): the reply, and how many
     /// octets at the beginning of `out` are the Finished PDU, none where it is not to be sent or there is no outcome. The
-    /// octets behind them are as before.
+    /// octets behind them are as before. They are at most 16,488.
     ///
     /// # Errors
     ///
@@ -200,6 +197,7 @@ impl Entity {
     ) -> Result<(Reply, usize), NotTaken>
         ensures ok { IfOk result (λ taken. next self.old (TakeCame id) ≡ (self.new, taken.0)) }
         ensures len { IfOk result (λ taken. taken.1 ≡ length (sent taken.0)) }
+        ensures most { length (sent (next self.old (TakeCame id)).1) ≤ longest_finished }
         ensures written { IfOk result (λ taken. out.new ≡ sent taken.0 ++ drop (length (sent taken.0)) out.old) }
         ensures short { IfErr result (IsUntaken self.old id out.old) }
         ensures lean { IsNone (outcome_in self.old id) → IsOk result }

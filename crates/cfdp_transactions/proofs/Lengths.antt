@@ -1,6 +1,7 @@
--- The lengths of a Finished PDU, in the words in which it is written: where requests are short, its fields fit.
+-- The lengths of a Finished PDU, in the words in which it is written: where requests are short, its fields fit, and it has at most
+-- 16488 octets.
 use Rattle.std.proofs.Common.{◌≡◌, ℕ, zero, suc, ◌+◌, ◌*◌, ◌≤◌, List, [], ◌∷◌, length, refl, arith}
-use Rattle.std.specs.Prelude.{Option, Some, None, true}
+use Rattle.std.specs.Prelude.{Option, Some, None, true, false, nat_le}
 use Rattle.std.specs.Int.{bytes_high_first}
 use Rattle.std.specs.List.{AllByRecursion, flat_map, list_all}
 use Rattle.std.proofs.lemmas.Bool.{and_from, le-leb}
@@ -12,9 +13,10 @@ use Rattle.cfdp_tlv.specs.Values.{RequestFields}
 use Rattle.cfdp_tlv.specs.Grammar.{names_of, request_octets, response_octets}
 use Rattle.cfdp_pdus.specs.declared.header.Header.{Header}
 use Rattle.cfdp_pdus.specs.Values.{FinishedFields}
-use Rattle.cfdp_pdus.specs.Canonical.{response_field, fault_location, is_short_response, finished_field, finished_fits}
+use Rattle.cfdp_pdus.specs.Canonical.{response_field, fault_location, is_short_response, finished_field, finished_fits, pdu_octets}
+use Rattle.cfdp_pdus.proofs.WriteSteps.{pdu_len}
 use Rattle.cfdp_transactions.specs.Outcome.{answered, responses_of}
-use Rattle.cfdp_transactions.specs.Writable.{IsShort}
+use Rattle.cfdp_transactions.specs.Writable.{IsShort, longest_finished}
 
 -- the message, of length 0
 response_len : (r : RequestFields) (s : Status) → length (response_octets (answered r s)) ≡ suc (length (request_octets r))
@@ -45,9 +47,19 @@ fault_len : (id_len : ℕ) (fault : Option ℕ) → length (fault_location id_le
 fault_len id_len None = omega arith
 fault_len id_len (Some entity) = omega (arith, length-bytes id_len entity)
 
--- 64 responses of 257 octets, and a fault location
-pub fields_fit : (header : Header) (f : FinishedFields) (rs : List RequestFields) (ss : List Status) → f.responses ≡ responses_of rs ss → header.id_len ≤ 8 → length rs ≤ 64 → AllByRecursion IsShort rs →
-    finished_fits header f ≡ true
-unfolding finished_fits finished_field
-fields_fit header f rs ss is short few h =
-    rw is (and_from _ _ (responses_short rs ss h) (le-leb _ _ (omega (arith, fault_len header.id_len f.fault, responses_len rs ss h, length-append (flat_map response_field (responses_of rs ss)) (fault_location header.id_len f.fault)))))
+-- 2 octets, 64 responses of 257, and a fault location of 10
+field_len : (header : Header) (f : FinishedFields) (rs : List RequestFields) (ss : List Status) → f.responses ≡ responses_of rs ss → header.id_len ≤ 8 → length rs ≤ 64 → AllByRecursion IsShort rs →
+    length (finished_field header f) ≤ 16460
+unfolding finished_field
+field_len header f rs ss is short few h =
+    rw is (omega (arith, fault_len header.id_len f.fault, responses_len rs ss h, length-append (flat_map response_field (responses_of rs ss)) (fault_location header.id_len f.fault)))
+
+module _ (header : Header) (f : FinishedFields) (rs : List RequestFields) (ss : List Status) (is : f.responses ≡ responses_of rs ss) (short : header.id_len ≤ 8) (few : length rs ≤ 64) (h : AllByRecursion IsShort rs) where
+  pub fields_fit : finished_fits header f ≡ true
+  unfolding finished_fits
+  fields_fit =
+      let field = length (finished_field header f) in
+      and_from (list_all is_short_response f.responses) (nat_le field 65535) (rw is (responses_short rs ss h)) (le-leb field 65535 (omega (arith, field_len header f rs ss is short few h)))
+
+  pub octets_fit : header.number_len ≤ 8 → length (pdu_octets false header (finished_field header f)) ≤ longest_finished
+  octets_fit number = omega (arith, pdu_len false header (finished_field header f), field_len header f rs ss is short few h)

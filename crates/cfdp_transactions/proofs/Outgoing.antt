@@ -24,7 +24,7 @@ use Rattle.cfdp_transactions.specs.Admission.{proposal_of, judged, is_known_chec
 use Rattle.cfdp_transactions.specs.Next.{for_us, next, replies}
 use Rattle.cfdp_transactions.specs.Sound.{Each}
 use Rattle.cfdp_transactions.specs.Writable.{IsWritable, FitsReply, IsShort, IsReadable}
-use Rattle.cfdp_transactions.proofs.Lengths.{fields_fit}
+use Rattle.cfdp_transactions.proofs.Lengths.{fields_fit, octets_fit}
 use Rattle.cfdp_transactions.proofs.Places.{set_each, append_each, remove_place, before, get_set_same}
 
 -- what an entry keeps for its outcome
@@ -55,6 +55,7 @@ outcome_fits e s = record {
   header = record { id_low = s.header.id_low; id_high = s.header.id_high; number_low = s.header.number_low; number_high = s.header.number_high; source = s.header.source; number = s.header.number; destination = s.header.destination };
   sized = record { condition = s.condition; file_status = file_status_small e; fault = fault_fits e s.header };
   fits = fields_fit (outcome_of e).header (finished e) e.metadata.requests e.statuses refl s.header.id_high s.few s.requests;
+  most = octets_fit (outcome_of e).header (finished e) e.metadata.requests e.statuses refl s.header.id_high s.few s.requests s.header.number_high;
 }
 
 -- the events --------------------------------------------------------------------------

@@ -1,6 +1,15 @@
-use Rattle.cfdp_entity.proofs.Sending.{some_fits}
+use Rattle.cfdp_entity.proofs.Sending.{some_fits, sent_len}
 use Rattle.cfdp_entity.proofs.entity.Entity.octets_to_send.Goals as goal
 
 pub octets-requires : goal.octets-requires
 octets-requires c =
     some_fits c.self.inside.core.world c.args.id c.in-Some.outcome c.self.inside.writable (rw c.in-Some.is at c.in_ok-outcome.ensures.outcome)
+
+pub returns-in_err-outcome-clause-most : goal.returns-in_err-outcome-clause-most
+returns-in_err-outcome-clause-most c = rw (← c.self.view_is) (sent_len c.self.inside.core.world c.args.id c.self.inside.writable)
+
+pub returns-in-None-clause-most : goal.returns-in-None-clause-most
+returns-in-None-clause-most c = rw (← c.self.view_is) (sent_len c.self.inside.core.world c.args.id c.self.inside.writable)
+
+pub returns-in-Some-clause-most : goal.returns-in-Some-clause-most
+returns-in-Some-clause-most c = rw (← c.self.view_is) (sent_len c.self.inside.core.world c.args.id c.self.inside.writable)

@@ -3,7 +3,7 @@ use Rattle.cfdp_pdus.specs.declared.pdu.Pdu.TheVariants as pdus
 use Rattle.cfdp_pdus.proofs.PduSteps.{pdu_takes}
 use Rattle.cfdp_pdus.proofs.SoundSteps.{octets_from, pdu_sound}
 use Rattle.cfdp_transactions.specs.declared.event.Event.TheVariants.{Data}
-use Rattle.cfdp_entity.proofs.Hearing.{data_heard, wanting}
+use Rattle.cfdp_entity.proofs.Hearing.{data_heard}
 use Rattle.cfdp_entity.proofs.entity.Entity.receive.Goals as goal
 
 pub keep-requires : goal.keep-requires
@@ -17,6 +17,3 @@ returns-clause-ok c =
     let h = c.in-Some.header in
     let d = c.in-Some.piece in
     (Data h d, data_heard c.args.octets.now h d c.in-Some.ensures.found c.if-header.false, c.transaction_of.ensures, c.keep.ensures)
-
-pub returns-in_default-clause-memory : goal.returns-in_default-clause-memory
-returns-in_default-clause-memory c = wanting c.args.octets.now c.hear.result c.hear.ensures.err
