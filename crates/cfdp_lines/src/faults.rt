@@ -2,44 +2,38 @@
 ghost use Rattle.std.specs.Prelude.{◌≡◌};
 ghost use Rattle.cfdp_lines.specs.Ends.{status_of};
 
+use crate::fault_lines::{EndLine, LinkLine, RunLine};
 use std::alloc::AllocError;
 use thiserror::Error;
 
-/// Why a run of a script stopped before its end.
+/// Why a run of a script stopped before its end. Its text is that of [`RunLine`].
 #[derive(Clone, Copy, Debug, PartialEq, Eq, Drop, Error)]
+#[error("{}", RunLine(*self))]
 pub enum RunFault {
     /// The reader failed, or the script is longer than the input limit.
-    #[error("read failed")]
     Read,
     /// The writer failed.
-    #[error("write failed")]
     Write,
     /// Memory was refused.
-    #[error("out of memory")]
     Memory,
     /// The line of this number, counted from 1, is bad.
-    #[error("line {0}")]
     BadLine(u64),
 }
 
-/// Why a run of `links` stopped before its end.
+/// Why a run of `links` stopped before its end. Its text is that of [`LinkLine`].
 #[derive(Clone, Copy, Debug, PartialEq, Eq, Drop, Error)]
+#[error("{}", LinkLine(*self))]
 pub enum LinkFault {
     /// The writer failed.
-    #[error("write failed")]
     Write,
     /// Memory was refused, or a thread could not be started.
-    #[error("out of memory")]
     Memory,
     /// The first file that has a bad line, counted from 0 as its seat is, and that line's number, counted from 1.
-    #[error("line {1}")]
     BadLine(u8, u64),
     /// The journal was full.
-    #[error("journal full")]
     JournalFull,
     /// The receipts of the seats are not the journal, a worker did not take the messages of its file, or the entity has not
     /// the configuration of the files.
-    #[error("receipts differ")]
     ReceiptsDiffer,
 }
 
@@ -54,21 +48,18 @@ impl From<AllocError> for LinkFault {
     }
 }
 
-/// What the program ends with. Its text is the line on standard error, empty where there is none, and takes no
-/// memory.
+/// What the program ends with. Its text is that of [`EndLine`]: the line on standard error, empty where there is none. It takes
+/// no memory.
 #[derive(Clone, Copy, Debug, PartialEq, Eq, Drop, Error)]
+#[error("{}", EndLine(*self))]
 pub enum ProgramEnd {
     /// The whole input was run.
-    #[error("")]
     Fine,
     /// The words of the command line are none that the program knows.
-    #[error("cfdpsim: usage")]
     Usage,
     /// The run stopped before its end.
-    #[error("cfdpsim: {0}")]
     Run(RunFault),
     /// The run of several files stopped before its end.
-    #[error("cfdpsim: {0}")]
     Link(LinkFault),
 }
 

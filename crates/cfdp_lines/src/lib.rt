@@ -5,6 +5,7 @@
 //! is said here.
 #![tactic(auto)]
 
+mod fault_lines;
 mod faults;
 mod script;
 mod session;
