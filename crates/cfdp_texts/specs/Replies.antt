@@ -1,5 +1,6 @@
 -- What `replay` writes: a line for each reply, for each PDU that is no event, and for all that stands in the filestore.
 --
+--   StartsAs         a text begins with what it was
 --   word             a text with a space before it
 --   number_text      a number in decimal
 --   labelled         a label, and a number in decimal behind it
@@ -22,7 +23,7 @@
 --   entry_line       the line of what stands at a path
 --   blocks_line      the blocks in use, those that are free, and those of them that nobody was granted
 --   listing_text     that line and those of all that stands, in path order
-use Rattle.std.specs.Prelude.{ℕ, ◌==◌, Bool, not, ◌&&◌, nat_le, if◌then◌else◌, List, [], ◌∷◌, ◌++◌, codes, decimal, flat_map}
+use Rattle.std.specs.Prelude.{◌≡◌, ℕ, ◌==◌, Bool, not, ◌&&◌, nat_le, if◌then◌else◌, List, [], ◌∷◌, ◌++◌, codes, decimal, flat_map}
 use Rattle.byteorder.specs.Endian.{big_bytes}
 use Rattle.hex.specs.Hex.{encode_lower}
 use Rattle.cfdp_status.specs.Codes.{octet_of}
@@ -48,6 +49,11 @@ use Rattle.cfdp_transactions.specs.declared.reply.Reply.{Reply}
 use Rattle.cfdp_transactions.specs.declared.reply.Reply.TheVariants as replied
 use Rattle.cfdp_transactions.specs.World.{World, free, spare}
 use Rattle.cfdp_transactions.specs.Writable.{finished_octets}
+
+-- it was not cut, and nothing in it changed; more may follow
+pub record StartsAs (old new : List ℕ) : Type 0 where
+  pub more : List ℕ
+  pub is : new ≡ old ++ more
 
 abbrev pub word : List ℕ → List ℕ
 word text = 32 ∷ text

@@ -3,7 +3,7 @@ ghost use Rattle.std.specs.Prelude.{◌≡◌, ◌++◌, OnOk};
 ghost use Rattle.cfdp_status.specs.Codes.{octet_of};
 ghost use Rattle.cfdp_status.specs.Transaction.{name_of};
 ghost use Rattle.cfdp_transactions.specs.Writable.{FitsReply, IsWritable};
-ghost use Rattle.cfdp_texts.specs.Replies.{failure_text, fault_line, finished_text, grant_text, labelled, line, not_ours, number_text, place_text, refusal_text, reply_line, reply_text, taken_text, two_digits, word};
+ghost use Rattle.cfdp_texts.specs.Replies.{failure_text, fault_line, finished_text, grant_text, labelled, line, not_ours, number_text, place_text, refusal_text, reply_line, reply_text, StartsAs, taken_text, two_digits, word};
 
 use crate::digits::encode;
 use cfdp_pdus::PduFault;
@@ -17,10 +17,11 @@ use std::alloc::{AllocError, Global};
 ///
 /// # Errors
 ///
-/// Want of memory.
+/// Out of memory: the text begins with what it was.
 #[tactic(auto, unfolding(crate::specs::Replies::number_text))]
 pub fn push_number(number: u64, text: &mut Vec<u8>) -> Result<(), AllocError>
-    ensures { OnOk result (text.new.items ≡ text.old.items ++ number_text number) }
+    ensures ok { OnOk result (text.new.items ≡ text.old.items ++ number_text number) }
+    ensures begins { StartsAs text.old.items text.new.items }
 {
     let mut buffer = Buffer::new();
     text.extend_from_slice(buffer.format(number).as_bytes())
@@ -30,10 +31,11 @@ pub fn push_number(number: u64, text: &mut Vec<u8>) -> Result<(), AllocError>
 ///
 /// # Errors
 ///
-/// Want of memory.
+/// Out of memory: the text begins with what it was.
 #[tactic(auto, unfolding(crate::specs::Replies::labelled))]
 pub fn push_labelled(label: &[u8], number: u64, text: &mut Vec<u8>) -> Result<(), AllocError>
-    ensures { OnOk result (text.new.items ≡ text.old.items ++ labelled label.now number) }
+    ensures ok { OnOk result (text.new.items ≡ text.old.items ++ labelled label.now number) }
+    ensures begins { StartsAs text.old.items text.new.items }
 {
     text.extend_from_slice(label)?;
     push_number(number, text)
@@ -42,7 +44,8 @@ pub fn push_labelled(label: &[u8], number: u64, text: &mut Vec<u8>) -> Result<()
 /// Appends a transaction's name.
 #[tactic(auto, unfolding(crate::specs::Replies::number_text))]
 fn push_name(id: TransactionId, text: &mut Vec<u8>) -> Result<(), AllocError>
-    ensures { OnOk result (text.new.items ≡ text.old.items ++ name_of id) }
+    ensures ok { OnOk result (text.new.items ≡ text.old.items ++ name_of id) }
+    ensures begins { StartsAs text.old.items text.new.items }
 {
     push_number(id.source, text)?;
     text.push(b'/')?;
@@ -52,14 +55,16 @@ fn push_name(id: TransactionId, text: &mut Vec<u8>) -> Result<(), AllocError>
 /// Appends a status in two hexadecimal digits.
 #[tactic(auto, unfolding(crate::specs::Replies::two_digits))]
 fn push_status(status: Status, text: &mut Vec<u8>) -> Result<(), AllocError>
-    ensures { OnOk result (text.new.items ≡ text.old.items ++ two_digits (octet_of status)) }
+    ensures ok { OnOk result (text.new.items ≡ text.old.items ++ two_digits (octet_of status)) }
+    ensures begins { StartsAs text.old.items text.new.items }
 {
     encode(&[status.octet()], text)
 }
 
 /// Appends which name is no path.
 fn push_place(place: Place, text: &mut Vec<u8>) -> Result<(), AllocError>
-    ensures { OnOk result (text.new.items ≡ text.old.items ++ place_text place) }
+    ensures ok { OnOk result (text.new.items ≡ text.old.items ++ place_text place) }
+    ensures begins { StartsAs text.old.items text.new.items }
 {
     match place {
         Place::Destination => text.extend_from_slice(b"bad-path destination"),
@@ -69,7 +74,8 @@ fn push_place(place: Place, text: &mut Vec<u8>) -> Result<(), AllocError>
 
 /// Appends which request would fail, and with which status.
 fn push_failure(number: u8, status: Status, text: &mut Vec<u8>) -> Result<(), AllocError>
-    ensures { OnOk result (text.new.items ≡ text.old.items ++ failure_text number status) }
+    ensures ok { OnOk result (text.new.items ≡ text.old.items ++ failure_text number status) }
+    ensures begins { StartsAs text.old.items text.new.items }
 {
     push_labelled(b"would-fail ", u64::from(number), text)?;
     text.push(b' ')?;
@@ -78,7 +84,8 @@ fn push_failure(number: u8, status: Status, text: &mut Vec<u8>) -> Result<(), Al
 
 /// Appends what was granted.
 fn push_grant(blocks: u64, steps: u64, text: &mut Vec<u8>) -> Result<(), AllocError>
-    ensures { OnOk result (text.new.items ≡ text.old.items ++ grant_text blocks steps) }
+    ensures ok { OnOk result (text.new.items ≡ text.old.items ++ grant_text blocks steps) }
+    ensures begins { StartsAs text.old.items text.new.items }
 {
     text.extend_from_slice(b"admitted ")?;
     push_labelled(b"blocks ", blocks, text)?;
@@ -87,7 +94,8 @@ fn push_grant(blocks: u64, steps: u64, text: &mut Vec<u8>) -> Result<(), AllocEr
 
 /// Appends why a list of requests was refused.
 fn push_refusal(refusal: Refusal, text: &mut Vec<u8>) -> Result<(), AllocError>
-    ensures { OnOk result (text.new.items ≡ text.old.items ++ refusal_text refusal) }
+    ensures ok { OnOk result (text.new.items ≡ text.old.items ++ refusal_text refusal) }
+    ensures begins { StartsAs text.old.items text.new.items }
 {
     match refusal {
         Refusal::TooManyRequests => text.extend_from_slice(b"too-many-requests"),
@@ -108,7 +116,8 @@ fn push_refusal(refusal: Refusal, text: &mut Vec<u8>) -> Result<(), AllocError>
 
 /// Appends the octets of a Finished PDU in hexadecimal, or, where there are none, the condition code.
 fn push_taken(octets: &[u8], condition: u64, text: &mut Vec<u8>) -> Result<(), AllocError>
-    ensures { OnOk result (text.new.items ≡ text.old.items ++ taken_text octets.now condition) }
+    ensures ok { OnOk result (text.new.items ≡ text.old.items ++ taken_text octets.now condition) }
+    ensures begins { StartsAs text.old.items text.new.items }
 {
     if octets.is_empty() {
         return push_labelled(b"ended ", condition, text);
@@ -120,7 +129,8 @@ fn push_taken(octets: &[u8], condition: u64, text: &mut Vec<u8>) -> Result<(), A
 /// Appends what is written of an outcome, which can be written.
 fn push_outcome(alloc: Global, outcome: &Outcome, text: &mut Vec<u8>) -> Result<(), AllocError>
     requires { IsWritable outcome.now }
-    ensures { OnOk result (text.new.items ≡ text.old.items ++ finished_text outcome.now) }
+    ensures ok { OnOk result (text.new.items ≡ text.old.items ++ finished_text outcome.now) }
+    ensures begins { StartsAs text.old.items text.new.items }
 {
     push_taken(
         &outcome.octets(alloc)?,
@@ -132,7 +142,8 @@ fn push_outcome(alloc: Global, outcome: &Outcome, text: &mut Vec<u8>) -> Result<
 /// Appends what is written of a reply.
 fn push_reply(alloc: Global, reply: &Reply, text: &mut Vec<u8>) -> Result<(), AllocError>
     requires { FitsReply reply.now }
-    ensures { OnOk result (text.new.items ≡ text.old.items ++ reply_text reply.now) }
+    ensures ok { OnOk result (text.new.items ≡ text.old.items ++ reply_text reply.now) }
+    ensures begins { StartsAs text.old.items text.new.items }
 {
     match reply {
         Reply::Admitted(blocks, steps) => {
@@ -169,7 +180,7 @@ fn push_reply(alloc: Global, reply: &Reply, text: &mut Vec<u8>) -> Result<(), Al
 ///
 /// # Errors
 ///
-/// Want of memory: a beginning of the line may have been appended.
+/// Out of memory: the text begins with what it was, and a part of the line may follow.
 pub fn write_reply(
     alloc: Global,
     id: TransactionId,
@@ -177,7 +188,8 @@ pub fn write_reply(
     text: &mut Vec<u8>,
 ) -> Result<(), AllocError>
     requires { FitsReply reply.now }
-    ensures { OnOk result (text.new.items ≡ text.old.items ++ reply_line id reply.now) }
+    ensures ok { OnOk result (text.new.items ≡ text.old.items ++ reply_line id reply.now) }
+    ensures begins { StartsAs text.old.items text.new.items }
 {
     push_name(id, text)?;
     text.push(b' ')?;
@@ -190,14 +202,15 @@ pub fn write_reply(
 ///
 /// # Errors
 ///
-/// Want of memory: a beginning of the line may have been appended.
+/// Out of memory: the text begins with what it was, and a part of the line may follow.
 pub fn write_taken(
     id: TransactionId,
     octets: &[u8],
     condition: u64,
     text: &mut Vec<u8>,
 ) -> Result<(), AllocError>
-    ensures { OnOk result (text.new.items ≡ text.old.items ++ line (name_of id ++ word (taken_text octets.now condition))) }
+    ensures ok { OnOk result (text.new.items ≡ text.old.items ++ line (name_of id ++ word (taken_text octets.now condition))) }
+    ensures begins { StartsAs text.old.items text.new.items }
 {
     push_name(id, text)?;
     text.push(b' ')?;
