@@ -1,6 +1,7 @@
 -- What a worker does with what it is sent.
 --     event_in octets           the event of a PDU's octets: none, where they spell no PDU, or one that is no event
 --     is_passed_over            a PDU without an event
+--     PassesOver message answer what is answered of one: that it is, or that there was no memory for its copy
 --     passed_over messages      how many of the messages are that
 --     is_step, AreSteps         a Step;  Steps, and so many at most
 --     Brings message es         the events of a message
@@ -10,12 +11,16 @@ use Rattle.std.specs.Prelude.{◌≡◌, ℕ, ◌+◌, ◌≤◌, Bool, true, fa
 use Rattle.std.specs.Option.{is_none, option_to_list}
 use Rattle.std.specs.List.{AllByRecursion}
 use Rattle.std.specs.Arc.{arc_value}
+use Rattle.cfdp_pdus.specs.First.{pdu_at}
+use Rattle.cfdp_pdus.specs.Receiving.{IsCopied}
 use Rattle.cfdp_pdus.specs.declared.fault.PduFault.{PduFault}
 use Rattle.cfdp_transactions.specs.declared.event.Event.{Event}
 use Rattle.cfdp_transactions.specs.declared.event.Event.TheVariants.{Step}
 use Rattle.cfdp_transactions.specs.Events.{event_at}
 pub use Rattle.cfdp_engine.specs.declared.message.Message.{Message}
 use Rattle.cfdp_engine.specs.declared.message.Message.TheVariants as messages
+use Rattle.cfdp_engine.specs.declared.stop.Stop.{Stop}
+use Rattle.cfdp_engine.specs.declared.stop.Stop.TheVariants as stops
 
 abbrev pub event_read : Result (Option Event) PduFault → Option Event
 event_read (Ok event) = event
@@ -27,6 +32,11 @@ event_in octets = event_read (event_at octets)
 abbrev pub is_passed_over : Message → Bool
 is_passed_over (messages.Pdu octets) = is_none (event_in octets.items)
 is_passed_over message = false
+
+-- only a Metadata PDU and a File Data PDU are copied before they are judged
+abbrev pub PassesOver : Message → Result Bool Stop → Type 0
+PassesOver (messages.Pdu octets) (Err stops.Memory) = IsCopied (pdu_at octets.items)
+PassesOver message answer = answer ≡ Ok true
 
 abbrev pub passed_over : List Message → ℕ
 passed_over [] = 0

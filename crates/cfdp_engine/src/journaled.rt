@@ -4,6 +4,7 @@ ghost use Rattle.std.specs.Prelude.{◌≡◌, ◌↔◌, [], IfOk, IsTrue, IsFa
 ghost use Rattle.std.specs.Arc.{arc_value};
 ghost use Rattle.cfdp_transactions.specs.World.{start};
 ghost use Rattle.cfdp_transactions.specs.Sound.{Sound};
+ghost use Rattle.cfdp_transactions.specs.Engine.{AsksForNone};
 ghost use Rattle.cfdp_transactions.specs.Needs.{Follows, may_want_memory};
 ghost use Rattle.cfdp_transactions.specs.Books.{IsAnswered};
 ghost use Rattle.cfdp_engine.specs.Journal.{IsHistory, entered, is_full};
@@ -91,6 +92,7 @@ impl<S: Filestore> Journaled<S> {
         ensures follows { IsFalse (is_full self.old) → Follows self.old.core.world (arc_value event) result self.new.core.world }
         ensures journal { self.new.journal ≡ entered self.old.journal seat (arc_value event) result }
         ensures answered { IsFalse (may_want_memory self.old.core.takes_no_memory (arc_value event)) → IsAnswered result }
+        ensures lean { AsksForNone self.old.core.world (arc_value event) → IsAnswered result }
         ensures steady { self.new.core.takes_no_memory ≡ self.old.core.takes_no_memory }
     {
         if self.entries.len() >= self.core.config().journal() as usize {
@@ -105,12 +107,18 @@ impl<S: Filestore> Journaled<S> {
         reply
     }
 
-    /// The number that the next entry gets: how many there are.
-    pub(crate) fn next_place(&self) -> u32
-        ensures { result ≡ length self.now.journal }
+    /// Takes an event as [`accept`](Journaled::accept) does, and tells the index that its entry has in the journal, where it
+    /// is journaled: how many entries there were before.
+    pub(crate) fn accept_at(&mut self, seat: u8, event: Arc<Event, Global>) -> (u32, Reply)
+        ensures place { result.0 ≡ length self.old.journal }
+        ensures full { (result.1 ≡ Reply.JournalFull) ↔ IsTrue (is_full self.old) }
+        ensures unchanged { IsTrue (is_full self.old) → self.new ≡ self.old }
+        ensures follows { IsFalse (is_full self.old) → Follows self.old.core.world (arc_value event) result.1 self.new.core.world }
+        ensures journal { self.new.journal ≡ entered self.old.journal seat (arc_value event) result.1 }
     {
         let _limit = self.core.config().journal();
-        self.entries.len() as u32
+        let place = self.entries.len() as u32;
+        (place, self.accept(seat, event))
     }
 
     /// Both apart.

@@ -4,7 +4,7 @@ ghost use Rattle.std.specs.Prelude.{◌≡◌, IfOk, OnErr};
 ghost use Rattle.std.specs.Arc.{arc_value};
 ghost use Rattle.cfdp_transactions.specs.Sound.{Sound};
 ghost use Rattle.cfdp_engine.specs.Journal.{IsHistory};
-ghost use Rattle.cfdp_engine.specs.Sharing.{IsReceived};
+ghost use Rattle.cfdp_engine.specs.Sharing.{IsReceived, receipt_of};
 
 use crate::event::SharedEvent;
 use crate::journaled::Journaled;
@@ -16,6 +16,25 @@ use cfdp_status::TransactionId;
 use cfdp_transactions::{Event, Reply};
 use std::alloc::Global;
 use std::sync::{Arc, Mutex, Wait};
+
+/// What a seat is told of an event that was handed in, by the index that its entry gets and the reply.
+///
+/// # Errors
+///
+/// [`Stop::Memory`] exactly for [`Reply::Memory`], and [`Stop::JournalFull`] exactly for [`Reply::JournalFull`].
+fn receipt_of(place: u32, event: SharedEvent, reply: Reply) -> Result<Receipt, Stop>
+    ensures { result ≡ receipt_of place event reply }
+{
+    match reply {
+        Reply::Memory => Err(Stop::Memory),
+        Reply::JournalFull => Err(Stop::JournalFull),
+        reply => Ok(Receipt {
+            place,
+            event,
+            reply,
+        }),
+    }
+}
 
 /// A core with its journal, behind one lock: the one step that threads take together is one event. Whenever the lock is got and
 /// whenever it is given back, the journal is a history that one thread could have made, and the core is sound.
@@ -50,27 +69,10 @@ impl<S: Filestore> Shared<S> {
     {
         seat.receipts.reserve(1)?;
         let kept = SharedEvent::share(&event)?;
-        let (place, reply) = self.take(rt, seat.number, event);
-        match reply {
-            Reply::Memory => Err(Stop::Memory),
-            Reply::JournalFull => Err(Stop::JournalFull),
-            reply => {
-                seat.receipts.push_reserved(Receipt {
-                    place,
-                    event: kept,
-                    reply,
-                });
-                Ok(place)
-            }
-        }
-    }
-
-    /// Takes an event under the lock: the place of its entry, where it is journaled, and the reply.
-    fn take<R: Wait>(&self, rt: &R, seat: u8, event: Arc<Event, Global>) -> (u32, Reply) {
-        let mut journaled = self.inner.lock(rt);
-        let place = journaled.next_place();
-        let reply = journaled.accept(seat, event);
-        (place, reply)
+        let (place, reply) = self.inner.lock(rt).accept_at(seat.number, event);
+        let receipt = receipt_of(place, kept, reply)?;
+        seat.receipts.push_reserved(receipt);
+        Ok(place)
     }
 
     /// The first transaction, in order of admission, whose items are being performed. It may wait for others who hand in events.

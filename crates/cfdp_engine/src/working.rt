@@ -1,9 +1,11 @@
 //! Workers.
 
-ghost use Rattle.std.specs.Prelude.{◌≡◌, [], IfOk, OnErr, OnOk, min};
+ghost use Rattle.std.specs.Prelude.{◌≡◌, [], IfOk, IsTrue, OnErr, OnOk, min};
 ghost use Rattle.std.specs.Arc.{arc_value};
 ghost use Rattle.cfdp_engine.specs.Sharing.{Adds, IsReceived};
-ghost use Rattle.cfdp_engine.specs.Working.{AreSteps, BeginAll, BeginsOne, BringAll, Brings, event_in, is_passed_over, passed_over};
+ghost use Rattle.cfdp_pdus.specs.First.{pdu_at};
+ghost use Rattle.cfdp_pdus.specs.Receiving.{IsCopied};
+ghost use Rattle.cfdp_engine.specs.Working.{AreSteps, BeginAll, BeginsOne, BringAll, Brings, event_in, is_passed_over, PassesOver, passed_over};
 
 use crate::gate::Gate;
 use crate::message::Message;
@@ -11,11 +13,10 @@ use crate::seat::Seat;
 use crate::shared::Shared;
 use crate::stop::Stop;
 use cfdp_actions::Filestore;
-use cfdp_paths::Memory;
 use cfdp_pdus::PduFault;
 use cfdp_transactions::{Event, read_event};
 use crossbeam_channel::Receiver;
-use std::alloc::Global;
+use std::alloc::{AllocError, Global};
 use std::sync::{Arc, Wait};
 
 /// How often a worker steps for one message: each of 64 transactions has 64 requests and an install at most.
@@ -35,18 +36,23 @@ pub struct Worked {
 }
 
 /// The event of a PDU's octets. `None` where they spell no PDU, or one that is no event of a receiving entity.
-fn event_in(alloc: Global, octets: &[u8]) -> Result<Option<Event>, Stop>
-    ensures { IfOk result (λ event. event ≡ event_in octets.now) }
+///
+/// # Errors
+///
+/// Out of memory, for a Metadata PDU or a File Data PDU alone.
+fn event_in(alloc: Global, octets: &[u8]) -> Result<Option<Event>, AllocError>
+    ensures event { IfOk result (λ event. event ≡ event_in octets.now) }
+    ensures memory { OnErr result (IsCopied (pdu_at octets.now)) }
 {
     match read_event(alloc, octets) {
         Ok(event) => Ok(event),
-        Err(PduFault::Memory) => Err(Stop::Memory),
+        Err(PduFault::Memory) => Err(AllocError),
         Err(_) => Ok(None),
     }
 }
 
 /// The first handle of a value that several holders share; it is dropped where there is no memory.
-fn first_handle<T: Drop>(alloc: Global, value: T) -> Result<Arc<T, Global>, Memory>
+fn first_handle<T: Drop>(alloc: Global, value: T) -> Result<Arc<T, Global>, AllocError>
     ensures { IfOk result (λ handle. arc_value handle ≡ value) }
 {
     Ok(Arc::new(alloc, value)?)
@@ -85,7 +91,8 @@ fn run<S: Filestore, R: Wait>(
     Ok(())
 }
 
-/// Hands in what a message brings, and answers whether that is nothing for ever.
+/// Hands in what a message brings. It answers whether the message is a PDU without an event, which is passed over and
+/// counted: such a PDU never stops the worker, unless memory for its copy was refused.
 fn serve<S: Filestore, R: Wait>(
     rt: &R,
     alloc: Global,
@@ -95,6 +102,7 @@ fn serve<S: Filestore, R: Wait>(
 ) -> Result<bool, Stop>
     ensures brings { OnOk result (Adds (Brings message.now) seat.old seat.new) }
     ensures passed_over { IfOk result (λ dropped. dropped ≡ is_passed_over message.now) }
+    ensures goes_on { IsTrue (is_passed_over message.now) → PassesOver message.now result }
     ensures stopped { OnErr result (Adds (BeginsOne message.now) seat.old seat.new) }
 {
     match message {

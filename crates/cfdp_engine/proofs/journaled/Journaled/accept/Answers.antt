@@ -28,5 +28,6 @@ returns-in_default g c =
       follows = λ _. follows;
       journal = rw (c.push_reserved.ensures.items, c.new-event.ensures, c.apply_both-reply.ensures.same, entered_more j c.args.seat (arc_value c.args.event) reply c.apply_both-reply.new.self follows other) refl;
       answered = rw (← c.new-event.ensures, ← c.event-2.ensures) c.apply_both-reply.ensures.answered;
+      lean = rw (← c.new-event.ensures, ← c.event-2.ensures) c.apply_both-reply.ensures.lean;
       steady = c.apply_both-reply.ensures.steady;
     })
