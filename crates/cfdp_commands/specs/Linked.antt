@@ -5,6 +5,10 @@
 --   IsBadLine        why a file is not read: want of memory, or the bad line that there is
 --   IsBadFile        why the files are not read: the same, of the first file that has a bad line
 --   IsRunFault       a fault behind the reading of all files, but not the writer's
+--   fault_of         what a stop of a worker is to the whole run
+--   first_stop       why the first worker stopped that did
+--   Agree            each worker took what its file says, the entity has this configuration, and the seats' receipts are its journal
+--   IsWorkFault      why there is no text of what workers did: the first stop; without a stop, out of memory, or they do not agree
 --   IsHeard          what is said may be handed in: of what is no PDU, an event whose outcome can be written
 --   HasReadable      the events that a seat handed in may come from PDUs that were read
 --   AllNumbered      a fact of each of some things, by their numbers
@@ -19,23 +23,28 @@
 --                    are its entries, and in which each seat's events are those of its file's lines
 --   IsLinkedBy       the same of some scripts, none of which has a bad line
 --   IsLinkRun        such a text was written
+--   IsLinkLost       a writer failed within such a text: a beginning of it was written, as far as the writer tells
 use Rattle.std.specs.Prelude.{◌≡◌, ⊤, ℕ, ◌+◌, List, [], ◌∷◌, ◌++◌, map, filter, ◌==◌, Option, Some, None, Result, Ok, Err, IsOk}
 use Rattle.std.specs.Io.KnownBytes.{Appends}
 use Rattle.std.specs.List.{AllByRecursion}
+use Rattle.cfdp_transactions.specs.Config.{Config}
 use Rattle.cfdp_transactions.specs.declared.event.Event.{Event}
 use Rattle.cfdp_transactions.specs.World.{World, start}
 use Rattle.cfdp_transactions.specs.Writable.{IsReadable}
 use Rattle.cfdp_engine.specs.declared.entry.Entry.{Entry}
-use Rattle.cfdp_engine.specs.Journal.{IsHistory, events_of}
+use Rattle.cfdp_engine.specs.Journal.{IsHistory, Recorded, events_of}
 use Rattle.cfdp_engine.specs.Seats.{Seated, IsReconciled}
 use Rattle.cfdp_engine.specs.Sharing.{told_of}
 use Rattle.cfdp_engine.specs.declared.message.Message.{Message}
 use Rattle.cfdp_engine.specs.Working.{BringAll, passed_over}
+use Rattle.cfdp_engine.specs.declared.stop.Stop.{Stop}
+use Rattle.cfdp_engine.specs.declared.stop.Stop.TheVariants as stops
 use Rattle.cfdp_engine.specs.declared.working.Worked.{Worked}
 use Rattle.cfdp_commands.specs.JournalTexts.{journal_text}
 use Rattle.cfdp_commands.specs.Links.{Said, Happened, said_of, Reading, Files, link_answer, link_files}
 use Rattle.cfdp_commands.specs.Replay.{Stage, world_of}
 use Rattle.cfdp_lines.specs.Report.{line_answer}
+use Rattle.cfdp_streams.specs.Streams.{LostWithin}
 use Rattle.cfdp_lines.specs.declared.faults.LinkFault.{LinkFault}
 use Rattle.cfdp_lines.specs.declared.faults.LinkFault.TheVariants.{Memory, BadLine, JournalFull, ReceiptsDiffer}
 
@@ -68,6 +77,32 @@ IsRunFault Memory = ⊤
 IsRunFault JournalFull = ⊤
 IsRunFault ReceiptsDiffer = ⊤
 IsRunFault fault = ⊥
+
+abbrev pub fault_of : Stop → LinkFault
+fault_of stops.Memory = Memory
+fault_of stops.JournalFull = JournalFull
+
+abbrev pub or_later : Option Stop → Option Stop → Option Stop
+or_later None later = later
+or_later (Some stop) later = Some stop
+
+abbrev pub first_stop : List Worked → Option Stop
+first_stop [] = None
+first_stop (worked ∷ workers) = or_later worked.stopped (first_stop workers)
+
+abbrev pub took_of : List Worked → List (List Said)
+took_of workers = map (λ worked. map said_of worked.taken.items) workers
+
+pub record Agree (config : Config) (journaled : Recorded) (said : List (List Said)) (workers : List Worked) : Type 0 where
+  pub took : took_of workers ≡ said
+  pub configured : journaled.core.world.config ≡ config
+  pub reconciled : IsReconciled journaled.journal (map (λ worked. worked.seat) workers)
+
+abbrev pub IsWorkFault : Option Stop → (agree : Type 0) → LinkFault → Type 0
+IsWorkFault (Some stop) agree fault = fault ≡ fault_of stop
+IsWorkFault None agree Memory = ⊤
+IsWorkFault None agree ReceiptsDiffer = ¬ agree
+IsWorkFault None agree fault = ⊥
 
 abbrev pub IsHeard : Said → Type 0
 IsHeard (Happened event) = IsReadable event
@@ -124,3 +159,8 @@ pub record IsLinkRun (scripts : List (List ℕ)) (old new : Option (List ℕ)) :
   pub text : List ℕ
   pub linked : IsLinkedBy scripts text
   pub appended : Appends old new text
+
+pub record IsLinkLost (scripts : List (List ℕ)) (old new : Option (List ℕ)) : Type 0 where
+  pub text : List ℕ
+  pub linked : IsLinkedBy scripts text
+  pub lost : LostWithin text old new

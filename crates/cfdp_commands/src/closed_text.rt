@@ -1,12 +1,12 @@
 //! The text that `links` writes of an engine that is closed.
-ghost use Rattle.std.specs.Prelude.{◌≡◌, ◌↔◌, IsOk, IfOk, IfErr, OnErr, Err};
+ghost use Rattle.std.specs.Prelude.{◌≡◌, ◌↔◌, IsOk, IfOk, OnErr, Err};
 ghost use Rattle.std.specs.List.{AllByRecursion};
 ghost use Rattle.cfdp_transactions.specs.Writable.{FitsReply};
 ghost use Rattle.cfdp_engine.specs.Journal.{IsHistory, replies_of};
 ghost use Rattle.cfdp_engine.specs.Seats.{IsReconciled};
 ghost use Rattle.cfdp_commands.specs.JournalTexts.{journal_text};
-ghost use Rattle.cfdp_commands.specs.Linked.{HasReadable, IsRunFault};
-ghost use Rattle.cfdp_lines.specs.declared.faults.LinkFault.TheVariants.{ReceiptsDiffer};
+ghost use Rattle.cfdp_commands.specs.Linked.{HasReadable};
+ghost use Rattle.cfdp_lines.specs.declared.faults.LinkFault.TheVariants.{Memory, ReceiptsDiffer};
 
 use crate::journal_text::text_of;
 use cfdp_engine::{Closed, Entry, Journaled, Seat, close};
@@ -55,6 +55,10 @@ fn replies_fit(core: &Core<TreeStore>, journal: &[Entry], seats: &[Seat])
 }
 
 /// The text of an engine that is closed.
+///
+/// # Errors
+///
+/// [`LinkFault::Memory`] out of memory.
 pub fn text_of_closed(
     alloc: Global,
     closed: &Closed<TreeStore>,
@@ -64,7 +68,7 @@ pub fn text_of_closed(
     requires reconciled { IsReconciled closed.now.journal.items closed.now.seats.items }
     requires readable { AllByRecursion HasReadable closed.now.seats.items }
     ensures ok { IfOk result (λ text. text.items ≡ journal_text closed.now.journal.items closed.now.seats.items dropped.now closed.now.core.world) }
-    ensures fault { IfErr result IsRunFault }
+    ensures memory { OnErr result (result ≡ Err Memory) }
 {
     replies_fit(&closed.core, &closed.journal, &closed.seats);
     let text = text_of(alloc, &closed.core, &closed.journal, &closed.seats, dropped)?;
