@@ -1,11 +1,11 @@
 //! The scripts of `links`: several files at once, a worker each, on one entity.
-ghost use Rattle.std.specs.Prelude.{◌≡◌, ◌≢◌, ℕ, ◌≤◌, true, length, map, None, Err, IfNone, IfOk, IfErr, OnErr, OnOk};
+ghost use Rattle.std.specs.Prelude.{◌≡◌, ◌≢◌, ◌↔◌, ℕ, ◌≤◌, true, length, map, None, Err, IfNone, IfOk, IfErr, IsOk, OnErr, OnOk};
 ghost use Rattle.std.specs.List.{AllByRecursion};
 ghost use Rattle.cfdp_transactions.specs.World.{start};
 ghost use Rattle.cfdp_engine.specs.Sharing.{told_of};
 ghost use Rattle.cfdp_engine.specs.Working.{BringAll, passed_over};
 ghost use Rattle.cfdp_lines.specs.Lines.{input_limit};
-ghost use Rattle.cfdp_commands.specs.Linked.{AllNumbered, AreHanded, Handed, HasReadable, IsHeard, IsLinkRun, IsLinked, IsLinkedBy, IsRunFault, IsWork, Stops};
+ghost use Rattle.cfdp_commands.specs.Linked.{Agree, AllNumbered, AreHanded, fault_of, first_stop, Handed, HasReadable, IsHeard, IsLinkLost, IsLinkRun, IsLinked, IsLinkedBy, IsRunFault, IsWork, IsWorkFault, Stops, took_of};
 ghost use Rattle.cfdp_commands.specs.Links.{link_files, said_of};
 ghost use Rattle.cfdp_lines.specs.declared.faults.LinkFault.TheVariants.{BadLine, ReceiptsDiffer, Write};
 
@@ -31,7 +31,7 @@ impl Gate for Open {
 
 /// What a stop of a worker is to the whole run.
 fn fault_of(stop: Stop) -> LinkFault
-    ensures { IsRunFault result }
+    ensures { result ≡ fault_of stop }
 {
     match stop {
         Stop::Memory => LinkFault::Memory,
@@ -41,7 +41,8 @@ fn fault_of(stop: Stop) -> LinkFault
 
 /// Why the first worker stopped that did.
 fn first_stop(workers: &[Worked]) -> Option<Stop>
-    ensures { IfNone result (AllByRecursion (λ worked. worked.stopped ≡ None) workers.now) }
+    ensures first { result ≡ first_stop workers.now }
+    ensures none { IfNone result (AllByRecursion (λ worked. worked.stopped ≡ None) workers.now) }
 {
     for worked in workers {
         if let Some(stop) = worked.stopped {
@@ -55,7 +56,7 @@ fn first_stop(workers: &[Worked]) -> Option<Stop>
 ///
 /// # Errors
 ///
-/// [`LinkFault::ReceiptsDiffer`] where it took something else.
+/// [`LinkFault::ReceiptsDiffer`] exactly where it took something else.
 fn settle(worked: Worked, messages: &[Message]) -> Result<(Seat, u64), LinkFault>
     requires brought { BringAll worked.taken.items (told_of worked.seat.receipts) }
     requires dropped { worked.dropped ≡ passed_over worked.taken.items }
@@ -63,6 +64,7 @@ fn settle(worked: Worked, messages: &[Message]) -> Result<(Seat, u64), LinkFault
     ensures seat { IfOk result (λ settled. settled.0 ≡ worked.seat) }
     ensures handed { IfOk result (λ settled. Handed (map said_of messages.now) (told_of settled.0.receipts) settled.1) }
     ensures readable { IfOk result (λ settled. HasReadable settled.0) }
+    ensures exactly { IsOk result ↔ (map said_of worked.taken.items ≡ map said_of messages.now) }
     ensures differs { OnErr result (result ≡ Err ReceiptsDiffer) }
 {
     let Worked {
@@ -82,7 +84,7 @@ fn settle(worked: Worked, messages: &[Message]) -> Result<(Seat, u64), LinkFault
 ///
 /// # Errors
 ///
-/// [`LinkFault::ReceiptsDiffer`] where one took something else than its file says; want of memory.
+/// [`LinkFault::ReceiptsDiffer`] only where one took something else than its file says; out of memory.
 fn settle_all(
     alloc: Global,
     workers: Vec<Worked>,
@@ -94,7 +96,9 @@ fn settle_all(
     requires heard { AllByRecursion (λ file. AllByRecursion IsHeard (map said_of file.items)) files.now }
     ensures handed { IfOk result (λ settled. AreHanded (λ seat. told_of seat.receipts) 0 (map (λ file. map said_of file.items) files.now) settled.0.items settled.1.items) }
     ensures readable { IfOk result (λ settled. AllByRecursion HasReadable settled.0.items) }
-    ensures fault { IfErr result IsRunFault }
+    ensures seats { IfOk result (λ settled. settled.0.items ≡ map (λ worked. worked.seat) workers.items) }
+    ensures took { OnOk result (took_of workers.items ≡ map (λ file. map said_of file.items) files.now) }
+    ensures fault { IfErr result (IsWorkFault None (took_of workers.items ≡ map (λ file. map said_of file.items) files.now)) }
 {
     let mut seats = Vec::with_capacity(alloc, files.len())?;
     let mut dropped = Vec::with_capacity(alloc, files.len())?;
@@ -117,8 +121,8 @@ fn settle_all(
 ///
 /// # Errors
 ///
-/// Why the first worker stopped that did; [`LinkFault::ReceiptsDiffer`] where one took something else than its file says, the
-/// receipts are not the journal, or the entity has not this configuration; want of memory.
+/// Why the first worker stopped that did; without a stop, [`LinkFault::ReceiptsDiffer`] only where one took something else than
+/// its file says, the receipts are not the journal, or the entity has not this configuration; out of memory.
 fn text_of_work(
     alloc: Global,
     config: &Config,
@@ -130,6 +134,9 @@ fn text_of_work(
     requires works { AllNumbered IsWork 0 workers.items }
     requires heard { AllByRecursion (λ file. AllByRecursion IsHeard (map said_of file.items)) files.now }
     ensures ok { IfOk result (λ text. IsLinked (record { config = config.now; said = map (λ file. map said_of file.items) files.now }) text.items) }
+    ensures finished { OnOk result (first_stop workers.items ≡ None) }
+    ensures why { IfErr result (IsWorkFault (first_stop workers.items)
+        (Agree config.now journaled (map (λ file. map said_of file.items) files.now) workers.items)) }
     ensures fault { IfErr result IsRunFault }
 {
     if let Some(stop) = first_stop(&workers) {
@@ -203,8 +210,8 @@ fn text_of_scripts<R: Threads + Wait + Sync, G: Gate + Sync>(
 /// [`LinkFault::BadLine`] for the first bad line of the first file that has one; [`LinkFault::Memory`] where memory was refused
 /// or a thread could not be started; [`LinkFault::JournalFull`] where the journal was full (of several workers that stopped the
 /// one with the lowest seat decides); [`LinkFault::ReceiptsDiffer`] where a worker did not take what its file says, the receipts
-/// are not the journal, or the entity has not the configuration of the files; [`LinkFault::Write`] where the writer failed.
-/// Nothing was written unless it is Write.
+/// are not the journal, or the entity has not the configuration of the files; [`LinkFault::Write`] where the writer failed: then a
+/// beginning of the text was written, as far as the writer tells. After each other fault nothing was written.
 ///
 /// Memory: the messages of all files twice, the journal, the filestore and the text. Cost: one pass over the octets, and that of
 /// the events.
@@ -226,6 +233,8 @@ pub fn links<R: Threads + Wait + Sync, G: Gate + Sync, W: ScriptOut>(
     ensures no_other { IfErr result (λ fault. Stops (link_files (map (λ script. script.items) scripts.now)) fault) }
     // Nothing was written; or the writer is to blame. Otherwise it has not failed.
     ensures unwritten { OnErr result (result ≢ Err Write → W.contents writer.new ≡ W.contents writer.old) }
+    // A beginning of such a text was written, as far as the writer tells.
+    ensures begun { result ≡ Err Write → IsLinkLost (map (λ script. script.items) scripts.now) (W.contents writer.old) (W.contents writer.new) }
     ensures write { result ≡ Err Write → W.failed writer.new ≡ true }
     ensures well_written { result ≢ Err Write → W.failed writer.new ≡ W.failed writer.old }
 {

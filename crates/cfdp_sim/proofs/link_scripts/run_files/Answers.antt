@@ -1,4 +1,4 @@
-use Rattle.std.proofs.Common.{◌≡◌, map, IfOk, sym, ◌∙◌, subst}
+use Rattle.std.proofs.Common.{map, IfOk, ◌∙◌, subst}
 use Rattle.cfdp_commands.specs.Linked.{IsLinked}
 use Rattle.cfdp_commands.specs.Links.{said_of}
 use Rattle.cfdp_sim.proofs.link_scripts.run_files.Goals as goal
