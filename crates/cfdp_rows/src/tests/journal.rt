@@ -189,15 +189,16 @@ fn replies(
     is_told(rt, alloc, &reply, told)
 }
 
-/// Whether the next event of the transactions is replied to as it has to be.
+/// Whether an event of the transactions, before which `count` events were journaled or refused, is replied to as it has to be: the
+/// first sixteen by their own replies, and all others by JournalFull.
 fn goes_on(
     rt: &impl Abort,
     alloc: Global,
     engine: &mut Engine,
     row: (Given, Told),
+    count: usize,
 ) -> Result<bool, Memory> {
-    let is_full = engine.journal().len() == 16;
-    let told = if is_full { Told::JournalFull } else { row.1 };
+    let told = if count < 16 { row.1 } else { Told::JournalFull };
     replies(rt, alloc, engine, row.0, told)
 }
 
@@ -210,16 +211,19 @@ fn fill(rt: &impl Abort, alloc: Global, engine: &mut Engine, count: usize) -> Re
     Ok(())
 }
 
-/// Hands in the events of transactions.
+/// Hands in the events of transactions, after `count` others.
 fn go_on(
     rt: &impl Abort,
     alloc: Global,
     engine: &mut Engine,
     rows: &[(Given, Told)],
+    count: usize,
 ) -> Result<(), Memory> {
-    for (place, row) in rows.iter().enumerate() {
-        let well = goes_on(rt, alloc, engine, *row)?;
-        assert!(rt; well, "event {place}");
+    let mut before = count;
+    for row in rows {
+        let well = goes_on(rt, alloc, engine, *row, before)?;
+        assert!(rt; well, "event {before}, of which {count} are fillers");
+        before = before.saturating_add(1);
     }
     Ok(())
 }
@@ -227,7 +231,7 @@ fn go_on(
 fn check_behind(rt: &impl Abort, alloc: Global, count: usize) -> Result<(), Memory> {
     let mut engine = engine(alloc, 16)?;
     fill(rt, alloc, &mut engine, count)?;
-    go_on(rt, alloc, &mut engine, &FOUR)?;
+    go_on(rt, alloc, &mut engine, &FOUR, count)?;
     assert!(rt; engine.journal().len() == 16);
     Ok(())
 }
@@ -243,5 +247,5 @@ fn fills_behind_any_number_of_entries(rt: HostRuntime) -> Result<(), Memory> {
 #[test]
 fn goes_on_where_memory_is_refused(rt: HostRuntime) -> Result<(), Memory> {
     let mut engine = engine(rt.alloc(), 16)?;
-    go_on(&rt, rt.alloc(), &mut engine, &TWO_MORE)
+    go_on(&rt, rt.alloc(), &mut engine, &TWO_MORE, 0)
 }
