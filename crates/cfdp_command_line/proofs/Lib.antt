@@ -1,3 +1,4 @@
 pub mod Asking
 pub mod Program
 pub mod Reading
+pub mod Pairing

@@ -1,8 +1,9 @@
 //! The files that the program reads.
-ghost use Rattle.std.specs.Prelude.{◌≡◌, ◌≤◌, length, IfErr, IfOk, IfSome};
+ghost use Rattle.std.specs.Prelude.{◌≡◌, ◌≤◌, ℕ, List, length, IfErr, IfOk};
+ghost use Rattle.std.specs.IoError.{error_kind};
 ghost use Rattle.std.specs.List.{AllByRecursion};
 ghost use Rattle.cfdp_lines.specs.Lines.{input_limit};
-ghost use Rattle.cfdp_command_line.specs.Files.{IsInputFault};
+ghost use Rattle.cfdp_command_line.specs.Files.{AllPaired, fault_of, IsInputFault, IsRead, IsWhole};
 
 use cfdp_lines::{INPUT_LIMIT, RunFault};
 use std::alloc::Global;
@@ -12,7 +13,7 @@ use std::rt::Files;
 
 /// What a file that cannot be opened or read is to the run.
 fn fault_of(error: &Error) -> RunFault
-    ensures { IsInputFault result }
+    ensures { result ≡ fault_of (error_kind error.now) }
 {
     match error.kind() {
         ErrorKind::OutOfMemory => RunFault::Memory,
@@ -20,17 +21,35 @@ fn fault_of(error: &Error) -> RunFault
     }
 }
 
-/// The file of this path, to be read.
-///
-/// # Errors
-///
-/// `Read` where it cannot be opened, and `Memory` where memory was refused.
-pub fn open<F: Files>(files: &F, path: &str) -> Result<F::File, RunFault>
-    ensures { IfErr result IsInputFault }
-{
-    match fs::open(files, path) {
-        Ok(file) => Ok(file),
-        Err(error) => Err(fault_of(&error)),
+/// Where files are opened by their paths: the file system, or what stands in for it.
+pub trait Opens {
+    /// A file that is open for reading.
+    type File: Read + Drop;
+
+    // A file that was opened by this path.
+    ghost IsOpened: { List ℕ → Self.File → Type 0 };
+
+    /// Opens the file of this path for reading.
+    ///
+    /// # Errors
+    ///
+    /// `Read` where it cannot be opened, and `Memory` out of memory.
+    fn open(&self, path: &str) -> Result<Self::File, RunFault>
+        ensures opened { IfOk result (λ file. IsOpened path.now file) }
+        ensures ends { IfErr result IsInputFault };
+}
+
+impl<F: Files> Opens for F {
+    type File = F::File;
+
+    // No contract says what the file system opens.
+    ghost IsOpened = { λ _ _. Unit };
+
+    fn open(&self, path: &str) -> Result<F::File, RunFault> {
+        match fs::open(self, path) {
+            Ok(file) => Ok(file),
+            Err(error) => Err(fault_of(&error)),
+        }
     }
 }
 
@@ -38,14 +57,14 @@ pub fn open<F: Files>(files: &F, path: &str) -> Result<F::File, RunFault>
 ///
 /// # Errors
 ///
-/// Those of [`open`], of the first file that has one.
-fn open_all<F: Files>(files: &F, alloc: Global, paths: &[&str]) -> Result<Vec<F::File>, RunFault>
-    ensures each { IfOk result (λ opened. length opened.items ≡ length paths.now) }
+/// Those of [`Opens::open`], of the first file that has one.
+fn open_all<O: Opens>(files: &O, alloc: Global, paths: &[&str]) -> Result<Vec<O::File>, RunFault>
+    ensures opened { IfOk result (λ opened. AllPaired (λ path file. O.IsOpened path.now file) paths.now opened.items) }
     ensures ends { IfErr result IsInputFault }
 {
     let mut opened = Vec::new(alloc);
     for path in paths {
-        let file = match open(files, path) {
+        let file = match files.open(path) {
             Ok(file) => file,
             Err(error) => return Err(error),
         };
@@ -60,10 +79,10 @@ fn open_all<F: Files>(files: &F, alloc: Global, paths: &[&str]) -> Result<Vec<F:
 ///
 /// # Errors
 ///
-/// `Read` where a read failed, or the input has more octets than a script may have, and `Memory` where memory was refused.
+/// `Read` where a read failed, or the input has more octets than a script may have, and `Memory` out of memory.
 pub fn read_whole<I: Read + Drop>(alloc: Global, input: I) -> Result<Vec<u8>, RunFault>
     ensures short { IfOk result (λ octets. length octets.items ≤ input_limit) }
-    ensures whole { IfOk result (λ octets. IfSome (I.remaining input) (λ all. octets.items ≡ all)) }
+    ensures whole { IfOk result (λ octets. IsWhole (I.remaining input) octets.items) }
     ensures ends { IfErr result IsInputFault }
 {
     let mut octets = Vec::new(alloc);
@@ -75,29 +94,19 @@ pub fn read_whole<I: Read + Drop>(alloc: Global, input: I) -> Result<Vec<u8>, Ru
     }
 }
 
-/// What the files of these paths have. All are opened, in their order, before the first is read.
+/// All that each of these inputs has, in their order.
 ///
 /// # Errors
 ///
-/// Those of [`open`] and of [`read_whole`], of the first file that has one.
-///
-/// Memory: the octets of all files.
-pub fn read_all<F: Files>(
-    files: &F,
-    alloc: Global,
-    paths: &[&str],
-) -> Result<Vec<Vec<u8>>, RunFault>
-    ensures each { IfOk result (λ scripts. length scripts.items ≡ length paths.now) }
+/// Those of [`read_whole`], of the first input that has one.
+fn read_each<I: Read + Drop>(alloc: Global, inputs: Vec<I>) -> Result<Vec<Vec<u8>>, RunFault>
+    ensures read { IfOk result (λ scripts. AllPaired (λ input script. IsWhole (I.remaining input) script.items) inputs.items scripts.items) }
     ensures short { IfOk result (λ scripts. AllByRecursion (λ script. length script.items ≤ input_limit) scripts.items) }
     ensures ends { IfErr result IsInputFault }
 {
-    let opened = match open_all(files, alloc, paths) {
-        Ok(opened) => opened,
-        Err(error) => return Err(error),
-    };
     let mut scripts = Vec::new(alloc);
-    for file in opened {
-        let script = match read_whole(alloc, file) {
+    for input in inputs {
+        let script = match read_whole(alloc, input) {
             Ok(script) => script,
             Err(error) => return Err(error),
         };
@@ -106,4 +115,29 @@ pub fn read_all<F: Files>(
         };
     }
     Ok(scripts)
+}
+
+/// What the files of these paths have, in the order of the paths. All are opened, in their order, before the first is read.
+///
+/// # Errors
+///
+/// Those of [`Opens::open`] and of [`read_whole`], of the first file that has one.
+///
+/// Memory: the octets of all files.
+pub fn read_all<O: Opens>(
+    files: &O,
+    alloc: Global,
+    paths: &[&str],
+) -> Result<Vec<Vec<u8>>, RunFault>
+    // Of each path, in order, a file was opened, and this is what it had.
+    ensures read { IfOk result (λ scripts. AllPaired (λ path script. IsRead O.IsOpened O.File.remaining path.now script.items) paths.now scripts.items) }
+    ensures each { IfOk result (λ scripts. length scripts.items ≡ length paths.now) }
+    ensures short { IfOk result (λ scripts. AllByRecursion (λ script. length script.items ≤ input_limit) scripts.items) }
+    ensures ends { IfErr result IsInputFault }
+{
+    let opened = match open_all(files, alloc, paths) {
+        Ok(opened) => opened,
+        Err(error) => return Err(error),
+    };
+    read_each(alloc, opened)
 }

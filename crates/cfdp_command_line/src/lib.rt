@@ -4,5 +4,5 @@
 mod files;
 mod words;
 
-pub use files::{open, read_all, read_whole};
+pub use files::{Opens, read_all, read_whole};
 pub use words::{Asked, parse, read_words};

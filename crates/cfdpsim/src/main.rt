@@ -7,7 +7,7 @@
 //! that differ from it, 2 for unknown words, 3 for a bad line.
 #![tactic(auto)]
 
-use cfdp_command_line::{Asked, open, parse, read_all, read_words};
+use cfdp_command_line::{Asked, Opens, parse, read_all, read_words};
 use cfdp_sim::{FromRead, Open, ProgramEnd, RunFault, ToWrite, links, plain, replay};
 use std::io;
 use std::io::Read;
@@ -37,7 +37,7 @@ fn run<R: AllocGlobal + Env + Files + Input + Print + Threads + Wait + Sync>(rt:
     match parse(rt.alloc(), &words) {
         Ok(Asked::Plain) => run_plain(rt),
         Ok(Asked::Replay(None)) => run_replay(rt, rt.reader()),
-        Ok(Asked::Replay(Some(path))) => match open(rt, path) {
+        Ok(Asked::Replay(Some(path))) => match rt.open(path) {
             Ok(file) => run_replay(rt, file),
             Err(fault) => ProgramEnd::Run(fault),
         },

@@ -1,0 +1,16 @@
+use Rattle.std.proofs.Common.{◌∙◌}
+use Rattle.cfdp_command_line.proofs.Pairing.{if_ok, paired_length, paired_through}
+use Rattle.cfdp_command_line.proofs.files.read_all.Goals as goal
+
+pub returns-clause-read : goal.returns-clause-read
+returns-clause-read g c =
+    if_ok _ _ c.read_each.result
+    (λ scripts read. paired_through _ _ _ (λ path file script opened whole. record { file = file; opened = opened; whole = whole })
+    c.args.paths.now c.in-Ok.opened.items scripts.items c.in-Ok.ensures.opened read)
+    c.read_each.ensures.read
+
+pub returns-clause-each : goal.returns-clause-each
+returns-clause-each g c =
+    if_ok _ _ c.read_each.result
+    (λ scripts read. paired_length _ c.in-Ok.opened.items scripts.items read ∙ paired_length _ c.args.paths.now c.in-Ok.opened.items c.in-Ok.ensures.opened)
+    c.read_each.ensures.read
