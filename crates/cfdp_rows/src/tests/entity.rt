@@ -72,6 +72,14 @@ pub enum Row {
     Phase(u8, Option<Phase>),
     /// The first transaction that is performed.
     Runnable(Option<u8>),
+    /// How far a transaction's file has come: the end of the last octet kept, and the offset up to which gaps are told.
+    Reached(u8, u64, u64),
+    /// The size and the destination file name of a transaction's Metadata.
+    Metadata(u8, u64, &'static [u8]),
+    /// All transactions, in order of admission.
+    Order(&'static [u8]),
+    /// The first transaction whose outcome can be taken.
+    Over(Option<u8>),
 }
 
 /// What rows are handed to.
@@ -369,6 +377,37 @@ fn has_spent<S: Filestore>(core: &Core<S>, number: u8, blocks: i64, steps: u32) 
     core.blocks_spent(id(number)) == Some(blocks) && core.steps_spent(id(number)) == Some(steps)
 }
 
+/// Whether a transaction's file has come so far.
+fn has_reached<S: Filestore>(core: &Core<S>, number: u8, progress: u64, reach: u64) -> bool {
+    core.progress(id(number)) == Some(progress) && core.reach(id(number)) == Some(reach)
+}
+
+/// Whether a transaction's Metadata has this size and this destination file name.
+fn has_metadata<S: Filestore>(core: &Core<S>, number: u8, size: u64, name: &[u8]) -> bool {
+    match core.metadata(id(number)) {
+        None => false,
+        Some(metadata) => metadata.size == size && metadata.destination_name.as_slice() == name,
+    }
+}
+
+/// Whether these are all transactions, in order of admission.
+fn has_order<S: Filestore>(core: &Core<S>, numbers: &[u8]) -> bool {
+    for (index, number) in numbers.iter().enumerate() {
+        if core.transaction_at(index) != Some(id(*number)) {
+            return false;
+        }
+    }
+    core.transaction_at(numbers.len()) == None
+}
+
+/// Whether this is the first transaction whose outcome can be taken.
+fn is_next_outcome<S: Filestore>(core: &Core<S>, number: Option<u8>) -> bool {
+    match number {
+        None => core.next_outcome() == None,
+        Some(number) => core.next_outcome() == Some(id(number)),
+    }
+}
+
 /// Whether a row holds.
 fn is_met<S: Filestore>(
     rt: &impl Abort,
@@ -386,6 +425,10 @@ fn is_met<S: Filestore>(
         Row::Phase(number, phase) => Ok(core.phase(id(number)) == phase),
         Row::Runnable(None) => Ok(core.next_runnable() == None),
         Row::Runnable(Some(number)) => Ok(core.next_runnable() == Some(id(number))),
+        Row::Reached(number, progress, reach) => Ok(has_reached(core, number, progress, reach)),
+        Row::Metadata(number, size, name) => Ok(has_metadata(core, number, size, name)),
+        Row::Order(numbers) => Ok(has_order(core, numbers)),
+        Row::Over(number) => Ok(is_next_outcome(core, number)),
     }
 }
 

@@ -248,7 +248,49 @@ const BESIDE_ANOTHER: &[Row] = &[
     ),
 ];
 
-static CASES: [&[Row]; 11] = [
+/// Three files under way, as an entity that asks for what is missing sees them. Refused, cancelled and done transactions stay in the
+/// order of admission until their outcome is taken.
+const AS_THEY_COME: &[Row] = &[
+    Row::Order(&[]),
+    Row::Over(None),
+    Row::On(
+        Given::Pdu("24000a00010a0207400000000f01730166"),
+        Told::Admitted(2, 2),
+    ),
+    Row::On(
+        Given::Pdu("24000a00010b0207400000000f01730167"),
+        Told::Admitted(2, 2),
+    ),
+    Row::On(
+        Given::Pdu("24000a00010c0207400000000f01730166"),
+        Told::Conflict(10),
+    ),
+    Row::Order(&[10, 11, 12]),
+    Row::Over(Some(12)),
+    Row::Metadata(11, 15, b"g"),
+    Row::Reached(10, 0, 0),
+    Row::On(
+        Given::Pdu("34000b00010a020000000808090a0b0c0d0e"),
+        Told::Stored,
+    ),
+    Row::Reached(10, 15, 15),
+    Row::On(
+        Given::Pdu("24000a00010b020400181c20150000000f"),
+        Told::Waiting,
+    ),
+    Row::Reached(11, 0, 15),
+    Row::On(Given::Cancel(11), Told::Cancelled),
+    Row::Reached(11, 0, 0),
+    Row::Over(Some(11)),
+    Row::On(
+        Given::Take(11),
+        Told::Finished("2c000500010b0205f4060102"),
+    ),
+    Row::Order(&[10, 12]),
+    Row::Over(Some(12)),
+];
+
+static CASES: [&[Row]; 12] = [
     A_FILE_IN_TWO_PIECES,
     A_WRONG_CHECKSUM,
     CHECKS_UP_TO_THE_LIMIT,
@@ -260,6 +302,7 @@ static CASES: [&[Row]; 11] = [
     A_CANCELLED_LIST,
     LEASES_OF_THOSE_THAT_ARE_OVER,
     BESIDE_ANOTHER,
+    AS_THEY_COME,
 ];
 
 #[test]
