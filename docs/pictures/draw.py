@@ -230,9 +230,11 @@ def short(crate):
 
 
 def is_test(crate):
-    """A crate whose root file says that it has tests alone."""
+    """Whether the one module of a crate is its tests."""
     root = TOP / "crates" / crate / "src" / "lib.rt"
-    return root.exists() and "has tests alone" in " ".join(root.read_text().split("#!")[0].replace("//!", " ").split())
+    lines = root.read_text().splitlines() if root.exists() else []
+    modules = [line.strip() for line in lines if line.strip().endswith(";") and "mod " in line]
+    return modules == ["mod tests;"]
 
 
 def fill_of(crate):
