@@ -1,7 +1,8 @@
 #!/usr/bin/env python3
-"""Draws the pictures of docs/pictures: run it after a change of crates.txt or of this file. It needs Python's standard library alone.
+"""Draws the pictures of docs/pictures: python3 docs/pictures/draw.py
 
-Each function below writes one picture. `Picture` has the shapes; it refuses text that is too wide for its box.
+Run it after a change of crates.txt or of this file. It needs only the standard library. Each picture has a function
+draw_NAME. `Picture` has the shapes, and refuses text that is too wide for its box.
 """
 from functools import lru_cache
 from html import escape
@@ -28,11 +29,10 @@ class Picture:
         self.title = title
         self.shapes = []
 
-    def text(self, x, y, text, size=14, anchor="middle", bold=False, colour="#000000", italic=False):
+    def text(self, x, y, text, size=14, anchor="middle", bold=False, colour="#000000"):
         style = ' font-weight="bold"' if bold else ""
-        style += ' font-style="italic"' if italic else ""
-        self.shapes.append(
-            f'<text x="{x:g}" y="{y:g}" font-size="{size}" text-anchor="{anchor}" fill="{colour}"{style}>{escape(text)}</text>')
+        place = f'x="{x:g}" y="{y:g}" font-size="{size}" text-anchor="{anchor}" fill="{colour}"'
+        self.shapes.append(f"<text {place}{style}>{escape(text)}</text>")
 
     def rect(self, x, y, width, height, fill="#ffffff", stroke="#000000", round=4, dash=False, line=1.2):
         dashes = ' stroke-dasharray="5 4"' if dash else ""
@@ -52,29 +52,32 @@ class Picture:
                 raise ValueError(f"{self.title}: '{line}' is too wide for its box")
             self.text(x + width / 2, first + place * step, line, letters, bold=is_bold)
 
-    def line(self, points, arrow=True, colour="#000000", dash=False, line=1.3):
-        path = "M" + " L".join(f"{x:g} {y:g}" for x, y in points)
+    def line(self, points, arrow=True, colour="#000000", dash=False):
+        """A line through points, with an arrow at its end."""
+        self.path("M" + " L".join(f"{x:g} {y:g}" for x, y in points), arrow, colour, dash)
+
+    def path(self, path, arrow=True, colour="#000000", dash=False):
+        """A line along an SVG path."""
         end = f' marker-end="url(#{"blue" if colour == EDGE else "black"})"' if arrow else ""
         dashes = ' stroke-dasharray="5 4"' if dash else ""
-        self.shapes.append(f'<path d="{path}" fill="none" stroke="{colour}" stroke-width="{line}"{end}{dashes}/>')
-
-    def curve(self, path, colour="#000000", arrow=True):
-        end = ' marker-end="url(#black)"' if arrow else ""
-        self.shapes.append(f'<path d="{path}" fill="none" stroke="{colour}" stroke-width="1.3"{end}/>')
+        self.shapes.append(f'<path d="{path}" fill="none" stroke="{colour}" stroke-width="1.3"{end}{dashes}/>')
 
     def write(self, name):
         width, height = self.size
-        marks = "".join(
-            f'<marker id="{mark}" viewBox="0 0 10 10" refX="9" refY="5" markerWidth="8" markerHeight="8" orient="auto">'
-            f'<path d="M0 0 L10 5 L0 10 z" fill="{colour}"/></marker>' for mark, colour in (("black", "#000000"), ("blue", EDGE)))
-        text = (
+        mark = ('<marker id="{}" viewBox="0 0 10 10" refX="9" refY="5" markerWidth="8" markerHeight="8" orient="auto">'
+                '<path d="M0 0 L10 5 L0 10 z" fill="{}"/></marker>')
+        lines = [
             f'<svg xmlns="http://www.w3.org/2000/svg" width="{width}" height="{height}" viewBox="0 0 {width} {height}" '
-            f'font-family="Helvetica, Arial, sans-serif">\n<title>{escape(self.title)}</title>\n<defs>{marks}</defs>\n'
-            f'<rect width="{width}" height="{height}" fill="#ffffff"/>\n' + "\n".join(self.shapes) + "\n</svg>\n")
-        (HERE / name).write_text(text)
+            'font-family="Helvetica, Arial, sans-serif">',
+            f"<title>{escape(self.title)}</title>",
+            f'<defs>{mark.format("black", "#000000")}{mark.format("blue", EDGE)}</defs>',
+            f'<rect width="{width}" height="{height}" fill="#ffffff"/>',
+            *self.shapes,
+            "</svg>"]
+        (HERE / name).write_text("\n".join(lines) + "\n")
 
 
-# --- the crates ---------------------------------------------------------------------------------------------------------------
+# --- the crates ---------------------------------------------------------------------------------------------------
 
 def read_crates():
     """Each crate of crates.txt with the crates of this repository that it names."""
@@ -92,7 +95,9 @@ def direct(crates):
     @lru_cache(None)
     def below(crate):
         return frozenset(crates[crate]).union(*(below(low) for low in crates[crate]))
-    return {crate: [low for low in lows if not any(low in below(other) for other in lows)] for crate, lows in crates.items()}
+    return {
+        crate: [low for low in lows if not any(low in below(other) for other in lows)]
+        for crate, lows in crates.items()}
 
 
 def layers_of(edges):
@@ -112,76 +117,80 @@ def layers_of(edges):
     return layer
 
 
+def neighbours(chains):
+    """What each crate and each place of a line is joined with."""
+    near = {}
+    for chain in chains:
+        for one, other in zip(chain, chain[1:]):
+            near.setdefault(one, []).append(other)
+            near.setdefault(other, []).append(one)
+    return near
+
+
+def mean(numbers):
+    return sum(numbers) / len(numbers)
+
+
 def rows_of(edges, layer):
-    """The crates of each layer in a good order, and the pieces of each line, which passes the layers between at a place of its own."""
+    """The crates of each layer in an order with few crossings, and what each line passes in the layers between."""
     rows = [[] for _ in range(1 + max(layer.values()))]
     for crate in edges:
         rows[layer[crate]].append(crate)
-    pieces = []
+    chains = []
     for user, lows in edges.items():
         for low in lows:
-            chain = [user] + [(user, low, level) for level in range(layer[user] - 1, layer[low], -1)] + [low]
-            for place in chain[1:-1]:
+            between = [(user, low, level) for level in range(layer[user] - 1, layer[low], -1)]
+            for place in between:
                 rows[place[2]].append(place)
-            pieces.append(chain)
-    near = {}
-    for chain in pieces:
-        for high, low in zip(chain, chain[1:]):
-            near.setdefault(high, []).append(low)
-            near.setdefault(low, []).append(high)
-    place = {one: float(at) for row in rows for at, one in enumerate(row)}
+            chains.append([user, *between, low])
+    near = neighbours(chains)
+    at = {one: float(place) for row in rows for place, one in enumerate(row)}
     for turn in range(60):
-        order = range(len(rows)) if turn % 2 else range(len(rows) - 1, -1, -1)
-        for level in order:
-            row = rows[level]
-            wanted = {one: sum(place[other] for other in near.get(one, [one])) / len(near.get(one, [one])) for one in row}
+        for row in rows if turn % 2 else reversed(rows):
+            wanted = {one: mean([at[other] for other in near[one]]) for one in row}
             row.sort(key=lambda one: wanted[one])
-            middle = sum(wanted.values()) / len(row) - (len(row) - 1) / 2
-            for at, one in enumerate(row):
-                place[one] = middle + at
-    return rows, pieces
+            first = mean(wanted.values()) - (len(row) - 1) / 2
+            at.update({one: first + place for place, one in enumerate(row)})
+    return rows, chains
+
+
+GAP = 14
+
+
+def from_left(wanted, row, sizes, low):
+    """Places for a row, each the least that is not before its wanted place and leaves room for those before it."""
+    places, edge = {}, low
+    for one in row:
+        places[one] = max(wanted[one], edge + sizes[one] / 2)
+        edge = places[one] + sizes[one] / 2 + GAP
+    return places
+
+
+def from_right(wanted, row, sizes, high):
+    """The same from the right."""
+    mirrored = from_left({one: -wanted[one] for one in row}, row[::-1], sizes, -high)
+    return {one: -place for one, place in mirrored.items()}
 
 
 def settle(wanted, row, sizes, low, high):
     """Places for a row from left to right, near those that are wanted, with room between them."""
-    gap = 14
-    right = {}
-    at = low
-    for one in row:
-        right[one] = max(wanted[one], at + sizes[one] / 2)
-        at = right[one] + sizes[one] / 2 + gap
-    left = {}
-    at = high
-    for one in reversed(row):
-        left[one] = min(wanted[one], at - sizes[one] / 2)
-        at = left[one] - sizes[one] / 2 - gap
-    middle = {one: (right[one] + left[one]) / 2 for one in row}
-    at = low
-    for one in row:
-        middle[one] = max(middle[one], at + sizes[one] / 2)
-        at = middle[one] + sizes[one] / 2 + gap
-    at = high
-    for one in reversed(row):
-        middle[one] = min(middle[one], at - sizes[one] / 2)
-        at = middle[one] - sizes[one] / 2 - gap
-    return middle
+    left, right = from_left(wanted, row, sizes, low), from_right(wanted, row, sizes, high)
+    middle = {one: (left[one] + right[one]) / 2 for one in row}
+    return from_right(from_left(middle, row, sizes, low), row, sizes, high)
 
 
-def places_in(rows, pieces, sizes, low, high):
-    """Where each crate and each piece of a line is from left to right: near what it is joined with."""
-    near = {}
-    for chain in pieces:
-        for one, other in zip(chain, chain[1:]):
-            near.setdefault(one, []).append(other)
-            near.setdefault(other, []).append(one)
+def places_in(rows, chains, sizes, low, high):
+    """Where each crate and each place of a line is from left to right: near what it is joined with."""
+    near = neighbours(chains)
     x = {one: low + (high - low) * (at + 1) / (len(row) + 1) for row in rows for at, one in enumerate(row)}
     for turn in range(80):
         for row in rows if turn % 2 else reversed(rows):
-            wanted = {one: sum(x[other] for other in near[one]) / len(near[one]) for one in row}
+            wanted = {one: mean([x[other] for other in near[one]]) for one in row}
             x.update(settle(wanted, row, sizes, low, high))
-    least, most = min(x[one] - sizes[one] / 2 for one in x), max(x[one] + sizes[one] / 2 for one in x)
-    stretch = (high - low) / (most - least)
-    return {one: low + sizes[one] / 2 + (x[one] - sizes[one] / 2 - least) * max(stretch, 1) for one in x}
+    least = min(x[one] - sizes[one] / 2 for one in x)
+    most = max(x[one] + sizes[one] / 2 for one in x)
+    stretch = max((high - low) / (most - least), 1)
+    return {one: low + sizes[one] / 2 + (x[one] - sizes[one] / 2 - least) * stretch for one in x}
 
 
 def box_width(crate):
@@ -189,40 +198,40 @@ def box_width(crate):
 
 
 def draw_crates():
-    crates = read_crates()
-    edges = direct(crates)
+    edges = direct(read_crates())
     lone = [crate for crate in edges if not edges[crate] and not any(crate in lows for lows in edges.values())]
     for crate in lone:
         del edges[crate]
-    rows, pieces = rows_of(edges, layers_of(edges))
-    width, step, high = 1000, 78, 34
+    rows, chains = rows_of(edges, layers_of(edges))
+    step, half = 78, 17
     height = 50 + step * len(rows)
-    picture = Picture(width, height, "The crates, and which of them each one uses")
+    picture = Picture(1000, height, "The crates, and which of them each one uses")
     sizes = {one: box_width(one) if isinstance(one, str) else 10 for row in rows for one in row}
-    x = places_in(rows, pieces, sizes, 20, width - 20)
+    x = places_in(rows, chains, sizes, 20, 980)
     y = {one: height - 80 - step * level for level, row in enumerate(rows) for one in row}
-    for chain in pieces:
-        points = []
-        for one in chain:
-            if one == chain[0]:
-                points.append((x[one], y[one] + high / 2))
-            elif one == chain[-1]:
-                points.append((x[one], y[one] - high / 2))
-            else:
-                points += [(x[one], y[one] - high / 2), (x[one], y[one] + high / 2)]
-        picture.line(points, colour=EDGE)
+    for user, *between, low in chains:
+        points = [(x[user], y[user] + half)]
+        for one in between:
+            points += [(x[one], y[one] - half), (x[one], y[one] + half)]
+        picture.line(points + [(x[low], y[low] - half)], colour=EDGE)
     for one in x:
         if isinstance(one, str):
-            picture.box(x[one] - sizes[one] / 2, y[one] - high / 2, sizes[one], high, [short(one)], fill=fill_of(one), dash=is_test(one))
+            draw_crate(picture, one, x[one] - sizes[one] / 2, y[one] - half, 2 * half)
     at = 20
     for crate in lone:
-        picture.box(at, height - 40, box_width(crate), 28, [short(crate)], dash=is_test(crate))
+        draw_crate(picture, crate, at, height - 40, 28)
         at += box_width(crate) + 8
     if lone:
         picture.text(at, height - 21, "used by no other crate yet", 13, "start")
-    picture.text(980, height - 32, "Names are without cfdp_. Blue: a program, or the C library. Dashed: only tests.", 13, "end")
-    picture.text(980, height - 13, "An arrow goes from a crate to one that it uses, unless a longer way leads there too.", 13, "end")
+    about = ("Names are without cfdp_. Blue: a program, or the C library. Dashed: only tests.",
+             "An arrow goes from a crate to one that it uses, unless a longer way leads there too.")
+    for place, line in enumerate(about):
+        picture.text(980, height - 32 + 19 * place, line, 13, "end")
     picture.write("crates.svg")
+
+
+def draw_crate(picture, crate, x, y, height):
+    picture.box(x, y, box_width(crate), height, [short(crate)], fill=fill_of(crate), dash=is_test(crate))
 
 
 def short(crate):
@@ -244,7 +253,54 @@ def fill_of(crate):
     return BLUE if is_program or is_library else "#ffffff"
 
 
-# --- the phases of a transaction ----------------------------------------------------------------------------------------------
+# --- the phases of a transaction ----------------------------------------------------------------------------------
+
+PHASE_BOXES = (
+    (20, 290, 120, 44, ["not known"], "#ffffff"),
+    (240, 130, 150, 54, ["Receiving", "no EOF PDU yet"], BLUE),
+    (510, 130, 160, 54, ["Awaiting", "octets missing"], BLUE),
+    (780, 130, 150, 54, ["Executing", "an item at a time"], BLUE),
+    (240, 448, 150, 48, ["Refused"], GREY),
+    (510, 448, 160, 48, ["Ended", "with a condition"], GREY),
+    (780, 448, 150, 48, ["Done"], GREY),
+)
+PHASE_ARROWS = (
+    [(80, 290), (80, 157), (240, 157)],
+    [(80, 334), (80, 472), (240, 472)],
+    [(110, 334), (110, 374), (550, 374), (550, 448)],
+    [(390, 157), (510, 157)],
+    [(670, 157), (780, 157)],
+    [(340, 130), (340, 104), (830, 104), (830, 130)],
+    [(300, 130), (300, 46), (970, 46), (970, 472), (930, 472)],
+    [(880, 184), (880, 448)],
+    [(855, 548), (40, 548), (40, 334)],
+)
+PHASE_EVENTS = (
+    (88, 124, "Metadata PDU:", "start"),
+    (88, 142, "list granted", "start"),
+    (88, 446, "Metadata PDU:", "start"),
+    (88, 464, "list refused", "start"),
+    (122, 366, "Metadata PDU: a file with a checksum type other than 0 and 15", "start"),
+    (450, 149, "EOF PDU:", "middle"),
+    (450, 174, "octets missing", "middle"),
+    (725, 149, "File Data PDU:", "middle"),
+    (725, 174, "nothing missing", "middle"),
+    (585, 97, "EOF PDU: nothing missing, or no file but requests", "middle"),
+    (635, 38, "EOF PDU: neither a file nor a request", "middle"),
+    (555, 233, "check: below the limit", "middle"),
+    (790, 233, "step: items left", "middle"),
+    (872, 340, "step: the last item", "end"),
+    (590, 566, "take: the outcome is handed out, and the transaction is forgotten", "middle"),
+)
+PHASE_FAULTS = (
+    ("any live phase", "a cancel (condition 15); an EOF PDU with a condition (that one)"),
+    ("Receiving", "an octet past the file's greatest size, or an EOF PDU with a size that does not fit (6); "
+                  "a wrong checksum (5)"),
+    ("Awaiting", "an octet past the size that the EOF PDU gave (6); a wrong checksum (5); the check at the limit (10)"),
+)
+PHASE_REST = ("Every other event leaves the phase as it is. "
+              "A list of more than 64 requests is refused, and its transaction stays not known.")
+
 
 def draw_phases():
     picture = Picture(1000, 700, "The phases of a transaction, and the events between them")
@@ -252,130 +308,155 @@ def draw_phases():
     picture.text(326, 256, "live: paths leased, blocks reserved", 13, "start", colour=EDGE)
     picture.rect(210, 420, 736, 96, fill="#fafafa", stroke="#666666", dash=True)
     picture.text(222, 438, "over: outcome kept until taken", 13, "start", colour="#444444")
-    picture.box(20, 290, 120, 44, ["not known"], round=20)
-    picture.box(240, 130, 150, 54, ["Receiving", "no EOF PDU yet"], fill=BLUE)
-    picture.box(510, 130, 160, 54, ["Awaiting", "octets missing"], fill=BLUE)
-    picture.box(780, 130, 150, 54, ["Executing", "an item at a time"], fill=BLUE)
-    picture.box(240, 448, 150, 48, ["Refused"], fill=GREY)
-    picture.box(510, 448, 160, 48, ["Ended", "with a condition"], fill=GREY)
-    picture.box(780, 448, 150, 48, ["Done"], fill=GREY)
-
-    # Metadata.
-    picture.line([(80, 290), (80, 157), (240, 157)])
-    picture.text(88, 124, "Metadata PDU:", 13, "start")
-    picture.text(88, 142, "list granted", 13, "start")
-    picture.line([(80, 334), (80, 472), (240, 472)])
-    picture.text(88, 446, "Metadata PDU:", 13, "start")
-    picture.text(88, 464, "list refused", 13, "start")
-    picture.line([(110, 334), (110, 374), (550, 374), (550, 448)])
-    picture.text(122, 366, "Metadata PDU: a file with a checksum type other than 0 and 15", 13, "start")
-
-    # The file.
-    picture.line([(390, 157), (510, 157)])
-    picture.text(450, 149, "EOF PDU:", 13)
-    picture.text(450, 174, "octets missing", 13)
-    picture.line([(670, 157), (780, 157)])
-    picture.text(725, 149, "File Data PDU:", 13)
-    picture.text(725, 174, "nothing missing", 13)
-    picture.line([(340, 130), (340, 104), (830, 104), (830, 130)])
-    picture.text(585, 97, "EOF PDU: nothing missing, or no file but requests", 13)
-    picture.line([(300, 130), (300, 46), (970, 46), (970, 472), (930, 472)])
-    picture.text(635, 38, "EOF PDU: neither a file nor a request", 13)
-    picture.curve("M540 184 C 525 226, 585 226, 570 186")
-    picture.text(555, 233, "check: below the limit", 13)
-    picture.curve("M790 184 C 775 226, 835 226, 820 186")
-    picture.text(790, 233, "step: items left", 13)
-    picture.line([(880, 184), (880, 448)])
-    picture.text(872, 340, "step: the last item", 13, "end")
-
-    # To the end.
-    picture.line([(315, 184), (315, 300), (630, 300)], arrow=False, colour=EDGE)
-    picture.line([(850, 184), (850, 300), (630, 300)], arrow=False, colour=EDGE)
+    for x, y, width, height, lines, fill in PHASE_BOXES:
+        picture.box(x, y, width, height, lines, fill, round=20 if x == 20 else 4)
+    for points in PHASE_ARROWS:
+        picture.line(points)
+    picture.path("M540 184 C 525 226, 585 226, 570 186")
+    picture.path("M790 184 C 775 226, 835 226, 820 186")
+    for x, y, text, anchor in PHASE_EVENTS:
+        picture.text(x, y, text, 13, anchor)
+    for x in (315, 850):
+        picture.line([(x, 184), (x, 300), (630, 300)], arrow=False, colour=EDGE)
     picture.line([(640, 184), (640, 448)], colour=EDGE)
     picture.text(480, 292, "a cancel, or a fault (below)", 13, colour=EDGE)
-    for x in (315, 590, 855):
+    for x in (315, 590):
         picture.line([(x, 496), (x, 548)], arrow=False)
-    picture.line([(855, 548), (40, 548), (40, 334)])
-    picture.text(590, 566, "take: the outcome is handed out, and the transaction is forgotten", 13)
-    table = (
-        ("any live phase", "a cancel (condition 15); an EOF PDU with a condition (that one)"),
-        ("Receiving", "an octet past the file's greatest size, or an EOF PDU with a size that does not fit (6); a wrong checksum (5)"),
-        ("Awaiting", "an octet past the size that the EOF PDU gave (6); a wrong checksum (5); the check at the limit (10)"),
-    )
-    for place, (phase, faults) in enumerate(table):
+    picture.line([(855, 496), (855, 548)], arrow=False)
+    for place, (phase, faults) in enumerate(PHASE_FAULTS):
         picture.text(20, 612 + 24 * place, phase, 13, "start", bold=True)
         picture.text(140, 612 + 24 * place, faults, 13, "start")
-    picture.text(20, 684, "Every other event leaves the phase as it is. A list of more than 64 requests is refused, and its transaction stays not known.", 13, "start")
+    picture.text(20, 684, PHASE_REST, 13, "start")
     picture.write("phases.svg")
 
 
-# --- a Metadata PDU's way to the Finished PDU ---------------------------------------------------------------------------------
+# --- a Metadata PDU's way to the Finished PDU ---------------------------------------------------------------------
+
+LANES = (
+    ("caller", 80, ["the caller", "C or Rust"]),
+    ("Entity", 260, ["Entity", "cfdp_entity"]),
+    ("pdus", 430, ["readers, writers", "cfdp_pdus"]),
+    ("Core", 590, ["Core", "cfdp_transactions"]),
+    ("verify", 760, ["verify", "cfdp_verifier"]),
+    ("store", 915, ["TreeStore", "cfdp_tree"]),
+)
+# From a lane to a lane; from no lane: the name of what follows.
+WAY = (
+    ("", "A list is judged before its transaction begins", ""),
+    ("caller", "receive: Metadata PDU", "Entity"),
+    ("Entity", "read", "pdus"),
+    ("pdus", "value, or first fault", "Entity"),
+    ("Entity", "Event::Metadata: apply", "Core"),
+    ("Core", "the whole list", "verify"),
+    ("verify", "kinds and sizes", "store"),
+    ("verify", "grant or refusal", "Core"),
+    ("Core", "Admitted: paths are leased and blocks reserved. Or Refused, by name", "caller"),
+    ("", "The file arrives", ""),
+    ("caller", "receive: File Data PDUs", "Entity"),
+    ("Entity", "where the octets lie: file_data", "Core"),
+    ("Core", "octets go into the transaction's slot", "store"),
+    ("caller", "receive: EOF PDU", "Entity"),
+    ("Entity", "Event::Eof: apply", "Core"),
+    ("Core", "the checksum of what is staged", "store"),
+    ("Core", "Complete: all is there with the right checksum. Or Waiting, or Faulted", "caller"),
+    ("", "Its items are performed, whenever the caller likes", ""),
+    ("caller", "step, while next_runnable names it", "Core"),
+    ("Core", "the install, or one request", "store"),
+    ("Core", "Installed, or Performed. After the last one leases and reserve go", "caller"),
+    ("", "The outcome is sent", ""),
+    ("caller", "take, with a buffer", "Entity"),
+    ("Entity", "outcome", "Core"),
+    ("Entity", "write", "pdus"),
+    ("Entity", "Finished PDU", "caller"),
+)
+
+
+def draw_call(picture, start, text, end, y):
+    """An arrow from a place to a place, with a text over it. One to the left is a reply."""
+    width, middle = width_of(text, 13), (start + end) / 2
+    if width > abs(end - start) - 16:
+        raise ValueError(f"'{text}' is too wide for its arrow")
+    colour = EDGE if end < start else "#000000"
+    picture.line([(start, y), (end, y)], colour=colour)
+    picture.rect(middle - width / 2 - 2, y - 19, width + 4, 13, stroke="#ffffff", round=0)
+    picture.text(middle, y - 7, text, 13, colour=colour)
+
 
 def draw_way():
-    lanes = {"caller": 80, "Entity": 260, "pdus": 430, "Core": 590, "verify": 760, "store": 915}
-    heads = {
-        "caller": ["the caller", "C or Rust"], "Entity": ["Entity", "cfdp_entity"], "pdus": ["readers, writers", "cfdp_pdus"],
-        "Core": ["Core", "cfdp_transactions"], "verify": ["verify", "cfdp_verifier"], "store": ["TreeStore", "cfdp_tree"]}
-    steps = (
-        ("", "A list is judged before its transaction begins", ""),
-        ("caller", "receive: Metadata PDU", "Entity"),
-        ("Entity", "read", "pdus"),
-        ("pdus", "value, or first fault", "Entity"),
-        ("Entity", "Event::Metadata: apply", "Core"),
-        ("Core", "the whole list", "verify"),
-        ("verify", "kinds and sizes", "store"),
-        ("verify", "grant or refusal", "Core"),
-        ("Core", "Admitted: paths are leased and blocks reserved. Or Refused, by name", "caller"),
-        ("", "The file arrives", ""),
-        ("caller", "receive: File Data PDUs", "Entity"),
-        ("Entity", "where the octets lie: file_data", "Core"),
-        ("Core", "octets go into the transaction's slot", "store"),
-        ("caller", "receive: EOF PDU", "Entity"),
-        ("Entity", "Event::Eof: apply", "Core"),
-        ("Core", "the checksum of what is staged", "store"),
-        ("Core", "Complete: all is there with the right checksum. Or Waiting, or Faulted", "caller"),
-        ("", "Its items are performed, whenever the caller likes", ""),
-        ("caller", "step, while next_runnable names it", "Core"),
-        ("Core", "the install, or one request", "store"),
-        ("Core", "Installed, or Performed. After the last one leases and reserve go", "caller"),
-        ("", "The outcome is sent", ""),
-        ("caller", "take, with a buffer", "Entity"),
-        ("Entity", "outcome", "Core"),
-        ("Entity", "write", "pdus"),
-        ("Entity", "Finished PDU", "caller"),
-    )
     row = 32
-    picture = Picture(1000, 100 + row * len(steps), "The way from a Metadata PDU to the Finished PDU")
-    for lane, x in lanes.items():
-        picture.line([(x, 64), (x, 84 + row * len(steps))], arrow=False, colour="#999999", dash=True)
-        picture.box(x - 72, 16, 144, 48, heads[lane], fill=BLUE if lane != "caller" else "#ffffff", size=14)
-    for place, (start, text, end) in enumerate(steps):
+    picture = Picture(1000, 100 + row * len(WAY), "The way from a Metadata PDU to the Finished PDU")
+    lanes = {lane: x for lane, x, _ in LANES}
+    for lane, x, head in LANES:
+        picture.line([(x, 64), (x, 84 + row * len(WAY))], arrow=False, colour="#999999", dash=True)
+        picture.box(x - 72, 16, 144, 48, head, fill="#ffffff" if lane == "caller" else BLUE)
+    for place, (start, text, end) in enumerate(WAY):
         y = 96 + row * place
-        if not start:
+        if start:
+            draw_call(picture, lanes[start], text, lanes[end], y)
+        else:
             picture.rect(14, y - 16, 972, 24, fill=GREY, stroke=GREY)
             picture.text(24, y + 1, text, 14, "start", bold=True)
-            continue
-        low, high = sorted((lanes[start], lanes[end]))
-        is_reply = lanes[start] > lanes[end]
-        width, middle = width_of(text, 13), (low + high) / 2
-        if width > high - low - 16:
-            raise ValueError(f"'{text}' is too wide for its arrow")
-        picture.line([(lanes[start], y), (lanes[end], y)], colour=EDGE if is_reply else "#000000")
-        picture.rect(middle - width / 2 - 2, y - 19, width + 4, 13, fill="#ffffff", stroke="#ffffff", round=0)
-        picture.text(middle, y - 7, text, 13, colour=EDGE if is_reply else "#000000")
     picture.write("way.svg")
 
 
-# --- blocks, runs and nodes ---------------------------------------------------------------------------------------------------
+# --- blocks, runs and nodes ---------------------------------------------------------------------------------------
+
+# The first and the last octet of a field, its name, and how wide it is drawn.
+FREE_BLOCK = ((0, 1, "next", 56, GREY), (2, 127, "octets that mean nothing", 904, "#ffffff"))
+HEADER = (
+    (0, 1, "next", 56, GREY), (2, 3, "owner", 56, GREY), (4, 5, "rank", 56, GREY), (6, 6, "kind", 40, GREY),
+    (7, 7, "", 22, "#ffffff"))
+PAYLOAD = ((8, 127, "payload: octets of a file, or of one that arrives", 730, BLUE),)
+NODE = (
+    (8, 9, "parent", 58, BLUE), (10, 11, "first", 52, BLUE), (12, 13, "last", 52, BLUE), (14, 17, "size", 56, BLUE),
+    (18, 18, "is a/file", 44, BLUE), (19, 19, "name/length", 54, BLUE), (20, 21, "same/head", 54, BLUE),
+    (22, 23, "next/entry", 54, BLUE), (24, 25, "entry/before", 54, BLUE), (26, 31, "", 44, "#ffffff"),
+    (32, 127, "name, at most 96 octets", 208, BLUE))
+ARENA_BOXES = (
+    (30, 400, 168, 44, ["index heads", "one for each block"], "#ffffff"),
+    (30, 480, 168, 44, ["the root's first entry", "and how many"], "#ffffff"),
+    (30, 580, 168, 44, ["slot 0 of 64", "size, first, last, at"], "#ffffff"),
+    (300, 468, 130, 66, ["block 0: a node", "directory d", "1 entry"], BLUE),
+    (500, 468, 130, 66, ["block 1: a node", "file f, 300", "parent 0"], BLUE),
+    (500, 396, 126, 50, ["block 2: rank 0", "octets 0 to 119"], "#ffffff"),
+    (660, 396, 126, 50, ["block 3: rank 1", "120 to 239"], "#ffffff"),
+    (820, 396, 126, 50, ["block 4: rank 2", "240 to 299"], "#ffffff"),
+    (500, 578, 126, 50, ["block 5: rank 0", "what arrived"], "#ffffff"),
+    (660, 578, 126, 50, ["block 6: rank 1", "what arrived"], "#ffffff"),
+    (850, 578, 116, 50, ["block 7: free", "next 8, and on"], GREY),
+)
+# From block to block of a run.
+NEXT_LINKS = ([(626, 421), (660, 421)], [(786, 421), (820, 421)], [(626, 603), (660, 603)])
+# Each other link, with its name and where that is written.
+LINKS = (
+    ([(198, 502), (300, 502)], "first", 250, 496),
+    ([(198, 422), (264, 422), (264, 486), (300, 486)], "hash", 247, 416),
+    ([(430, 501), (500, 501)], "first", 465, 495),
+    ([(563, 468), (563, 446)], "first", 583, 461),
+    ([(630, 501), (883, 501), (883, 446)], "last", 840, 495),
+    ([(198, 603), (500, 603)], "first", 349, 597),
+)
+ARENA_NOTES = (
+    (114, 644, "made once by TreeStore::new,", 12, "middle"),
+    (114, 660, "never made longer", 12, "middle"),
+    (946, 384, "a run: each block names the next one, its owner (block 2) and its rank", 12, "end"),
+    (608, 672, "An install gives the run of a slot to a node. A rename changes the node alone, and a few links.",
+     13, "middle"),
+    (20, 716, "A directory's size is the number of its entries, and its first block is the node of its first entry.",
+     13, "start"),
+    (20, 738, "Numbers of blocks have two octets, the low one first. A file's name is in its node, "
+              "and its path is the way up to the root.", 13, "start"),
+)
+
 
 def draw_block(picture, y, name, fields):
-    """A block of 128 octets in a row of fields: its parts with their first and last octet, and a width for each."""
+    """A block of 128 octets as a row of fields."""
     picture.text(20, y - 10, name, 14, "start", bold=True)
     x = 20
     for first, last, text, width, fill in fields:
         picture.rect(x, y, width, 40, fill, round=0)
         for line, part in enumerate(text.split("/")):
-            at = y + 25 if "/" not in text else y + 17 + 16 * line
+            at = y + 17 + 16 * line if "/" in text else y + 25
             picture.text(x + width / 2, at, part, 12)
         picture.text(x + 3, y + 54, str(first), 11, "start", colour="#444444")
         if last != first and width > 40:
@@ -385,95 +466,71 @@ def draw_block(picture, y, name, fields):
 
 def draw_arena():
     picture = Picture(1000, 760, "Blocks, runs and nodes of the filestore")
-    head = [(0, 1, "next", 56, GREY), (2, 3, "owner", 56, GREY), (4, 5, "rank", 56, GREY), (6, 6, "kind", 40, GREY), (7, 7, "", 22, "#ffffff")]
-    draw_block(picture, 40, "A free block", [(0, 1, "next", 56, GREY), (2, 127, "octets that mean nothing", 904, "#ffffff")])
-    draw_block(picture, 136, "A block of a run: 8 octets of links, 120 octets of payload", head + [(8, 127, "payload: octets of a file, or of one that arrives", 730, BLUE)])
-    draw_block(picture, 232, "A node: one file or directory", head + [
-        (8, 9, "parent", 58, BLUE), (10, 11, "first", 52, BLUE), (12, 13, "last", 52, BLUE), (14, 17, "size", 56, BLUE), (18, 18, "is a/file", 44, BLUE),
-        (19, 19, "name/length", 54, BLUE), (20, 21, "same/head", 54, BLUE), (22, 23, "next/entry", 54, BLUE), (24, 25, "entry/before", 54, BLUE),
-        (26, 31, "", 44, "#ffffff"), (32, 127, "name, at most 96 octets", 208, BLUE)])
-
-    picture.text(20, 340, "An example: directory d with a file d/f of 300 octets, and a file that arrives in slot 0", 14, "start", bold=True)
-    picture.rect(14, 356, 200, 330, fill="#ffffff", dash=True)
+    draw_block(picture, 40, "A free block", FREE_BLOCK)
+    draw_block(picture, 136, "A block of a run: 8 octets of links, 120 octets of payload", HEADER + PAYLOAD)
+    draw_block(picture, 232, "A node: one file or directory", HEADER + NODE)
+    example = "An example: directory d with a file d/f of 300 octets, and a file that arrives in slot 0"
+    picture.text(20, 340, example, 14, "start", bold=True)
+    picture.rect(14, 356, 200, 330, dash=True)
     picture.text(114, 378, "beside the arena", 14, bold=True)
     picture.rect(230, 356, 756, 330, fill="#f7fafd", stroke=EDGE, dash=True)
     picture.text(246, 378, "the arena", 14, "start", bold=True, colour=EDGE)
-    picture.box(30, 400, 168, 44, ["index heads", "one for each block"], size=13)
-    picture.box(30, 480, 168, 44, ["the root's first entry", "and how many"], size=13)
-    picture.box(30, 580, 168, 44, ["slot 0 of 64", "size, first, last, at"], size=13)
-    picture.text(114, 644, "made once by TreeStore::new,", 12)
-    picture.text(114, 660, "never made longer", 12)
-
-    picture.box(300, 468, 130, 66, ["block 0: a node", "directory d", "1 entry"], fill=BLUE, size=13)
-    picture.box(500, 468, 130, 66, ["block 1: a node", "file f, 300", "parent 0"], fill=BLUE, size=13)
-    for place, text in enumerate(("octets 0 to 119", "120 to 239", "240 to 299")):
-        x = 500 + 160 * place
-        picture.box(x, 396, 126, 50, [f"block {2 + place}: rank {place}", text], size=13)
-        if place:
-            picture.line([(x - 34, 421), (x, 421)])
-    picture.text(946, 384, "a run: each block names the next one, its owner (block 2) and its rank", 12, "end")
-    picture.box(500, 578, 126, 50, ["block 5: rank 0", "what arrived"], size=13)
-    picture.box(660, 578, 126, 50, ["block 6: rank 1", "what arrived"], size=13)
-    picture.line([(626, 603), (660, 603)])
-    picture.box(850, 578, 116, 50, ["block 7: free", "next 8, and on"], fill=GREY, size=13)
-
-    picture.line([(198, 502), (300, 502)], colour=EDGE)
-    picture.text(250, 496, "first", 12, colour=EDGE)
-    picture.line([(198, 422), (264, 422), (264, 486), (300, 486)], colour=EDGE)
-    picture.text(247, 416, "hash", 12, colour=EDGE)
-    picture.line([(430, 501), (500, 501)], colour=EDGE)
-    picture.text(465, 495, "first", 12, colour=EDGE)
-    picture.line([(563, 468), (563, 446)], colour=EDGE)
-    picture.text(570, 461, "first", 12, "start", colour=EDGE)
-    picture.line([(630, 501), (883, 501), (883, 446)], colour=EDGE)
-    picture.text(840, 495, "last", 12, colour=EDGE)
-    picture.line([(198, 603), (500, 603)], colour=EDGE)
-    picture.text(349, 597, "first", 12, colour=EDGE)
-    picture.text(608, 672, "An install gives the run of a slot to a node. A rename changes the node alone, and a few links.", 13)
-    picture.text(20, 716, "A directory's size is the number of its entries, and its first block is the node of its first entry.", 13, "start")
-    picture.text(20, 738, "Numbers of blocks have two octets, the low one first. A file's name is in its node, and its path is the way up to the root.", 13, "start")
+    for x, y, width, height, lines, fill in ARENA_BOXES:
+        picture.box(x, y, width, height, lines, fill, size=13)
+    for points in NEXT_LINKS:
+        picture.line(points)
+    for points, name, x, y in LINKS:
+        picture.line(points, colour=EDGE)
+        picture.text(x, y, name, 12, colour=EDGE)
+    for x, y, text, size, anchor in ARENA_NOTES:
+        picture.text(x, y, text, size, anchor)
     picture.write("arena.svg")
 
 
-# --- who holds the lock -------------------------------------------------------------------------------------------------------
+# --- who holds the lock -------------------------------------------------------------------------------------------
+
+# What a worker does before it takes the lock, and how wide it is drawn.
+BEFORE_LOCK = (
+    (["takes a", "message"], 88), (["passes", "the gate"], 80), (["reads", "the PDU"], 76),
+    (["makes room for", "its receipt"], 124))
+LOCK_NOTES = (
+    "Whenever the lock is taken and whenever it is given back, the journal is a history of one thread, "
+    "and the core is sound.",
+    "accept: the core takes the event (apply_both), and the journal gets one entry, unless memory was refused "
+    "or the journal is full.",
+    "A run looks for a step in one hold of the lock and takes it in the next: "
+    "other workers' events may come between.",
+)
+
+
+def draw_worker(picture, seat, start, waits, y, lock):
+    """A worker's message from left to right; `lock` is where what it does under the lock is drawn from above."""
+    picture.text(20, y - 14, f"worker, seat {seat}", 14, "start", bold=True)
+    x = start
+    for lines, width in BEFORE_LOCK:
+        picture.box(x, y, width, 46, lines, size=13, bold=False)
+        x += width
+    if waits:
+        picture.box(x, y, waits, 46, ["waits"], fill=GREY, size=13, bold=False)
+        x += waits
+    end = x + 172
+    near = lock if y < lock else lock + 50
+    picture.box(x, lock, end - x, 50, ["Journaled::accept", f"one event of seat {seat}"], fill=BLUE, size=13)
+    picture.line([(x, y + 23), (x + 10, y + 23), (x + 10, near)])
+    picture.line([(end - 10, near), (end - 10, y + 23), (end, y + 23)])
+    picture.box(end, y, 106, 46, ["keeps", "the receipt"], size=13, bold=False)
+
 
 def draw_lock():
     picture = Picture(1000, 480, "Who holds the lock when workers share an engine")
-    top, low, middle = 50, 290, 174
-    parts = ("takes a/message", "passes/the gate", "reads/the PDU", "makes room for/its receipt")
-    for y, name in ((top, "worker, seat 0"), (low, "worker, seat 1")):
-        picture.text(20, y - 14, name, 14, "start", bold=True)
-
-    def lane(y, start, widths, waits):
-        x = start
-        for text, width in zip(parts, widths):
-            picture.box(x, y, width, 46, text.split("/"), size=13, bold=False)
-            x += width
-        if waits:
-            picture.box(x, y, waits, 46, ["waits"], fill=GREY, size=13, bold=False)
-            x += waits
-        return x
-
-    widths = (88, 80, 76, 124)
-    first = lane(top, 20, widths, 0)
-    second = lane(low, 60, widths, 132)
-    hold = 172
-    picture.rect(14, middle - 30, 972, 84, fill="#f7fafd", stroke=EDGE, dash=True)
-    picture.text(24, middle - 10, "under the lock: the core with its journal", 14, "start", bold=True, colour=EDGE)
-    for x, y, seat in ((first, top, 0), (second, low, 1)):
-        picture.box(x, middle - 4, hold, 50, ["Journaled::accept", f"one event of seat {seat}"], fill=BLUE, size=13)
-        picture.box(x + hold, y, 106, 46, ["keeps", "the receipt"], size=13, bold=False)
-        if y == top:
-            picture.line([(x, y + 23), (x + 10, y + 23), (x + 10, middle - 4)])
-            picture.line([(x + hold - 10, middle - 4), (x + hold - 10, y + 23), (x + hold, y + 23)])
-        else:
-            picture.line([(x, y + 23), (x + 10, y + 23), (x + 10, middle + 46)])
-            picture.line([(x + hold - 10, middle + 46), (x + hold - 10, y + 23), (x + hold, y + 23)])
+    picture.rect(14, 144, 972, 84, fill="#f7fafd", stroke=EDGE, dash=True)
+    picture.text(24, 164, "under the lock: the core with its journal", 14, "start", bold=True, colour=EDGE)
+    draw_worker(picture, 0, 20, 0, 50, 170)
+    draw_worker(picture, 1, 60, 132, 290, 170)
     picture.line([(20, 374), (980, 374)])
     picture.text(980, 392, "time", 13, "end")
-    picture.text(20, 412, "Whenever the lock is taken and whenever it is given back, the journal is a history of one thread, and the core is sound.", 13, "start")
-    picture.text(20, 436, "accept: the core takes the event (apply_both), and the journal gets one entry, unless memory was refused or the journal is full.", 13, "start")
-    picture.text(20, 460, "A run looks for a step in one hold of the lock and takes it in the next: other workers' events may come between.", 13, "start")
+    for place, text in enumerate(LOCK_NOTES):
+        picture.text(20, 412 + 24 * place, text, 13, "start")
     picture.write("lock.svg")
 
 
