@@ -243,7 +243,7 @@ impl<S: Filestore> Core<S> {
         &self.books.config
     }
 
-    /// Takes an event (CCSDS 727.0-B-5 §4.6): the reply, and the world after it, are those of the table of events.
+    /// Takes an event (CCSDS 727.0-B-5, the procedures at the receiving entity): the reply, and the world after it, are those of the table of events.
     ///
     /// Where memory is refused the reply is [`Reply::Memory`] and the world is as before: the event can be handed in again.
     /// Over a store that takes no memory only Metadata and Take get that reply. Over any store an EOF PDU, a request to cancel and
@@ -251,9 +251,11 @@ impl<S: Filestore> Core<S> {
     /// entity, that came before, that has more than 64 requests, or that comes while the table is full. Journal-full is no
     /// reply of the core.
     ///
-    /// Cost: that of what the event brings. Metadata costs what [`verify`](cfdp_verifier::verify) does and one copy of it;
-    /// file data its octets and the pieces that they touch; an EOF PDU with a file one pass over what is staged; a step what
-    /// its request says; the outcome a copy of the requests' names; and all else next to nothing.
+    /// Cost: that of what the event brings. Metadata costs what [`verify`](cfdp_verifier::verify) does and one copy of it.
+    /// File data costs its octets and the pieces that they touch, and what the store takes to reach its offset. Where no octet
+    /// is missing any more, the EOF PDU or the file data that came last costs one pass over what is staged. A step costs
+    /// what its request says, and the rename of a directory also a pass over all below it. The outcome costs a copy of the
+    /// requests' names. All else costs a look-up.
     pub fn apply(&mut self, event: &Event) -> Reply
         ensures follows { Follows self.old.world event.now result self.new.world }
         ensures answered { IsFalse (may_want_memory self.old.takes_no_memory event.now) → IsAnswered result }
@@ -305,9 +307,9 @@ impl<S: Filestore> Core<S> {
         }
     }
 
-    /// A File Data PDU came (CCSDS 727.0-B-5 §5.3 and §4.6.1), whose octets lie where they were read: what
-    /// [`apply`](Core::apply) does with its event, without a copy of them. Over a store that takes no memory it is never
-    /// answered with want of it. Cost: its octets and the pieces that they touch.
+    /// A File Data PDU came (CCSDS 727.0-B-5 §5.3, copy file procedures at the receiving entity). Does what [`apply`](Core::apply)
+    /// does with its event, without a copy of its octets. Over a store that takes no memory the reply is never
+    /// [`Reply::Memory`]. Cost: as for [`apply`](Core::apply).
     pub fn file_data(&mut self, header: &Header, piece: &Piece<'_>) -> Reply
         ensures follows { Follows self.old.world (DataCame header.now piece.now) result self.new.world }
         ensures answered { IsTrue self.old.takes_no_memory → IsAnswered result }
