@@ -148,7 +148,7 @@ uint32_t cfdp_check(struct cfdp_engine *engine, uint64_t source, uint64_t number
  * octets are written to the beginning of `out`, which has room for `room`, and `*count` says how many they are; it is 0 where
  * none is to be sent. Answers CFDP_DONE with the reply (CFDP_TAKEN, CFDP_UNKNOWN, or CFDP_IDLE while the transaction is live);
  * CFDP_TOO_SHORT with the length needed in `*count`, and all else as before; CFDP_NO_MEMORY; or CFDP_NO_ENGINE. Want of memory and
- * room comes only where the transaction is over. A Finished PDU has at most 65563 octets. */
+ * room comes only where the transaction is over. A Finished PDU has at most 16488 octets. */
 uint32_t cfdp_take(struct cfdp_engine *engine, uint64_t source, uint64_t number, uint8_t *out, size_t room, size_t *count, struct cfdp_reply *reply);
 
 /* The name of a transaction (5.1): its source entity ID and its transaction sequence number. */
@@ -232,13 +232,13 @@ uint32_t cfdp_next(struct cfdp_engine *engine, struct cfdp_path *path, struct cf
 
 /* The line that `cfdpsim replay` writes of a reply (docs/FORMATS.md), with its line end: "1/24 refused conflict 1/22\n". `octets` is
  * used for CFDP_TAKEN alone: what cfdp_take wrote beside the reply, of which `length` is 0 where there is no Finished PDU. The
- * line is written to the beginning of `out`, with no 0 behind it, and `*count` says how long it is: at most 131,179 octets, and
- * without a Finished PDU at most 101. Answers CFDP_DONE; CFDP_TOO_SHORT with the length needed in `*count`; CFDP_NOTHING where no
- * reply has these numbers; or CFDP_NO_MEMORY (for the line). It needs no engine. */
+ * line is written to the beginning of `out`, with no 0 after it, and `*count` says how long it is: at most 101 octets, or
+ * 52 + 2 * `length` where that is more, which is 33028 for the longest Finished PDU. Answers CFDP_DONE; CFDP_TOO_SHORT with the
+ * length needed in `*count`; CFDP_NOTHING where no reply has these numbers; or CFDP_NO_MEMORY (for the line). It needs no engine. */
 uint32_t cfdp_reply_text(const struct cfdp_reply *reply, const uint8_t *octets, size_t length, uint8_t *out, size_t room, size_t *count);
 
 /* The line that `cfdpsim replay` writes of a PDU to which cfdp_receive answered CFDP_NOT_OURS, or CFDP_TRUNCATED to
- * CFDP_REQUEST_TOO_LONG: "pdu dropped truncated\n". At most 30 octets. Answers CFDP_DONE; CFDP_TOO_SHORT with the length needed in
+ * CFDP_REQUEST_TOO_LONG: "pdu dropped truncated\n". At most 29 octets. Answers CFDP_DONE; CFDP_TOO_SHORT with the length needed in
  * `*count`; or CFDP_NOTHING for any other answer. It needs no engine and takes no memory. */
 uint32_t cfdp_answer_text(uint32_t answer, uint8_t *out, size_t room, size_t *count);
 

@@ -2,12 +2,14 @@
 --   small n                   a number that is an octet
 --   status_in, refusal_in, reply_in    the status, the refusal and the reply of these numbers, where there is one; an outcome is none of them
 --   shown fields octets       the line of a reply, where there is such a reply; that of an outcome with the octets of its Finished PDU
+--   HasWidths fields          the numbers fit the struct's fields, as those that C passes do
+--   longest_line octets       how many octets the line of a reply has at most, by those of the Finished PDU
 --   answer_line answer        the line of octets that brought no event, by what was answered of them
 --   Puts text                 a text is written to the beginning of a buffer, and its length told; or it does not fit
 --   Writes text               likewise, where there is a text, or there is no memory for it
 --   IsTold reply              a reply that goes to C, and whose numbers are octets where they are to be
 --   ShownAsReplayed           each such reply is shown as `replay` writes it
-use Rattle.std.specs.Prelude.{◌≡◌, ◌⊎◌, ⊤, ℕ, ◌<◌, ◌≤◌, ◌==◌, nat_lt, if◌then◌else◌, List, [], ◌∷◌, ◌++◌, drop, length, Option, Some, None}
+use Rattle.std.specs.Prelude.{◌≡◌, ◌⊎◌, ⊤, ℕ, ◌+◌, ◌*◌, ◌^◌, max, ◌<◌, ◌≤◌, ◌==◌, nat_lt, if◌then◌else◌, List, [], ◌∷◌, ◌++◌, drop, length, Option, Some, None}
 use Rattle.std.specs.Option.{option_map, option_and_then, option_flatten}
 use Rattle.cfdp_status.specs.Codes.{beside, statuses}
 use Rattle.cfdp_status.specs.Transaction.{name_of}
@@ -79,10 +81,24 @@ shown fields octets =
     if fields.kind == 12 then Some (line (name_of (named fields.source fields.number) ++ word (taken_text octets fields.condition)))
     else option_map (reply_line (named fields.source fields.number)) (reply_in fields)
 
-abbrev pub answer_line : ℕ → Option (List ℕ)
-answer_line answer =
-    beside
-    ((32, not_ours)
+-- two digits for each; or a refusal for a conflict, with the names of two transactions
+abbrev pub longest_line : ℕ → ℕ
+longest_line octets = max 101 (52 + 2 * octets)
+
+-- each number is as wide as C's type has it
+pub record HasWidths (fields : ReplyFields) : Type 0 where
+  pub blocks : fields.blocks < 2 ^ 32
+  pub steps : fields.steps < 2 ^ 32
+  pub spare : fields.spare < 2 ^ 32
+  pub condition : fields.condition < 2 ^ 32
+  pub source : fields.source < 2 ^ 64
+  pub number : fields.number < 2 ^ 64
+  pub other_source : fields.other_source < 2 ^ 64
+  pub other_number : fields.other_number < 2 ^ 64
+
+abbrev pub answer_lines : List (ℕ × List ℕ)
+answer_lines =
+    (32, not_ours)
     ∷ (33, fault_line fault.Truncated)
     ∷ (34, fault_line fault.BadVersion)
     ∷ (35, fault_line fault.CrcNotSupported)
@@ -90,8 +106,10 @@ answer_line answer =
     ∷ (37, fault_line fault.BadDirective)
     ∷ (38, fault_line fault.BadTlv)
     ∷ (39, fault_line fault.RequestTooLong)
-    ∷ [])
-    answer
+    ∷ []
+
+abbrev pub answer_line : ℕ → Option (List ℕ)
+answer_line answer = beside answer_lines answer
 
 abbrev pub Puts : List ℕ → List ℕ → List ℕ → ℕ → ℕ → Type 0
 Puts text out written count answer =

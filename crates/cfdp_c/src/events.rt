@@ -1,6 +1,9 @@
 //! The events of an engine: PDUs that came, and events of its own.
-ghost use Rattle.std.specs.Prelude.{◌≡◌};
-ghost use Rattle.cfdp_transactions.specs.declared.event.Event.TheVariants.{Cancel, Check, Step};
+ghost use Rattle.std.specs.Prelude.{◌≡◌, ◌≤◌, IfSome, length};
+ghost use Rattle.cfdp_transactions.specs.declared.event.Event.TheVariants.{Cancel, Check, Step, Take};
+ghost use Rattle.cfdp_transactions.specs.Next.{next};
+ghost use Rattle.cfdp_transactions.specs.Writable.{longest_finished};
+ghost use Rattle.cfdp_entity.specs.Sending.{sent};
 ghost use Rattle.cfdp_c.specs.Calls.{Does, Receives, Takes, named};
 
 use crate::answer::Answer;
@@ -105,7 +108,8 @@ pub extern "C" fn cfdp_take(
     count: &mut usize,
     reply: &mut ReplyFields,
 ) -> u32
-    ensures { Takes (named source number) engine.old.slot.engine engine.new.slot.engine out.old out.new count.old count.new reply.old reply.new result }
+    ensures takes { Takes (named source number) engine.old.slot.engine engine.new.slot.engine out.old out.new count.old count.new reply.old reply.new result }
+    ensures most { IfSome engine.old.slot.engine (λ W. length (sent (next W (Take (named source number))).1) ≤ longest_finished) }
 {
     let Some(mut entity) = engine.take(alloc) else {
         return Answer::NoEngine.code();

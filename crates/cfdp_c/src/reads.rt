@@ -1,5 +1,5 @@
 //! What an engine tells of its transactions and its blocks. Nothing here takes memory or changes anything.
-ghost use Rattle.std.specs.Prelude.{◌≡◌};
+ghost use Rattle.std.specs.Prelude.{◌≡◌, ◌≤◌, IfSome, length};
 ghost use Rattle.std.specs.Option.{option_map};
 ghost use Rattle.cfdp_transactions.specs.Engine.{read_of};
 ghost use Rattle.cfdp_transactions.specs.Entry.{gaps};
@@ -33,7 +33,8 @@ fn phase_fields(phase: Phase) -> PhaseFields
 
 /// The gap of this place in a transaction's file.
 fn gap_at(core: &Core<TreeStore>, id: TransactionId, place: usize) -> Option<GapFields>
-    ensures { result ≡ option_map gap_fields (gap_of (read_of gaps core.now.world id) place) }
+    ensures gap { result ≡ option_map gap_fields (gap_of (read_of gaps core.now.world id) place) }
+    ensures few { IfSome (read_of gaps core.now.world id) (λ all. length all ≤ 33) }
 {
     let gaps = core.gaps(id)?;
     let (start, end) = *gaps.as_slice().get(place)?;
@@ -200,6 +201,7 @@ pub extern "C" fn cfdp_gap(
     gap: &mut GapFields,
 ) -> u32
     ensures read { Reads (λ W. option_map gap_fields (gap_of (read_of gaps W (named source number)) place)) engine.old.slot.engine gap.old gap.new result }
+    ensures few { IfSome engine.old.slot.engine (λ W. IfSome (read_of gaps W (named source number)) (λ all. length all ≤ 33)) }
     ensures kept { engine.new.slot.engine ≡ engine.old.slot.engine }
 {
     let Some(entity) = engine.take(alloc) else {

@@ -1,9 +1,9 @@
 //! The lines that `replay` writes, of replies and of octets that brought none.
-ghost use Rattle.std.specs.Prelude.{◌≡◌, Some, IfOk, IsErr, IsSome};
+ghost use Rattle.std.specs.Prelude.{◌≡◌, ◌≤◌, Some, IfOk, IfSome, IsErr, IsSome, length};
 ghost use Rattle.std.specs.Option.{option_copied, option_map};
 ghost use Rattle.cfdp_status.specs.Codes.{beside, statuses};
 ghost use Rattle.cfdp_c.specs.Answers.{code_of};
-ghost use Rattle.cfdp_c.specs.Shown.{Puts, PutsAny, ShownAsReplayed, Writes, answer_line, failure_in, refusal_in, reply_in, shown, small, status_in};
+ghost use Rattle.cfdp_c.specs.Shown.{HasWidths, Puts, PutsAny, ShownAsReplayed, Writes, answer_line, failure_in, longest_line, refusal_in, reply_in, shown, small, status_in};
 
 use crate::answer::Answer;
 use crate::reply::ReplyFields;
@@ -133,6 +133,7 @@ pub extern "C" fn cfdp_reply_text(
     count: &mut usize,
 ) -> u32
     ensures text { Writes (shown reply.now octets.now) out.old out.new count.old count.new result }
+    ensures most { HasWidths reply.now → IfSome (shown reply.now octets.now) (λ line. length line ≤ longest_line (length octets.now)) }
     ensures as_replay { ShownAsReplayed }
 {
     match line_of(alloc, reply, octets) {
@@ -160,9 +161,11 @@ fn answer_line(answer: u32) -> Option<&'static [u8]>
 }
 
 /// The line that `replay` writes of octets that bring no event.
+#[tactic(auto, using(crate::proofs::LineLengths::answer_len))]
 #[unsafe(no_mangle)]
 pub extern "C" fn cfdp_answer_text(answer: u32, out: &mut [u8], count: &mut usize) -> u32
-    ensures { PutsAny (answer_line answer) out.old out.new count.old count.new result }
+    ensures text { PutsAny (answer_line answer) out.old out.new count.old count.new result }
+    ensures most { IfSome (answer_line answer) (λ line. length line ≤ 29) }
 {
     let answer = match answer_line(answer) {
         None => Answer::Nothing,
