@@ -1,0 +1,4 @@
+pub mod Placing
+pub mod Lengths
+pub mod Ranges
+pub mod ReadingBack

@@ -1,0 +1,21 @@
+use Rattle.std.proofs.Common.{rules, arith, ◌≡◌, false}
+use Rattle.cfdp_pdus.proofs.WriteSteps.{pdu_len}
+use Rattle.cfdp_directives.specs.Placing.{overwritten}
+use Rattle.cfdp_directives.specs.Spelling.{prompt_field}
+use Rattle.cfdp_directives.proofs.Placing.{pdu_filled}
+use Rattle.cfdp_directives.proofs.prompt.fill_prompt.Goals as goal
+
+pub put_header-requires-clause-room : goal.put_header-requires-clause-room
+put_header-requires-clause-room c = omega (arith, pdu_len false c.args.header.now (prompt_field c.args.prompt), c.requires.room)
+
+pub put_octets-requires : goal.put_octets-requires
+unfolding prompt_field
+put_octets-requires c =
+    omega (arith, pdu_len false c.args.header.now (prompt_field c.args.prompt), c.requires.room, c.put_header.auto.out, c.header_len.ensures)
+
+pub returns : goal.returns
+unfolding prompt_field
+returns c =
+    let field = prompt_field c.args.prompt in
+    let octets : c.put_octets.new.out ≡ overwritten c.put_header.new.out c.header_len.result field = search rules in
+    pdu_filled c.args.header.now c.args.out.now c.put_header.new.out c.put_octets.new.out field _ c.put_header.ensures octets c.header_len.ensures

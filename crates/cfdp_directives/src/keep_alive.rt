@@ -1,0 +1,102 @@
+//! The Keep Alive PDU, by which a file's receiver says how much of the file has come.
+
+ghost use Rattle.std.specs.Prelude.{◌≡◌, ◌≤◌, ◌+◌, ◌++◌, ◌↔◌, length, vec_len, IfErr, IfSome, IfNone, OnOk, OnErr, OnSome, IsOk, IsSome};
+ghost use Rattle.std.specs.Vec.{vec_capacity};
+ghost use Rattle.cfdp_tlv.specs.Reading.{Answers};
+ghost use Rattle.cfdp_pdus.specs.Canonical.{IsHeader};
+ghost use Rattle.cfdp_pdus.specs.declared.fault.WriteFault.TheVariants.{Memory};
+ghost use Rattle.cfdp_directives.specs.Placing.{filled};
+ghost use Rattle.cfdp_directives.specs.Reading.{keep_alive_at};
+ghost use Rattle.cfdp_directives.specs.Spelling.{IsSizedKeepAlive, keep_alive_pdu};
+
+use crate::put::{add_room, put_header, put_number, put_octets};
+use cfdp_pdus::{Header, PduFault, WriteFault, directive, header_len, read_number, size_len};
+
+/// What a Keep Alive PDU says (CCSDS 727.0-B-5 §5.2.8).
+#[derive(Clone, Copy, Debug, PartialEq, Eq)]
+pub struct KeepAlive {
+    /// The progress: the offset in the file, in octets, after the last octet that came. Below 2^32 without the large
+    /// file flag.
+    pub progress: u64,
+}
+
+/// The data field of a Keep Alive PDU, after its directive code.
+#[tactic(auto, unfolding(crate::specs::Reading::keep_alive_at))]
+pub(crate) fn read_keep_alive(large: bool, octets: &[u8]) -> Result<KeepAlive, PduFault>
+    ensures { Answers (λ keep_alive. keep_alive) result (keep_alive_at large octets.now) }
+{
+    let (progress, rest) = read_number(octets, size_len(large), PduFault::LengthMismatch)?;
+    if !rest.is_empty() {
+        return Err(PduFault::LengthMismatch);
+    }
+    Ok(KeepAlive { progress })
+}
+
+/// How many octets the PDU has.
+#[tactic(auto, unfolding(crate::specs::Spelling::keep_alive_field))]
+fn keep_alive_len(header: &Header, keep_alive: KeepAlive) -> usize
+    requires { IsHeader header.now }
+    ensures { result ≡ length (keep_alive_pdu header.now keep_alive) }
+{
+    header_len(header) + 1 + size_len(header.large)
+}
+
+/// Writes a Keep Alive PDU to the front of a buffer that has room for it.
+#[tactic(auto, unfolding(crate::specs::Spelling::keep_alive_field))]
+fn fill_keep_alive(header: &Header, keep_alive: KeepAlive, out: &mut [u8])
+    requires header { IsHeader header.now }
+    requires sized { IsSizedKeepAlive header.now.large keep_alive }
+    requires room { length (keep_alive_pdu header.now keep_alive) ≤ length out.old }
+    ensures { out.new ≡ filled (keep_alive_pdu header.now keep_alive) out.old }
+{
+    let size_len = size_len(header.large);
+    let at = header_len(header);
+    put_header(out, header, 1 + size_len as u16);
+    put_octets(out, at, &[directive::KEEP_ALIVE]);
+    put_number(out, at + 1, keep_alive.progress, size_len);
+}
+
+/// Writes a Keep Alive PDU (CCSDS 727.0-B-5 §5.2.8) to the front of a buffer, and returns its length in octets; the
+/// rest of the buffer stays. Returns `None`, and writes nothing, exactly where the buffer is too short. Takes no
+/// memory.
+///
+/// Cost: the octets that it writes.
+pub fn put_keep_alive(header: &Header, keep_alive: KeepAlive, out: &mut [u8]) -> Option<usize>
+    requires header { IsHeader header.now }
+    requires sized { IsSizedKeepAlive header.now.large keep_alive }
+    ensures fits { IsSome result ↔ (length (keep_alive_pdu header.now keep_alive) ≤ length out.old) }
+    ensures len { IfSome result (λ len. len ≡ length (keep_alive_pdu header.now keep_alive)) }
+    ensures written { OnSome result (out.new ≡ filled (keep_alive_pdu header.now keep_alive) out.old) }
+    ensures unchanged { IfNone result (out.new ≡ out.old) }
+{
+    let len = keep_alive_len(header, keep_alive);
+    if out.len() < len {
+        return None;
+    }
+    fill_keep_alive(header, keep_alive, out);
+    Some(len)
+}
+
+/// Appends a Keep Alive PDU (CCSDS 727.0-B-5 §5.2.8).
+///
+/// The only fault is `Memory`. Cost: the octets that it appends, and one growth of the vector at most.
+pub fn write_keep_alive(
+    header: &Header,
+    keep_alive: KeepAlive,
+    out: &mut Vec<u8>,
+) -> Result<(), WriteFault>
+    requires header { IsHeader header.now }
+    requires sized { IsSizedKeepAlive header.now.large keep_alive }
+    ensures ok { OnOk result (out.new.items ≡ out.old.items ++ keep_alive_pdu header.now keep_alive) }
+    ensures faults { IfErr result (λ fault. fault ≡ Memory) }
+    ensures err { OnErr result (out.new.items ≡ out.old.items) }
+    // Where there is room for it, no memory is asked for.
+    ensures room { vec_len out.old + length (keep_alive_pdu header.now keep_alive) ≤ vec_capacity out.old
+        → IsOk result }
+    ensures capacity { vec_capacity out.old ≤ vec_capacity out.new }
+{
+    let start = out.len();
+    add_room(out, keep_alive_len(header, keep_alive))?;
+    fill_keep_alive(header, keep_alive, &mut out.as_mut_slice()[start..]);
+    Ok(())
+}

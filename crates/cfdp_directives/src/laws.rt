@@ -1,0 +1,23 @@
+//! What is true of the grammar. These functions do nothing: their contracts are the laws.
+
+ghost use Rattle.cfdp_directives.specs.Laws.{AckReadsBack, NakReadsBack, PromptReadsBack, KeepAliveReadsBack};
+
+/// An ACK PDU that is written is read as its header and value.
+pub fn ack_reads_back()
+    ensures { AckReadsBack }
+{}
+
+/// A NAK PDU that is written is read as its header, its scope and its requests.
+pub fn nak_reads_back()
+    ensures { NakReadsBack }
+{}
+
+/// A Prompt PDU that is written is read as its header and value.
+pub fn prompt_reads_back()
+    ensures { PromptReadsBack }
+{}
+
+/// A Keep Alive PDU that is written is read as its header and value.
+pub fn keep_alive_reads_back()
+    ensures { KeepAliveReadsBack }
+{}
