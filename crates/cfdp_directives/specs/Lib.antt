@@ -2,3 +2,4 @@ pub mod Placing
 pub mod Reading
 pub mod Spelling
 pub mod Laws
+pub mod Texts

@@ -41,10 +41,15 @@ pub enum NakFault {
 }
 
 impl fmt::Display for NakFault {
+    ghost use Rattle.std.specs.Prelude.{Some};
+    ghost use Rattle.cfdp_directives.specs.Texts.{nak_text_of};
+
+    ghost output = { λ fault. Some (nak_text_of fault) };
+
     fn fmt<W: fmt::Write>(&self, f: &mut fmt::Formatter<W>) -> fmt::Result {
         match self {
             NakFault::Pdu(fault) => fault.fmt(f),
-            NakFault::TooMany(count) => write!(f, "the NAK PDU has {count} requests"),
+            NakFault::TooMany(count) => write!(f, "the list is too short for {count} requests"),
         }
     }
 }

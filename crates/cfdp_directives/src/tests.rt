@@ -450,7 +450,7 @@ static FAULTY_NAKS: [FaultyNak; 4] = [
         octets: b"\x28\x00\x19\x00\x01\x05\x02\x08\x00\x00\x00\x00\x00\x00\x00\x0f\
                   \x00\x00\x00\x00\x00\x00\x00\x04\x00\x00\x00\x08\x00\x00\x00\x0f",
         fault: NakFault::TooMany(2),
-        text: "the NAK PDU has 2 requests",
+        text: "the list is too short for 2 requests",
     },
 ];
 
