@@ -7,13 +7,10 @@ ghost use Rattle.cfdp_pdus.specs.Canonical.{IsHeader};
 ghost use Rattle.cfdp_pdus.specs.declared.fault.WriteFault.TheVariants.{Memory};
 ghost use Rattle.cfdp_directives.specs.Placing.{filled};
 ghost use Rattle.cfdp_directives.specs.Reading.{ack_at, status_code, status_of};
-ghost use Rattle.cfdp_directives.specs.Spelling.{IsSizedAck, ack_pdu};
+ghost use Rattle.cfdp_directives.specs.Spelling.{IsSizedAck, ack_field, ack_pdu};
 
-use crate::put::{add_room, put_header, put_octets};
-use cfdp_pdus::{Header, PduFault, WriteFault, directive, header_len};
-
-/// How many octets the data field has.
-const FIELD_LEN: u16 = 3;
+use crate::put::{put_pdu, write_pdu};
+use cfdp_pdus::{Header, PduFault, WriteFault, directive};
 
 /// What an entity knows of a transaction (CCSDS 727.0-B-5 §5.2.4).
 #[derive(Clone, Copy, Debug, PartialEq, Eq)]
@@ -29,7 +26,7 @@ pub enum TransactionStatus {
 }
 
 impl TransactionStatus {
-    /// Its two bits.
+    /// Its two bits, 0 to 3.
     pub fn code(self) -> u8
         ensures { result ≡ status_code self }
     {
@@ -66,6 +63,19 @@ pub struct Ack {
     pub status: TransactionStatus,
 }
 
+impl Ack {
+    /// The data field.
+    #[tactic(auto, unfolding(crate::specs::Spelling::ack_field))]
+    fn field(self) -> [u8; 3]
+        requires { IsSizedAck self }
+        ensures { result ≡ ack_field self }
+    {
+        let kind = 16 * self.directive + u8::from(self.directive == directive::FINISHED);
+        let state = 16 * self.condition + self.status.code();
+        [directive::ACK, kind, state]
+    }
+}
+
 /// The data field of an ACK PDU, after its directive code.
 #[tactic(auto, unfolding(crate::specs::Reading::ack_at))]
 pub(crate) fn read_ack(octets: &[u8]) -> Result<Ack, PduFault>
@@ -81,33 +91,11 @@ pub(crate) fn read_ack(octets: &[u8]) -> Result<Ack, PduFault>
     })
 }
 
-/// How many octets the PDU has.
-#[tactic(auto, unfolding(crate::specs::Spelling::ack_field))]
-fn ack_len(header: &Header, ack: Ack) -> usize
-    requires { IsHeader header.now }
-    ensures { result ≡ length (ack_pdu header.now ack) }
-{
-    header_len(header) + usize::from(FIELD_LEN)
-}
-
-/// Writes an ACK PDU to the front of a buffer that has room for it.
-#[tactic(auto, unfolding(crate::specs::Spelling::ack_field))]
-fn fill_ack(header: &Header, ack: Ack, out: &mut [u8])
-    requires header { IsHeader header.now }
-    requires sized { IsSizedAck ack }
-    requires room { length (ack_pdu header.now ack) ≤ length out.old }
-    ensures { out.new ≡ filled (ack_pdu header.now ack) out.old }
-{
-    let kind = 16 * ack.directive + u8::from(ack.directive == directive::FINISHED);
-    let state = 16 * ack.condition + ack.status.code();
-    put_header(out, header, FIELD_LEN);
-    put_octets(out, header_len(header), &[directive::ACK, kind, state]);
-}
-
 /// Writes an ACK PDU (CCSDS 727.0-B-5 §5.2.4) to the front of a buffer, and returns its length in octets; the rest of
 /// the buffer stays. Returns `None`, and writes nothing, exactly where the buffer is too short. Takes no memory.
 ///
 /// Cost: the octets that it writes.
+#[tactic(auto, unfolding(crate::specs::Spelling::ack_field))]
 pub fn put_ack(header: &Header, ack: Ack, out: &mut [u8]) -> Option<usize>
     requires header { IsHeader header.now }
     requires sized { IsSizedAck ack }
@@ -116,17 +104,13 @@ pub fn put_ack(header: &Header, ack: Ack, out: &mut [u8]) -> Option<usize>
     ensures written { OnSome result (out.new ≡ filled (ack_pdu header.now ack) out.old) }
     ensures unchanged { IfNone result (out.new ≡ out.old) }
 {
-    let len = ack_len(header, ack);
-    if out.len() < len {
-        return None;
-    }
-    fill_ack(header, ack, out);
-    Some(len)
+    put_pdu(header, &ack.field(), out)
 }
 
 /// Appends an ACK PDU (CCSDS 727.0-B-5 §5.2.4).
 ///
 /// The only fault is `Memory`. Cost: the octets that it appends, and one growth of the vector at most.
+#[tactic(auto, unfolding(crate::specs::Spelling::ack_field))]
 pub fn write_ack(header: &Header, ack: Ack, out: &mut Vec<u8>) -> Result<(), WriteFault>
     requires header { IsHeader header.now }
     requires sized { IsSizedAck ack }
@@ -137,8 +121,5 @@ pub fn write_ack(header: &Header, ack: Ack, out: &mut Vec<u8>) -> Result<(), Wri
     ensures room { vec_len out.old + length (ack_pdu header.now ack) ≤ vec_capacity out.old → IsOk result }
     ensures capacity { vec_capacity out.old ≤ vec_capacity out.new }
 {
-    let start = out.len();
-    add_room(out, ack_len(header, ack))?;
-    fill_ack(header, ack, &mut out.as_mut_slice()[start..]);
-    Ok(())
+    write_pdu(header, &ack.field(), out)
 }

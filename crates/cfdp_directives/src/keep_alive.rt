@@ -1,16 +1,17 @@
 //! The Keep Alive PDU, by which a file's receiver says how much of the file has come.
 
-ghost use Rattle.std.specs.Prelude.{◌≡◌, ◌≤◌, ◌+◌, ◌++◌, ◌↔◌, length, vec_len, IfErr, IfSome, IfNone, OnOk, OnErr, OnSome, IsOk, IsSome};
+ghost use Rattle.std.specs.Prelude.{◌≡◌, ◌≤◌, ◌+◌, ◌++◌, ◌↔◌, length, take, vec_len, IfErr, IfSome, IfNone, OnOk, OnErr, OnSome, IsOk, IsSome};
 ghost use Rattle.std.specs.Vec.{vec_capacity};
 ghost use Rattle.cfdp_tlv.specs.Reading.{Answers};
 ghost use Rattle.cfdp_pdus.specs.Canonical.{IsHeader};
 ghost use Rattle.cfdp_pdus.specs.declared.fault.WriteFault.TheVariants.{Memory};
 ghost use Rattle.cfdp_directives.specs.Placing.{filled};
 ghost use Rattle.cfdp_directives.specs.Reading.{keep_alive_at};
-ghost use Rattle.cfdp_directives.specs.Spelling.{IsSizedKeepAlive, keep_alive_pdu};
+ghost use Rattle.cfdp_directives.specs.Spelling.{IsSizedKeepAlive, keep_alive_field, keep_alive_pdu};
 
-use crate::put::{add_room, put_header, put_number, put_octets};
-use cfdp_pdus::{Header, PduFault, WriteFault, directive, header_len, read_number, size_len};
+use crate::put::{put_pdu, write_pdu};
+use byteorder::{BigEndian, ByteOrder};
+use cfdp_pdus::{Header, PduFault, WriteFault, directive, read_number, size_len};
 
 /// What a Keep Alive PDU says (CCSDS 727.0-B-5 §5.2.8).
 #[derive(Clone, Copy, Debug, PartialEq, Eq)]
@@ -18,6 +19,22 @@ pub struct KeepAlive {
     /// The progress: the offset in the file, in octets, after the last octet that came. Below 2^32 without the large
     /// file flag.
     pub progress: u64,
+}
+
+impl KeepAlive {
+    /// The data field: the first octets of an array, and how many they are.
+    #[tactic(auto, unfolding(crate::specs::Spelling::keep_alive_field))]
+    fn field(self, large: bool) -> ([u8; 9], usize)
+        requires { IsSizedKeepAlive large self }
+        ensures octets { take result.1 result.0 ≡ keep_alive_field large self }
+        ensures len { result.1 ≤ 9 }
+    {
+        let size_len = size_len(large);
+        let mut field = [0; 9];
+        field[0] = directive::KEEP_ALIVE;
+        BigEndian::write_uint(&mut field[1..], self.progress, size_len);
+        (field, 1 + size_len)
+    }
 }
 
 /// The data field of a Keep Alive PDU, after its directive code.
@@ -30,30 +47,6 @@ pub(crate) fn read_keep_alive(large: bool, octets: &[u8]) -> Result<KeepAlive, P
         return Err(PduFault::LengthMismatch);
     }
     Ok(KeepAlive { progress })
-}
-
-/// How many octets the PDU has.
-#[tactic(auto, unfolding(crate::specs::Spelling::keep_alive_field))]
-fn keep_alive_len(header: &Header, keep_alive: KeepAlive) -> usize
-    requires { IsHeader header.now }
-    ensures { result ≡ length (keep_alive_pdu header.now keep_alive) }
-{
-    header_len(header) + 1 + size_len(header.large)
-}
-
-/// Writes a Keep Alive PDU to the front of a buffer that has room for it.
-#[tactic(auto, unfolding(crate::specs::Spelling::keep_alive_field))]
-fn fill_keep_alive(header: &Header, keep_alive: KeepAlive, out: &mut [u8])
-    requires header { IsHeader header.now }
-    requires sized { IsSizedKeepAlive header.now.large keep_alive }
-    requires room { length (keep_alive_pdu header.now keep_alive) ≤ length out.old }
-    ensures { out.new ≡ filled (keep_alive_pdu header.now keep_alive) out.old }
-{
-    let size_len = size_len(header.large);
-    let at = header_len(header);
-    put_header(out, header, 1 + size_len as u16);
-    put_octets(out, at, &[directive::KEEP_ALIVE]);
-    put_number(out, at + 1, keep_alive.progress, size_len);
 }
 
 /// Writes a Keep Alive PDU (CCSDS 727.0-B-5 §5.2.8) to the front of a buffer, and returns its length in octets; the
@@ -69,12 +62,8 @@ pub fn put_keep_alive(header: &Header, keep_alive: KeepAlive, out: &mut [u8]) ->
     ensures written { OnSome result (out.new ≡ filled (keep_alive_pdu header.now keep_alive) out.old) }
     ensures unchanged { IfNone result (out.new ≡ out.old) }
 {
-    let len = keep_alive_len(header, keep_alive);
-    if out.len() < len {
-        return None;
-    }
-    fill_keep_alive(header, keep_alive, out);
-    Some(len)
+    let (field, len) = keep_alive.field(header.large);
+    put_pdu(header, &field[..len], out)
 }
 
 /// Appends a Keep Alive PDU (CCSDS 727.0-B-5 §5.2.8).
@@ -95,8 +84,6 @@ pub fn write_keep_alive(
         → IsOk result }
     ensures capacity { vec_capacity out.old ≤ vec_capacity out.new }
 {
-    let start = out.len();
-    add_room(out, keep_alive_len(header, keep_alive))?;
-    fill_keep_alive(header, keep_alive, &mut out.as_mut_slice()[start..]);
-    Ok(())
+    let (field, len) = keep_alive.field(header.large);
+    write_pdu(header, &field[..len], out)
 }

@@ -1,10 +1,9 @@
 //! The NAK PDU, by which a file's receiver asks for what is missing.
 
-ghost use Rattle.std.specs.Prelude.{◌≡◌, ◌≤◌, ◌<◌, ◌+◌, ◌*◌, ◌++◌, ◌↔◌, ◌==◌, ◌%◌, All, length, drop, vec_len, true, IfErr, IfOk, IfSome, IfNone, OnOk, OnErr, OnSome, IsOk, IsSome};
+ghost use Rattle.std.specs.Prelude.{◌≡◌, ◌≤◌, ◌+◌, ◌*◌, ◌++◌, ◌↔◌, ℕ, All, length, drop, vec_len, true, IfErr, IfOk, IfSome, IfNone, OnOk, OnErr, OnSome, IsOk, IsSome};
 ghost use Rattle.std.specs.Vec.{vec_capacity};
 ghost use Rattle.std.specs.List.{flat_map};
 ghost use Rattle.cfdp_tlv.specs.Reading.{Answers};
-ghost use Rattle.cfdp_pdus.specs.Bits.{fss};
 ghost use Rattle.cfdp_pdus.specs.Canonical.{IsHeader};
 ghost use Rattle.cfdp_pdus.specs.declared.fault.WriteFault.TheVariants.{Memory};
 ghost use Rattle.cfdp_directives.specs.Placing.{filled, overwritten};
@@ -25,7 +24,7 @@ pub type Range = (u64, u64);
 pub struct Nak {
     /// The header.
     pub header: Header,
-    /// The part of the file that the PDU speaks of.
+    /// The part of the file that the requests are about.
     pub scope: Range,
     /// How many requests it has.
     pub count: usize,
@@ -34,7 +33,7 @@ pub struct Nak {
 /// Why a NAK PDU was not read.
 #[derive(Clone, Copy, Debug, PartialEq, Eq)]
 pub enum NakFault {
-    /// The octets spell no NAK PDU.
+    /// The octets spell no NAK PDU, for this reason.
     Pdu(PduFault),
     /// The list is too short for the requests of the PDU, which are that many.
     TooMany(usize),
@@ -186,20 +185,20 @@ fn put_ranges(out: &mut [u8], at: usize, large: bool, ranges: &[Range])
 
 /// How many octets the data field has.
 #[tactic(auto, unfolding(crate::specs::Spelling::nak_field))]
-fn field_len(large: bool, scope: Range, requests: &[Range]) -> u16
+fn field_len(large: bool, requests: &[Range]) -> u16
     requires { length requests.now ≤ 4094 }
-    ensures { result ≡ length (nak_field large scope requests.now) }
+    ensures { (scope : ℕ × ℕ) → result ≡ length (nak_field large scope requests.now) }
 {
     1 + range_len(large) as u16 * (1 + requests.len() as u16)
 }
 
 /// How many octets the PDU has.
-fn nak_len(header: &Header, scope: Range, requests: &[Range]) -> usize
+fn nak_len(header: &Header, requests: &[Range]) -> usize
     requires header { IsHeader header.now }
     requires count { length requests.now ≤ 4094 }
-    ensures { result ≡ length (nak_pdu header.now scope requests.now) }
+    ensures { (scope : ℕ × ℕ) → result ≡ length (nak_pdu header.now scope requests.now) }
 {
-    header_len(header) + usize::from(field_len(header.large, scope, requests))
+    header_len(header) + usize::from(field_len(header.large, requests))
 }
 
 /// Writes a NAK PDU to the front of a buffer that has room for it.
@@ -214,7 +213,7 @@ fn fill_nak(header: &Header, scope: Range, requests: &[Range], out: &mut [u8])
 {
     let large = header.large;
     let at = header_len(header);
-    put_header(out, header, field_len(large, scope, requests));
+    put_header(out, header, field_len(large, requests));
     put_octets(out, at, &[directive::NAK]);
     put_range(out, at + 1, large, scope);
     put_ranges(out, at + 1 + range_len(large), large, requests);
@@ -236,7 +235,7 @@ pub fn put_nak(header: &Header, scope: Range, requests: &[Range], out: &mut [u8]
     ensures written { OnSome result (out.new ≡ filled (nak_pdu header.now scope requests.now) out.old) }
     ensures unchanged { IfNone result (out.new ≡ out.old) }
 {
-    let len = nak_len(header, scope, requests);
+    let len = nak_len(header, requests);
     if out.len() < len {
         return None;
     }
@@ -268,7 +267,7 @@ pub fn write_nak(
     ensures capacity { vec_capacity out.old ≤ vec_capacity out.new }
 {
     let start = out.len();
-    add_room(out, nak_len(header, scope, requests))?;
+    add_room(out, nak_len(header, requests))?;
     fill_nak(header, scope, requests, &mut out.as_mut_slice()[start..]);
     Ok(())
 }

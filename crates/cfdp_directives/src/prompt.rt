@@ -7,13 +7,10 @@ ghost use Rattle.cfdp_pdus.specs.Canonical.{IsHeader};
 ghost use Rattle.cfdp_pdus.specs.declared.fault.WriteFault.TheVariants.{Memory};
 ghost use Rattle.cfdp_directives.specs.Placing.{filled};
 ghost use Rattle.cfdp_directives.specs.Reading.{prompt_at};
-ghost use Rattle.cfdp_directives.specs.Spelling.{prompt_flags, prompt_pdu};
+ghost use Rattle.cfdp_directives.specs.Spelling.{prompt_field, prompt_pdu};
 
-use crate::put::{add_room, put_header, put_octets};
-use cfdp_pdus::{Header, PduFault, WriteFault, bit, directive, header_len};
-
-/// How many octets the data field has.
-const FIELD_LEN: u16 = 2;
+use crate::put::{put_pdu, write_pdu};
+use cfdp_pdus::{Header, PduFault, WriteFault, bit, directive};
 
 /// What a Prompt PDU asks for (CCSDS 727.0-B-5 §5.2.7).
 #[derive(Clone, Copy, Debug, PartialEq, Eq)]
@@ -25,14 +22,16 @@ pub enum Prompt {
 }
 
 impl Prompt {
-    /// The octet after the directive code: its first bit says what is asked for, and the others are spare.
-    fn flags(self) -> u8
-        ensures { result ≡ prompt_flags self }
+    /// The data field.
+    #[tactic(auto, unfolding(crate::specs::Spelling::prompt_field))]
+    fn field(self) -> [u8; 2]
+        ensures { result ≡ prompt_field self }
     {
-        match self {
+        let flags = match self {
             Prompt::Nak => 0,
             Prompt::KeepAlive => 128,
-        }
+        };
+        [directive::PROMPT, flags]
     }
 }
 
@@ -51,34 +50,11 @@ pub(crate) fn read_prompt(octets: &[u8]) -> Result<Prompt, PduFault>
     })
 }
 
-/// How many octets the PDU has.
-#[tactic(auto, unfolding(crate::specs::Spelling::prompt_field))]
-fn prompt_len(header: &Header, prompt: Prompt) -> usize
-    requires { IsHeader header.now }
-    ensures { result ≡ length (prompt_pdu header.now prompt) }
-{
-    header_len(header) + usize::from(FIELD_LEN)
-}
-
-/// Writes a Prompt PDU to the front of a buffer that has room for it.
-#[tactic(auto, unfolding(crate::specs::Spelling::prompt_field))]
-fn fill_prompt(header: &Header, prompt: Prompt, out: &mut [u8])
-    requires header { IsHeader header.now }
-    requires room { length (prompt_pdu header.now prompt) ≤ length out.old }
-    ensures { out.new ≡ filled (prompt_pdu header.now prompt) out.old }
-{
-    put_header(out, header, FIELD_LEN);
-    put_octets(
-        out,
-        header_len(header),
-        &[directive::PROMPT, prompt.flags()],
-    );
-}
-
 /// Writes a Prompt PDU (CCSDS 727.0-B-5 §5.2.7) to the front of a buffer, and returns its length in octets; the rest
 /// of the buffer stays. Returns `None`, and writes nothing, exactly where the buffer is too short. Takes no memory.
 ///
 /// Cost: the octets that it writes.
+#[tactic(auto, unfolding(crate::specs::Spelling::prompt_field))]
 pub fn put_prompt(header: &Header, prompt: Prompt, out: &mut [u8]) -> Option<usize>
     requires { IsHeader header.now }
     ensures fits { IsSome result ↔ (length (prompt_pdu header.now prompt) ≤ length out.old) }
@@ -86,17 +62,13 @@ pub fn put_prompt(header: &Header, prompt: Prompt, out: &mut [u8]) -> Option<usi
     ensures written { OnSome result (out.new ≡ filled (prompt_pdu header.now prompt) out.old) }
     ensures unchanged { IfNone result (out.new ≡ out.old) }
 {
-    let len = prompt_len(header, prompt);
-    if out.len() < len {
-        return None;
-    }
-    fill_prompt(header, prompt, out);
-    Some(len)
+    put_pdu(header, &prompt.field(), out)
 }
 
 /// Appends a Prompt PDU (CCSDS 727.0-B-5 §5.2.7).
 ///
 /// The only fault is `Memory`. Cost: the octets that it appends, and one growth of the vector at most.
+#[tactic(auto, unfolding(crate::specs::Spelling::prompt_field))]
 pub fn write_prompt(header: &Header, prompt: Prompt, out: &mut Vec<u8>) -> Result<(), WriteFault>
     requires { IsHeader header.now }
     ensures ok { OnOk result (out.new.items ≡ out.old.items ++ prompt_pdu header.now prompt) }
@@ -106,8 +78,5 @@ pub fn write_prompt(header: &Header, prompt: Prompt, out: &mut Vec<u8>) -> Resul
     ensures room { vec_len out.old + length (prompt_pdu header.now prompt) ≤ vec_capacity out.old → IsOk result }
     ensures capacity { vec_capacity out.old ≤ vec_capacity out.new }
 {
-    let start = out.len();
-    add_room(out, prompt_len(header, prompt))?;
-    fill_prompt(header, prompt, &mut out.as_mut_slice()[start..]);
-    Ok(())
+    write_pdu(header, &prompt.field(), out)
 }

@@ -1,6 +1,5 @@
 //! Reading an ACK, Prompt or Keep Alive PDU.
 
-ghost use Rattle.std.specs.Prelude.{◌≡◌};
 ghost use Rattle.cfdp_tlv.specs.Reading.{Answers};
 ghost use Rattle.cfdp_directives.specs.Reading.{directive_in, directive_at};
 

@@ -3,4 +3,4 @@ use Rattle.cfdp_directives.proofs.Lengths.{nak_len}
 use Rattle.cfdp_directives.proofs.nak.field_len.Goals as goal
 
 pub returns : goal.returns
-returns c = rw c.range_len.ensures (sym (nak_len c.args.large c.args.scope c.args.requests.now))
+returns c = λ scope. rw c.range_len.ensures (sym (nak_len c.args.large scope c.args.requests.now))

@@ -64,7 +64,7 @@ returns c =
     let at = c.header_len-at.result in
     let within : at ≤ length c.put_header.new.out = omega (arith, pdu_len false h field, c.requires.room, c.put_header.auto.out, c.header_len-at.ensures) in
     let header : c.put_header.new.out ≡ filled (header_octets false h (length field)) c.args.out.now =
-    c.put_header.ensures ∙ ap (λ (n : ℕ). filled (header_octets false h n) c.args.out.now) c.field_len.ensures in
+    c.put_header.ensures ∙ ap (λ (n : ℕ). filled (header_octets false h n) c.args.out.now) (c.field_len.ensures c.args.scope) in
     let till_scope : c.put_range.new.out ≡ overwritten c.put_header.new.out at (code ++ scope) =
     then c.put_header.new.out c.put_octets.new.out c.put_range.new.out code scope at (at + 1) within c.put_octets.ensures c.put_range.ensures (omega arith) in
     let till_requests : c.put_ranges.new.out ≡ overwritten c.put_header.new.out at field =
