@@ -282,10 +282,7 @@ const AS_THEY_COME: &[Row] = &[
     Row::On(Given::Cancel(11), Told::Cancelled),
     Row::Reached(11, 0, 0),
     Row::Over(Some(11)),
-    Row::On(
-        Given::Take(11),
-        Told::Finished("2c000500010b0205f4060102"),
-    ),
+    Row::On(Given::Take(11), Told::Finished("2c000500010b0205f4060102")),
     Row::Order(&[10, 12]),
     Row::Over(Some(12)),
 ];
