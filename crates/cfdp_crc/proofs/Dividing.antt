@@ -85,7 +85,7 @@ shifted_one x y hx hy e = elim (split x hx) [
   ]
 ]
 
--- what comes behind the highest bit moves up by one
+-- the bits after the highest move up by one
 pub shifted_xor : (x y : ℕ) → x < 65536 → y < 32768 → shifted (bit_xor x y) ≡ bit_xor (shifted x) (2 * y)
 shifted_xor x y hx hy = elim (split x hx) [
   | inl l ↦ low (bit_xor x y) (xor_lt 15 x y l hy) ∙ sym (ap (λ (s : ℕ). bit_xor s (2 * y)) (low x l) ∙ doubles x y)

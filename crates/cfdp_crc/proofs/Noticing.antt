@@ -6,7 +6,7 @@ use Rattle.cfdp_crc.specs.Crc.{divided, with_octet, crc_from, crc_of}
 use Rattle.cfdp_crc.specs.Laws.{AreOctets, NothingIsLeft, DamageIsNoticed}
 use Rattle.cfdp_crc.proofs.Dividing.{xor_cancels, joined, doubled, divided_lt, divided_one, divided_xor}
 
--- an octet at the highest place
+-- an octet as the high octet of a CRC
 high_octet : (a : ℕ) → a < 256 → a * 2 ^ 8 < 65536
 high_octet a h = omega (arith, h)
 
@@ -45,7 +45,7 @@ nothing_is_left octets all =
     ∙ ap (λ (x : ℕ). divided 8 (divided 8 (bit_xor left x))) whole
     ∙ ap (λ (x : ℕ). divided 8 (divided 8 x)) (xor_self left)
 
--- the same octets behind it lead to the same only from the same
+-- if the same octets follow, two CRCs are equal only if those before were
 octet_one : (a b x : ℕ) → a < 65536 → b < 65536 → x < 256 → with_octet a x ≡ with_octet b x → a ≡ b
 octet_one a b x ha hb hx e =
     xor_cancels a b (x * 2 ^ 8) (divided_one 8 (bit_xor a (x * 2 ^ 8)) (bit_xor b (x * 2 ^ 8)) (octet_lt a x ha hx) (octet_lt b x hb hx) e)

@@ -57,7 +57,7 @@ fn unsealed(buffer: &mut [u8; 32], len: usize) -> Result<usize, CrcFault> {
     }
 }
 
-/// What `seal` answers of so many octets at the beginning of a buffer.
+/// What `seal` returns for the first `len` octets of a buffer.
 fn sealed(buffer: &mut [u8; 32], len: usize) -> Result<usize, SealFault> {
     if len > 32 {
         return Err(SealFault::NoRoom);
