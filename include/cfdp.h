@@ -200,11 +200,14 @@ struct cfdp_entry {
     uint64_t size;          /* in octets */
 };
 
-/* These tell, and change nothing of the engine: the first transaction, in order of admission, whose items are being performed; how
- * far a transaction is; what was granted to it; the blocks that it took less those that it gave back; the steps that it
+/* These tell, and change nothing of the engine: the first transaction, in order of admission, whose items are being performed; the
+ * first one whose outcome can be taken; the one with this index in order of admission, from 0 (those that are refused, done or ended
+ * count until their outcome is taken); how far a transaction is; what was granted to it; the blocks that it took less those that it gave back; the steps that it
  * spent; the blocks. They answer CFDP_DONE, with what is asked for; CFDP_NOTHING where there is no such transaction; or
  * CFDP_NO_ENGINE. */
 uint32_t cfdp_next_runnable(struct cfdp_engine *engine, struct cfdp_transaction *transaction);
+uint32_t cfdp_next_outcome(struct cfdp_engine *engine, struct cfdp_transaction *transaction);
+uint32_t cfdp_transaction_at(struct cfdp_engine *engine, size_t index, struct cfdp_transaction *transaction);
 uint32_t cfdp_phase(struct cfdp_engine *engine, uint64_t source, uint64_t number, struct cfdp_phase *phase);
 uint32_t cfdp_grant(struct cfdp_engine *engine, uint64_t source, uint64_t number, struct cfdp_grant *grant);
 uint32_t cfdp_blocks_spent(struct cfdp_engine *engine, uint64_t source, uint64_t number, int64_t *blocks);
@@ -214,6 +217,12 @@ uint32_t cfdp_blocks(struct cfdp_engine *engine, struct cfdp_blocks *blocks);
 /* What is missing of a transaction's file (4.6.4.3): the gap of this place, from 0, in order; there are at most 33. Answers CFDP_DONE,
  * CFDP_NOTHING where there is no such gap or no such transaction, or CFDP_NO_ENGINE. */
 uint32_t cfdp_gap(struct cfdp_engine *engine, uint64_t source, uint64_t number, size_t place, struct cfdp_gap *gap);
+
+/* How far a transaction's file has come. cfdp_progress: the end of the last octet that is kept, 0 if none is. cfdp_reach: the offset up to
+ * which cfdp_gap tells what is missing, which is the same until the EOF PDU comes, and then the size that it gave; 0 if no file data
+ * is taken. Answers CFDP_DONE, CFDP_NOTHING if there is no such transaction, or CFDP_NO_ENGINE. */
+uint32_t cfdp_progress(struct cfdp_engine *engine, uint64_t source, uint64_t number, uint64_t *offset);
+uint32_t cfdp_reach(struct cfdp_engine *engine, uint64_t source, uint64_t number, uint64_t *offset);
 
 /* What stands at a path. Answers CFDP_DONE, CFDP_NOTHING, CFDP_BAD_PATH, or CFDP_NO_ENGINE. Cost: one pass over a file's octets, for its
  * checksum. */

@@ -83,6 +83,24 @@ static void show_gaps(uint64_t source, uint64_t number) {
         printf("missing %" PRIu64 " to %" PRIu64 "\n", gap.start, gap.end);
 }
 
+/* How far a transaction's file has come. */
+static void show_progress(uint64_t source, uint64_t number) {
+    uint64_t progress = 0;
+    uint64_t reach = 0;
+    expect(cfdp_progress(&engine, source, number, &progress), CFDP_DONE);
+    expect(cfdp_reach(&engine, source, number, &reach), CFDP_DONE);
+    printf("progress %" PRIu64 ", gaps told up to %" PRIu64 "\n", progress, reach);
+}
+
+/* All transactions in order of admission, and the first one whose outcome can be taken. */
+static void show_order(void) {
+    struct cfdp_transaction found;
+    for (size_t index = 0; cfdp_transaction_at(&engine, index, &found) == CFDP_DONE; index++)
+        printf("transaction %" PRIu64 "/%" PRIu64 "\n", found.source, found.number);
+    if (cfdp_next_outcome(&engine, &found) == CFDP_DONE)
+        printf("next outcome %" PRIu64 "/%" PRIu64 "\n", found.source, found.number);
+}
+
 /* The file at a path, read in pieces of 10 octets. */
 static void show_file(const struct cfdp_path *path) {
     struct cfdp_entry entry;
@@ -143,8 +161,12 @@ int main(void) {
     take(1, 1);
 
     RECEIVE(file_metadata);
+    show_progress(1, 2);
+    show_order();
     RECEIVE(other_metadata);
+    show_order();
     RECEIVE(third_piece);
+    show_progress(1, 2);
     RECEIVE(first_piece);
     RECEIVE(file_eof);
     expect(cfdp_check(&engine, 1, 2, &reply), CFDP_DONE);
@@ -166,6 +188,10 @@ int main(void) {
     printf("spent blocks %" PRId64 " steps %" PRIu32 "\n", blocks_spent, steps_spent);
     take(1, 2);
     expect(cfdp_phase(&engine, 1, 2, &phase), CFDP_NOTHING);
+    uint64_t progress = 0;
+    expect(cfdp_progress(&engine, 1, 2, &progress), CFDP_NOTHING);
+    expect(cfdp_reach(&engine, 1, 2, &progress), CFDP_NOTHING);
+    show_order();
 
     show_file(&(struct cfdp_path){.length = 8, .octets = "app/prog"});
     struct cfdp_entry entry;

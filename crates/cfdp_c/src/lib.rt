@@ -23,8 +23,8 @@ pub use events::{cfdp_cancel, cfdp_check, cfdp_receive, cfdp_step, cfdp_take};
 pub use making::{cfdp_engine_octets, cfdp_free, cfdp_new};
 pub use next::cfdp_next;
 pub use reads::{
-    cfdp_blocks, cfdp_blocks_spent, cfdp_gap, cfdp_grant, cfdp_next_runnable, cfdp_phase,
-    cfdp_steps_spent,
+    cfdp_blocks, cfdp_blocks_spent, cfdp_gap, cfdp_grant, cfdp_next_outcome, cfdp_next_runnable,
+    cfdp_phase, cfdp_progress, cfdp_reach, cfdp_steps_spent, cfdp_transaction_at,
 };
 pub use store::{cfdp_look_up, cfdp_read};
 pub use texts::{cfdp_answer_text, cfdp_reply_text};

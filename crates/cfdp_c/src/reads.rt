@@ -1,9 +1,9 @@
 //! What an engine tells of its transactions and its blocks. Nothing here takes memory or changes anything.
-ghost use Rattle.std.specs.Prelude.{◌≡◌, ◌≤◌, IfSome, length};
+ghost use Rattle.std.specs.Prelude.{◌≡◌, ◌≤◌, IfSome, length, map, slice_get};
 ghost use Rattle.std.specs.Option.{option_map};
 ghost use Rattle.cfdp_transactions.specs.Engine.{read_of};
-ghost use Rattle.cfdp_transactions.specs.Entry.{gaps};
-ghost use Rattle.cfdp_transactions.specs.World.{next_runnable};
+ghost use Rattle.cfdp_transactions.specs.Entry.{gaps, name_of, progress, reach};
+ghost use Rattle.cfdp_transactions.specs.World.{next_outcome, next_runnable};
 ghost use Rattle.cfdp_c.specs.Calls.{named};
 ghost use Rattle.cfdp_c.specs.Reads.{Reads, blocks_fields, gap_fields, gap_of, grant_fields, name_fields, phase_fields};
 
@@ -55,6 +55,61 @@ pub extern "C" fn cfdp_next_runnable(
         return Answer::NoEngine.code();
     };
     let answer = match entity.core().next_runnable() {
+        None => Answer::Nothing,
+        Some(id) => {
+            *transaction = NameFields {
+                source: id.source,
+                number: id.number,
+            };
+            Answer::Done
+        }
+    };
+    engine.put(entity);
+    answer.code()
+}
+
+/// The first transaction, in order of admission, whose outcome can be taken.
+#[unsafe(no_mangle)]
+pub extern "C" fn cfdp_next_outcome(
+    alloc: Global,
+    engine: &mut Handle,
+    transaction: &mut NameFields,
+) -> u32
+    ensures read { Reads (λ W. option_map name_fields (next_outcome W.table)) engine.old.slot.engine transaction.old transaction.new result }
+    ensures kept { engine.new.slot.engine ≡ engine.old.slot.engine }
+{
+    let Some(entity) = engine.take(alloc) else {
+        return Answer::NoEngine.code();
+    };
+    let answer = match entity.core().next_outcome() {
+        None => Answer::Nothing,
+        Some(id) => {
+            *transaction = NameFields {
+                source: id.source,
+                number: id.number,
+            };
+            Answer::Done
+        }
+    };
+    engine.put(entity);
+    answer.code()
+}
+
+/// The transaction with this index in order of admission, from 0.
+#[unsafe(no_mangle)]
+pub extern "C" fn cfdp_transaction_at(
+    alloc: Global,
+    engine: &mut Handle,
+    index: usize,
+    transaction: &mut NameFields,
+) -> u32
+    ensures read { Reads (λ W. option_map name_fields (slice_get (map name_of W.table) index)) engine.old.slot.engine transaction.old transaction.new result }
+    ensures kept { engine.new.slot.engine ≡ engine.old.slot.engine }
+{
+    let Some(entity) = engine.take(alloc) else {
+        return Answer::NoEngine.code();
+    };
+    let answer = match entity.core().transaction_at(index) {
         None => Answer::Nothing,
         Some(id) => {
             *transaction = NameFields {
@@ -211,6 +266,58 @@ pub extern "C" fn cfdp_gap(
         None => Answer::Nothing,
         Some(found) => {
             *gap = found;
+            Answer::Done
+        }
+    };
+    engine.put(entity);
+    answer.code()
+}
+
+/// The end of the last octet of a transaction's file that is kept, as an offset.
+#[unsafe(no_mangle)]
+pub extern "C" fn cfdp_progress(
+    alloc: Global,
+    engine: &mut Handle,
+    source: u64,
+    number: u64,
+    offset: &mut u64,
+) -> u32
+    ensures read { Reads (λ W. read_of progress W (named source number)) engine.old.slot.engine offset.old offset.new result }
+    ensures kept { engine.new.slot.engine ≡ engine.old.slot.engine }
+{
+    let Some(entity) = engine.take(alloc) else {
+        return Answer::NoEngine.code();
+    };
+    let answer = match entity.core().progress(TransactionId { source, number }) {
+        None => Answer::Nothing,
+        Some(found) => {
+            *offset = found;
+            Answer::Done
+        }
+    };
+    engine.put(entity);
+    answer.code()
+}
+
+/// The offset up to which the gaps tell what is missing of a transaction's file.
+#[unsafe(no_mangle)]
+pub extern "C" fn cfdp_reach(
+    alloc: Global,
+    engine: &mut Handle,
+    source: u64,
+    number: u64,
+    offset: &mut u64,
+) -> u32
+    ensures read { Reads (λ W. read_of reach W (named source number)) engine.old.slot.engine offset.old offset.new result }
+    ensures kept { engine.new.slot.engine ≡ engine.old.slot.engine }
+{
+    let Some(entity) = engine.take(alloc) else {
+        return Answer::NoEngine.code();
+    };
+    let answer = match entity.core().reach(TransactionId { source, number }) {
+        None => Answer::Nothing,
+        Some(found) => {
+            *offset = found;
             Answer::Done
         }
     };
