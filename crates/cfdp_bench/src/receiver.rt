@@ -1,0 +1,148 @@
+//! The receiving entity and a sender, octets in memory.
+use crate::digest::Digest;
+use crate::fault::Fault;
+use crate::pdus::{List, Sender};
+use crate::pool::{Piece, Pool};
+use cfdp_actions::Protected;
+use cfdp_entity::Entity;
+use cfdp_status::TransactionId;
+use cfdp_transactions::{Config, Reply};
+use std::alloc::Global;
+
+/// How many octets the longest Finished PDU has.
+const FINISHED: usize = 16_488;
+
+/// How many items a transaction has at most: its file and 64 requests.
+const MOST_ITEMS: u32 = 65;
+
+/// The receiving entity, and the digest of all that it replied.
+#[derive(Drop)]
+pub struct Receiver {
+    alloc: Global,
+    entity: Entity,
+    pdu: Vec<u8>,
+    finished: Vec<u8>,
+    pub digest: Digest,
+}
+
+impl Receiver {
+    /// An entity over an empty filestore of so many blocks.
+    pub fn new(alloc: Global, blocks: u32) -> Result<Receiver, Fault> {
+        let config = Config::new(2, blocks, 7_864_320, 4, 1_000, Protected::new())?;
+        let mut finished = Vec::new(alloc);
+        finished.resize(FINISHED, 0)?;
+        Ok(Receiver {
+            alloc,
+            entity: Entity::new(alloc, config)?,
+            pdu: Vec::new(alloc),
+            finished,
+            digest: Digest::new(),
+        })
+    }
+
+    /// The PDU that was written comes. Whether its transaction was admitted.
+    fn hear(&mut self) -> Result<bool, Fault> {
+        match self.entity.receive(self.alloc, &self.pdu) {
+            Ok((_, reply)) => {
+                self.digest.add_reply(&reply);
+                Ok(matches!(reply, Reply::Admitted(..)))
+            }
+            Err(fault) => Err(Fault::from(fault)),
+        }
+    }
+
+    /// The Metadata PDU comes. Whether the transaction is admitted.
+    pub fn begin(
+        &mut self,
+        sender: Sender,
+        size: u32,
+        destination: &[u8],
+        list: &List,
+    ) -> Result<bool, Fault> {
+        sender.metadata(&mut self.pdu, size, destination, list)?;
+        self.hear()
+    }
+
+    /// File data comes.
+    pub fn data(&mut self, sender: Sender, pool: &Pool, piece: Piece) -> Result<(), Fault> {
+        sender.data_head(&mut self.pdu, piece.offset, piece.len)?;
+        self.pdu.extend_from_slice(pool.octets(piece))?;
+        self.hear()?;
+        Ok(())
+    }
+
+    /// The EOF PDU comes.
+    pub fn end(&mut self, sender: Sender, checksum: u32, size: u32) -> Result<(), Fault> {
+        sender.eof(&mut self.pdu, checksum, size)?;
+        self.hear()?;
+        Ok(())
+    }
+
+    /// All items of all transactions are performed, as far as they can be.
+    pub fn run(&mut self) {
+        for _ in 0..64 * MOST_ITEMS {
+            let Some(id) = self.entity.core().next_runnable() else {
+                break;
+            };
+            let reply = self.entity.step(id);
+            self.digest.add_reply(&reply);
+        }
+    }
+
+    /// The transaction is cancelled.
+    pub fn cancel(&mut self, id: TransactionId) {
+        let reply = self.entity.cancel(id);
+        self.digest.add_reply(&reply);
+    }
+
+    /// The outcome is taken.
+    pub fn take(&mut self, id: TransactionId) -> Result<(), Fault> {
+        match self.entity.take(self.alloc, id, &mut self.finished) {
+            Ok((reply, count)) => {
+                self.digest.add_reply(&reply);
+                self.digest
+                    .add_octets(self.finished.get(..count).unwrap_or(&[]));
+                Ok(())
+            }
+            Err(fault) => Err(Fault::from(fault)),
+        }
+    }
+
+    /// A whole transaction: a list without a file.
+    pub fn list(&mut self, sender: Sender, list: &List) -> Result<(), Fault> {
+        if self.begin(sender, 0, b"", list)? {
+            self.end(sender, 0, 0)?;
+            self.run();
+        }
+        self.take(sender.id())
+    }
+
+    /// A whole transaction: a file, whose pieces come in order, and a list.
+    pub fn deliver(
+        &mut self,
+        sender: Sender,
+        pool: &Pool,
+        pieces: &[Piece],
+        destination: &[u8],
+        list: &List,
+    ) -> Result<(), Fault> {
+        let size = size_of(pieces);
+        if self.begin(sender, size, destination, list)? {
+            for piece in pieces {
+                self.data(sender, pool, *piece)?;
+            }
+            self.end(sender, pool.checksum(pieces), size)?;
+            self.run();
+        }
+        self.take(sender.id())
+    }
+}
+
+/// The size of the file of these pieces.
+pub fn size_of(pieces: &[Piece]) -> u32 {
+    let mut size = 0_u32;
+    for piece in pieces {
+        size = size.max(piece.offset.saturating_add(piece.len));
+    }
+    size
+}
