@@ -1,7 +1,7 @@
 -- The checksum word by word.
-use Rattle.std.proofs.Common.{◌≡◌, ℕ, zero, suc, ◌+◌, ◌-◌, ◌*◌, ◌%◌, ◌^◌, ◌≤◌, List, [], ◌∷◌, ◌++◌, length, drop, refl, ap, ◌∙◌, arith}
+use Rattle.std.proofs.Common.{◌≡◌, ℕ, zero, suc, ◌+◌, ◌-◌, ◌*◌, ◌%◌, ◌^◌, ◌≤◌, List, [], ◌∷◌, ◌++◌, length, drop, replicate, refl, ap, ◌∙◌, arith}
 use Rattle.byteorder.specs.Endian.{big_number}
-use Rattle.cfdp_checksum.specs.Checksum.{weight, weighed_from}
+use Rattle.cfdp_checksum.specs.Checksum.{weight, weighed_from, checksum}
 use Rattle.cfdp_checksum.specs.Laws.{PiecesAddUp}
 
 -- the weights come again after a word
@@ -48,3 +48,14 @@ pieces-add-up words xs ys e =
     let whole = weighed-append 0 xs ys (length xs) (omega arith) in
     let behind = weighed-words words (length xs) ys e in
     rw (whole, behind) (omega arith)
+
+weighed-zeros : (at n : ℕ) → weighed_from at (replicate n 0) ≡ 0
+unfolding weighed_from
+weighed-zeros at zero = refl
+weighed-zeros at (suc n) = omega (arith, weighed-zeros (at + 1) n)
+
+-- zeros at the end
+pub zeros_add_nothing : (xs : List ℕ) (n : ℕ) → checksum (xs ++ replicate n 0) ≡ checksum xs
+zeros_add_nothing xs n =
+    let sum : weighed_from 0 (xs ++ replicate n 0) ≡ weighed_from 0 xs = omega (arith, weighed-append 0 xs (replicate n 0) (length xs) (omega arith), weighed-zeros (length xs) n) in
+    ap (λ k. k % 2 ^ 32) sum

@@ -7,6 +7,7 @@ use byteorder::{BigEndian, ByteOrder};
 
 /// The modular checksum of a file (CCSDS 727.0-B-5 §4.2.2): the sum modulo 2^32 of its octets as words
 /// of four from offset 0, the last word filled with zeros. It takes no memory, and goes over the octets once.
+#[inline]
 pub fn modular_checksum(octets: &[u8]) -> u32
     ensures { result ≡ checksum octets.now }
 {

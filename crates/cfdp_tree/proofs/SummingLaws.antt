@@ -1,29 +1,39 @@
--- The checksum of octets that are read in pieces.
---     next_piece     the sum with one piece more
---     still_long     the buffer keeps its length
-use Rattle.std.proofs.Common.{◌≡◌, ℕ, ◌+◌, ◌-◌, ◌/◌, ◌%◌, ◌^◌, ◌≤◌, List, ◌++◌, length, take, drop, sym, ap, ◌∙◌, arith, length-append, length-drop}
-use Rattle.std.specs.List.{slice_range}
-use Rattle.std.proofs.lemmas.List.{length-take-le}
-use Rattle.std.proofs.Math.Seq.{take-add}
-use Rattle.cfdp_checksum.specs.Checksum.{checksum}
-use Rattle.cfdp_checksum.proofs.ChecksumSteps.{pieces-add-up}
+-- The checksum of the blocks of a run, one after the other.
+--     one_more       the sum with the payload of one block more
+--     all_summed     the sum of all blocks is that of the octets, since zeros add nothing
+use Rattle.std.proofs.Common.{◌≡◌, ℕ, suc, ◌+◌, ◌-◌, ◌*◌, ◌%◌, ◌^◌, ◌<◌, List, [], ◌++◌, drop, sym, ap, ◌∙◌, arith, length-drop}
+use Rattle.std.proofs.lemmas.List.{take-append-drop}
+use Rattle.cfdp_arena.specs.Arena.{Blocks, octets_at}
+use Rattle.cfdp_checksum.specs.Checksum.{weighed_from, checksum}
+use Rattle.cfdp_checksum.proofs.ChecksumSteps.{pieces-add-up, zeros_add_nothing}
+use Rattle.cfdp_tree.specs.Block.{payload}
+use Rattle.cfdp_tree.specs.Runs.{octets, next_in, IsRun, run_octets, octets_in}
+use Rattle.cfdp_tree.specs.Contents.{IsFilled, contents_in}
+use Rattle.cfdp_tree.specs.declared.contents.Contents.{Contents}
 
-module _ (octets : List ℕ) (at n : ℕ) (fits : at + n ≤ length octets) where
-  piece_is : (piece buffer : List ℕ) → piece ≡ slice_range octets at (at + length (take n buffer)) → n ≤ length buffer → piece ≡ take n (drop at octets)
-  piece_is piece buffer e h =
-      let count : (at + length (take n buffer)) - at ≡ n = omega (arith, length-take-le n buffer h) in
-      e ∙ ap (λ k. take k (drop at octets)) count
+module _ (arena : Blocks) (owner rank n block : ℕ) (run : IsRun arena owner rank (suc n) block) where
+  here : List ℕ
+  here = payload (octets (octets_at arena block))
 
-  -- the pieces before it are whole words
-  pub next_piece : (sum r : ℕ) (piece buffer : List ℕ) → piece ≡ slice_range octets at (at + length (take n buffer)) → n ≤ length buffer → at % 4 ≡ 0
-      → sum ≡ checksum (take at octets) → r ≡ (sum + checksum piece) % 2 ^ 32 → r ≡ checksum (take (at + n) octets)
-  next_piece sum r piece buffer e h words s f =
-      let there = piece_is piece buffer e h in
-      let front : length (take at octets) ≡ at = length-take-le at octets (omega (arith, fits)) in
-      let added = pieces-add-up (at / 4) (take at octets) (take n (drop at octets)) (omega (arith, front, words)) in
-      f ∙ ap (λ k. (k + checksum piece) % 2 ^ 32) s ∙ ap (λ xs. (checksum (take at octets) + checksum xs) % 2 ^ 32) there ∙ sym added ∙ ap checksum (sym (take-add at n octets))
+  rest : List ℕ
+  rest = run_octets arena n (next_in (octets_at arena block))
 
-  pub still_long : (piece buffer : List ℕ) → piece ≡ slice_range octets at (at + length (take n buffer)) → n ≤ length buffer → length (piece ++ drop n buffer) ≡ length buffer
-  still_long piece buffer e h =
-      let there = piece_is piece buffer e h in
-      omega (arith, length-append piece (drop n buffer), length-drop n buffer, ap length there, length-take-le n (drop at octets) (omega (arith, fits, length-drop at octets)))
+  first_added : checksum (run_octets arena (suc n) block) ≡ (checksum here + checksum rest) % 2 ^ 32
+  unfolding here rest
+  first_added = pieces-add-up 30 here rest (omega (arith, length-drop 8 (octets (octets_at arena block)), run.0.whole))
+
+  pub one_more : (sum total : ℕ) → (sum + checksum (run_octets arena (suc n) block)) % 2 ^ 32 ≡ total
+      → ((sum + checksum (payload (octets (octets_at arena block)))) % 2 ^ 32 + checksum (run_octets arena n (next_in (octets_at arena block)))) % 2 ^ 32 ≡ total
+  unfolding here rest
+  one_more sum total e = omega (arith, e, first_added)
+
+pub all_summed : (arena : Blocks) (contents : Contents) → IsFilled arena contents → checksum (octets_in arena contents.run) ≡ checksum (contents_in arena contents)
+all_summed arena contents filled =
+    let all = octets_in arena contents.run in
+    let parts : all ≡ contents_in arena contents ++ drop contents.size all = sym (take-append-drop contents.size all) in
+    ap checksum (parts ∙ ap (λ xs. contents_in arena contents ++ xs) filled.zeros) ∙ zeros_add_nothing (contents_in arena contents) (120 * contents.run.count - contents.size)
+
+-- nothing is left to be summed
+pub none_left : (sum total : ℕ) → sum < 2 ^ 32 → (sum + checksum []) % 2 ^ 32 ≡ total → sum ≡ total
+unfolding weighed_from
+none_left sum total small e = omega (arith, e)

@@ -1,39 +1,33 @@
-use Rattle.std.proofs.Common.{◌+◌, ◌%◌, ◌^◌, ◌≤◌, length, refl, sym, ap, ◌∙◌, arith}
-use Rattle.std.proofs.lemmas.List.{take_all}
-use Rattle.cfdp_checksum.specs.Checksum.{weighed_from, checksum}
-use Rattle.cfdp_tree.proofs.SummingLaws.{next_piece, still_long}
-use Rattle.cfdp_tree.specs.Runs.{nth}
-use Rattle.cfdp_tree.specs.Contents.{contents_in}
-use Rattle.cfdp_tree.proofs.ContentsLaws.{length-contents}
+use Rattle.std.proofs.Common.{◌≡◌, suc, ◌+◌, ◌-◌, ◌%◌, ◌^◌, sym, ap, ◌∙◌, subst, arith}
+use Rattle.cfdp_checksum.specs.Checksum.{checksum}
+use Rattle.cfdp_arena.specs.Arena.{octets_at}
+use Rattle.cfdp_tree.specs.Block.{header_of, payload}
+use Rattle.cfdp_tree.specs.Runs.{next_in, IsRun, run_octets, octets_in}
+use Rattle.cfdp_tree.proofs.HeldLaws.{octets_are}
+use Rattle.cfdp_tree.proofs.SummingLaws.{one_more, all_summed, none_left}
 use Rattle.cfdp_tree.proofs.summing.checksum_of.Goals as goal
 
-pub loop-at-preserved : goal.loop-at-preserved
-loop-at-preserved c =
-    let octets = contents_in c.args.arena.now c.args.contents.now in
-    let l = c.loop-at in
-    let n = c.min-count.result in
-    let fits : l.at + n ≤ length octets = omega (arith, c.min-count.ensures, length-contents c.args.arena.now c.args.contents.now c.requires, c.loop-at-test.true) in
-    let room : n ≤ length l.buffer = omega (arith, c.min-count.ensures, l.invariant.long) in
+pub loop-step-preserved : goal.loop-step-preserved
+loop-step-preserved c =
+    let arena = c.args.arena.now in let run = c.args.contents.now.run in let l = c.loop-step in
+    let more : run.count - l._step ≡ suc (run.count - (l._step + 1)) = omega arith in
+    let n = run.count - (l._step + 1) in
+    let total = checksum (octets_in arena run) in
+    let rest = subst (λ n. IsRun arena run.first l._step n l.block) more l.invariant.rest in
+    let shown = octets_are arena l.block _ c.bytes-octets.ensures.octets in
+    let next = c.next_of-block.ensures.value ∙ ap (λ o. (header_of o).next) shown in
+    let rank : suc l._step ≡ l._step + 1 = omega arith in
+    let summed = subst (λ n. (l.sum + checksum (run_octets arena n l.block)) % 2 ^ 32 ≡ total) more l.invariant.summed in
     record {
-      place = c.get-place.ensures.place;
-      summed = next_piece octets l.at n fits l.sum _ c.get-place.new.buffer l.buffer c.get-place.ensures.octets room (l.invariant.words c.loop-at-test.true) l.invariant.summed (ap (λ k. (l.sum + k) % 2 ^ 32) c.modular_checksum-sum.ensures);
-      within = omega (arith, c.min-count.ensures, c.loop-at-test.true);
-      words = λ more. let before = l.invariant.words c.loop-at-test.true in omega (arith, c.min-count.ensures, before, more);
-      long = still_long octets l.at n fits c.get-place.new.buffer l.buffer c.get-place.ensures.octets room ∙ l.invariant.long;
+      rest = subst (λ b. IsRun arena run.first (l._step + 1) n b) (sym next) (subst (λ r. IsRun arena run.first r n (next_in (octets_at arena l.block))) rank rest.1);
+      summed = (λ k. ((l.sum + (c.payload_sum-sum.ensures ∙ ap (λ o. checksum (payload o)) shown) k) % 2 ^ 32 + checksum (run_octets arena n (next k))) % 2 ^ 32)
+          ∙ one_more arena run.first l._step n l.block rest l.sum total summed;
     }
 
 pub returns : goal.returns
 returns c =
-    let octets = contents_in c.args.arena.now c.args.contents.now in
-    let all : length octets ≤ c.loop-at.at = omega (arith, length-contents c.args.arena.now c.args.contents.now c.requires, c.loop-at-test.false) in
-    c.loop-at.invariant.summed ∙ ap checksum (take_all c.loop-at.at octets all)
-
-pub loop-at-init : goal.loop-at-init
-unfolding weighed_from
-loop-at-init c = record {
-  place = (omega (arith, c.start-place.ensures.index), c.start-place.ensures.block ∙ ap (nth c.args.arena.now c.args.contents.now.run.first) (sym c.start-place.ensures.index));
-  summed = refl;
-  within = omega arith;
-  words = λ _. refl;
-  long = refl;
-}
+    let arena = c.args.arena.now in let contents = c.args.contents.now in let l = c.loop-step in
+    let none : contents.run.count - l._step ≡ 0 = omega arith in
+    let total = checksum (octets_in arena contents.run) in
+    none_left l.sum total c.loop-step.auto.sum-fits.fits (subst (λ n. (l.sum + checksum (run_octets arena n l.block)) % 2 ^ 32 ≡ total) none l.invariant.summed)
+    ∙ all_summed arena contents c.requires
