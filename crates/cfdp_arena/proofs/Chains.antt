@@ -68,7 +68,7 @@ live_count-vacate (None ∷ bs) zero x e = cc
 live_count-vacate (Some b ∷ bs) (suc i) x e = omega (arith, live_count-vacate bs i x e)
 live_count-vacate (None ∷ bs) (suc i) x e = live_count-vacate bs i x e
 
-live_count-vacated : (blocks : List (List ℕ)) (xs : List ℕ) → AreApart (length blocks) xs → live_count (vacated xs (map Some blocks)) + length xs ≡ length blocks
+pub live_count-vacated : (blocks : List (List ℕ)) (xs : List ℕ) → AreApart (length blocks) xs → live_count (vacated xs (map Some blocks)) + length xs ≡ length blocks
 live_count-vacated blocks [] apart = omega (arith, live_count-some blocks)
 live_count-vacated blocks (x ∷ xs) apart =
     let rest = vacated xs (map Some blocks) in

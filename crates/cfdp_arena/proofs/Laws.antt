@@ -2,9 +2,14 @@
 --     octets_at-..        a block after a block was set or freed
 --     length-..           the capacity stays
 --     free_count-..       how many blocks are free after that
-use Rattle.std.proofs.Common.{◌≡◌, ◌≢◌, ℕ, suc, zero, ◌+◌, ◌<◌, ◌≤◌, List, [], ◌∷◌, length, Some, None, refl, ap, arith, length-set}
+--     ..-vacated          the same where several were freed
+use Rattle.std.proofs.Common.{◌≡◌, ◌≢◌, ℕ, suc, zero, ◌+◌, ◌<◌, ◌≤◌, List, [], ◌∷◌, length, Some, None, refl, sym, ap, subst, arith, length-set}
 use Rattle.std.proofs.lemmas.List.{get_or-set_same, get_or-set_other}
+use Rattle.std.specs.Prelude.{All, AllPairs, IsSome}
 use Rattle.cfdp_arena.specs.Arena.{Blocks, octets_at, IsLive, live_count, free_count, with_block, without_block}
+use Rattle.cfdp_arena.specs.FreeList.{vacated}
+use Rattle.cfdp_arena.proofs.Chains.{get_or-vacated}
+use Rattle.cfdp_arena.proofs.GivenChains.{absent_from, first_absent, rest_once, rest_all}
 
 pub live_count-le : (arena : Blocks) → live_count arena ≤ length arena
 live_count-le [] = omega arith
@@ -63,3 +68,13 @@ module _ (arena : Blocks) (block : ℕ) where
 
   pub free_count-given : IsLive arena block → free_count (without_block arena block) ≡ free_count arena + 1
   free_count-given live = omega (arith, length-without, live_count-given arena block live, live_count-le arena, live_count-le (without_block arena block))
+
+-- a block that is none of those that were freed
+pub octets_at-vacated_other : (arena : Blocks) (xs : List ℕ) (block : ℕ) → All (λ x. block ≢ x) xs → octets_at (vacated xs arena) block ≡ octets_at arena block
+octets_at-vacated_other arena xs block apart = get_or-vacated xs arena block (absent_from block xs apart)
+
+pub free_count-vacated : (arena : Blocks) (xs : List ℕ) → All (IsLive arena) xs → AllPairs (λ a b. a ≢ b) xs → free_count (vacated xs arena) ≡ free_count arena + length xs
+free_count-vacated arena [] live once = omega arith
+free_count-vacated arena (x ∷ xs) live once =
+    let there : IsLive (vacated xs arena) x = subst IsSome (sym (get_or-vacated xs arena x (first_absent x xs once))) (live 0 0 (omega arith)) in
+    omega (arith, free_count-given (vacated xs arena) x there, free_count-vacated arena xs (rest_all (IsLive arena) x xs live) (rest_once x xs once))

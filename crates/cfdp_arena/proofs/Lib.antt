@@ -1,4 +1,5 @@
 pub mod Chains
+pub mod GivenChains
 pub mod Heap
 pub mod Laws
 pub mod Rows

@@ -1,5 +1,6 @@
 pub mod Arena
 pub mod Blocks
+pub mod Chain
 pub mod FreeList
 pub mod Lending
 pub mod Ownership

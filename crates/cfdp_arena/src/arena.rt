@@ -1,8 +1,11 @@
 //! The arena: which blocks are live, and what they hold.
-ghost use Rattle.std.specs.Prelude.{◌≡◌, ◌+◌, ◌<◌, ◌≤◌, ◌↔◌, length, Some, IsNone, IfNone, IfSome, IfOk};
+ghost use Rattle.std.specs.Prelude.{◌≡◌, ◌≢◌, ◌+◌, ◌-◌, ◌<◌, ◌≤◌, ◌↔◌, length, slice_index, All, AllPairs};
+ghost use Rattle.std.specs.Prelude.{Some, IsNone, IfNone, IfSome, IfOk};
 ghost use Rattle.std.specs.Borrow.{sem};
 ghost use Rattle.cfdp_arena.specs.Blocks.{blank_block, copied};
 ghost use Rattle.cfdp_arena.specs.Arena.{octets_at, IsLive, octets_of, free_count, all_free, with_block, without_block};
+ghost use Rattle.cfdp_arena.specs.Chain.{chain_in};
+ghost use Rattle.cfdp_arena.specs.FreeList.{vacated};
 
 use crate::block_id::BlockId;
 use crate::region::Region;
@@ -91,6 +94,24 @@ impl Arena {
         links::link_to(self.region.block_mut(number as usize), next);
         self.head = number;
         self.free += 1;
+    }
+
+    /// Gives a chain of live blocks back as one: `count` blocks, from `first` to `last`, each of which but the last has
+    /// the number of the next one in its first two octets, the low octet first. They are then free, as after a `give`
+    /// of each of them. Where `count` is 0, nothing changes. In constant time.
+    pub fn give_chain(&mut self, first: BlockId, last: BlockId, count: u32)
+        requires live { All (IsLive self.old) (chain_in self.old count first) }
+        requires once { AllPairs (λ a b. a ≢ b) (chain_in self.old count first) }
+        requires last { 0 < count → last ≡ slice_index (chain_in self.old count first) (count - 1) }
+        ensures freed { self.new ≡ vacated (chain_in self.old count first) self.old }
+    {
+        if count == 0 {
+            return;
+        }
+        let head = self.head;
+        links::link_to(self.region.block_mut(last.number() as usize), head);
+        self.head = first.number();
+        self.free += count;
     }
 
     /// Shows the octets of a live block: 8 for its owner's links, and the payload after them. In constant time.

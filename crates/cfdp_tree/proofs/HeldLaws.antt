@@ -4,20 +4,26 @@
 --     others_grown, was_free                      and so does what was free
 --     octets_are                                  the octets of a live block
 --     held_part                                   a block of a run is live, and a part of it
---     released_live, released_no_node, released_rest, released_others      its blocks are given back from the first on
+--     given_live, given_once, given_last      its blocks are a chain, which can be given back as one
+--     given_count, given_size, given_others, given_nodes      and have been given back
 --     put_held, put_nth, put_others, put_octets, put_nodes   one of its payloads is written
-use Rattle.std.proofs.Common.{◌≡◌, ◌≢◌, ℕ, suc, ◌+◌, ◌-◌, ◌*◌, ◌<◌, ◌≤◌, List, length, Option, Some, None, refl, sym, ap, ◌∙◌, subst, inl, inr, arith}
+use Rattle.std.proofs.Common.{◌≡◌, ◌≢◌, ℕ, suc, zero, ◌+◌, ◌-◌, ◌*◌, ◌<◌, ◌≤◌, List, [], ◌∷◌, length, get_or, Option, Some, None, refl, sym, ap, ◌∙◌, subst, inl, inr, arith}
 use Rattle.std.proofs.lemmas.List.{get_or-set_other}
 use Rattle.std.proofs.lemmas.Bool.{cases_eq}
-use Rattle.std.specs.Prelude.{IsSome}
-use Rattle.cfdp_arena.specs.Arena.{Blocks, octets_at, IsLive, with_block, without_block}
+use Rattle.std.specs.Prelude.{All, AllPairs, IsSome}
+use Rattle.cfdp_arena.specs.Arena.{Blocks, octets_at, IsLive, free_count, with_block}
+use Rattle.cfdp_arena.specs.Chain.{chain_in}
+use Rattle.cfdp_arena.specs.FreeList.{vacated}
+use Rattle.cfdp_arena.proofs.Chains.{length-vacated, get_or-vacated}
+use Rattle.cfdp_arena.proofs.GivenChains.{length-chain_in, first_absent, rest_once, rest_all}
+use Rattle.cfdp_arena.proofs.Laws.{octets_at-vacated_other, free_count-vacated}
 use Rattle.cfdp_actions.specs.Store.{overwritten}
 use Rattle.cfdp_tree.specs.declared.runs.Run.{Run}
 use Rattle.cfdp_tree.specs.Block.{Header, header_of, payload}
 use Rattle.cfdp_tree.specs.Nodes.{only_node, nodes_in}
 use Rattle.cfdp_tree.specs.Runs.{octets, header_in, next_in, IsPart, IsRun, nth, run_octets, IsHeld, octets_in, IsOf, OthersStay}
-use Rattle.cfdp_tree.proofs.NodeLaws.{content_only, nodes-written}
-use Rattle.cfdp_tree.proofs.RunLaws.{nth_part, KeepsFrom, beyond_keeps, kept_run, kept_octets, kept_nth, written_run, written_nth, written_octets}
+use Rattle.cfdp_tree.proofs.NodeLaws.{content_only, nodes-kept, nodes-written}
+use Rattle.cfdp_tree.proofs.RunLaws.{apart, nth_part, KeepsFrom, kept_run, kept_octets, kept_nth, written_run, written_nth, written_octets}
 
 -- twice
 pub others_then : (first second third : Blocks) (run : Run) → OthersStay first second run → OthersStay second third run → OthersStay first third run
@@ -100,28 +106,54 @@ module _ (arena : Blocks) (run : Run) (held : IsHeld arena run) (k : ℕ) (withi
         ∙ written_octets arena run.first new whole place part inside 0 run.count run.first k (120 * k + place) held.parts within same_there
         (written ∙ ap (λ b. overwritten (payload (octets (octets_at arena b))) place part) block_is) refl
 
--- i blocks of the run are given back, and the next one is
-module _ (start now : Blocks) (run : Run) (i block : ℕ) (within : i < run.count) (parts : IsRun now run.first i (run.count - i) block) where
-  these : IsRun now run.first i (suc (run.count - (i + 1))) block
-  these = let more : run.count - i ≡ suc (run.count - (i + 1)) = omega arith in subst (λ n. IsRun now run.first i n block) more parts
+-- its blocks are a chain, and apart
+chain_nth : (arena : Blocks) (n block k d : ℕ) → k < n → get_or (chain_in arena n block) k d ≡ nth arena block k
+chain_nth arena zero block k d within = absurd (omega (arith, within))
+chain_nth arena (suc n) block zero d within = refl
+chain_nth arena (suc n) block (suc k) d within = chain_nth arena n (next_in (octets_at arena block)) k d (omega (arith, within))
 
-  pub released_live : IsLive now block
-  released_live = these.0.live
+nodes-vacated : (arena : Blocks) (xs : List ℕ) → All (λ b. only_node (octets_at arena b) ≡ None) xs → AllPairs (λ a b. a ≢ b) xs → nodes_in (vacated xs arena) ≡ nodes_in arena
+nodes-vacated arena [] none once = refl
+nodes-vacated arena (x ∷ xs) none once =
+    let stays = get_or-vacated xs arena x (first_absent x xs once) in
+    nodes-kept (vacated xs arena) x None refl (ap only_node stays ∙ none 0 0 (omega arith))
+    ∙ nodes-vacated arena xs (rest_all (λ b. only_node (octets_at arena b) ≡ None) x xs none) (rest_once x xs once)
 
-  pub released_no_node : only_node (octets_at now block) ≡ None
-  released_no_node = content_only run.first i (octets_at now block) these.0
+-- all its blocks are given back
+module _ (arena : Blocks) (run : Run) (held : IsHeld arena run) where
+  given_part : (k d : ℕ) → k < length (chain_in arena run.count run.first) → IsPart run.first k (octets_at arena (get_or (chain_in arena run.count run.first) k d))
+  given_part k d less =
+      let within : k < run.count = omega (arith, less, length-chain_in arena run.count run.first) in
+      held_part arena run held k within (get_or (chain_in arena run.count run.first) k d) (chain_nth arena run.count run.first k d within)
 
-  pub released_rest : IsRun (without_block now block) run.first (i + 1) (run.count - (i + 1)) (next_in (octets_at now block))
-  released_rest =
-      let rank : suc i ≡ i + 1 = omega arith in
-      let next = next_in (octets_at now block) in
-      let n = run.count - (i + 1) in
-      subst (λ r. IsRun (without_block now block) run.first r n next) rank
-      (kept_run now (without_block now block) run.first (suc i) n next (beyond_keeps now run.first i block None these.0) these.1)
+  pub given_live : All (IsLive arena) (chain_in arena run.count run.first)
+  given_live k d less = (given_part k d less).live
 
-  pub released_others : OthersStay start now run → OthersStay start (without_block now block) run
-  released_others stay b live not_of =
-      let was : octets_at now b ≡ octets_at start b = stay b live not_of in
-      get_or-set_other now block b None None
-      (λ e. not_of (omega arith, ap (λ entry. (header_in entry).owner) (sym was) ∙ ap (λ x. (header_in (octets_at now x)).owner) e ∙ these.0.owner_is))
-      ∙ was
+  pub given_once : AllPairs (λ a b. a ≢ b) (chain_in arena run.count run.first)
+  given_once i j d before less =
+      let given = chain_in arena run.count run.first in
+      let sooner : i < length given = omega arith in let differ : i ≢ j = (λ e. absurd (omega (arith, e, before))) in
+      apart arena run.first (get_or given i d) (get_or given j d) i j (given_part i d sooner) (given_part j d less) differ
+
+  pub given_last : 0 < run.count → run.last ≡ get_or (chain_in arena run.count run.first) (run.count - 1) 0
+  given_last some = held.last some ∙ sym (chain_nth arena run.count run.first (run.count - 1) 0 (omega (arith, some)))
+
+  module _ (after : Blocks) (freed : after ≡ vacated (chain_in arena run.count run.first) arena) where
+    pub given_count : free_count after ≡ free_count arena + run.count
+    given_count = ap free_count freed ∙ free_count-vacated arena (chain_in arena run.count run.first) given_live given_once
+        ∙ ap (λ n. free_count arena + n) (length-chain_in arena run.count run.first)
+
+    pub given_size : length after ≡ length arena
+    given_size = ap length freed ∙ length-vacated (chain_in arena run.count run.first) arena
+
+    pub given_others : OthersStay arena after run
+    given_others b live not_of =
+        let given = chain_in arena run.count run.first in
+        ap (λ a. octets_at a b) freed
+        ∙ octets_at-vacated_other arena given b (λ k d less e. not_of (omega (arith, less, length-chain_in arena run.count run.first), ap (λ x. (header_in (octets_at arena x)).owner) e ∙ (given_part k d less).owner_is))
+
+    pub given_nodes : nodes_in after ≡ nodes_in arena
+    given_nodes =
+        let given = chain_in arena run.count run.first in
+        ap nodes_in freed
+        ∙ nodes-vacated arena given (λ k d less. content_only run.first k (octets_at arena (get_or given k d)) (given_part k d less)) given_once

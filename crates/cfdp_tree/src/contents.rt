@@ -193,7 +193,8 @@ impl Contents {
             .copy(arena, to, size as usize, &self.run, size as usize);
     }
 
-    /// Puts the octets of another list in the place of these, whose blocks go back first. In time linear in both.
+    /// Puts the octets of another list in the place of these, whose blocks go back first. In time linear in the other
+    /// list.
     pub(crate) fn replace(&mut self, arena: &mut Arena, source: &Contents)
         requires filled { IsFilled arena.old self.old }
         requires source { IsFilled arena.old source.now }
@@ -214,7 +215,7 @@ impl Contents {
         self.append(arena, source);
     }
 
-    /// Gives the blocks back. In time linear in their number.
+    /// Gives the blocks back as one. In constant time.
     pub(crate) fn release(self, arena: &mut Arena)
         requires filled { IsFilled arena.old self }
         ensures freed { free_count arena.new ≡ free_count arena.old + blocks_of self.size }

@@ -6,7 +6,7 @@ ghost use Rattle.cfdp_tree.specs.Block.{payload};
 ghost use Rattle.cfdp_tree.specs.Nodes.{nodes_in};
 ghost use Rattle.cfdp_tree.specs.Runs.{IsHeld, AllStay, OthersStay, octets_in, nth};
 
-use crate::header::{BlockKind, next_of, set_next, set_tag};
+use crate::header::{BlockKind, set_next, set_tag};
 use cfdp_arena::{Arena, BlockId};
 
 /// A run of blocks in an arena: its first block, its last block and how many there are. Where there are none, the two
@@ -107,7 +107,7 @@ impl Run {
         }
     }
 
-    /// Gives all blocks of the run back. In time linear in their number.
+    /// Gives all blocks of the run back as one. In constant time.
     pub(crate) fn release(self, arena: &mut Arena)
         requires held { IsHeld arena.old self }
         ensures freed { free_count arena.new ≡ free_count arena.old + self.count }
@@ -115,12 +115,7 @@ impl Run {
         ensures others { OthersStay arena.old arena.new self }
         ensures nodes { nodes_in arena.new ≡ nodes_in arena.old }
     {
-        let mut block = self.first;
-        for _step in 0..self.count {
-            let next = next_of(arena.bytes(block));
-            arena.give(block);
-            block = next;
-        }
+        arena.give_chain(self.first, self.last, self.count);
     }
 }
 
