@@ -23,6 +23,7 @@ use Rattle.cfdp_tree.specs.Index.{Heads, IsIndex}
 use Rattle.cfdp_tree.specs.Entries.{IsGrouped}
 use Rattle.cfdp_tree.specs.Kept.{no_contents, file_in, holdings, Shows, filestore_of, store_of, IsStored}
 use Rattle.cfdp_tree.specs.Slots.{staged_in, IsPlaced, IsStore}
+use Rattle.cfdp_tree.proofs.MarkLaws.{slot_stays}
 use Rattle.cfdp_tree.proofs.ContentsLaws.{none_filled, stays_filled, stays_contents}
 use Rattle.cfdp_tree.proofs.ShowLaws.{tree_shows, shown_same}
 use Rattle.cfdp_tree.proofs.SeenLaws.{mapped_at, held_at}
@@ -104,8 +105,7 @@ module _ (arena later : Blocks) (heads after : Heads) (root end : Head) (slots :
       let s = get_or slots j d in
       let at : get_or staged j no_contents ≡ s.contents = mapped_at (λ (slot : Slot). slot.contents) slots j s no_contents within (get_or_default slots j d s within) in
       let stays = subst (λ (x : Contents). Stays arena later x.run) at (lists j) in
-      let was = store.placed j d within in
-      (was.0, was.1 ∙ sym (stays.places s.place.index was.0))
+      slot_stays arena later s stays (store.placed j d within)
 
   pub nodes_store : free_count later + blocks seen ≡ length later → IsStore later after end slots
   nodes_store counted = record {

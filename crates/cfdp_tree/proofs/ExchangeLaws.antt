@@ -24,6 +24,7 @@ use Rattle.cfdp_tree.specs.Index.{Heads}
 use Rattle.cfdp_tree.specs.Kept.{no_contents, contents_told, file_of, file_in, holdings, node_of, store_of, IsStored}
 use Rattle.cfdp_tree.specs.Slots.{staged_in, IsPlaced, IsStore}
 use Rattle.cfdp_tree.specs.Files.{with_run, SameOctets}
+use Rattle.cfdp_tree.proofs.MarkLaws.{slot_stays}
 use Rattle.cfdp_tree.proofs.ContentsLaws.{stays_filled, stays_contents}
 use Rattle.cfdp_tree.proofs.StoredLaws.{apart_back}
 use Rattle.cfdp_tree.proofs.SeenLaws.{seen_blocks, mapped_at, slot_there, slot_filled, seen_staged, staged_is}
@@ -246,8 +247,7 @@ module _ (arena : Blocks) (heads : Heads) (root : Head) (slots : List Slot) (sto
       get_or_append_left staged (map file_in nodes) no_contents j inside ∙ mapped_at (λ (slot : Slot). slot.contents) slots j s no_contents within (get_or_default slots j d s within) in
       let was_filled = subst (IsFilled arena) at (store.kept.stored.filled j) in
       let stays = runs s.contents.run was_filled.held in
-      let was = store.placed j d within in
-      (was.0, was.1 ∙ sym (stays.places s.place.index was.0))
+      slot_stays arena later s stays (store.placed j d within)
 
   placed_now : All (IsPlaced later) slots_now
   placed_now j d within = elim (cases_eq j i) [

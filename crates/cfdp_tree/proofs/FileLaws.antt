@@ -35,6 +35,7 @@ use Rattle.cfdp_tree.specs.Entries.{IsGrouped}
 use Rattle.cfdp_tree.specs.Kept.{no_contents, contents_told, file_of, file_in, holdings, node_told, node_of, Shows, filestore_of, store_of, IsStored}
 use Rattle.cfdp_tree.specs.Slots.{staged_in, IsPlaced, IsStore}
 use Rattle.cfdp_tree.specs.Files.{with_run, SameOctets}
+use Rattle.cfdp_tree.proofs.MarkLaws.{slot_stays}
 use Rattle.cfdp_tree.proofs.Filling.{blocks_of-fits}
 use Rattle.cfdp_tree.proofs.ContentsLaws.{length-contents, none_filled, none_contents, stays_filled, stays_contents}
 use Rattle.cfdp_tree.proofs.TreeLaws.{same_node}
@@ -309,8 +310,7 @@ module _ (arena : Blocks) (heads : Heads) (root : Head) (slots : List Slot) (sto
         let at : get_or held j no_contents ≡ s.contents = slot_at j inside ∙ mapped_at (λ (slot : Slot). slot.contents) slots j s no_contents within (get_or_default slots j d s within) in
         let stays = subst (λ (x : Contents). Stays arena later x.run) at
         (run_spared arena later held (length staged + b) in_held told store.kept.stored spares_held filled_told j (λ e. omega (arith, inside, e))).0 in
-        let was = store.placed j d within in
-        (was.0, was.1 ∙ sym (stays.places s.place.index was.0))
+        slot_stays arena later s stays (store.placed j d within)
 
     pub file_store : IsStore later heads root slots
     file_store = written_store later after written row_is name_is whole octets here node_stays nodes_is (long ∙ long_middle) slots now.filestore.staged lists_are refl

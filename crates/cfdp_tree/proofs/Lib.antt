@@ -7,6 +7,7 @@ pub mod FrontLaws
 pub mod NodeLaws
 pub mod GrowLaws
 pub mod SpareLaws
+pub mod MarkLaws
 pub mod Filling
 pub mod ContentsLaws
 pub mod RowLaws

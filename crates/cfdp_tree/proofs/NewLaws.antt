@@ -2,7 +2,7 @@
 --     head_none, contents_none      what means nothing
 --     filled_up                     a list that grows to so many of one thing
 --     new_view, new_store           the store
-use Rattle.std.proofs.Common.{◌≡◌, ◌≢◌, ℕ, zero, suc, ◌-◌, ◌*◌, ◌≤◌, true, List, [], ◌∷◌, ◌++◌, length, map, take, get_or, replicate, sum_by, Option, Some, None, refl, sym, ap, ◌∙◌, subst, inl, inr, arith}
+use Rattle.std.proofs.Common.{◌≡◌, ◌≢◌, ℕ, zero, suc, ◌-◌, ◌*◌, ◌<◌, ◌≤◌, true, List, [], ◌∷◌, ◌++◌, length, map, take, get_or, replicate, sum_by, Option, Some, None, refl, sym, ap, ◌∙◌, subst, inl, inr, arith}
 use Rattle.std.proofs.lemmas.List.{length-replicate, get_or-replicate, get_or_past, get_or-append_right, get_or_append_left}
 use Rattle.std.proofs.lemmas.List.Folds.{sum_by-replicate}
 use Rattle.std.proofs.lemmas.Bool.{cases_lt}
@@ -18,15 +18,15 @@ use Rattle.cfdp_tree.specs.declared.contents.Contents.{Contents}
 use Rattle.cfdp_tree.specs.declared.index.Head.{Head}
 use Rattle.cfdp_tree.specs.declared.slots.Slot.{Slot}
 use Rattle.cfdp_tree.specs.Contents.{IsFilled, contents_in}
-use Rattle.cfdp_tree.specs.Runs.{nth}
 use Rattle.cfdp_tree.specs.Nodes.{only_node, nodes_in}
 use Rattle.cfdp_tree.specs.Tree.{IsNode, IsTree}
 use Rattle.cfdp_tree.specs.Index.{no_head, list_of, list_at, IsIndex}
 use Rattle.cfdp_tree.specs.Lists.{IsDouble}
 use Rattle.cfdp_tree.specs.Entries.{entry_after, entry_before, entries_at, IsPlace, IsMember, IsGrouped}
 use Rattle.cfdp_tree.specs.Kept.{no_contents, file_in, holdings, Shows, filestore_of, store_of, IsStored}
-use Rattle.cfdp_tree.specs.Slots.{staged_in, IsPlaced, IsStore}
+use Rattle.cfdp_tree.specs.Slots.{staged_in, IsPlaced, IsFresh, IsStore}
 use Rattle.cfdp_tree.proofs.ContentsLaws.{none_filled}
+use Rattle.cfdp_tree.proofs.MarkLaws.{slot_starts}
 use Rattle.cfdp_tree.proofs.ShowLaws.{tree_shows, shown_same}
 
 pub head_none : (head : Head) → head.first ≡ 0 → head.count ≡ 0 → head ≡ no_head
@@ -50,6 +50,12 @@ mapped : {A B : Type 0} (f : A → B) (n : ℕ) (x : A) → map f (replicate n x
 mapped f zero x = refl
 mapped f (suc n) x = ap (λ xs. f x ∷ xs) (mapped f n x)
 
+all_mapped : {A B : Type 0} (f : A → B) (xs : List A) (n : ℕ) (y : B) → length xs ≡ n → ((i : ℕ) (d : A) → i < length xs → f (get_or xs i d) ≡ y) → map f xs ≡ replicate n y
+all_mapped f [] zero y long each = refl
+all_mapped f [] (suc n) y long each = absurd (omega (arith, long))
+all_mapped f (x ∷ xs) zero y long each = absurd (omega (arith, long))
+all_mapped f (x ∷ xs) (suc n) y long each = (λ k. each 0 x (omega arith) k ∷ all_mapped f xs n y (omega (arith, long)) (λ i d less. each (suc i) d (omega arith)) k)
+
 one_each : {A : Type 0} (n : ℕ) (x d : A) → x ≡ d → (i : ℕ) → get_or (replicate n x) i d ≡ d
 one_each n x d e i = elim (cases_lt i n) [
   | inl less ↦ get_or-replicate n i x d less ∙ e
@@ -61,7 +67,7 @@ none_live zero = refl
 none_live (suc n) = none_live n
 
 module _ (n : ℕ) (some : 1 ≤ n) (few : n ≤ 65536) (heads : List Head) (root : Head) (head : Head) (heads_are : heads ≡ replicate n head) (head_is : head ≡ no_head) (root_is : root ≡ no_head)
-    (slots : List Slot) (slot : Slot) (slots_are : slots ≡ replicate 64 slot) (slot_is : slot.contents ≡ no_contents) (index_is : slot.place.index ≡ 0) (place_is : slot.place.block ≡ slot.contents.run.first) where
+    (slots : List Slot) (many : length slots ≡ 64) (fresh : All IsFresh slots) where
   abbrev arena : Blocks
   arena = all_free n
 
@@ -139,7 +145,7 @@ module _ (n : ℕ) (some : 1 ≤ n) (few : n ≤ 65536) (heads : List Head) (roo
   staged = staged_in slots
 
   staged_are : staged ≡ replicate 64 no_contents
-  staged_are = ap staged_in slots_are ∙ mapped (λ (s : Slot). s.contents) 64 slot ∙ ap (replicate 64) slot_is
+  staged_are = all_mapped (λ (s : Slot). s.contents) slots 64 no_contents many (λ i d less. (fresh i d less).contents)
 
   staged_long : length staged ≡ 64
   staged_long = ap (λ (xs : List Contents). length xs) staged_are ∙ length-replicate 64 no_contents
@@ -187,9 +193,7 @@ module _ (n : ℕ) (some : 1 ≤ n) (few : n ≤ 65536) (heads : List Head) (roo
   none_used = omega (arith, no_entries (finite.entries (finite.empty {X = Node} {R = path_cmp})) (sym (len-entries finite.empty) ∙ len-empty path_cmp Node), sum_by-replicate (λ (octets : List ℕ). blocks_of (length octets)) 64 [], no_blocks)
 
   placed : All (IsPlaced arena) slots
-  placed i d less =
-      let at : get_or slots i d ≡ slot = ap (λ (ss : List Slot). get_or ss i d) slots_are ∙ get_or-replicate 64 i slot d (omega (arith, less, ap (λ (ss : List Slot). length ss) slots_are, length-replicate 64 slot)) in
-      subst (IsPlaced arena) (sym at) (omega (arith, index_is), place_is ∙ ap (nth arena slot.contents.run.first) (sym index_is))
+  placed i d less = let slot = fresh i d less in slot_starts arena (get_or slots i d) slot.block slot.index slot.marks
 
   pub new_store : IsStore arena heads root slots
   new_store = record {

@@ -28,6 +28,7 @@ use Rattle.cfdp_tree.specs.Index.{Heads, IsIndex}
 use Rattle.cfdp_tree.specs.Entries.{IsGrouped}
 use Rattle.cfdp_tree.specs.Kept.{no_contents, file_of, file_in, holdings, node_told, node_of, Shows, filestore_of, store_of, IsStored}
 use Rattle.cfdp_tree.specs.Slots.{staged_in, IsPlaced, IsStore}
+use Rattle.cfdp_tree.proofs.MarkLaws.{slot_stays}
 use Rattle.cfdp_tree.proofs.ContentsLaws.{length-contents}
 use Rattle.cfdp_tree.proofs.ShowLaws.{tree_shows, shown_same}
 use Rattle.cfdp_tree.proofs.StoredLaws.{stored_changed, stored_others, spared as run_spared}
@@ -151,8 +152,7 @@ module _ (arena later : Blocks) (heads : Heads) (root : Head) (slots : List Slot
       get_or_append_left staged (map file_in (nodes_in arena)) no_contents j (omega (arith, length-map slots (λ (slot : Slot). slot.contents)))
       ∙ mapped_at (λ (slot : Slot). slot.contents) slots j s no_contents within (get_or_default slots j d s within) in
       let stays = subst (λ (x : Contents). Stays arena later x.run) at (spared_at j other) in
-      let was = store.placed j d within in
-      (was.0, was.1 ∙ sym (stays.places s.place.index was.0))
+      slot_stays arena later s stays (store.placed j d within)
 
   placed_now : All (IsPlaced later) now
   placed_now j d within = elim (cases_eq j i) [

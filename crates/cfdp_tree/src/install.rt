@@ -5,7 +5,6 @@ ghost use Rattle.cfdp_actions.specs.Filestore.{File, node_at, staged_in, blocks_
 ghost use Rattle.cfdp_actions.specs.Store.{free_blocks, with_changes};
 
 use crate::files::{find_file, set_contents};
-use crate::slots::Slot;
 use crate::tree_store::TreeStore;
 use cfdp_actions::Filestore;
 use cfdp_paths::Path;
@@ -35,11 +34,8 @@ impl TreeStore {
     {
         let index = usize::from(slot);
         let file = find_file(&self.arena, &self.heads, path);
-        let staged = self.slots[index];
-        set_contents(&mut self.arena, &file.node, &staged.contents);
-        self.slots[index] = Slot {
-            contents: file.contents,
-            place: file.contents.run.start(),
-        };
+        let staged = self.slots[index].contents;
+        set_contents(&mut self.arena, &file.node, &staged);
+        self.slots[index].hold(file.contents);
     }
 }

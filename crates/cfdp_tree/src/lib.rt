@@ -25,6 +25,7 @@ mod index;
 mod install;
 mod listing;
 mod lookup;
+mod marks;
 mod next;
 mod nodes;
 mod payload;

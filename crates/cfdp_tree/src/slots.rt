@@ -1,50 +1,68 @@
-//! A staged list with the place of its last write.
-ghost use Rattle.std.specs.Prelude.{◌≡◌, ◌+◌, ◌≤◌, length};
-ghost use Rattle.cfdp_arena.specs.Arena.{free_count};
+//! A staged list with the place of its last write and its marks.
+ghost use Rattle.std.specs.Prelude.{◌≡◌, ◌+◌, ◌<◌, ◌≤◌, [], IfOk, length, slice_range};
+ghost use Rattle.cfdp_arena.specs.Arena.{Blocks, free_count};
 ghost use Rattle.cfdp_actions.specs.Filestore.{blocks_of};
-ghost use Rattle.cfdp_actions.specs.Store.{extended};
+ghost use Rattle.cfdp_actions.specs.Store.{extended, overwritten};
 ghost use Rattle.cfdp_tree.specs.Nodes.{nodes_in};
-ghost use Rattle.cfdp_tree.specs.Runs.{IsAt, Spares};
+ghost use Rattle.cfdp_tree.specs.Runs.{IsHeld, IsAt, Spares};
 ghost use Rattle.cfdp_tree.specs.Contents.{IsFilled, contents_in};
+ghost use Rattle.cfdp_tree.specs.Slots.{IsPlaced, IsFresh};
 
 use crate::contents::Contents;
 use crate::cursor::Cursor;
+use crate::header::PAYLOAD_OCTETS;
+use crate::marks::{Marks, STRIDE};
 use cfdp_arena::Arena;
+use cfdp_paths::Memory;
+use std::alloc::Global;
 
-/// A staged list, and the place of the block of it that was last written.
-#[derive(Clone, Copy)]
+/// A staged list, the place of the block of it that was last written, and the marks in its run.
+#[derive(Drop)]
 pub(crate) struct Slot {
     pub(crate) contents: Contents,
     pub(crate) place: Cursor,
+    pub(crate) marks: Marks,
 }
 
 impl Slot {
-    /// An empty list.
-    pub(crate) fn empty() -> Slot
-        ensures blocks { result.contents.run.count ≡ 0 }
-        ensures size { result.contents.size ≡ 0 }
-        ensures first { result.contents.run.first ≡ 0 }
-        ensures last { result.contents.run.last ≡ 0 }
-        ensures block { result.place.block ≡ result.contents.run.first }
-        ensures index { result.place.index ≡ 0 }
+    /// An empty list, which may come to have so many blocks. This takes all the memory that the slot ever has.
+    ///
+    /// # Errors
+    ///
+    /// [`Memory`] when out of memory.
+    pub(crate) fn new(alloc: Global, blocks: u32) -> Result<Slot, Memory>
+        ensures { IfOk result (λ slot. IsFresh slot) }
     {
         let contents = Contents::empty();
-        Slot {
+        Ok(Slot {
             contents,
             place: contents.run.start(),
-        }
+            marks: Marks::new(alloc, blocks)?,
+        })
+    }
+
+    /// Becomes a list of other contents, none of whose blocks is marked yet. In constant time.
+    pub(crate) fn hold(&mut self, contents: Contents)
+        ensures contents { self.new.contents ≡ contents }
+        ensures block { self.new.place.block ≡ contents.run.first }
+        ensures index { self.new.place.index ≡ 0 }
+        ensures marks { self.new.marks.numbers.items ≡ [] }
+    {
+        self.contents = contents;
+        self.place = contents.run.start();
+        self.marks.clear();
     }
 
     /// Adds zeros at the end, up to the size, which is at most that of 65,536 blocks. In time linear in the blocks that
     /// are taken.
     pub(crate) fn extend(&mut self, arena: &mut Arena, size: u32)
         requires filled { IsFilled arena.old self.old.contents }
-        requires place { IsAt arena.old self.old.contents.run self.old.place }
+        requires placed { IsPlaced arena.old self.old }
         requires longer { self.old.contents.size ≤ size }
         requires most { size ≤ 7864320 }
         requires room { blocks_of size ≤ free_count arena.old + blocks_of self.old.contents.size }
         ensures filled { IsFilled arena.new self.new.contents }
-        ensures place { IsAt arena.new self.new.contents.run self.new.place }
+        ensures placed { IsPlaced arena.new self.new }
         ensures size { self.new.contents.size ≡ size }
         ensures octets { contents_in arena.new self.new.contents ≡ extended (contents_in arena.old self.old.contents) size }
         ensures taken { free_count arena.new + blocks_of size ≡ free_count arena.old + blocks_of self.old.contents.size }
@@ -59,15 +77,68 @@ impl Slot {
         }
     }
 
-    /// Gives the blocks back. In time linear in their number.
-    pub(crate) fn release(self, arena: &mut Arena)
-        requires filled { IsFilled arena.old self.contents }
-        ensures freed { free_count arena.new ≡ free_count arena.old + blocks_of self.contents.size }
+    /// The place from which an index is sought: that of the last write, if it is at most a stride before the index, or
+    /// else the last mark before it. In constant time.
+    fn near(&self, index: u32) -> Cursor
+        ensures place { (arena : Blocks) → IsPlaced arena self.now → IsAt arena self.now.contents.run result }
+        ensures before { result.index ≤ index }
+    {
+        if self.place.index <= index && index - self.place.index <= STRIDE {
+            self.place
+        } else {
+            self.marks.before(&self.contents.run, index)
+        }
+    }
+
+    /// The place of an index. On the way there it marks each 32nd block that has no mark yet. So it takes at most a
+    /// stride of steps, and one step more for each block after the last mark.
+    fn seek(&mut self, arena: &Arena, index: u32) -> Cursor
+        requires held { IsHeld arena.now self.old.contents.run }
+        requires small { length arena.now ≤ 65536 }
+        requires placed { IsPlaced arena.now self.old }
+        requires within { index ≤ self.old.contents.run.count }
+        ensures contents { self.new.contents ≡ self.old.contents }
+        ensures placed { IsPlaced arena.now self.new }
+        ensures place { IsAt arena.now self.new.contents.run result }
+    {
+        let mut cursor = self.near(index);
+        for _step in cursor.index..index {
+            self.marks.see(&cursor);
+            cursor = self.contents.run.after(arena, &cursor);
+        }
+        cursor
+    }
+
+    /// Puts octets in the place of those from the offset `at` on. In time linear in the octets, and in the steps to the
+    /// offset: at most a stride, and once for each block of the list.
+    pub(crate) fn put(&mut self, arena: &mut Arena, at: u32, octets: &[u8])
+        requires filled { IsFilled arena.old self.old.contents }
+        requires small { length arena.old ≤ 65536 }
+        requires placed { IsPlaced arena.old self.old }
+        requires range { at + length octets.now ≤ self.old.contents.size }
+        ensures contents { self.new.contents ≡ self.old.contents }
+        ensures filled { IsFilled arena.new self.new.contents }
+        ensures placed { IsPlaced arena.new self.new }
+        ensures octets { contents_in arena.new self.new.contents
+            ≡ overwritten (contents_in arena.old self.old.contents) at octets.now }
+        ensures free { free_count arena.new ≡ free_count arena.old }
         ensures capacity { length arena.new ≡ length arena.old }
-        ensures spares { Spares arena.old arena.new self.contents.run self.contents.run }
+        ensures spares { Spares arena.old arena.new self.old.contents.run self.new.contents.run }
         ensures nodes { nodes_in arena.new ≡ nodes_in arena.old }
     {
-        let contents = self.contents;
-        contents.release(arena);
+        let from = self.seek(arena, at / PAYLOAD_OCTETS as u32);
+        self.place = self.contents.put(arena, from, at, octets);
+    }
+
+    /// Fills the buffer with the octets from the offset `at` on. In time linear in the octets, and in the steps to the
+    /// offset from the last write or mark before it.
+    pub(crate) fn get(&self, arena: &Arena, at: u32, buffer: &mut [u8])
+        requires filled { IsFilled arena.now self.now.contents }
+        requires placed { IsPlaced arena.now self.now }
+        requires range { at + length buffer.old ≤ self.now.contents.size }
+        ensures { buffer.new ≡ slice_range (contents_in arena.now self.now.contents) at (at + length buffer.old) }
+    {
+        let from = self.near(at / PAYLOAD_OCTETS as u32);
+        self.contents.get(arena, from, at, buffer);
     }
 }

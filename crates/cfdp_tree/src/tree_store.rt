@@ -5,7 +5,7 @@ ghost use Rattle.cfdp_actions.specs.Filestore.{Becomes, node_at, parent_is_good}
 ghost use Rattle.cfdp_actions.specs.Store.{empty_store, free_blocks, with_changes};
 ghost use Rattle.cfdp_tree.specs.Changes.{empty_node};
 
-use crate::contents::{contents_of, held_by};
+use crate::contents::{Contents, contents_of, held_by};
 use crate::entries::{link_entry, unlink_entry};
 use crate::files::{find_file, set_contents};
 use crate::index;
@@ -83,8 +83,10 @@ impl TreeStore {
         let arena = Arena::new(alloc, blocks)?;
         let mut heads = Vec::new(alloc);
         heads.resize(blocks as usize, Head::empty())?;
-        let mut slots = Vec::new(alloc);
-        slots.resize(SLOTS, Slot::empty())?;
+        let mut slots = Vec::with_capacity(alloc, SLOTS)?;
+        for _slot in 0..SLOTS {
+            slots.push(Slot::new(alloc, blocks)?)?;
+        }
         Ok(TreeStore {
             arena,
             heads,
@@ -170,8 +172,7 @@ impl Filestore for TreeStore {
 
     fn read_staged(&self, slot: u8, at: u64, buffer: &mut [u8]) {
         let slot = &self.slots[usize::from(slot)];
-        slot.contents
-            .get(&self.arena, slot.place, at as u32, buffer);
+        slot.get(&self.arena, at as u32, buffer);
     }
 
     fn staged_checksum(&self, slot: u8) -> u32 {
@@ -264,29 +265,23 @@ impl Filestore for TreeStore {
     }
 
     fn stage_extend(&mut self, slot: u8, size: u64) -> Result<u32, Memory> {
-        let index = usize::from(slot);
-        let mut slot = self.slots[index];
+        let slot = &mut self.slots[usize::from(slot)];
         let before = slot.contents.run.count;
         slot.extend(&mut self.arena, size as u32);
-        self.slots[index] = slot;
         Ok(slot.contents.run.count - before)
     }
 
     fn stage_put(&mut self, slot: u8, at: u64, octets: &[u8]) {
-        let index = usize::from(slot);
-        let mut slot = self.slots[index];
-        slot.place = slot
-            .contents
-            .put(&mut self.arena, slot.place, at as u32, octets);
-        self.slots[index] = slot;
+        let slot = &mut self.slots[usize::from(slot)];
+        slot.put(&mut self.arena, at as u32, octets);
     }
 
     fn unstage(&mut self, slot: u8) -> u32 {
         let index = usize::from(slot);
-        let slot = self.slots[index];
-        let blocks = slot.contents.run.count;
-        slot.release(&mut self.arena);
-        self.slots[index] = Slot::empty();
+        let staged = self.slots[index].contents;
+        let blocks = staged.run.count;
+        staged.release(&mut self.arena);
+        self.slots[index].hold(Contents::empty());
         blocks
     }
 

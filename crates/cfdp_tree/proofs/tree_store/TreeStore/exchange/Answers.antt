@@ -1,11 +1,10 @@
-use Rattle.std.proofs.Common.{◌≡◌, [], ◌∷◌, Some, ap, sym, ◌∙◌, arith}
-use Rattle.cfdp_arena.specs.Arena.{Blocks, octets_of}
+use Rattle.std.proofs.Common.{[], ◌∷◌, Some, ap, sym, ◌∙◌, arith}
+use Rattle.cfdp_arena.specs.Arena.{octets_of}
 use Rattle.cfdp_actions.specs.Filestore.{File, Becomes, Stages, octets_at, staged_in}
 use Rattle.cfdp_actions.specs.Store.{with_changes}
-use Rattle.cfdp_tree.specs.declared.slots.Slot.{Slot}
+use Rattle.cfdp_tree.specs.declared.contents.Contents.{Contents}
 use Rattle.cfdp_tree.specs.Nodes.{nodes_in}
-use Rattle.cfdp_tree.specs.Runs.{nth}
-use Rattle.cfdp_tree.specs.Slots.{IsPlaced}
+use Rattle.cfdp_tree.proofs.MarkLaws.{slot_starts}
 use Rattle.cfdp_tree.proofs.SeenLaws.{slot_filled}
 use Rattle.cfdp_tree.proofs.FoundLaws.{file_found, file_most}
 use Rattle.cfdp_tree.proofs.ExchangeLaws.{exchange_store, exchange_seen}
@@ -21,24 +20,20 @@ pub set_contents-requires-clause-held : goal.set_contents-requires-clause-held
 set_contents-requires-clause-held c =
     (slot_filled _ _ _ _ c.self.invariant _ c.self.view_is c.from-index.result (omega (arith, c.from-index.ensures, c.requires.slot)) c.index.result.now c.index.ensures).held
 
--- the place of the first block is one
-starts : (later : Blocks) (slot : Slot) → slot.place.block ≡ slot.contents.run.first → slot.place.index ≡ 0 → IsPlaced later slot
-starts later slot block index = (omega (arith, index), block ∙ ap (nth later slot.contents.run.first) (sym index))
-
 pub invariant_of-self : goal.invariant_of-self
 invariant_of-self c =
     let file = c.find_file-file.ensures in let set = c.set_contents.ensures in let later = c.set_contents.new.arena in let b = c.find_file-file.result.node in
-    let after : Slot = record { contents = c.find_file-file.result.contents; place = c.start.result } in
+    let after = c.hold.new.self in let held = c.hold.ensures in
     exchange_store _ _ _ _ c.self.invariant _ c.self.view_is b c.args.path.now file.node file.path c.requires.file
     c.from-index.result (omega (arith, c.from-index.ensures, c.requires.slot)) c.index.result.now c.index.ensures later (octets_of (nodes_in later) b) set.nodes set.row set.name set.whole set.runs set.free set.capacity
-    after file.contents (starts later after c.start.ensures.block c.start.ensures.index)
+    after (held.contents ∙ file.contents) (slot_starts later after (held.block ∙ ap (λ (x : Contents). x.run.first) (sym held.contents)) held.index held.marks)
 
 pub returns-clause-exchanged : goal.returns-clause-exchanged
 returns-clause-exchanged c =
     let file = c.find_file-file.ensures in let set = c.set_contents.ensures in let later = c.set_contents.new.arena in let b = c.find_file-file.result.node in
-    let after : Slot = record { contents = c.find_file-file.result.contents; place = c.start.result } in
+    let after = c.hold.new.self in let held = c.hold.ensures in
     let F = c.args.self.now.filestore in let path = c.args.path.now in
     exchange_seen _ _ _ _ c.self.invariant _ c.self.view_is b path file.node file.path c.requires.file
     c.from-index.result (omega (arith, c.from-index.ensures, c.requires.slot)) c.index.result.now c.index.ensures later (octets_of (nodes_in later) b) set.nodes set.row set.name set.whole set.runs set.free set.capacity
-    after file.contents (starts later after c.start.ensures.block c.start.ensures.index)
+    after (held.contents ∙ file.contents) (slot_starts later after (held.block ∙ ap (λ (x : Contents). x.run.first) (sym held.contents)) held.index held.marks)
     ∙ ap (λ k. with_changes c.args.self.now (Stages k (octets_at F path) ∷ Becomes path (Some (File (staged_in F k))) ∷ [])) c.from-index.ensures

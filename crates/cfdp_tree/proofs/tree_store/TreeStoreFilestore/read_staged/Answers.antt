@@ -2,7 +2,7 @@ use Rattle.std.proofs.Common.{◌+◌, List, ℕ, length, sym, ap, ◌∙◌, ar
 use Rattle.std.specs.Prelude.{slice_range}
 use Rattle.cfdp_actions.specs.Filestore.{staged_in}
 use Rattle.cfdp_tree.proofs.ContentsLaws.{length-contents}
-use Rattle.cfdp_tree.proofs.SeenLaws.{seen_staged, slot_filled, slot_placed, staged_small}
+use Rattle.cfdp_tree.proofs.SeenLaws.{seen_staged, slot_filled, staged_small}
 use Rattle.cfdp_tree.proofs.tree_store.TreeStoreFilestore.read_staged.Goals as goal
 
 pub overflow_cast-at : goal.overflow_cast-at
@@ -10,9 +10,6 @@ overflow_cast-at c = omega (arith, c.requires.range, staged_small _ _ _ _ c.self
 
 pub get-requires-clause-filled : goal.get-requires-clause-filled
 get-requires-clause-filled c = slot_filled _ _ _ _ c.self.invariant _ c.self.view_is c.from.result (omega (arith, c.from.ensures, c.requires.slot)) c.index-slot.result.now c.index-slot.ensures
-
-pub get-requires-clause-from : goal.get-requires-clause-from
-get-requires-clause-from c = slot_placed _ _ _ _ c.self.invariant _ c.self.view_is c.from.result (omega (arith, c.from.ensures, c.requires.slot)) c.index-slot.result.now c.index-slot.ensures
 
 pub get-requires-clause-range : goal.get-requires-clause-range
 get-requires-clause-range c =
@@ -31,4 +28,4 @@ pub returns : goal.returns
 returns c =
     let slot = c.index-slot.result.now in let i = c.from.result in let F = c.args.self.now.filestore in
     let octets = seen_staged _ _ _ _ c.self.invariant _ c.self.view_is i (omega (arith, c.from.ensures, c.requires.slot)) slot c.index-slot.ensures in
-    c.get.ensures.octets ∙ ap (λ (xs : List ℕ). slice_range xs c.args.at (c.args.at + length c.args.buffer.now)) (sym octets ∙ ap (staged_in F) c.from.ensures)
+    c.get.ensures ∙ ap (λ (xs : List ℕ). slice_range xs c.args.at (c.args.at + length c.args.buffer.now)) (sym octets ∙ ap (staged_in F) c.from.ensures)

@@ -2,43 +2,38 @@ use Rattle.std.proofs.Common.{◌≡◌, ℕ, ◌+◌, get_or, sym, ap, ◌∙�
 use Rattle.cfdp_actions.specs.Filestore.{staged_in, blocks_of}
 use Rattle.cfdp_actions.specs.Store.{extended}
 use Rattle.cfdp_tree.proofs.Filling.{blocks_of-le}
-use Rattle.cfdp_tree.proofs.SeenLaws.{seen_staged, slot_filled, slot_placed, staged_size, room_there, size_fits}
+use Rattle.cfdp_tree.proofs.SeenLaws.{seen_staged, slot_filled, staged_size, room_there, size_fits}
 use Rattle.cfdp_tree.proofs.SlotLaws.{slot_changes, slot_store}
 use Rattle.cfdp_tree.proofs.tree_store.TreeStoreFilestore.stage_extend.Goals as goal
 
 pub overflow_cast-size : goal.overflow_cast-size
 overflow_cast-size c =
-    let slot = c.index.result.now in let is = subst (λ k. slot ≡ get_or c.self.inside.slots.items k slot) c.from-index.ensures c.index.ensures in
+    let slot = c.index_mut-slot.result.now in let is = subst (λ k. slot ≡ get_or c.self.inside.slots.items k slot) c.from.ensures c.index_mut-slot.ensures.value in
     let few = size_fits _ _ _ _ c.self.invariant _ c.self.view_is c.args.slot c.requires.slot slot is c.args.size c.requires.room in omega arith
 
 pub extend-requires-clause-filled : goal.extend-requires-clause-filled
 extend-requires-clause-filled c =
-    let slot = c.index.result.now in let is = subst (λ k. slot ≡ get_or c.self.inside.slots.items k slot) c.from-index.ensures c.index.ensures in
+    let slot = c.index_mut-slot.result.now in let is = subst (λ k. slot ≡ get_or c.self.inside.slots.items k slot) c.from.ensures c.index_mut-slot.ensures.value in
     slot_filled _ _ _ _ c.self.invariant _ c.self.view_is c.args.slot c.requires.slot slot is
-
-pub extend-requires-clause-place : goal.extend-requires-clause-place
-extend-requires-clause-place c =
-    let slot = c.index.result.now in let is = subst (λ k. slot ≡ get_or c.self.inside.slots.items k slot) c.from-index.ensures c.index.ensures in
-    slot_placed _ _ _ _ c.self.invariant _ c.self.view_is c.args.slot c.requires.slot slot is
 
 pub extend-requires-clause-longer : goal.extend-requires-clause-longer
 extend-requires-clause-longer c =
-    let slot = c.index.result.now in let is = subst (λ k. slot ≡ get_or c.self.inside.slots.items k slot) c.from-index.ensures c.index.ensures in
+    let slot = c.index_mut-slot.result.now in let is = subst (λ k. slot ≡ get_or c.self.inside.slots.items k slot) c.from.ensures c.index_mut-slot.ensures.value in
     omega (arith, staged_size _ _ _ _ c.self.invariant _ c.self.view_is c.args.slot c.requires.slot slot is, c.requires.longer)
 
 pub extend-requires-clause-most : goal.extend-requires-clause-most
 extend-requires-clause-most c =
-    let slot = c.index.result.now in let is = subst (λ k. slot ≡ get_or c.self.inside.slots.items k slot) c.from-index.ensures c.index.ensures in
+    let slot = c.index_mut-slot.result.now in let is = subst (λ k. slot ≡ get_or c.self.inside.slots.items k slot) c.from.ensures c.index_mut-slot.ensures.value in
     size_fits _ _ _ _ c.self.invariant _ c.self.view_is c.args.slot c.requires.slot slot is c.args.size c.requires.room
 
 pub extend-requires-clause-room : goal.extend-requires-clause-room
 extend-requires-clause-room c =
-    let slot = c.index.result.now in let is = subst (λ k. slot ≡ get_or c.self.inside.slots.items k slot) c.from-index.ensures c.index.ensures in
+    let slot = c.index_mut-slot.result.now in let is = subst (λ k. slot ≡ get_or c.self.inside.slots.items k slot) c.from.ensures c.index_mut-slot.ensures.value in
     room_there _ _ _ _ c.self.invariant _ c.self.view_is c.args.slot c.requires.slot slot is c.args.size c.requires.room
 
 pub overflow_sub-result : goal.overflow_sub-result
 overflow_sub-result c =
-    let slot = c.index.result.now in let is = subst (λ k. slot ≡ get_or c.self.inside.slots.items k slot) c.from-index.ensures c.index.ensures in
+    let slot = c.index_mut-slot.result.now in let is = subst (λ k. slot ≡ get_or c.self.inside.slots.items k slot) c.from.ensures c.index_mut-slot.ensures.value in
     let filled = slot_filled _ _ _ _ c.self.invariant _ c.self.view_is c.args.slot c.requires.slot slot is in
     let size = staged_size _ _ _ _ c.self.invariant _ c.self.view_is c.args.slot c.requires.slot slot is in
     let more = blocks_of-le slot.contents.size c.args.size (omega (arith, size, c.requires.longer)) in
@@ -51,12 +46,12 @@ taken free was size now more e same = ap (λ n. free + blocks_of n) same ∙ e
 pub invariant_of-self : goal.invariant_of-self
 invariant_of-self c =
     let after = c.extend.ensures in
-    slot_store c.self.inside.arena c.extend.new.arena c.self.inside.heads.items c.self.inside.root c.self.inside.slots.items c.self.invariant c.from-index.result (omega (arith, c.from-index.ensures, c.requires.slot))
-    c.index.result.now c.index.ensures c.extend.new.self after.nodes after.capacity after.spares after.filled after.place (taken _ _ _ _ _ after.taken after.size)
+    slot_store c.self.inside.arena c.extend.new.arena c.self.inside.heads.items c.self.inside.root c.self.inside.slots.items c.self.invariant c.from.result (omega (arith, c.from.ensures, c.requires.slot))
+    c.index_mut-slot.result.now c.index_mut-slot.ensures.value c.extend.new.self after.nodes after.capacity after.spares after.filled after.placed (taken _ _ _ _ _ after.taken after.size)
 
 pub returns-clause-ticks : goal.returns-clause-ticks
 returns-clause-ticks c =
-    let slot = c.index.result.now in let is = subst (λ k. slot ≡ get_or c.self.inside.slots.items k slot) c.from-index.ensures c.index.ensures in
+    let slot = c.index_mut-slot.result.now in let is = subst (λ k. slot ≡ get_or c.self.inside.slots.items k slot) c.from.ensures c.index_mut-slot.ensures.value in
     let filled = slot_filled _ _ _ _ c.self.invariant _ c.self.view_is c.args.slot c.requires.slot slot is in
     let size = staged_size _ _ _ _ c.self.invariant _ c.self.view_is c.args.slot c.requires.slot slot is in
     omega (arith, filled.blocks, c.extend.ensures.filled.blocks, ap blocks_of c.extend.ensures.size, ap blocks_of size)
@@ -64,9 +59,9 @@ returns-clause-ticks c =
 pub returns-clause-extended : goal.returns-clause-extended
 returns-clause-extended c =
     let after = c.extend.ensures in
-    let slot = c.index.result.now in let is = subst (λ k. slot ≡ get_or c.self.inside.slots.items k slot) c.from-index.ensures c.index.ensures in
+    let slot = c.index_mut-slot.result.now in let is = subst (λ k. slot ≡ get_or c.self.inside.slots.items k slot) c.from.ensures c.index_mut-slot.ensures.value in
     let was = seen_staged _ _ _ _ c.self.invariant _ c.self.view_is c.args.slot c.requires.slot slot is in
-    slot_changes c.self.inside.arena c.extend.new.arena c.self.inside.heads.items c.self.inside.root c.self.inside.slots.items c.self.invariant c.from-index.result (omega (arith, c.from-index.ensures, c.requires.slot))
-    slot c.index.ensures c.extend.new.self after.nodes after.capacity after.spares after.filled after.place (taken _ _ _ _ _ after.taken after.size)
-    c.args.self.now c.self.view_is c.args.slot c.from-index.ensures (extended (staged_in c.args.self.now.filestore c.args.slot) c.args.size)
+    slot_changes c.self.inside.arena c.extend.new.arena c.self.inside.heads.items c.self.inside.root c.self.inside.slots.items c.self.invariant c.from.result (omega (arith, c.from.ensures, c.requires.slot))
+    slot c.index_mut-slot.ensures.value c.extend.new.self after.nodes after.capacity after.spares after.filled after.placed (taken _ _ _ _ _ after.taken after.size)
+    c.args.self.now c.self.view_is c.args.slot c.from.ensures (extended (staged_in c.args.self.now.filestore c.args.slot) c.args.size)
     (after.octets ∙ ap (λ octets. extended octets c.args.size) (sym was))

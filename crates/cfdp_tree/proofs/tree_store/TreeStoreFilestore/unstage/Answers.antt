@@ -1,12 +1,14 @@
 use Rattle.std.proofs.Common.{◌≡◌, ◌+◌, ℕ, [], get_or, sym, ap, ◌∙◌, subst, arith}
 use Rattle.cfdp_arena.specs.Arena.{Blocks}
 use Rattle.cfdp_actions.specs.Filestore.{blocks_of}
+use Rattle.cfdp_tree.specs.declared.contents.Contents.{Contents}
 use Rattle.cfdp_tree.specs.declared.runs.Run.{Run}
 use Rattle.cfdp_tree.specs.declared.slots.Slot.{Slot}
-use Rattle.cfdp_tree.specs.Runs.{nth, Spares}
+use Rattle.cfdp_tree.specs.Runs.{Spares}
 use Rattle.cfdp_tree.specs.Slots.{IsPlaced}
 use Rattle.cfdp_tree.proofs.Filling.{blocks_of-none}
 use Rattle.cfdp_tree.proofs.ContentsLaws.{none_filled, none_contents}
+use Rattle.cfdp_tree.proofs.MarkLaws.{slot_starts}
 use Rattle.cfdp_tree.proofs.SeenLaws.{slot_filled, staged_size}
 use Rattle.cfdp_tree.proofs.SlotLaws.{slot_changes, slot_store}
 use Rattle.cfdp_tree.proofs.tree_store.TreeStoreFilestore.unstage.Goals as goal
@@ -20,31 +22,42 @@ module _ (old new : Blocks) (slot after : Slot) (no_blocks : after.contents.run.
   no_room : (free was : ℕ) → free ≡ was + blocks_of slot.contents.size → free + blocks_of after.contents.size ≡ was + blocks_of slot.contents.size
   no_room free was freed = omega (arith, freed, blocks_of-none after.contents.size no_octets)
 
-  no_place : after.place.block ≡ after.contents.run.first → after.place.index ≡ 0 → IsPlaced new after
-  no_place block index = (omega (arith, index), block ∙ ap (nth new after.contents.run.first) (sym index))
+-- a slot that holds no octets
+record IsEmptied (arena : Blocks) (after : Slot) : Type 0 where
+  blocks : after.contents.run.count ≡ 0
+  size : after.contents.size ≡ 0
+  placed : IsPlaced arena after
+
+emptied : (none : Contents) (after : Slot) → none.run.count ≡ 0 → none.size ≡ 0 → after.contents ≡ none → after.place.block ≡ none.run.first → after.place.index ≡ 0 → after.marks.numbers.items ≡ []
+    → (arena : Blocks) → IsEmptied arena after
+emptied none after blocks size holds block index marks arena = record {
+  blocks = ap (λ (x : Contents). x.run.count) holds ∙ blocks;
+  size = ap (λ (x : Contents). x.size) holds ∙ size;
+  placed = slot_starts arena after (block ∙ ap (λ (x : Contents). x.run.first) (sym holds)) index marks;
+}
 
 pub release-requires : goal.release-requires
 release-requires c = record {
-  filled = slot_filled _ _ _ _ c.self.invariant _ c.self.view_is c.from-index.result (omega (arith, c.from-index.ensures, c.requires)) c.index-slot.result.now c.index-slot.ensures;
+  filled = slot_filled _ _ _ _ c.self.invariant _ c.self.view_is c.from-index.result (omega (arith, c.from-index.ensures, c.requires)) c.index.result.now c.index.ensures;
 }
 
 pub invariant_of-self : goal.invariant_of-self
 invariant_of-self c =
-    let arena = c.self.inside.arena in let later = c.release.new.arena in let slot = c.index-slot.result.now in let after = c.empty.result in let gone = c.release.ensures in let none = c.empty.ensures in
-    slot_store arena later c.self.inside.heads.items c.self.inside.root c.self.inside.slots.items c.self.invariant c.from-index.result (omega (arith, c.from-index.ensures, c.requires)) slot c.index-slot.ensures after
+    let arena = c.self.inside.arena in let later = c.release.new.arena in let slot = c.index.result.now in let after = c.hold.new.self in let gone = c.release.ensures in let none = emptied c.empty.result after c.empty.ensures.blocks c.empty.ensures.size c.hold.ensures.contents c.hold.ensures.block c.hold.ensures.index c.hold.ensures.marks later in
+    slot_store arena later c.self.inside.heads.items c.self.inside.root c.self.inside.slots.items c.self.invariant c.from-index.result (omega (arith, c.from-index.ensures, c.requires)) slot c.index.ensures after
     gone.nodes gone.capacity (spares_none arena later slot.contents.run slot.contents.run after.contents.run none.blocks gone.spares)
-    (none_filled later after.contents none.blocks none.size) (no_place arena later slot after none.blocks none.size none.block none.index) (no_room arena later slot after none.blocks none.size _ _ gone.freed)
+    (none_filled later after.contents none.blocks none.size) none.placed (no_room arena later slot after none.blocks none.size _ _ gone.freed)
 
 pub returns-clause-ticks : goal.returns-clause-ticks
 returns-clause-ticks c =
-    let slot = c.index-slot.result.now in let is = subst (λ k. slot ≡ get_or c.self.inside.slots.items k slot) c.from-index.ensures c.index-slot.ensures in
+    let slot = c.index.result.now in let is = subst (λ k. slot ≡ get_or c.self.inside.slots.items k slot) c.from-index.ensures c.index.ensures in
     let filled = slot_filled _ _ _ _ c.self.invariant _ c.self.view_is c.args.slot c.requires slot is in
     filled.blocks ∙ ap blocks_of (sym (staged_size _ _ _ _ c.self.invariant _ c.self.view_is c.args.slot c.requires slot is))
 
 pub returns-clause-dropped : goal.returns-clause-dropped
 returns-clause-dropped c =
-    let arena = c.self.inside.arena in let later = c.release.new.arena in let slot = c.index-slot.result.now in let after = c.empty.result in let gone = c.release.ensures in let none = c.empty.ensures in
-    slot_changes arena later c.self.inside.heads.items c.self.inside.root c.self.inside.slots.items c.self.invariant c.from-index.result (omega (arith, c.from-index.ensures, c.requires)) slot c.index-slot.ensures after
+    let arena = c.self.inside.arena in let later = c.release.new.arena in let slot = c.index.result.now in let after = c.hold.new.self in let gone = c.release.ensures in let none = emptied c.empty.result after c.empty.ensures.blocks c.empty.ensures.size c.hold.ensures.contents c.hold.ensures.block c.hold.ensures.index c.hold.ensures.marks later in
+    slot_changes arena later c.self.inside.heads.items c.self.inside.root c.self.inside.slots.items c.self.invariant c.from-index.result (omega (arith, c.from-index.ensures, c.requires)) slot c.index.ensures after
     gone.nodes gone.capacity (spares_none arena later slot.contents.run slot.contents.run after.contents.run none.blocks gone.spares)
-    (none_filled later after.contents none.blocks none.size) (no_place arena later slot after none.blocks none.size none.block none.index) (no_room arena later slot after none.blocks none.size _ _ gone.freed)
+    (none_filled later after.contents none.blocks none.size) none.placed (no_room arena later slot after none.blocks none.size _ _ gone.freed)
     c.args.self.now c.self.view_is c.args.slot c.from-index.ensures [] (none_contents later after.contents none.blocks none.size)
