@@ -2,8 +2,9 @@
 --     no_marks                  there are none yet
 --     marks_grown               the run has more blocks
 --     place_small               the block of a place
+--     tail_place                the last block's place
 --     slot_starts, slot_stays   a slot that was given other contents, and one whose run stays
-use Rattle.std.proofs.Common.{◌≡◌, ℕ, ◌*◌, ◌<◌, ◌≤◌, List, [], length, sym, ap, ◌∙◌, arith}
+use Rattle.std.proofs.Common.{◌≡◌, ℕ, ◌-◌, ◌*◌, ◌<◌, ◌≤◌, List, [], length, sym, ap, ◌∙◌, arith}
 use Rattle.cfdp_arena.specs.Arena.{Blocks}
 use Rattle.cfdp_arena.proofs.Chains.{live_within}
 use Rattle.cfdp_tree.specs.declared.cursor.Cursor.{Cursor}
@@ -25,6 +26,10 @@ marks_grown old new run after numbers more places marked j known =
 pub place_small : (arena : Blocks) (run : Run) (cursor : Cursor) → IsHeld arena run → length arena ≤ 65536 → IsAt arena run cursor → cursor.index < run.count → cursor.block < 65536
 place_small arena run cursor held small at within =
     omega (arith, small, live_within arena cursor.block (held_part arena run held cursor.index within cursor.block at.1).live)
+
+pub tail_place : (arena : Blocks) (run : Run) (cursor : Cursor) → IsHeld arena run → 0 < run.count → cursor.block ≡ run.last → cursor.index ≡ run.count - 1 → IsAt arena run cursor
+tail_place arena run cursor held some block index =
+    (omega (arith, index), block ∙ held.last some ∙ ap (nth arena run.first) (sym index))
 
 pub slot_starts : (arena : Blocks) (slot : Slot) → slot.place.block ≡ slot.contents.run.first → slot.place.index ≡ 0 → slot.marks.numbers.items ≡ [] → IsPlaced arena slot
 slot_starts arena slot block index marks = record {

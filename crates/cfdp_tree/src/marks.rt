@@ -1,4 +1,4 @@
-//! Marks in a run, from which its blocks are found in a few steps.
+//! Marks in a run, from which each of its blocks is found in a few steps.
 ghost use Rattle.std.specs.Prelude.{◌≡◌, ◌<◌, ◌≤◌, [], IfOk};
 ghost use Rattle.cfdp_arena.specs.Arena.{Blocks};
 ghost use Rattle.cfdp_tree.specs.declared.runs.Run.{Run};
@@ -21,7 +21,7 @@ pub(crate) struct Marks {
 }
 
 impl Marks {
-    /// No marks yet, for a run of at most so many blocks. This takes all the memory that they ever have.
+    /// No marks yet, for a run that can grow to this number of blocks. It takes all the memory that they ever have.
     ///
     /// # Errors
     ///
@@ -41,7 +41,7 @@ impl Marks {
         self.numbers.clear();
     }
 
-    /// The last place at or before this index that is marked, or that of the run's first block. In constant time.
+    /// The last marked place at or before an index, or the place of the run's first block. In constant time.
     pub(crate) fn before(&self, run: &Run, index: u32) -> Cursor
         ensures place { (arena : Blocks) → IsMarked arena run.now self.now.numbers.items → IsAt arena run.now result }
         ensures before { result.index ≤ index }
@@ -57,8 +57,8 @@ impl Marks {
         }
     }
 
-    /// Marks a place of a run, if it is the next one to be marked. In constant time, and without memory.
-    pub(crate) fn see(&mut self, cursor: &Cursor)
+    /// Marks the block of a place, if it is the next one to be marked. In constant time, and without memory.
+    pub(crate) fn add(&mut self, cursor: &Cursor)
         requires { cursor.now.block < 65536 }
         ensures { (arena : Blocks) (run : Run) → IsMarked arena run self.old.numbers.items → IsAt arena run cursor.now
             → cursor.now.index < run.count → IsMarked arena run self.new.numbers.items }
@@ -66,7 +66,7 @@ impl Marks {
         let known = self.numbers.len();
         let is_next = cursor.index % STRIDE == 0 && (cursor.index / STRIDE) as usize == known;
         if is_next && known < self.numbers.capacity() {
-            let _pushed = self.numbers.push(cursor.block.number() as u16);
+            self.numbers.push_reserved(cursor.block.number() as u16);
         }
     }
 }

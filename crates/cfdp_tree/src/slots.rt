@@ -8,7 +8,7 @@ ghost use Rattle.cfdp_tree.specs.Runs.{IsHeld, IsAt, Spares};
 ghost use Rattle.cfdp_tree.specs.Contents.{IsFilled, contents_in};
 ghost use Rattle.cfdp_tree.specs.Slots.{IsPlaced, IsFresh};
 
-use crate::contents::Contents;
+use crate::contents::{Contents, blocks_of};
 use crate::cursor::Cursor;
 use crate::header::PAYLOAD_OCTETS;
 use crate::marks::{Marks, STRIDE};
@@ -16,7 +16,7 @@ use cfdp_arena::Arena;
 use cfdp_paths::Memory;
 use std::alloc::Global;
 
-/// A staged list, the place of the block of it that was last written, and the marks in its run.
+/// A staged list, the place of the block of it that was last written, and marks at each 32nd block of its run.
 #[derive(Drop)]
 pub(crate) struct Slot {
     pub(crate) contents: Contents,
@@ -25,7 +25,7 @@ pub(crate) struct Slot {
 }
 
 impl Slot {
-    /// An empty list, which may come to have so many blocks. This takes all the memory that the slot ever has.
+    /// An empty list, which can grow to this number of blocks. It takes all the memory that the slot ever has.
     ///
     /// # Errors
     ///
@@ -41,7 +41,7 @@ impl Slot {
         })
     }
 
-    /// Becomes a list of other contents, none of whose blocks is marked yet. In constant time.
+    /// Becomes a list of other contents, of whose blocks none is marked. In constant time.
     pub(crate) fn hold(&mut self, contents: Contents)
         ensures contents { self.new.contents ≡ contents }
         ensures block { self.new.place.block ≡ contents.run.first }
@@ -53,9 +53,38 @@ impl Slot {
         self.marks.clear();
     }
 
-    /// Adds zeros at the end, up to the size, which is at most that of 65,536 blocks. In time linear in the blocks that
-    /// are taken.
+    /// Adds zeros at the end, up to the size, which is at most that of 65,536 blocks. Of the blocks that are taken it
+    /// marks each whose index is a multiple of 32. In time linear in these blocks.
     pub(crate) fn extend(&mut self, arena: &mut Arena, size: u32)
+        requires filled { IsFilled arena.old self.old.contents }
+        requires small { length arena.old ≤ 65536 }
+        requires placed { IsPlaced arena.old self.old }
+        requires longer { self.old.contents.size ≤ size }
+        requires most { size ≤ 7864320 }
+        requires room { blocks_of size ≤ free_count arena.old + blocks_of self.old.contents.size }
+        ensures filled { IsFilled arena.new self.new.contents }
+        ensures placed { IsPlaced arena.new self.new }
+        ensures size { self.new.contents.size ≡ size }
+        ensures octets { contents_in arena.new self.new.contents ≡ extended (contents_in arena.old self.old.contents) size }
+        ensures taken { free_count arena.new + blocks_of size ≡ free_count arena.old + blocks_of self.old.contents.size }
+        ensures capacity { length arena.new ≡ length arena.old }
+        ensures spares { Spares arena.old arena.new self.old.contents.run self.new.contents.run }
+        ensures nodes { nodes_in arena.new ≡ nodes_in arena.old }
+    {
+        let known = self.contents.run.count.div_ceil(STRIDE);
+        let after = blocks_of(size).div_ceil(STRIDE);
+        for mark in known..after {
+            let up_to_mark = (mark * STRIDE + 1) * PAYLOAD_OCTETS as u32;
+            self.grow(arena, size.min(up_to_mark));
+            let last = self.contents.run.tail();
+            self.marks.add(&last);
+        }
+        self.grow(arena, size);
+    }
+
+    /// Adds zeros at the end, up to the size, which is at most that of 65,536 blocks, and marks no block. In time linear
+    /// in the blocks that are taken.
+    fn grow(&mut self, arena: &mut Arena, size: u32)
         requires filled { IsFilled arena.old self.old.contents }
         requires placed { IsPlaced arena.old self.old }
         requires longer { self.old.contents.size ≤ size }
@@ -77,8 +106,8 @@ impl Slot {
         }
     }
 
-    /// The place from which an index is sought: that of the last write, if it is at most a stride before the index, or
-    /// else the last mark before it. In constant time.
+    /// The place from which the search for an index begins: that of the last write, if it is at most 32 blocks before
+    /// the index, and the last mark at or before it otherwise. In constant time.
     fn near(&self, index: u32) -> Cursor
         ensures place { (arena : Blocks) → IsPlaced arena self.now → IsAt arena self.now.contents.run result }
         ensures before { result.index ≤ index }
@@ -90,30 +119,10 @@ impl Slot {
         }
     }
 
-    /// The place of an index. On the way there it marks each 32nd block that has no mark yet. So it takes at most a
-    /// stride of steps, and one step more for each block after the last mark.
-    fn seek(&mut self, arena: &Arena, index: u32) -> Cursor
-        requires held { IsHeld arena.now self.old.contents.run }
-        requires small { length arena.now ≤ 65536 }
-        requires placed { IsPlaced arena.now self.old }
-        requires within { index ≤ self.old.contents.run.count }
-        ensures contents { self.new.contents ≡ self.old.contents }
-        ensures placed { IsPlaced arena.now self.new }
-        ensures place { IsAt arena.now self.new.contents.run result }
-    {
-        let mut cursor = self.near(index);
-        for _step in cursor.index..index {
-            self.marks.see(&cursor);
-            cursor = self.contents.run.after(arena, &cursor);
-        }
-        cursor
-    }
-
-    /// Puts octets in the place of those from the offset `at` on. In time linear in the octets, and in the steps to the
-    /// offset: at most a stride, and once for each block of the list.
+    /// Puts octets in the place of those from the offset `at` on. In time linear in the octets. In a list that has all
+    /// its marks, which is one that only `extend` made longer, at most 32 steps lead to the offset.
     pub(crate) fn put(&mut self, arena: &mut Arena, at: u32, octets: &[u8])
         requires filled { IsFilled arena.old self.old.contents }
-        requires small { length arena.old ≤ 65536 }
         requires placed { IsPlaced arena.old self.old }
         requires range { at + length octets.now ≤ self.old.contents.size }
         ensures contents { self.new.contents ≡ self.old.contents }
@@ -126,12 +135,12 @@ impl Slot {
         ensures spares { Spares arena.old arena.new self.old.contents.run self.new.contents.run }
         ensures nodes { nodes_in arena.new ≡ nodes_in arena.old }
     {
-        let from = self.seek(arena, at / PAYLOAD_OCTETS as u32);
+        let from = self.near(at / PAYLOAD_OCTETS as u32);
         self.place = self.contents.put(arena, from, at, octets);
     }
 
-    /// Fills the buffer with the octets from the offset `at` on. In time linear in the octets, and in the steps to the
-    /// offset from the last write or mark before it.
+    /// Fills the buffer with the octets from the offset `at` on. In time linear in the octets, and with as many steps to
+    /// the offset as `put`.
     pub(crate) fn get(&self, arena: &Arena, at: u32, buffer: &mut [u8])
         requires filled { IsFilled arena.now self.now.contents }
         requires placed { IsPlaced arena.now self.now }

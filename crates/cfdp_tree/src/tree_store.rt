@@ -29,8 +29,9 @@ use std::marker::Model;
 /// In the arena are the nodes, one block for each file or directory, with its name and its links to the others, and the
 /// octets of files and of staged lists, 120 in each block. Beside the arena are the heads of the index's lists, one for
 /// each block, the head of the list of the root's entries, and 64 slots, each with the size, the first and the last
-/// block of a staged list and where it was last written. [`TreeStore::new`] takes the memory of all of these, and none
-/// of them grows after it. `listing` and `standing` take memory for what they return, and no other call takes any.
+/// block of a staged list, where it was last written, and the numbers of its first block and of each 32nd block after
+/// that one. [`TreeStore::new`] takes the memory of all of these, and none of them grows after it. `listing` and
+/// `standing` take memory for what they return, and no other call takes any.
 ///
 /// Cost: a call looks each name of its paths up by the directory and the name, in expected constant time whatever else
 /// the directory has. `kind`, `parent_is_good`, `has_entries`, `size`, `make_file`, `make_dir`, `install` of a new
@@ -38,8 +39,8 @@ use std::marker::Model;
 /// `remove`, `unstage` and `install` over a file give back the blocks that are dropped, one by one; `stage_extend`
 /// fills those that it takes with zeros. `read`, `read_staged`, `stage_put`, `append` and `replace` copy the octets
 /// that they are asked for by slices of a block; `append` and `replace` copy them from block to block with no buffer.
-/// `read_staged` and `stage_put` begin their search for the offset where the slot was last written, if that is before
-/// it, and `read` at the file's first block. `deepest` and `standing` go through what is at and below the path,
+/// `read_staged` and `stage_put` find the offset in at most 32 steps from block to block, in whatever order octets come.
+/// `read` begins at the file's first block. `deepest` and `standing` go through what is at and below the path,
 /// `listing` through everything with all octets, and `next_entry` through the entries of the directories on the way.
 #[derive(Drop)]
 pub struct TreeStore {
@@ -70,7 +71,7 @@ const SLOTS: usize = 64;
 impl TreeStore {
     /// Makes a store of `blocks` blocks, from 1 to 65,536, with no files, no directories and no staged lists. It takes
     /// all the memory that the store ever keeps: 128 octets for each block, a head of the index for each block, and the
-    /// 64 slots. In time linear in the blocks.
+    /// 64 slots, each with two octets for each 32 blocks. In time linear in the blocks.
     ///
     /// # Errors
     ///
