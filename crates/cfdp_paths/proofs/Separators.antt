@@ -1,7 +1,7 @@
 -- The names of a path in one buffer, with the octet 0 between them.
 --     some_names, depth-names_of                       a buffer holds one name at least;  one more than it has separators
 --     path_cmp-names_of, same_path-names_of            the order by names is the order of the buffers
---     at_or_below-names_of, rest_below, other_beginning, behind     what is at or below a path begins with its octets, up to a separator
+--     at_or_below-names_of, begins_.., behind          what is at or below a path begins with its octets, up to a separator
 --     names_of-cut, cut_there, cut_nowhere             the names before and behind a separator
 --     names_of-next, names_of-last                     the first name, up to the first separator;  the last one, where there is none
 --     text-names_of, names_of-parsed                   octets with `/` in place of each separator, and the other way round
@@ -11,7 +11,7 @@
 use Rattle.std.proofs.Common.{◌≡◌, ◌≢◌, refl, sym, ◌∙◌, ap, cond, ℕ, zero, suc, ◌+◌, ◌≤◌, ◌<◌, ◌==◌, nat_eq, Bool, true, false, ◌&&◌, List, [], ◌∷◌, ◌++◌, map, length, take, drop, get_or, set, add-one, arith, All, take-append-drop, length-take, length-drop, ◌-◌}
 use Rattle.std.specs.List.{slice_split, onto_first, count_by}
 use Rattle.std.specs.Cmp.{nat_cmp_is}
-use Rattle.std.specs.Cmp.Lexicographic.{slice_cmp, pointwise, texts_ties, bytes_decides}
+use Rattle.std.specs.Cmp.Lexicographic.{slice_cmp, pointwise, unequal, texts_ties, bytes_decides}
 use Rattle.std.specs.Ordering.{ordering_then, nat_cmp, is_eq}
 use Rattle.std.specs.declared.cmp.Ordering.{Ordering}
 use Rattle.std.specs.declared.cmp.Ordering.TheVariants.{Less, Equal, Greater}
@@ -135,6 +135,14 @@ above_root (m ∷ q) some = refl
 above_empty : (y : ℕ) (b : List ℕ) (v : Bool) → is_at_or_below ([] ∷ []) (cond v ([] ∷ names_of b) (onto_first y (names_of b))) ≡ false
 above_empty y b true = above_root (names_of b) (some_names b)
 above_empty y b false = below_none y [] (names_of b) (some_names b)
+
+and_true : (b : Bool) → (b && true) ≡ b
+and_true true = refl
+and_true false = refl
+
+and_false : (b : Bool) → (b && false) ≡ false
+and_false true = refl
+and_false false = refl
 
 pub at_or_below-names_of : (a b : List ℕ) → is_at_or_below (names_of a) (names_of b) ≡ (pointwise nat_eq (take (length b) a) b && ends_name (drop (length b) a))
 at_or_below-names_of [] [] = refl
@@ -263,20 +271,21 @@ names_of-next octets place behind e within none here =
 
 -- ---- what follows the octets of a path
 
-pub rest_below : (a b rest a' b' : List ℕ) (p q : Path) → (pointwise nat_eq (take (length b') a') b' ≡ true) → rest ≡ drop (length b') a' → a' ≡ a → b' ≡ b → names_of a ≡ p → names_of b ≡ q → ends_name rest ≡ is_at_or_below p q
-rest_below a b rest a' b' p q same e ea eb ep eq =
-    ap ends_name e
-    ∙ ap (λ t. t && ends_name (drop (length b') a')) (sym same)
-    ∙ sym (at_or_below-names_of a' b')
-    ∙ ap (λ x. is_at_or_below (names_of x) (names_of b')) ea ∙ ap (λ x. is_at_or_below (names_of a) (names_of x)) eb
-    ∙ ap (λ x. is_at_or_below x (names_of b)) ep ∙ ap (λ x. is_at_or_below p x) eq
+-- octets that are fewer begin with none
+pub begins_short : (a b : List ℕ) → length a < length b → false ≡ is_at_or_below (names_of a) (names_of b)
+begins_short a b short =
+    sym (at_or_below-names_of a b ∙ ap (λ t. t && ends_name (drop (length b) a)) (unequal nat_eq (take (length b) a) b (λ e. omega (arith, length-take (length b) a, e))))
 
-pub other_beginning : (a b a' b' : List ℕ) (p q : Path) → (pointwise nat_eq (take (length b') a') b' ≡ false) → a' ≡ a → b' ≡ b → names_of a ≡ p → names_of b ≡ q → false ≡ is_at_or_below p q
-other_beginning a b a' b' p q other ea eb ep eq =
-    ap (λ t. t && ends_name (drop (length b') a')) (sym other)
-    ∙ sym (at_or_below-names_of a' b')
-    ∙ ap (λ x. is_at_or_below (names_of x) (names_of b')) ea ∙ ap (λ x. is_at_or_below (names_of a) (names_of x)) eb
-    ∙ ap (λ x. is_at_or_below x (names_of b)) ep ∙ ap (λ x. is_at_or_below p x) eq
+-- what comes after the front ends a name
+pub begins_ending : (a b head rest : List ℕ) (r : Bool) → r ≡ pointwise nat_eq head b → head ≡ take (length b) a → rest ≡ drop (length b) a → ends_name rest ≡ true → r ≡ is_at_or_below (names_of a) (names_of b)
+begins_ending a b head rest r same front behind ends =
+    same ∙ ap (λ h. pointwise nat_eq h b) front ∙ sym (and_true (pointwise nat_eq (take (length b) a) b)) ∙ ap (λ e. pointwise nat_eq (take (length b) a) b && e) (sym ends ∙ ap ends_name behind)
+    ∙ sym (at_or_below-names_of a b)
+
+-- or goes on with it
+pub begins_going_on : (a b rest : List ℕ) → rest ≡ drop (length b) a → ends_name rest ≡ false → false ≡ is_at_or_below (names_of a) (names_of b)
+begins_going_on a b rest behind goes =
+    sym (and_false (pointwise nat_eq (take (length b) a) b)) ∙ ap (λ e. pointwise nat_eq (take (length b) a) b && e) (sym goes ∙ ap ends_name behind) ∙ sym (at_or_below-names_of a b)
 
 pub ends_nothing : (rest : List ℕ) → length rest < 1 → true ≡ ends_name rest
 ends_nothing [] none = refl

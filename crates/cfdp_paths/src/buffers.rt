@@ -1,8 +1,9 @@
 //! The names of a path in one buffer.
 
 ghost use Rattle.std.specs.Prelude.{◌≡◌, ◌≤◌, ◌==◌, if◌then◌else◌, IfOk, count_by, map, take};
-ghost use Rattle.cfdp_paths.specs.Paths.{is_separator, names_of};
+ghost use Rattle.cfdp_paths.specs.Paths.{is_at_or_below, is_separator, names_of};
 
+use crate::octet_order::is_same;
 use std::alloc::{AllocError, Global};
 
 /// What stands between the names: no name holds it, and it comes before all that a name may hold.
@@ -56,4 +57,20 @@ pub(crate) fn first_names(octets: &[u8], count: usize) -> &[u8]
         }
     }
     octets
+}
+
+/// Whether the first names of the octets are exactly those of `front`. Cost: one comparison of the octets of `front`, and
+/// none where what comes after them is not a separator.
+pub(crate) fn begins(octets: &[u8], front: &[u8]) -> bool
+    ensures { result ≡ is_at_or_below (names_of octets.now) (names_of front.now) }
+{
+    let end = front.len();
+    if octets.len() < end {
+        return false;
+    }
+    let (head, rest) = octets.split_at(end);
+    match rest {
+        [] => is_same(head, front),
+        [octet, ..] => *octet == SEPARATOR && is_same(head, front),
+    }
 }

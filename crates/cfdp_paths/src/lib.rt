@@ -8,6 +8,7 @@ mod buffers;
 mod fault;
 pub mod laws;
 mod names;
+mod octet_order;
 mod parsing;
 mod path_map;
 mod paths;

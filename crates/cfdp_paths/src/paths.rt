@@ -10,9 +10,10 @@ ghost use Rattle.cfdp_paths.specs.Faults.{fault_of};
 ghost use Rattle.cfdp_paths.specs.Paths.{Name, IsPath, Spells, ancestors, is_at_or_below, is_below, joined, names_of, parent, path_cmp, path_in, path_of, rebased, same_path, unless_root};
 
 use crate::Memory;
-use crate::buffers::{SEPARATOR, count_separators, first_names, replaced};
+use crate::buffers::{SEPARATOR, begins, count_separators, first_names, replaced};
 use crate::fault::PathFault;
 use crate::names::Names;
+use crate::octet_order::{is_same, order};
 use crate::parsing::{find_fault, strip_slash};
 use std::alloc::Global;
 use std::cmp::Ordering;
@@ -115,11 +116,7 @@ impl Path {
     pub fn is_at_or_below(&self, other: &Path) -> bool
         ensures { result ≡ is_at_or_below self.now other.now }
     {
-        match self.octets.strip_prefix(&other.octets) {
-            Some([]) => true,
-            Some([octet, ..]) => *octet == SEPARATOR,
-            None => false,
-        }
+        begins(&self.octets, &other.octets)
     }
 
     /// Whether `other` is a prefix of this path, and not this path itself. Takes no memory. Cost: two comparisons of their
@@ -166,9 +163,8 @@ impl Path {
     pub(crate) fn cmp_sought(&self, sought: Option<&[u8]>) -> Ordering
         ensures { result ≡ path_cmp self.now (path_in (option_copied sought.entry)) }
     {
-        let octets = self.octets.as_slice();
         match sought {
-            Some(sought) => octets.cmp(&sought),
+            Some(sought) => order(&self.octets, sought),
             None => Ordering::Greater,
         }
     }
@@ -287,7 +283,7 @@ impl PartialEq for Path {
     ghost laws = { Prim.search (comparing, rules) };
 
     fn eq(&self, other: &Path) -> bool {
-        self.octets == other.octets
+        is_same(&self.octets, &other.octets)
     }
 }
 
@@ -315,6 +311,6 @@ impl Ord for Path {
     ghost matches_eq = { Prim.search (comparing, rules) };
 
     fn cmp(&self, other: &Path) -> Ordering {
-        self.octets.cmp(&other.octets)
+        order(&self.octets, &other.octets)
     }
 }

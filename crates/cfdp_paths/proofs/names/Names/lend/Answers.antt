@@ -1,4 +1,4 @@
-use Rattle.std.proofs.Common.{◌≡◌, ℕ, List, map, drop, cond, ◌==◌, sym, ◌∙◌, ap, subst, Some}
+use Rattle.std.proofs.Common.{◌≡◌, map, drop, cond, ◌==◌, sym, ◌∙◌, ap, subst, Some}
 use Rattle.std.proofs.lemmas.List.{drop-map}
 use Rattle.cfdp_paths.specs.Paths.{IsPath, names_in, slash}
 use Rattle.cfdp_paths.proofs.Separators.{names_of-spelled}

@@ -7,8 +7,8 @@ use Rattle.cfdp_paths.proofs.paths.Path.cmp_sought.Goals as goal
 pub returns-in-Some : goal.returns-in-Some
 returns-in-Some c =
     let sought = c.in-Some.sought.now in
-    c.cmp.ensures
-    ∙ sym (path_cmp-names_of c.as_slice-octets.result.now sought)
-    ∙ ap (λ octets. path_cmp (names_of octets) (names_of sought)) c.as_slice-octets.ensures.value
+    c.order.ensures
+    ∙ sym (path_cmp-names_of c.deref.result.now sought)
+    ∙ ap (λ octets. path_cmp (names_of octets) (names_of sought)) c.deref.ensures.value
     ∙ ap (λ p. path_cmp p (names_of sought)) c.self.view_is
     ∙ ap (λ o. path_cmp c.args.self.now (path_in (option_copied o))) (sym c.in-Some.is)

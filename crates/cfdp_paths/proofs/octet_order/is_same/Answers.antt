@@ -1,0 +1,6 @@
+use Rattle.std.proofs.Common.{arith}
+use Rattle.core.proofs.cmp.Settled.{equal_as}
+use Rattle.cfdp_paths.proofs.octet_order.is_same.Goals as goal
+
+pub returns : goal.returns
+returns c = equal_as c.args.a.now c.args.b.now c.settle-x.result.0 c.settle-x.result.1 (omega arith) c.settle-x.ensures
