@@ -53,14 +53,49 @@ impl<T: Drop> PathMap<T> {
         ensures err { OnErr result (self.new ≡ self.old) }
         ensures present { IsSome (find path_cmp path self.old) → IsOk result }
     {
+        let _ = self.replace(path, value)?;
+        Ok(())
+    }
+
+    /// Puts the value at the path, and returns the value that it had, if any.
+    ///
+    /// # Errors
+    ///
+    /// [`Memory`] where there was none for the entry; the map is then as before. Where the path has a value already none is
+    /// taken. Cost: one search; the entries after a new one are shifted.
+    pub fn replace(&mut self, path: Path, value: T) -> Result<Option<T>, Memory>
+        ensures old { IfOk result (λ old. old ≡ find path_cmp path self.old) }
+        ensures ok { OnOk result (self.new ≡ put path_cmp path value self.old) }
+        ensures err { OnErr result (self.new ≡ self.old) }
+        ensures present { IsSome (find path_cmp path self.old) → IsOk result }
+    {
         match search(&self.entries, path.octets()) {
-            Ok(place) => {
-                self.entries[place].1 = value;
-                Ok(())
-            }
+            Ok(place) => Ok(Some(mem::replace(&mut self.entries[place].1, value))),
             Err(place) => {
                 self.entries.insert(place, (path, value))?;
-                Ok(())
+                Ok(None)
+            }
+        }
+    }
+
+    /// Puts the value at the path, and returns the value that it had, if any. The path is copied only where it had none.
+    ///
+    /// # Errors
+    ///
+    /// [`Memory`] where there was none for the copy or the entry; the map is then as before. Where the path has a value
+    /// already none is taken. Cost: one search; the entries after a new one are shifted.
+    pub fn put(&mut self, alloc: Global, path: &Path, value: T) -> Result<Option<T>, Memory>
+        ensures old { IfOk result (λ old. old ≡ find path_cmp path.now self.old) }
+        ensures ok { OnOk result (self.new ≡ put path_cmp path.now value self.old) }
+        ensures err { OnErr result (self.new ≡ self.old) }
+        ensures present { IsSome (find path_cmp path.now self.old) → IsOk result }
+    {
+        match search(&self.entries, path.octets()) {
+            Ok(place) => Ok(Some(mem::replace(&mut self.entries[place].1, value))),
+            Err(place) => {
+                let copy = path.copy(alloc)?;
+                self.entries.insert(place, (copy, value))?;
+                Ok(None)
             }
         }
     }
