@@ -91,10 +91,7 @@ impl Extents {
         ensures value { result ≡ weight_in (finite.get self.now path.now) }
         ensures within { result ≤ 2 ^ 58 }
     {
-        match self.get(path) {
-            None => 0,
-            Some(extent) => extent.blocks(),
-        }
+        weigh(self.get(path))
     }
 
     /// The blocks of all together. Cost: it is kept.
@@ -107,28 +104,27 @@ impl Extents {
         self.used
     }
 
-    /// From now on the extent stands at the path. Takes memory only where nothing stood there. Cost: a few searches; the
+    /// From now on the extent stands at the path. Takes memory only where nothing stood there. Cost: one search; the
     /// entries behind a new one are shifted.
     pub fn put(&mut self, path: &Path, extent: Extent) -> Result<(), Memory>
         ensures ok { OnOk result (self.new ≡ finite.insert self.old path.now extent) }
         ensures err { OnErr result (self.new ≡ self.old) }
         ensures present { IsSome (finite.get self.old path.now) → IsOk result }
     {
-        if self.get(path).is_none() {
-            return self.insert(path.copy(self.alloc)?, extent);
-        }
-        self.set(path, extent);
+        let used = self.blocks() + u128::from(extent.blocks());
+        let old = self.entries.put(self.alloc, path, extent)?;
+        self.used = used - u128::from(weigh(old));
         Ok(())
     }
 
-    /// Puts another extent at a path at which something stands. Takes no memory. Cost: a few searches.
+    /// Puts another extent at a path at which something stands. Takes no memory. Cost: one search.
     pub fn set(&mut self, path: &Path, extent: Extent)
         requires { IsSome (finite.get self.old path.now) }
         ensures { self.new ≡ finite.insert self.old path.now extent }
     {
-        let used = self.blocks() + u128::from(extent.blocks()) - u128::from(self.weight(path));
-        self.entries.set(path, extent);
-        self.used = used;
+        let used = self.blocks() + u128::from(extent.blocks());
+        let old = self.entries.exchange(path, extent);
+        self.used = used - u128::from(old.blocks());
     }
 
     /// The same for a path that is given away.
@@ -136,19 +132,18 @@ impl Extents {
         ensures ok { OnOk result (self.new ≡ finite.insert self.old path extent) }
         ensures err { OnErr result (self.new ≡ self.old) }
     {
-        let used = self.blocks() + u128::from(extent.blocks()) - u128::from(self.weight(&path));
-        self.entries.insert(path, extent)?;
-        self.used = used;
+        let used = self.blocks() + u128::from(extent.blocks());
+        let old = self.entries.replace(path, extent)?;
+        self.used = used - u128::from(weigh(old));
         Ok(())
     }
 
-    /// From now on nothing stands at the path. Takes no memory. Cost: a few searches; the entries behind are shifted.
+    /// From now on nothing stands at the path. Takes no memory. Cost: one search; the entries behind are shifted.
     pub fn remove(&mut self, path: &Path)
         ensures { self.new ≡ finite.remove self.old path.now }
     {
-        let used = self.blocks() - u128::from(self.weight(path));
-        let _ = self.entries.remove(path);
-        self.used = used;
+        let old = self.entries.remove(path);
+        self.used -= u128::from(weigh(old));
     }
 
     /// Moves what stands at a path and below it: each path p/r becomes q/r. Cost: that of [`PathMap::relocate`]; where
@@ -164,6 +159,17 @@ impl Extents {
             self.used = count(self.entries.entries());
         }
         Ok(())
+    }
+}
+
+/// All blocks that an extent takes: none where there is none.
+fn weigh(extent: Option<Extent>) -> u64
+    ensures value { result ≡ weight_in extent }
+    ensures within { result ≤ 2 ^ 58 }
+{
+    match extent {
+        None => 0,
+        Some(extent) => extent.blocks(),
     }
 }
 
