@@ -18,7 +18,7 @@ use Rattle.std.proofs.lemmas.List.{append-nil, take_more, get_or_default, get_or
 use Rattle.std.proofs.lemmas.List.Elements.{filter-append}
 use Rattle.std.proofs.lemmas.List.Folds.{list_any-append}
 use Rattle.std.proofs.lemmas.Map.Keys.{Less-from_sorted}
-use Rattle.std.proofs.lemmas.Bool.{cases_Bool, true≢false}
+use Rattle.std.proofs.lemmas.Bool.{cases_Bool, eq-eqb, ne_eqb, true≢false}
 use Rattle.cfdp_status.specs.declared.transaction.TransactionId.{TransactionId}
 use Rattle.cfdp_paths.specs.Paths.{Path, path_cmp, same_path}
 use Rattle.cfdp_paths.proofs.Comparing.{same_path-Decides}
@@ -51,13 +51,13 @@ pub some_pushed : (xs : List Holder) (h : Holder) → Some (xs ++ h ∷ []) ≡ 
 some_pushed [] h = refl
 some_pushed (x ∷ xs) h = refl
 
-pub some_left : (xs : List Holder) → 0 < length xs → Some xs ≡ unless_none xs
-some_left [] h = absurd (omega arith)
-some_left (x ∷ xs) h = refl
-
-pub none_left : (xs : List Holder) → length xs ≡ 0 → None ≡ unless_none xs
-none_left [] h = refl
-none_left (x ∷ xs) h = absurd (omega arith)
+-- the row of those that are left
+pub row_left : (xs hs : List Holder) (n : ℕ) (none : Bool) → xs ≡ hs → n ≡ length xs → none ≡ (n == 0) → unless_none hs ≡ (if none then None else Some xs)
+row_left xs hs n none is len e = sym (ap unless_none is) ∙ by xs n none len e
+  where
+    by : (xs : List Holder) (n : ℕ) (none : Bool) → n ≡ length xs → none ≡ (n == 0) → unless_none xs ≡ (if none then None else Some xs)
+    by [] n none len e = sym (ap (λ b. if b then None else Some []) (e ∙ eq-eqb n 0 len))
+    by (x ∷ xs) n none len e = sym (ap (λ b. if b then None else Some (x ∷ xs)) (e ∙ ne_eqb n 0 (λ is. omega (arith, is, len))))
 
 module _ {R : Type 0} (items : R → List Holder) where
   abbrev pub IsRows : (Path → Option R) → (Path → List Holder) → Type 0

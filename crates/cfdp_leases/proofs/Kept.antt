@@ -20,7 +20,7 @@ use Rattle.slab.specs.Slab.{Slab, get, Updates}
 use Rattle.cfdp_status.specs.declared.transaction.TransactionId.{TransactionId}
 use Rattle.cfdp_leases.specs.declared.leases.Live.{Live}
 use Rattle.cfdp_leases.specs.Footprint.{Footprint, HasAncestors, leased, of_lists}
-use Rattle.cfdp_leases.specs.Holders.{Holds, holders_at, holders_of}
+use Rattle.cfdp_leases.specs.Holders.{holders_in, Holds, holders_at, holders_of}
 use Rattle.cfdp_leases.specs.Leases.{AreApart, first_conflict, holds, is_same, without}
 use Rattle.cfdp_leases.specs.Live.{AreKept, HaveFootprints, footprint_at, grants_of}
 use Rattle.cfdp_leases.proofs.Apart.{all_filter, apart_push, apart_filter}
@@ -183,7 +183,7 @@ kept_admitted s t live new fp before paths kept none update ancestors free unhel
       rooted = subst (AllByRecursion (λ g. HasAncestors g.1)) grants (all_push (λ g. HasAncestors g.1) gs (new.transaction, fp) kept.rooted ancestors);
       apart = subst AreApart grants (apart_push gs (new.transaction, fp) kept.apart free unheld);
       rows = subst (λ ks. Holds paths (holders_at ks)) grants
-          (rows_same (λ row. row.items) (tree.get path_cmp paths.holders) (λ p. holders_at gs p ++ holders_of new.transaction fp p) (holders_at (gs ++ (new.transaction, fp) ∷ []))
+          (rows_same holders_in (tree.get path_cmp paths.holders) (λ p. holders_at gs p ++ holders_of new.transaction fp p) (holders_at (gs ++ (new.transaction, fp) ∷ []))
           (λ p. sym (flat_map-append (λ g. holders_of g.0 g.1 p) gs ((new.transaction, fp) ∷ []) ∙ ap (λ hs. holders_at gs p ++ hs) (append-nil (holders_of new.transaction fp p))))
           rows);
     }
@@ -224,6 +224,6 @@ kept_released s t live id l fp before paths kept found has update rows =
       rooted = subst (AllByRecursion (λ g. HasAncestors g.1)) grants (all_filter (λ g. HasAncestors g.1) (λ g. not (is_same g.0 id)) gs kept.rooted);
       apart = subst AreApart grants (apart_filter (λ g. not (is_same g.0 id)) gs kept.apart);
       rows = subst (λ ks. Holds paths (holders_at ks)) grants
-          (rows_same (λ row. row.items) (tree.get path_cmp paths.holders) (λ p. left id (set.contains (leased fp) p) (holders_at gs p)) (holders_at (without gs id))
+          (rows_same holders_in (tree.get path_cmp paths.holders) (λ p. left id (set.contains (leased fp) p) (holders_at gs p)) (holders_at (without gs id))
           (λ p. released gs id (l.transaction, fp) p kept.apart there) rows);
     }

@@ -3,6 +3,7 @@
 --     holders_of id fp p        the holders of a path by a transaction's footprint: as an exclusive one, as a shared one, or both
 --     holders_at grants p       those by all grants, in order of admission
 --     others id holders         those of other transactions
+--     holders_in row            the holders that a row of the map has
 --     Holds paths holders       the map has at each path these holders, and no row where there are none
 --     HoldsSome id at holders paths      these holders, and of the transaction whichever, where `at` is true
 use Rattle.std.specs.Prelude.{◌≡◌, Bool, false, not, if◌then◌else◌, List, [], ◌∷◌, ◌++◌, Option, Some, None, filter, flat_map}
@@ -13,6 +14,8 @@ use Rattle.cfdp_status.specs.declared.transaction.TransactionId.{TransactionId}
 use Rattle.cfdp_paths.specs.Paths.{Path, path_cmp}
 use Rattle.cfdp_leases.specs.declared.lease.Lease.TheVariants.{Exclusive, Shared}
 use Rattle.cfdp_leases.specs.declared.leased_paths.Holder.{Holder}
+use Rattle.cfdp_leases.specs.declared.leased_paths.Holders.{Holders}
+use Rattle.cfdp_leases.specs.declared.leased_paths.Holders.TheVariants.{One, Many}
 use Rattle.cfdp_leases.specs.declared.leased_paths.LeasedPaths.{LeasedPaths}
 use Rattle.cfdp_leases.specs.Footprint.{Footprint}
 use Rattle.cfdp_leases.specs.Leases.{Grants, is_same}
@@ -35,9 +38,14 @@ abbrev pub unless_none : List Holder → Option (List Holder)
 unless_none [] = None
 unless_none (h ∷ holders) = Some (h ∷ holders)
 
+-- the holders that a row of the map has
+abbrev pub holders_in : Holders → List Holder
+holders_in (One holder) = holder ∷ []
+holders_in (Many holders) = holders.items
+
 -- the map has at each path the holders that the function says, and no row where it says none
 abbrev pub Holds : LeasedPaths → (Path → List Holder) → Type 0
-Holds paths holders = (p : Path) → option_map (λ row. row.items) (get path_cmp paths.holders p) ≡ unless_none (holders p)
+Holds paths holders = (p : Path) → option_map holders_in (get path_cmp paths.holders p) ≡ unless_none (holders p)
 
 -- the same but for holders of one transaction, which may be there at the paths of the test
 pub record HoldsSome (id : TransactionId) (at : Path → Bool) (holders : Path → List Holder) (paths : LeasedPaths) : Type 0 where

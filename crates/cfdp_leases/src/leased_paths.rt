@@ -1,12 +1,12 @@
 //! Which transactions hold each leased path.
 
-ghost use Rattle.std.specs.Prelude.{◌≡◌, ◌++◌, ◌∷◌, [], ◌≤◌, List, OnOk, OnErr, length, slice_get, take, if◌then◌else◌};
+ghost use Rattle.std.specs.Prelude.{◌≡◌, ◌++◌, ◌∷◌, [], ◌≤◌, List, None, Some, OnOk, OnErr, length, slice_get, take, if◌then◌else◌};
 ghost use Rattle.std.specs.List.{list_any};
 ghost use Rattle.std.specs.List.Sorted.{IsStrictlySortedBy};
 ghost use Rattle.std.specs.FinSet as set;
 ghost use Rattle.cfdp_paths.specs.Paths.{Path as Names, path_cmp, same_path};
 ghost use Rattle.cfdp_leases.specs.Footprint.{leased};
-ghost use Rattle.cfdp_leases.specs.Holders.{Holds, HoldsSome, holders_of, others, when};
+ghost use Rattle.cfdp_leases.specs.Holders.{Holds, HoldsSome, holders_in, holders_of, others, unless_none, when};
 
 use crate::footprints::Footprint;
 use crate::lease::Lease;
@@ -22,10 +22,67 @@ pub(crate) struct Holder {
     pub(crate) lease: Lease,
 }
 
+/// How many holders the list of a path has room for when its second one comes.
+const FIRST_ROOM: usize = 4;
+
+/// The holders of a path, in order of admission: most paths have one, which takes no memory of its own.
+#[derive(Debug, Drop)]
+pub(crate) enum Holders {
+    One(Holder),
+    Many(Vec<Holder>),
+}
+
+impl Holders {
+    /// The holder that was admitted first.
+    fn first(&self) -> Option<Holder>
+        ensures { result ≡ slice_get (holders_in self.now) 0 }
+    {
+        match self {
+            Holders::One(holder) => Some(*holder),
+            Holders::Many(holders) => holders.first().copied(),
+        }
+    }
+
+    /// Adds a holder after the others.
+    ///
+    /// # Errors
+    ///
+    /// [`Memory`] where there was none for a list of them; they are then as before.
+    fn add(&mut self, alloc: Global, holder: Holder) -> Result<(), Memory>
+        ensures ok { OnOk result (holders_in self.new ≡ holders_in self.old ++ holder ∷ []) }
+        ensures err { OnErr result (holders_in self.new ≡ holders_in self.old) }
+    {
+        match self {
+            Holders::One(first) => {
+                let mut holders = Vec::with_capacity(alloc, FIRST_ROOM)?;
+                holders.push(*first)?;
+                holders.push(holder)?;
+                *self = Holders::Many(holders);
+            }
+            Holders::Many(holders) => holders.push(holder)?,
+        }
+        Ok(())
+    }
+
+    /// Takes the leases of a transaction away, and returns whether nobody else holds the path: then it is to be dropped. Takes
+    /// no memory. Cost: one pass over the holders.
+    fn remove(&mut self, transaction: TransactionId) -> bool
+        ensures { unless_none (others transaction (holders_in self.old)) ≡ if result then None else Some (holders_in self.new) }
+    {
+        match self {
+            Holders::One(holder) => holder.transaction == transaction,
+            Holders::Many(holders) => {
+                holders.retain(|holder| holder.transaction != transaction);
+                holders.is_empty()
+            }
+        }
+    }
+}
+
 /// The holders of each leased path, in order of admission. No path is in it without a holder.
 #[derive(Debug, Drop)]
 pub(crate) struct LeasedPaths {
-    holders: BTreeMap<Path, Vec<Holder>>,
+    holders: BTreeMap<Path, Holders>,
 }
 
 impl LeasedPaths {
@@ -42,7 +99,7 @@ impl LeasedPaths {
     pub(crate) fn first(&self, path: &Path) -> Option<Holder>
         ensures { (holders : Names → List Holder) → Holds self.now holders → result ≡ slice_get (holders path.now) 0 }
     {
-        self.holders.get(path)?.first().copied()
+        self.holders.get(path)?.first()
     }
 
     /// Lets a transaction, which holds no path, hold those of its footprint, behind all others.
@@ -124,13 +181,13 @@ impl LeasedPaths {
         ensures err { (holders : Names → List Holder) → Holds self.old holders → OnErr result (Holds self.new holders) }
     {
         match self.holders.get_mut(path) {
-            Some(holders) => holders.push(holder)?,
+            Some(holders) => holders.add(alloc, holder),
             None => {
-                let holders = Vec::from_array(alloc, [holder])?;
-                self.holders.insert(path.copy(alloc)?, holders)?;
+                self.holders
+                    .insert(path.copy(alloc)?, Holders::One(holder))?;
+                Ok(())
             }
         }
-        Ok(())
     }
 
     /// Takes the leases of a transaction away from each of the paths.
@@ -151,8 +208,7 @@ impl LeasedPaths {
         let Some(holders) = self.holders.get_mut(path) else {
             return;
         };
-        holders.retain(|holder| holder.transaction != transaction);
-        if holders.is_empty() {
+        if holders.remove(transaction) {
             self.holders.remove(path);
         }
     }

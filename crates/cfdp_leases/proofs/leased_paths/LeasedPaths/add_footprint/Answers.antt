@@ -7,7 +7,7 @@ use Rattle.cfdp_paths.specs.Paths.{path_cmp, same_path}
 use Rattle.cfdp_leases.specs.declared.lease.Lease.TheVariants.{Exclusive, Shared}
 use Rattle.cfdp_leases.specs.declared.leased_paths.Holder.{Holder}
 use Rattle.cfdp_leases.specs.Footprint.{leased}
-use Rattle.cfdp_leases.specs.Holders.{when}
+use Rattle.cfdp_leases.specs.Holders.{holders_in, when}
 use Rattle.cfdp_leases.proofs.Held.{on_err, rows_same, in_slice, unleased, when_not, others_when, some_wider}
 use Rattle.cfdp_leases.proofs.leased_paths.LeasedPaths.add_footprint.Goals as goal
 
@@ -28,7 +28,7 @@ returns-clause-ok c = λ holders rows.
     let first : Holder = record { transaction = c.args.transaction; lease = Exclusive } in
     let second : Holder = record { transaction = c.args.transaction; lease = Shared } in
     on_ok_weaker c.add_all-2.result
-    (rows_same (λ row. row.items) (get path_cmp c.add_all-2.new.self.holders) (λ p. (holders p ++ when (list_any (same_path p) xs) first) ++ when (list_any (same_path p) ys) second) _
+    (rows_same holders_in (get path_cmp c.add_all-2.new.self.holders) (λ p. (holders p ++ when (list_any (same_path p) xs) first) ++ when (list_any (same_path p) ys) second) _
     (λ p. append_assoc (holders p) (when (list_any (same_path p) xs) first) (when (list_any (same_path p) ys) second)
     ∙ ap (λ more. holders p ++ more) (λ i. when (in_slice xs fp.exclusive p c.exclusive.ensures.paths i) first ++ when (in_slice ys fp.shared p c.shared.ensures.paths i) second)))
     (c.add_all-2.ensures.ok _ (c.in_ok-add_all.ensures.ok holders rows))

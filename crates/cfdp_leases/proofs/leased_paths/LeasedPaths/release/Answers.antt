@@ -5,6 +5,7 @@ use Rattle.std.specs.FinSet as set
 use Rattle.cfdp_paths.specs.Paths.{path_cmp, same_path}
 use Rattle.cfdp_leases.proofs.Sets.{path_cmp_total}
 use Rattle.cfdp_leases.proofs.Held.{rows_same, in_slice, left, left_either}
+use Rattle.cfdp_leases.specs.Holders.{holders_in}
 use Rattle.cfdp_leases.proofs.leased_paths.LeasedPaths.release.Goals as goal
 
 pub returns : goal.returns
@@ -13,7 +14,7 @@ returns c = λ holders rows.
     let xs = c.exclusive.result.now in
     let ys = c.shared.result.now in
     let id = c.args.transaction in
-    rows_same (λ row. row.items) (get path_cmp c.remove_all-2.new.self.holders)
+    rows_same holders_in (get path_cmp c.remove_all-2.new.self.holders)
     (λ p. left id (list_any (same_path p) ys) (left id (list_any (same_path p) xs) (holders p))) _
     (λ p. left_either id (list_any (same_path p) xs) (list_any (same_path p) ys) (holders p)
     ∙ ap (λ b. left id b (holders p))
