@@ -30,7 +30,7 @@ Grant = TransactionId × Footprint
 
 -- ---- names
 
-some_is : {X : Type 0} (a b : X) → Some a ≡ Some b → a ≡ b
+pub some_is : {X : Type 0} (a b : X) → Some a ≡ Some b → a ≡ b
 some_is a b same = cc
 
 pub same_is : (a b : TransactionId) → is_same a b ≡ true → a ≡ b
@@ -51,7 +51,7 @@ of_when : (id : TransactionId) (b : Bool) (h : Holder) → h.transaction ≡ id 
 of_when id true h same = (same, tt)
 of_when id false h same = tt
 
-all_of : (id : TransactionId) (fp : Footprint) (p : Path) → AllByRecursion (IsOf id) (holders_of id fp p)
+pub all_of : (id : TransactionId) (fp : Footprint) (p : Path) → AllByRecursion (IsOf id) (holders_of id fp p)
 all_of id fp p =
     all-append (IsOf id) (when (set.contains fp.exclusive p) (record { transaction = id; lease = Exclusive })) (when (set.contains fp.shared p) (record { transaction = id; lease = Shared }))
     (of_when id (set.contains fp.exclusive p) _ refl) (of_when id (set.contains fp.shared p) _ refl)
@@ -90,11 +90,11 @@ all_stay : (id : TransactionId) (hs : List Holder) → AllByRecursion (IsNotOf i
 all_stay id [] all = refl
 all_stay id (h ∷ hs) all = ap (λ b. cond (not b) (h ∷ others id hs) (others id hs)) all.0 ∙ ap (λ ks. h ∷ ks) (all_stay id hs all.1)
 
-all_go : (id : TransactionId) (hs : List Holder) → AllByRecursion (λ h. is_same h.transaction id ≡ true) hs → others id hs ≡ []
+pub all_go : (id : TransactionId) (hs : List Holder) → AllByRecursion (λ h. is_same h.transaction id ≡ true) hs → others id hs ≡ []
 all_go id [] all = refl
 all_go id (h ∷ hs) all = ap (λ b. cond (not b) (h ∷ others id hs) (others id hs)) all.0 ∙ all_go id hs all.1
 
-same_of : (id : TransactionId) (g : Grant) (hs : List Holder) → is_same g.0 id ≡ true → AllByRecursion (IsOf g.0) hs → AllByRecursion (λ h. is_same h.transaction id ≡ true) hs
+pub same_of : (id : TransactionId) (g : Grant) (hs : List Holder) → is_same g.0 id ≡ true → AllByRecursion (IsOf g.0) hs → AllByRecursion (λ h. is_same h.transaction id ≡ true) hs
 same_of id g [] same all = tt
 same_of id g (h ∷ hs) same all = (ap (λ a. is_same a id) all.0 ∙ same, same_of id g hs same all.1)
 
@@ -183,7 +183,7 @@ head_is h k hs ks same = let e : h ≡ k = cc in ap (λ x. x.transaction) e
 lease_is : (h k : Holder) (hs ks : List Holder) → h ∷ hs ≡ k ∷ ks → h.lease ≡ k.lease
 lease_is h k hs ks same = let e : h ≡ k = cc in ap (λ x. x.lease) e
 
-nobody_of : (g : Grant) (gs : Grants) (p : Path) → leasing p g ≡ false → holders_at (g ∷ gs) p ≡ holders_at gs p
+pub nobody_of : (g : Grant) (gs : Grants) (p : Path) → leasing p g ≡ false → holders_at (g ∷ gs) p ≡ holders_at gs p
 nobody_of g gs p none = ap (λ hs. hs ++ holders_at gs p) (of_unleased g.0 g.1 p none)
 
 pub nobody_leasing : (gs : Grants) (p : Path) → holders_at gs p ≡ [] → length gs ≡ prefix_len (λ g. not (leasing p g)) gs

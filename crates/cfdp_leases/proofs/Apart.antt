@@ -26,7 +26,7 @@ or_both false b h = (refl, h)
 pub or_none : (a b : Bool) → a ≡ false → b ≡ false → (a || b) ≡ false
 or_none a b h k = (λ i. h i || k i)
 
-none_first : (b : Bool) (g : Grant) (o : Option Grant) → option_map (λ (h : Grant). h.0) (cond b (Some g) o) ≡ None → (b ≡ false) × (option_map (λ (h : Grant). h.0) o ≡ None)
+pub none_first : (b : Bool) (g : Grant) (o : Option Grant) → option_map (λ (h : Grant). h.0) (cond b (Some g) o) ≡ None → (b ≡ false) × (option_map (λ (h : Grant). h.0) o ≡ None)
 none_first true g o h = absurd (true≢false (ap is_some h))
 none_first false g o h = (refl, h)
 

@@ -26,9 +26,9 @@ use Rattle.cfdp_leases.specs.declared.leased_paths.Holder.{Holder}
 use Rattle.cfdp_leases.specs.Leases.{is_same}
 use Rattle.cfdp_leases.specs.declared.leased_paths.LeasedPaths.{LeasedPaths}
 use Rattle.cfdp_leases.specs.Footprint.{PathSet, Footprint, leased}
-use Rattle.cfdp_leases.specs.Holders.{when, others, unless_none, HoldsSome}
+use Rattle.cfdp_leases.specs.Holders.{AreFree, when, others, unless_none, HoldsSome}
 use Rattle.cfdp_leases.proofs.Apart.{or_both}
-use Rattle.cfdp_leases.proofs.Sets.{path_cmp_total, same_path-itself, Contains_from_stands, stands}
+use Rattle.cfdp_leases.proofs.Sets.{path_cmp_total, same_path-itself, Contains_from_stands, stands_from_Contains, stands}
 
 same_back : (p q : Path) → same_path p q ≡ same_path q p
 same_back p q = (eq_by_cmp_equiv path_cmp_total).symm p q
@@ -109,6 +109,16 @@ before_apart xs i x p sorted within read before =
     let less : path_cmp (get_or xs found.0 x) (get_or xs i x) ≡ Less = Less-from_sorted path_cmp xs found.0 i x sorted place within in
     ap (λ q. same_path p q) read ∙ ap is_eq (subst (λ q. path_cmp q (get_or xs i x) ≡ Less) at less)
 
+-- a path is not among those before it in strict order, and it is among all
+pub free_yet : (xs : List Path) (i : ℕ) (x : Path) (h : Holder) (holders : Path → List Holder) → IsStrictlySortedBy path_cmp xs → i < length xs → x ≡ get_or xs i x
+    → AreFree (λ p. list_any (same_path p) xs) holders → holders x ++ when (list_any (same_path x) (take i xs)) h ≡ []
+free_yet xs i x h holders sorted within read free =
+    when_not (list_any (same_path x) (take i xs)) h (holders x) (not_yet (list_any (same_path x) (take i xs)) refl) ∙ free x (stands_from_Contains x xs (i, within, sym read))
+  where
+    not_yet : (b : Bool) → list_any (same_path x) (take i xs) ≡ b → b ≡ false
+    not_yet true there = absurd (true≢false (sym (same_path-itself x) ∙ before_apart xs i x x sorted within read there))
+    not_yet false there = refl
+
 -- one path more
 pub when_more : (xs : List Path) (i : ℕ) (x p : Path) (h : Holder) (holders : List Holder) → IsStrictlySortedBy path_cmp xs → i < length xs → x ≡ get_or xs i x
     → (holders ++ when (list_any (same_path p) (take i xs)) h) ++ when (same_path p x) h ≡ holders ++ when (list_any (same_path p) (take (i + 1) xs)) h
@@ -163,6 +173,30 @@ left_more id xs i x p hs within read =
     ∙ ap (λ b. left id b hs)
     (or_nothing (list_any (same_path p) (take i xs)) (same_path p x)
     ∙ sym (ap (list_any (same_path p)) (take_more xs i x within ∙ ap (λ y. take i xs ++ y ∷ []) (sym read)) ∙ list_any-append (same_path p) (take i xs) (x ∷ [])))
+
+-- nobody where the test holds, and all of them elsewhere
+abbrev pub emptied : Bool → List Holder → List Holder
+emptied b hs = if b then [] else hs
+
+emptied_either : (a b : Bool) (hs : List Holder) → emptied b (emptied a hs) ≡ emptied (a || b) hs
+emptied_either true true hs = refl
+emptied_either true false hs = refl
+emptied_either false b hs = refl
+
+-- one path more
+pub emptied_more : (xs : List Path) (i : ℕ) (x p : Path) (hs : List Holder) → i < length xs → x ≡ get_or xs i x
+    → emptied (same_path p x) (emptied (list_any (same_path p) (take i xs)) hs) ≡ emptied (list_any (same_path p) (take (i + 1) xs)) hs
+emptied_more xs i x p hs within read =
+    emptied_either (list_any (same_path p) (take i xs)) (same_path p x) hs
+    ∙ ap (λ b. emptied b hs)
+    (or_nothing (list_any (same_path p) (take i xs)) (same_path p x)
+    ∙ sym (ap (list_any (same_path p)) (take_more xs i x within ∙ ap (λ y. take i xs ++ y ∷ []) (sym read)) ∙ list_any-append (same_path p) (take i xs) (x ∷ [])))
+
+-- the paths that only the transaction holds are dropped first
+pub left_emptied : (id : TransactionId) (a b : Bool) (hs : List Holder) → (a ≡ true → others id hs ≡ []) → left id b (emptied a hs) ≡ left id (a || b) hs
+left_emptied id true true hs own = sym (own refl)
+left_emptied id true false hs own = sym (own refl)
+left_emptied id false b hs own = refl
 
 pub others_when : (h : Holder) (b : Bool) (hs : List Holder) → others h.transaction (hs ++ when b h) ≡ others h.transaction hs
 others_when h b hs =

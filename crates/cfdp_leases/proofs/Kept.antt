@@ -210,6 +210,12 @@ live_there live id key found = which (find (λ l. is_same l.transaction id) live
     which None is there = absurd (cc there)
     which (Some l) is there = (l, is, sym (some_is key l.key there))
 
+-- the grant of a live transaction
+pub grant_there : (s : Slab Footprint) (live : List Live) (id : TransactionId) (l : Live) (fp : Footprint) → find (λ m. is_same m.transaction id) live ≡ Some l → get s l.key ≡ Some fp
+    → find (λ g. is_same g.0 id) (grants_of s live) ≡ Some (l.transaction, fp)
+grant_there s live id l fp found has =
+    find-map (grant_of s) (λ g. is_same g.0 id) live ∙ ap (option_map (grant_of s)) found ∙ ap (λ f. Some (l.transaction, f)) (footprint_is s l.key fp has)
+
 pub kept_released : (s t : Slab Footprint) (live : List Live) (id : TransactionId) (l : Live) (fp : Footprint) (before paths : LeasedPaths) → AreKept s live before
     → find (λ m. is_same m.transaction id) live ≡ Some l → get s l.key ≡ Some fp → Updates s t l.key None
     → Holds paths (λ p. left id (set.contains (leased fp) p) (holders_at (grants_of s live) p)) → AreKept t (filter (λ m. not (is_same m.transaction id)) live) paths
@@ -217,8 +223,7 @@ kept_released s t live id l fp before paths kept found has update rows =
     let gs = grants_of s live in
     let apart_keys = elsewhere s id live l kept.kept found in
     let grants = sym (grants-filter s t l.key id live update apart_keys) in
-    let there : find (λ g. is_same g.0 id) gs ≡ Some (l.transaction, fp) =
-    find-map (grant_of s) (λ g. is_same g.0 id) live ∙ ap (option_map (grant_of s)) found ∙ ap (λ f. Some (l.transaction, f)) (footprint_is s l.key fp has) in
+    let there = grant_there s live id l fp found has in
     record {
       kept = footprints-filter s t l.key id live kept.kept update apart_keys;
       rooted = subst (AllByRecursion (λ g. HasAncestors g.1)) grants (all_filter (λ g. HasAncestors g.1) (λ g. not (is_same g.0 id)) gs kept.rooted);

@@ -10,4 +10,5 @@ pub mod Held
 pub mod Admitted
 pub mod Places
 pub mod Kept
+pub mod Alone
 pub mod Keys

@@ -5,8 +5,9 @@
 --     others id holders         those of other transactions
 --     holders_in row            the holders that a row of the map has
 --     Holds paths holders       the map has at each path these holders, and no row where there are none
+--     AreFree at holders        nobody holds a path of the test;  AreOwn id at holders: nobody but the transaction does
 --     HoldsSome id at holders paths      these holders, and of the transaction whichever, where `at` is true
-use Rattle.std.specs.Prelude.{◌≡◌, Bool, false, not, if◌then◌else◌, List, [], ◌∷◌, ◌++◌, Option, Some, None, filter, flat_map}
+use Rattle.std.specs.Prelude.{◌≡◌, Bool, true, false, not, if◌then◌else◌, List, [], ◌∷◌, ◌++◌, Option, Some, None, filter, flat_map}
 use Rattle.std.specs.Option.{option_map}
 use Rattle.std.specs.FinSet as set
 use Rattle.std.specs.BTreeMap.{get}
@@ -46,6 +47,14 @@ holders_in (Many holders) = holders.items
 -- the map has at each path the holders that the function says, and no row where it says none
 abbrev pub Holds : LeasedPaths → (Path → List Holder) → Type 0
 Holds paths holders = (p : Path) → option_map holders_in (get path_cmp paths.holders p) ≡ unless_none (holders p)
+
+-- nobody holds a path at which the test is true
+abbrev pub AreFree : (Path → Bool) → (Path → List Holder) → Type 0
+AreFree at holders = (p : Path) → at p ≡ true → holders p ≡ []
+
+-- nobody but the transaction does
+abbrev pub AreOwn : TransactionId → (Path → Bool) → (Path → List Holder) → Type 0
+AreOwn id at holders = (p : Path) → at p ≡ true → others id (holders p) ≡ []
 
 -- the same but for holders of one transaction, which may be there at the paths of the test
 pub record HoldsSome (id : TransactionId) (at : Path → Bool) (holders : Path → List Holder) (paths : LeasedPaths) : Type 0 where

@@ -6,7 +6,7 @@ ghost use Rattle.std.specs.List.Sorted.{IsStrictlySortedBy};
 ghost use Rattle.std.specs.FinSet as set;
 ghost use Rattle.cfdp_paths.specs.Paths.{Path as Names, path_cmp, same_path};
 ghost use Rattle.cfdp_leases.specs.Footprint.{leased};
-ghost use Rattle.cfdp_leases.specs.Holders.{Holds, HoldsSome, holders_in, holders_of, others, unless_none, when};
+ghost use Rattle.cfdp_leases.specs.Holders.{AreFree, AreOwn, Holds, HoldsSome, holders_in, holders_of, others, unless_none, when};
 
 use crate::footprints::Footprint;
 use crate::lease::Lease;
@@ -102,21 +102,22 @@ impl LeasedPaths {
         self.holders.get(path)?.first()
     }
 
-    /// Lets a transaction, which holds no path, hold those of its footprint, behind all others.
+    /// Lets a transaction, which holds no path, hold those of its footprint, behind all others. Nobody holds its exclusive
+    /// paths.
     ///
     /// # Errors
     ///
-    /// Want of memory: the holders of each path are as before. Cost: for each path a search, and a copy of the path where
-    /// nobody holds it yet.
+    /// Want of memory: the holders of each path are as before. Cost: for each exclusive path a copy and one search, and for
+    /// each shared one a search, and a copy and another search where nobody holds it yet.
     pub(crate) fn lease(
         &mut self,
         alloc: Global,
         transaction: TransactionId,
         footprint: &Footprint,
     ) -> Result<(), Memory>
-        ensures ok { (holders : Names → List Holder) → Holds self.old holders
+        ensures ok { (holders : Names → List Holder) → Holds self.old holders → AreFree (set.contains footprint.now.exclusive) holders
             → OnOk result (Holds self.new (λ p. holders p ++ holders_of transaction footprint.now p)) }
-        ensures err { (holders : Names → List Holder) → Holds self.old holders
+        ensures err { (holders : Names → List Holder) → Holds self.old holders → AreFree (set.contains footprint.now.exclusive) holders
             → ((p : Names) → others transaction (holders p) ≡ holders p) → OnErr result (Holds self.new holders) }
     {
         let leased = self.add_footprint(alloc, transaction, footprint);
@@ -126,26 +127,27 @@ impl LeasedPaths {
         leased
     }
 
-    /// Takes the leases of a transaction away from the paths of its footprint. Takes no memory. Cost: for each path two
-    /// searches at most, and one pass over its holders.
+    /// Takes the leases of a transaction away from the paths of its footprint. Nobody else holds its exclusive paths. Takes no
+    /// memory. Cost: for each exclusive path one search, and for each shared one two at most and a pass over its holders.
     pub(crate) fn release(&mut self, transaction: TransactionId, footprint: &Footprint)
-        ensures { (holders : Names → List Holder) → Holds self.old holders
+        ensures { (holders : Names → List Holder) → Holds self.old holders → AreOwn transaction (set.contains footprint.now.exclusive) holders
             → Holds self.new (λ p. if set.contains (leased footprint.now) p then others transaction (holders p) else holders p) }
     {
-        self.remove_all(footprint.exclusive(), transaction);
+        self.drop_all(footprint.exclusive());
         self.remove_all(footprint.shared(), transaction);
     }
 
-    /// Adds the leases of a footprint. Where there is no memory for one, some of them are there.
+    /// Adds the leases of a footprint, whose exclusive paths nobody holds. Where there is no memory for one, some of them
+    /// are there.
     fn add_footprint(
         &mut self,
         alloc: Global,
         transaction: TransactionId,
         footprint: &Footprint,
     ) -> Result<(), Memory>
-        ensures ok { (holders : Names → List Holder) → Holds self.old holders
+        ensures ok { (holders : Names → List Holder) → Holds self.old holders → AreFree (set.contains footprint.now.exclusive) holders
             → OnOk result (Holds self.new (λ p. holders p ++ holders_of transaction footprint.now p)) }
-        ensures err { (holders : Names → List Holder) → Holds self.old holders
+        ensures err { (holders : Names → List Holder) → Holds self.old holders → AreFree (set.contains footprint.now.exclusive) holders
             → OnErr result (HoldsSome transaction (set.contains (leased footprint.now)) holders self.new) }
     {
         let exclusive = Holder {
@@ -156,8 +158,33 @@ impl LeasedPaths {
             transaction,
             lease: Lease::Shared,
         };
-        self.add_all(alloc, footprint.exclusive(), exclusive)?;
+        self.add_all_new(alloc, footprint.exclusive(), exclusive)?;
         self.add_all(alloc, footprint.shared(), shared)
+    }
+
+    /// Adds a holder to each of the paths, which nobody holds. Where there is no memory for one, those before it have it.
+    fn add_all_new(&mut self, alloc: Global, paths: &[Path], holder: Holder) -> Result<(), Memory>
+        requires { IsStrictlySortedBy path_cmp paths.now }
+        ensures ok { (holders : Names → List Holder) → Holds self.old holders → AreFree (λ p. list_any (same_path p) paths.now) holders
+            → OnOk result (Holds self.new (λ p. holders p ++ when (list_any (same_path p) paths.now) holder)) }
+        ensures err { (holders : Names → List Holder) → Holds self.old holders → AreFree (λ p. list_any (same_path p) paths.now) holders
+            → OnErr result (HoldsSome holder.transaction (λ p. list_any (same_path p) paths.now) holders self.new) }
+    {
+        for path in paths {
+            self.add_new(alloc, path, holder)?;
+        }
+        Ok(())
+    }
+
+    /// Adds a holder to a path, which nobody holds.
+    fn add_new(&mut self, alloc: Global, path: &Path, holder: Holder) -> Result<(), Memory>
+        ensures ok { (holders : Names → List Holder) → Holds self.old holders → holders path.now ≡ []
+            → OnOk result (Holds self.new (λ p. holders p ++ when (same_path p path.now) holder)) }
+        ensures err { (holders : Names → List Holder) → Holds self.old holders → OnErr result (Holds self.new holders) }
+    {
+        self.holders
+            .insert(path.copy(alloc)?, Holders::One(holder))?;
+        Ok(())
     }
 
     /// Adds a holder to each of the paths. Where there is no memory for one, those before it have it.
@@ -188,6 +215,24 @@ impl LeasedPaths {
                 Ok(())
             }
         }
+    }
+
+    /// Drops each of the paths with its holders.
+    fn drop_all(&mut self, paths: &[Path])
+        ensures { (holders : Names → List Holder) → Holds self.old holders
+            → Holds self.new (λ p. if list_any (same_path p) paths.now then [] else holders p) }
+    {
+        for path in paths {
+            self.drop_path(path);
+        }
+    }
+
+    /// Drops a path with its holders.
+    fn drop_path(&mut self, path: &Path)
+        ensures { (holders : Names → List Holder) → Holds self.old holders
+            → Holds self.new (λ p. if same_path p path.now then [] else holders p) }
+    {
+        let _ = self.holders.remove(path);
     }
 
     /// Takes the leases of a transaction away from each of the paths.

@@ -7,6 +7,7 @@ use Rattle.cfdp_leases.specs.Leases.{first_conflict, holds}
 use Rattle.cfdp_leases.specs.Live.{AreKept, grants_of}
 use Rattle.cfdp_leases.specs.Holders.{holders_at}
 use Rattle.cfdp_leases.proofs.Admitted.{others-strangers}
+use Rattle.cfdp_leases.proofs.Alone.{free_before}
 use Rattle.cfdp_leases.proofs.Kept.{footprints-same, grants-same, grants_admitted, kept_admitted, kept_same}
 use Rattle.cfdp_leases.proofs.leases.Leases.grant.Goals as goal
 
@@ -23,7 +24,7 @@ invariant_of-self-in_err-lease c =
     let unheld = ap (λ ks. holds ks c.args.transaction) c.self.view_is ∙ c.requires.unheld in
     kept_same c.self.inside.footprints c.reserve-2.new.self c.self.inside.live.items c.reserve.new.self.items c.self.inside.paths c.lease.new.self
     (λ key. ap (λ s. get s key) c.reserve-2.ensures.rest_kept) c.reserve.ensures.items c.self.invariant
-    (c.in_err-lease.ensures.err (holders_at gs) c.self.invariant.rows (λ p. others-strangers gs c.args.transaction p unheld))
+    (c.in_err-lease.ensures.err (holders_at gs) c.self.invariant.rows (λ p. free_before gs c.args.footprint p (ap (λ ks. first_conflict ks c.args.footprint) c.self.view_is ∙ c.requires.free)) (λ p. others-strangers gs c.args.transaction p unheld))
 
 -- the new grant conflicts with none, and the transaction had none
 pub invariant_of-self-2 : goal.invariant_of-self-2
@@ -40,7 +41,7 @@ invariant_of-self-2 c =
     (kept_admitted t c.insert_reserved-key.new.self live new c.args.footprint c.self.inside.paths c.lease.new.self kept
     c.insert_reserved-key.ensures.was_vacant c.insert_reserved-key.ensures.updates (subst HasAncestors c.footprint.view_is c.footprint.invariant.ancestors)
     (ap (λ gs. first_conflict gs c.args.footprint) grants ∙ c.requires.free) (ap (λ gs. holds gs c.args.transaction) grants ∙ c.requires.unheld)
-    (c.in_ok-lease.ensures.ok (holders_at (grants_of t live)) kept.rows))
+    (c.in_ok-lease.ensures.ok (holders_at (grants_of t live)) kept.rows (λ p. free_before (grants_of t live) c.args.footprint p (ap (λ gs. first_conflict gs c.args.footprint) grants ∙ c.requires.free))))
 
 pub returns-clause-granted : goal.returns-clause-granted
 returns-clause-granted c =

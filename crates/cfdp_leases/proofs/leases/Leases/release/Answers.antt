@@ -7,7 +7,8 @@ use Rattle.slab.specs.Slab.{get, Updates}
 use Rattle.cfdp_leases.specs.Leases.{is_same, without}
 use Rattle.cfdp_leases.specs.Live.{AreKept, grants_of}
 use Rattle.cfdp_leases.specs.Holders.{holders_at}
-use Rattle.cfdp_leases.proofs.Kept.{all_found, elsewhere, grants-filter, kept_released, live_there, nobody_there, occupied}
+use Rattle.cfdp_leases.proofs.Alone.{own_only}
+use Rattle.cfdp_leases.proofs.Kept.{all_found, elsewhere, grant_there, grants-filter, kept_released, live_there, nobody_there, occupied}
 use Rattle.cfdp_leases.proofs.leases.Leases.release.Goals as goal
 
 -- it is none of the live ones
@@ -33,10 +34,12 @@ invariant_of-self c =
     let live = c.self.inside.live.items in
     let found = live_there live id c.in-Some.key (c.in-Some.ensures ∙ ap (λ ls. option_map (λ l. l.key) (find (λ l. is_same l.transaction id) ls)) c.deref.ensures.value) in
     let left = filter_same _ (λ l. not (is_same l.transaction id)) _ (λ x b f' k. search rules) _ _ c.retain.ensures.filtered in
+    let has = ap (get s) found.2 ∙ c.remove-footprint.ensures.value in
     subst (λ ls. AreKept t ls c.release.new.self) (sym left)
     (kept_released s t live id found.0 c.remove-footprint.result c.self.inside.paths c.release.new.self c.self.invariant found.1
-    (ap (get s) found.2 ∙ c.remove-footprint.ensures.value) (subst (λ key. Updates s t key None) (sym found.2) c.remove-footprint.ensures.updates)
-    (c.release.ensures (holders_at (grants_of s live)) c.self.invariant.rows))
+    has (subst (λ key. Updates s t key None) (sym found.2) c.remove-footprint.ensures.updates)
+    (c.release.ensures (holders_at (grants_of s live)) c.self.invariant.rows
+    (λ p. own_only (grants_of s live) id (found.0.transaction, c.remove-footprint.result) p c.self.invariant.apart (grant_there s live id found.0 c.remove-footprint.result found.1 has))))
 
 pub returns : goal.returns
 returns c =

@@ -1,0 +1,25 @@
+use Rattle.std.proofs.Common.{take, ◌++◌}
+use Rattle.std.specs.BTreeMap.{get}
+use Rattle.std.specs.List.{list_any}
+use Rattle.cfdp_paths.specs.Paths.{path_cmp, same_path}
+use Rattle.cfdp_leases.specs.Holders.{holders_in, when}
+use Rattle.cfdp_leases.proofs.Held.{on_err, free_yet, rows_same, when_more, when_not, others_when, not_before}
+use Rattle.cfdp_leases.proofs.leased_paths.LeasedPaths.add_all_new.Goals as goal
+
+pub returns-in_err-add_new-clause-err : goal.returns-in_err-add_new-clause-err
+returns-in_err-add_new-clause-err c = λ holders rows free.
+    let xs = c.args.paths.now in
+    let i = c.loop-path.path-index in
+    on_err c.from_residual.result _ (record {
+      now = λ p. holders p ++ when (list_any (same_path p) (take i xs)) c.args.holder;
+      rows = c.in_err-add_new.ensures.err _ (c.loop-path.invariant holders rows free);
+      kept = λ p. others_when c.args.holder (list_any (same_path p) (take i xs)) (holders p);
+      elsewhere = λ p none. when_not (list_any (same_path p) (take i xs)) c.args.holder (holders p) (not_before xs i p none);
+    })
+
+pub loop-path-preserved : goal.loop-path-preserved
+loop-path-preserved c = λ holders rows free.
+    rows_same holders_in (get path_cmp c.add_new.new.self.holders)
+    (λ p. (holders p ++ when (list_any (same_path p) (take c.loop-path.path-index c.args.paths.now)) c.args.holder) ++ when (same_path p c.path-item.result) c.args.holder) _
+    (λ p. when_more c.args.paths.now c.loop-path.path-index c.path-item.result p c.args.holder (holders p) c.requires c.loop-path-test.true c.path-item.is)
+    (c.in_ok-add_new.ensures.ok _ (c.loop-path.invariant holders rows free) (free_yet c.args.paths.now c.loop-path.path-index c.path-item.result c.args.holder holders c.requires c.loop-path-test.true c.path-item.is free))

@@ -1,0 +1,11 @@
+use Rattle.std.proofs.Common.{take, List, ◌++◌}
+use Rattle.std.specs.List.{list_any}
+use Rattle.cfdp_paths.specs.Paths.{Path, same_path}
+use Rattle.cfdp_leases.specs.declared.leased_paths.Holder.{Holder}
+use Rattle.cfdp_leases.specs.Holders.{AreFree, Holds, when}
+use Rattle.cfdp_leases.proofs.leased_paths.LeasedPaths.add_all_new.Given as goal
+
+-- the paths so far have one holder more
+abbrev pub invariant-loop-path : goal.invariant-loop-path
+invariant-loop-path l =
+    (holders : Path → List Holder) → Holds l.initial.self holders → AreFree (λ p. list_any (same_path p) l.paths) holders → Holds l.self (λ p. holders p ++ when (list_any (same_path p) (take l.path-index l.paths)) l.holder)
