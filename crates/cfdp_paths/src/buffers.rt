@@ -1,7 +1,7 @@
 //! The names of a path in one buffer.
 
-ghost use Rattle.std.specs.Prelude.{◌≡◌, ◌≤◌, ◌==◌, if◌then◌else◌, IfOk, count_by, map, take};
-ghost use Rattle.cfdp_paths.specs.Paths.{is_at_or_below, is_separator, names_of};
+ghost use Rattle.std.specs.Prelude.{◌≡◌, ◌≤◌, ◌==◌, if◌then◌else◌, IfOk, map, take};
+ghost use Rattle.cfdp_paths.specs.Paths.{is_at_or_below, names_of};
 
 use crate::octet_order::is_same;
 use std::alloc::{AllocError, Global};
@@ -32,13 +32,6 @@ pub(crate) fn replace(octets: &mut [u8], old: u8, new: u8)
             *octet = new;
         }
     }
-}
-
-/// How many separators the octets have: one less than they hold names.
-pub(crate) fn count_separators(octets: &[u8]) -> usize
-    ensures { result ≡ count_by is_separator octets.now }
-{
-    octets.iter().filter(|octet| **octet == SEPARATOR).count()
 }
 
 /// The octets of the first `count` names, or all octets where there are no more names. Takes no memory. Cost: one pass

@@ -41,7 +41,7 @@ impl<'a> Names<'a> {
     }
 
     /// Why octets spell no path, as [`Path::parse`] says; `None` where they spell one. Never [`PathFault::Memory`]. Takes no
-    /// memory, and changes nothing. Cost: a few passes over the octets.
+    /// memory, and changes nothing. Cost: one pass over the octets.
     ///
     /// [`Path::parse`]: crate::Path::parse
     pub fn fault_in(octets: &[u8]) -> Option<PathFault>

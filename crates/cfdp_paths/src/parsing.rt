@@ -1,40 +1,64 @@
-//! The leftmost fault among the names between the `/`.
+//! The leftmost fault among the names between the `/`, or how many names these are.
 
-ghost use Rattle.std.specs.Prelude.{◌≡◌, ◌≤◌, ◌||◌, [], ◌∷◌, drop, length};
+ghost use Rattle.std.specs.Prelude.{◌≡◌, ◌≤◌, ◌||◌, ◌==◌, [], ◌∷◌, None, Some, MatchResult, drop, if◌then◌else◌, length};
+ghost use Rattle.std.specs.List.{list_any};
 ghost use Rattle.cfdp_paths.specs.Faults.{fault_of, fault_of_name};
-ghost use Rattle.cfdp_paths.specs.Paths.{dot, same_name, without_slash};
+ghost use Rattle.cfdp_paths.specs.Paths.{dot, names_in, same_name, without_slash};
 
 use crate::fault::PathFault;
 use crate::{LONGEST_NAME, MOST_NAMES};
 
-/// The fault of the octets, if they spell no path. Takes no memory.
+/// The fault of the octets, if they spell no path. Takes no memory. Cost: one pass over the octets.
 pub(crate) fn find_fault(octets: &[u8]) -> Option<PathFault>
     ensures { result ≡ fault_of octets.now }
 {
-    let names = strip_slash(octets);
-    if names.is_empty() {
-        return Some(PathFault::Empty);
+    match count_names(octets) {
+        Ok(_) => None,
+        Err(fault) => Some(fault),
     }
-    let mut room = MOST_NAMES;
-    for name in names.split(|octet| *octet == b'/') {
-        if room == 0 {
-            return Some(PathFault::TooDeep);
-        }
-        if let Some(fault) = find_name_fault(name) {
-            return Some(fault);
-        }
-        room -= 1;
-    }
-    None
 }
 
-/// What is wrong with the name alone, if anything.
-fn find_name_fault(name: &[u8]) -> Option<PathFault>
-    ensures { result ≡ fault_of_name name.now }
+/// How many names the octets spell, or their fault, if they spell no path. Takes no memory. Cost: one pass over the octets.
+pub(crate) fn count_names(octets: &[u8]) -> Result<usize, PathFault>
+    ensures { MatchResult result (λ count. (fault_of octets.now ≡ None) × (count ≡ length (names_in octets.now)))
+        (λ fault. fault_of octets.now ≡ Some fault) }
 {
-    if name.is_empty() {
+    let names = strip_slash(octets);
+    if names.is_empty() {
+        return Err(PathFault::Empty);
+    }
+    let mut count = 0;
+    let mut start = 0;
+    let mut holds_zero = false;
+    for index in 0..names.len() {
+        let octet = names[index];
+        if octet == b'/' {
+            if let Some(fault) = fault_at(count, &names[start..index], holds_zero) {
+                return Err(fault);
+            }
+            count += 1;
+            start = index + 1;
+            holds_zero = false;
+        } else if octet == 0 {
+            holds_zero = true;
+        }
+    }
+    if let Some(fault) = fault_at(count, &names[start..], holds_zero) {
+        return Err(fault);
+    }
+    Ok(count + 1)
+}
+
+/// What is wrong with the name that comes after `count` others, if anything.
+fn fault_at(count: usize, name: &[u8], holds_zero: bool) -> Option<PathFault>
+    requires { holds_zero ≡ list_any (λ octet. octet == 0) name.now }
+    ensures { result ≡ if count == 8 then Some PathFault.TooDeep else fault_of_name name.now }
+{
+    if count == MOST_NAMES {
+        Some(PathFault::TooDeep)
+    } else if name.is_empty() {
         Some(PathFault::EmptyName)
-    } else if is_dots(name) || name.contains(&0) {
+    } else if holds_zero || is_dots(name) {
         Some(PathFault::BadName)
     } else if name.len() > LONGEST_NAME {
         Some(PathFault::NameTooLong)

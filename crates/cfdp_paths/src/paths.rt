@@ -10,11 +10,11 @@ ghost use Rattle.cfdp_paths.specs.Faults.{fault_of};
 ghost use Rattle.cfdp_paths.specs.Paths.{Name, IsPath, Spells, ancestors, is_at_or_below, is_below, joined, names_of, parent, path_cmp, path_in, path_of, rebased, same_path, unless_root};
 
 use crate::Memory;
-use crate::buffers::{SEPARATOR, begins, count_separators, first_names, replaced};
+use crate::buffers::{SEPARATOR, begins, first_names, replaced};
 use crate::fault::PathFault;
 use crate::names::Names;
 use crate::octet_order::{is_same, order};
-use crate::parsing::{find_fault, strip_slash};
+use crate::parsing::{count_names, strip_slash};
 use std::alloc::Global;
 use std::cmp::Ordering;
 use std::fmt;
@@ -53,7 +53,7 @@ impl Path {
     /// The leftmost faulty name decides; within a name [`PathFault::EmptyName`], [`PathFault::BadName`] and
     /// [`PathFault::NameTooLong`] come in this order. A ninth name is [`PathFault::TooDeep`] before it is looked at. Octets
     /// that spell no path are told so whether or not there is memory; [`PathFault::Memory`] comes only where a path is
-    /// spelled. Cost: a few passes over the octets, and, where they spell a path, one allocation of their length.
+    /// spelled. Cost: one pass over the octets, and, where they spell a path, one allocation of their length and a copy.
     pub fn parse(alloc: Global, octets: &[u8]) -> Result<Path, PathFault>
         ensures path { IfOk result (λ path. Spells octets.now path) }
         ensures only { (path : List Name) → Spells octets.now path → (result ≡ Ok path) ⊎ (result ≡ Err PathFault.Memory) }
@@ -63,11 +63,11 @@ impl Path {
         ensures fault { IfErr result (λ fault. fault ≢ PathFault.Memory → fault_of octets.now ≡ Some fault) }
         ensures first { (fault : PathFault) → fault_of octets.now ≡ Some fault → result ≡ Err fault }
     {
-        if let Some(fault) = find_fault(octets) {
-            return Err(fault);
-        }
+        let depth = match count_names(octets) {
+            Ok(depth) => depth,
+            Err(fault) => return Err(fault),
+        };
         let octets = replaced(alloc, strip_slash(octets), b'/', SEPARATOR)?;
-        let depth = count_separators(&octets) + 1;
         Ok(Path { octets, depth })
     }
 
