@@ -40,6 +40,27 @@ pub(crate) struct Session<S> {
     ghost within: { length line.items ≤ line_limit },
 }
 
+/// Runs a line, and appends its text.
+fn answer_line<S: Script>(
+    script: &mut S,
+    alloc: Global,
+    line: &[u8],
+    text: &mut Vec<u8>,
+) -> Result<(), LineFault>
+    ensures ok { OnOk result (Answers (line_answer S.answer) (S.state script.old) (S.state script.new)
+        line.now text.old.items text.new.items) }
+    ensures bad { result ≡ Err Bad → line_answer S.answer (S.state script.old) line.now ≡ None }
+    ensures kept { OnErr result (text.new.items ≡ text.old.items) }
+{
+    if line.len() > LINE_LIMIT {
+        return Err(LineFault::Bad);
+    }
+    if line.first() == Some(&COMMENT) {
+        return Ok(());
+    }
+    script.line(alloc, line, text)
+}
+
 impl<S: Script> Session<S> {
     ghost use Rattle.cfdp_lines.specs.Places.{place_of};
 
@@ -79,10 +100,23 @@ impl<S: Script> Session<S> {
         ensures bad { result ≡ Err Bad → line_answer S.answer (S.state self.old.script) self.old.line.items ≡ None }
         ensures kept { OnErr result (self.new.text.items ≡ self.old.text.items) }
     {
-        if self.line.first() == Some(&COMMENT) {
-            return Ok(());
-        }
-        self.script.line(alloc, &self.line, &mut self.text)
+        answer_line(&mut self.script, alloc, &self.line, &mut self.text)
+    }
+
+    /// Runs a whole line where it lies among the octets that came, where none of it came before. It is not copied.
+    fn run_whole(&mut self, alloc: Global, line: &[u8]) -> Result<(), LineFault>
+        requires { self.old.number + 1 < 2 ^ 64 }
+        ensures ok { OnOk result (Answers (line_answer S.answer) (S.state self.old.script) (S.state self.new.script)
+            line.now self.old.text.items self.new.text.items) }
+        ensures line { self.new.line ≡ self.old.line }
+        ensures number { OnOk result (self.new.number ≡ self.old.number + 1) }
+        ensures bad { result ≡ Err Bad → line_answer S.answer (S.state self.old.script) line.now ≡ None }
+        ensures kept { OnErr result (self.new.text.items ≡ self.old.text.items) }
+        ensures same { OnErr result (self.new.number ≡ self.old.number) }
+    {
+        answer_line(&mut self.script, alloc, line, &mut self.text)?;
+        self.number += 1;
+        Ok(())
     }
 
     /// Takes some octets of the line that is being read.
@@ -118,7 +152,7 @@ impl<S: Script> Session<S> {
     }
 
     /// Takes the next octets of the script up to the next newline, or all where there is none, and answers how many;
-    /// a line that ends is run.
+    /// a line that ends is run. Only a line that did not come whole is copied.
     fn take(&mut self, alloc: Global, octets: &[u8]) -> Result<usize, LineFault>
         requires some { 0 < length octets.now }
         requires number { self.old.number + 1 < 2 ^ 64 }
@@ -135,7 +169,12 @@ impl<S: Script> Session<S> {
             self.gather(octets)?;
             return Ok(octets.len());
         };
-        self.gather(&octets[..at])?;
+        let line = &octets[..at];
+        if self.line.is_empty() {
+            self.run_whole(alloc, line)?;
+            return Ok(at + 1);
+        }
+        self.gather(line)?;
         self.end_line(alloc)?;
         Ok(at + 1)
     }

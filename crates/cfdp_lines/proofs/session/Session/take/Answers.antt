@@ -1,4 +1,5 @@
-use Rattle.std.proofs.Common.{◌≡◌, true, Err, ◌++◌, take, get_or, arith}
+use Rattle.std.proofs.Common.{◌≡◌, true, Err, [], ◌++◌, length, take, get_or, arith, rules}
+use Rattle.std.proofs.lemmas.List.{nil_from_length}
 use Rattle.std.proofs.lemmas.Result.{err_from_is_err_and}
 use Rattle.cfdp_lines.specs.declared.script.LineFault.TheVariants.{Bad}
 use Rattle.cfdp_lines.specs.Lines.{is_newline, IsOneLine}
@@ -41,3 +42,22 @@ returns-clause-ok g c =
     rw (c.in_ok-end_line.ensures.number, c.in_ok-end_line.ensures.line, c.gather-2.ensures.number)
     (Adds-line _ _ _ _ _ _ _ _ _ c.in-Some.at one_line c.in-Some.ensures.0.high newline
     (rw (gathered, c.gather-2.ensures.script, c.gather-2.ensures.text) at c.in_ok-end_line.ensures.ok))
+
+pub returns-in_err-run_whole-clause-bad : goal.returns-in_err-run_whole-clause-bad
+returns-in_err-run_whole-clause-bad g c = λ e.
+    let p = err_from_is_err_and c.from_residual-in_err-run_whole.result c.from_residual-in_err-run_whole.ensures.1 in
+    let same : c.run_whole.result ≡ Err Bad = cc (p.1, p.2, c.in_err-run_whole.was) in
+    let few : length c.args.self.now.line.items ≡ 0 = search rules in
+    let none = nil_from_length c.args.self.now.line.items few in
+    let newline : is_newline (get_or c.args.octets.now c.in-Some.at 0) ≡ true = c.in-Some.ensures.1 in
+    let one_line = one_line-before c.args.octets.now c.in-Some.at (omega (arith, c.in-Some.ensures.0.high)) c.in-Some.ensures.0.before in
+    rw none (Stops-line _ _ _ _ [] _ c.in-Some.at one_line c.in-Some.ensures.0.high newline (c.run_whole.ensures.bad same))
+
+pub returns-then-is_empty-clause-ok : goal.returns-then-is_empty-clause-ok
+returns-then-is_empty-clause-ok g c =
+    let few : length c.args.self.now.line.items ≡ 0 = search rules in
+    let none = nil_from_length c.args.self.now.line.items few in
+    let newline : is_newline (get_or c.args.octets.now c.in-Some.at 0) ≡ true = c.in-Some.ensures.1 in
+    let one_line = one_line-before c.args.octets.now c.in-Some.at (omega (arith, c.in-Some.ensures.0.high)) c.in-Some.ensures.0.before in
+    rw (c.in_ok-run_whole.ensures.number, c.in_ok-run_whole.ensures.line, none)
+    (Adds-line _ _ _ _ _ [] _ _ _ c.in-Some.at one_line c.in-Some.ensures.0.high newline c.in_ok-run_whole.ensures.ok)
