@@ -153,6 +153,9 @@ impl Path {
         requires { depth ≤ length self.now }
         ensures path { path_in (option_copied result) ≡ take depth self.now }
     {
+        if depth == self.depth {
+            return self.octets();
+        }
         if depth == 0 {
             return None;
         }
@@ -179,6 +182,9 @@ impl Path {
         requires within { depth ≤ length self.now }
         ensures { IfOk result (λ path. path ≡ take depth self.now) }
     {
+        if depth == self.depth {
+            return self.copy(alloc);
+        }
         let octets = Vec::from_slice(alloc, first_names(&self.octets, depth))?;
         Ok(Path { octets, depth })
     }
