@@ -72,7 +72,7 @@ shared_ancestors item p q h a =
     stands-append_right q (read_in item) (flat_map ancestors (named_in item)) (stands-flat_map ancestors (named_in item) p q h a)
 
 -- an ancestor of an ancestor is one
-higher : (n p q : Path) → stands p (ancestors n) → stands q (ancestors p) → stands q (ancestors n)
+pub higher : (n p q : Path) → stands p (ancestors n) → stands q (ancestors p) → stands q (ancestors n)
 higher n p q first second =
     let low = ancestor_above n p first in
     let high = ancestor_above p q second in
@@ -95,7 +95,7 @@ item_ancestors item p q (inr h) a =
           shared_ancestors item found.0 q found.1 (higher found.0 p q found.2 a)
     ]
 
-list_ancestors : (items : List Item) (p q : Path) → stands p (flat_map exclusive_in items) ⊎ stands p (flat_map shared_in items) → stands q (ancestors p) → stands q (flat_map shared_in items)
+pub list_ancestors : (items : List Item) (p q : Path) → stands p (flat_map exclusive_in items) ⊎ stands p (flat_map shared_in items) → stands q (ancestors p) → stands q (flat_map shared_in items)
 list_ancestors [] p q (inl h) a = absurd (true≢false (sym h))
 list_ancestors [] p q (inr h) a = absurd (true≢false (sym h))
 list_ancestors (item ∷ items) p q (inl h) a =

@@ -6,6 +6,7 @@ pub mod Rooted
 pub mod Views
 pub mod Apart
 pub mod Ordered
+pub mod Closed
 pub mod Held
 pub mod Admitted
 pub mod Places

@@ -8,6 +8,7 @@
 --     leased                             both kinds together
 --     HasAncestors fp                    the proper ancestors of what it leases are shared, and it does not lease the root exclusively
 --     AreNamed paths                     none of them is the root
+--     HaveAncestors paths                each path's proper ancestors are among them
 --     IsSound exclusive shared           both lists are in path order, each path once, with the ancestors of their paths
 --     has_any paths wanted               one of the wanted paths is in the set
 --     is_exclusive, is_shared, is_covered, covers      how a footprint holds a path: at or below an exclusive one, else as a shared one
@@ -89,6 +90,10 @@ pub record HasAncestors (fp : Footprint) : Type 0 where
 -- none of the paths is the root
 abbrev pub AreNamed : List Path → Type 0
 AreNamed paths = AllByRecursion (λ p. p ≢ []) paths
+
+-- the proper ancestors of each path are among the paths
+abbrev pub HaveAncestors : List Path → Type 0
+HaveAncestors paths = (p q : Path) → IsTrue (list_any (same_path p) paths) → IsTrue (list_any (same_path q) (ancestors p)) → IsTrue (list_any (same_path q) paths)
 
 -- both lists are in path order, each path once, and they have the ancestors of their paths
 pub record IsSound (exclusive shared : List Path) : Type 0 where

@@ -7,7 +7,7 @@ ghost use Rattle.std.specs.List.Sorted.{IsStrictlySortedBy};
 ghost use Rattle.std.specs.Option.{option_copied};
 ghost use Rattle.cfdp_paths.specs.Paths.{ancestors, path_cmp, same_path};
 ghost use Rattle.cfdp_actions.specs.Actions.{Perform};
-ghost use Rattle.cfdp_leases.specs.Footprint.{AreNamed, SameSet, exclusive_in, footprint_of, read_in, shared_in};
+ghost use Rattle.cfdp_leases.specs.Footprint.{AreNamed, HaveAncestors, SameSet, exclusive_in, footprint_of, read_in, shared_in};
 ghost use Rattle.cfdp_leases.specs.Items.{install_of, items_of};
 
 use crate::footprints::Footprint;
@@ -20,8 +20,8 @@ use std::alloc::Global;
 ///
 /// # Errors
 ///
-/// Want of memory. Cost: for each named path and each of its proper ancestors a binary search among those gathered so
-/// far. A path is copied once, however often it comes; it is put in its place then, and those behind it are shifted.
+/// Want of memory. Cost: for each named path two binary searches among those gathered so far, of the path and of its
+/// parent; where the parent is new, one for each proper ancestor. A path is copied once, however often it comes; it is put in its place then, and those behind it are shifted.
 pub fn footprint(
     alloc: Global,
     requests: &[Request],
@@ -34,8 +34,8 @@ pub fn footprint(
     add_install(alloc, &mut exclusive, &mut shared, destination)?;
     for request in requests {
         add_changed(alloc, &mut exclusive, request)?;
-        add_read(alloc, &mut shared, request)?;
         add_above(alloc, &mut shared, request)?;
+        add_read(alloc, &mut shared, request)?;
     }
     Ok(Footprint { exclusive, shared })
 }
@@ -49,6 +49,7 @@ fn add_install(
 ) -> Result<(), Memory>
     requires exclusive_ordered { IsStrictlySortedBy path_cmp exclusive.old.items }
     requires shared_ordered { IsStrictlySortedBy path_cmp shared.old.items }
+    requires above { HaveAncestors shared.old.items }
     ensures exclusive_ordered { OnOk result (IsStrictlySortedBy path_cmp exclusive.new.items) }
     ensures shared_ordered { OnOk result (IsStrictlySortedBy path_cmp shared.new.items) }
     ensures named { AreNamed exclusive.old.items → OnOk result (AreNamed exclusive.new.items) }
@@ -92,7 +93,8 @@ fn add_read(alloc: Global, paths: &mut Vec<Path>, request: &Request) -> Result<(
 
 /// Adds the proper ancestors of the paths that a request names.
 fn add_above(alloc: Global, paths: &mut Vec<Path>, request: &Request) -> Result<(), Memory>
-    requires { IsStrictlySortedBy path_cmp paths.old.items }
+    requires ordered { IsStrictlySortedBy path_cmp paths.old.items }
+    requires above { HaveAncestors paths.old.items }
     ensures ordered { OnOk result (IsStrictlySortedBy path_cmp paths.new.items) }
     ensures added { OnOk result (SameSet paths.new.items (paths.old.items ++ flat_map ancestors (exclusive_in (Perform request.now) ++ read_in (Perform request.now)))) }
 {
@@ -103,16 +105,31 @@ fn add_above(alloc: Global, paths: &mut Vec<Path>, request: &Request) -> Result<
     }
 }
 
-/// Adds the proper ancestors of a path.
+/// Adds the proper ancestors of a path to paths that have those of each.
 fn add_ancestors(alloc: Global, paths: &mut Vec<Path>, path: &Path) -> Result<(), Memory>
-    requires { IsStrictlySortedBy path_cmp paths.old.items }
+    requires ordered { IsStrictlySortedBy path_cmp paths.old.items }
+    requires above { HaveAncestors paths.old.items }
     ensures ordered { OnOk result (IsStrictlySortedBy path_cmp paths.new.items) }
     ensures added { OnOk result (SameSet paths.new.items (paths.old.items ++ ancestors path.now)) }
+    ensures above { OnOk result (HaveAncestors paths.new.items) }
 {
+    if has_ancestors(paths, path) {
+        return Ok(());
+    }
     for depth in 1..path.depth() {
         add_beginning(alloc, paths, path, depth)?;
     }
     Ok(())
+}
+
+/// Whether the proper ancestors of a path are there: where its parent is, all are. Cost: one binary search at most.
+fn has_ancestors(paths: &[Path], path: &Path) -> bool
+    requires ordered { IsStrictlySortedBy path_cmp paths.now }
+    requires above { HaveAncestors paths.now }
+    ensures { IsTrue result → SameSet paths.now (paths.now ++ ancestors path.now) }
+{
+    let depth = path.depth();
+    depth == 1 || find_beginning(paths, path, depth - 1).is_ok()
 }
 
 /// Adds a path, in its place.

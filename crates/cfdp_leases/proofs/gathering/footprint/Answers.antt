@@ -7,6 +7,7 @@ use Rattle.cfdp_actions.specs.Actions.{Perform}
 use Rattle.cfdp_leases.specs.Footprint.{exclusive_in, read_in, shared_in}
 use Rattle.cfdp_leases.specs.Items.{items_of}
 use Rattle.cfdp_leases.proofs.Conflict.{gathered}
+use Rattle.cfdp_leases.proofs.Closed.{none_closed, listed_closed, same_set-swap}
 use Rattle.cfdp_leases.proofs.Ordered.{sorted-none, same_set-append, same_set-then, items-more}
 use Rattle.cfdp_leases.proofs.gathering.footprint.Goals as goal
 
@@ -16,6 +17,14 @@ add_install-requires-clause-exclusive_ordered c = rw (c.new-exclusive.ensures.it
 pub add_install-requires-clause-shared_ordered : goal.add_install-requires-clause-shared_ordered
 add_install-requires-clause-shared_ordered c = rw (c.new-shared.ensures.items) sorted-none
 
+pub add_install-requires-clause-above : goal.add_install-requires-clause-above
+add_install-requires-clause-above c = rw (c.new-shared.ensures.items) none_closed
+
+-- what was gathered so far has the ancestors of its paths
+pub add_above-requires-clause-above : goal.add_above-requires-clause-above
+add_above-requires-clause-above c =
+    listed_closed (items_of (option_copied c.args.destination) (take c.loop-request.request-index c.args.requests.now)) c.loop-request.shared.items c.loop-request.invariant.shared
+
 pub loop-request-preserved : goal.loop-request-preserved
 loop-request-preserved c =
     let destination = option_copied c.args.destination in
@@ -23,15 +32,16 @@ loop-request-preserved c =
     let item = Perform c.request-item.result in
     record {
       exclusive_ordered = c.in_ok-add_changed.ensures.ordered;
-      shared_ordered = c.in_ok-add_above.ensures.ordered;
+      shared_ordered = c.in_ok-add_read.ensures.ordered;
       named = c.in_ok-add_changed.ensures.named c.loop-request.invariant.named;
       exclusive =
           c.in_ok-add_changed.ensures.added
           ∙ same_set-append c.loop-request.exclusive.items (flat_map exclusive_in (items_of destination requests)) (exclusive_in item) c.loop-request.invariant.exclusive
           ∙ ap set.from_list (sym (items-more exclusive_in destination c.args.requests.now c.loop-request.request-index c.request-item.result c.loop-request-test.true c.request-item.is));
       shared =
-          same_set-then c.loop-request.shared.items c.add_read.new.paths.items c.add_above.new.paths.items (read_in item) (flat_map ancestors (exclusive_in item ++ read_in item))
-          c.in_ok-add_read.ensures.added c.in_ok-add_above.ensures.added
+          same_set-then c.loop-request.shared.items c.add_above.new.paths.items c.add_read.new.paths.items (flat_map ancestors (exclusive_in item ++ read_in item)) (read_in item)
+          c.in_ok-add_above.ensures.added c.in_ok-add_read.ensures.added
+          ∙ same_set-swap c.loop-request.shared.items (flat_map ancestors (exclusive_in item ++ read_in item)) (read_in item)
           ∙ same_set-append c.loop-request.shared.items (flat_map shared_in (items_of destination requests)) (shared_in item) c.loop-request.invariant.shared
           ∙ ap set.from_list (sym (items-more shared_in destination c.args.requests.now c.loop-request.request-index c.request-item.result c.loop-request-test.true c.request-item.is));
     }
