@@ -1,10 +1,13 @@
 pub mod Answering
 pub mod Decoding
 pub mod Hearing
+pub mod Keeping
 pub mod Numbering
+pub mod Pairs
 pub mod Preparing
 pub mod Reconciling
 pub mod SameConfig
 pub mod Statuses
 pub mod Steps
+pub mod Vectors
 pub mod Words

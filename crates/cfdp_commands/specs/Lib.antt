@@ -1,4 +1,5 @@
 pub mod Commands
+pub mod Digits
 pub mod Hexadecimal
 pub mod JournalTexts
 pub mod Linked

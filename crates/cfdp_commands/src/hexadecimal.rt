@@ -1,22 +1,14 @@
 //! Hexadecimal in a line of a script.
-ghost use Rattle.std.specs.Prelude.{◌≡◌, ◌/◌, ◌++◌, ◌↔◌, [], length, Some, None, Err, IsOk, IsErr, OnOk, OnErr};
+ghost use Rattle.std.specs.Prelude.{◌≡◌, ◌++◌, [], Some, None, Err, IsOk, IsErr, OnOk, OnErr};
 ghost use Rattle.hex.specs.Hex.{decode_of};
 ghost use Rattle.cfdp_commands.specs.Hexadecimal.{hex_octets, octets_in};
 ghost use Rattle.cfdp_lines.specs.declared.script.LineFault.TheVariants.{Bad};
 
+use crate::digits::decode_into;
 use cfdp_lines::LineFault;
 use memchr::memchr;
 
 const SPACE: u8 = b' ';
-
-/// Decodes a word into room for as many octets as it has pairs of digits.
-fn decode_into(word: &[u8], room: &mut [u8]) -> Result<(), LineFault>
-    requires { length room.old ≡ length word.now / 2 }
-    ensures octets { OnOk result (room.new ≡ octets_in (decode_of word.now)) }
-    ensures good { IsOk result ↔ IsOk (decode_of word.now) }
-{
-    hex::decode_to_slice(word, room).map_err(|_| LineFault::Bad)
-}
 
 /// Appends the octets of a word: pairs of digits in either case.
 fn decode_word(word: &[u8], octets: &mut Vec<u8>) -> Result<(), LineFault>

@@ -8,6 +8,7 @@
 
 mod closed_text;
 mod commands;
+mod digits;
 mod dropped;
 mod entity;
 mod hexadecimal;

@@ -1,0 +1,131 @@
+//! Words of hexadecimal digits, decoded without a branch on a digit: which digits come cannot be foreseen.
+ghost use Rattle.std.specs.Prelude.{◌≡◌, ◌*◌, ◌/◌, ◌≤◌, ◌↔◌, length, map, IsOk, OnOk};
+ghost use Rattle.hex.specs.Hex.{decode_of};
+ghost use Rattle.cfdp_commands.specs.Digits.{AreOctets, ArePairs, value_of};
+ghost use Rattle.cfdp_commands.specs.Hexadecimal.{octets_in};
+
+use cfdp_lines::LineFault;
+use std::simd::prelude::*;
+
+/// For each octet the value of the digit that it is, or 255 where it is none.
+static VALUES: [u8; 256] = [
+    255, 255, 255, 255, 255, 255, 255, 255, 255, 255, 255, 255, 255, 255, 255, 255, 255, 255, 255,
+    255, 255, 255, 255, 255, 255, 255, 255, 255, 255, 255, 255, 255, 255, 255, 255, 255, 255, 255,
+    255, 255, 255, 255, 255, 255, 255, 255, 255, 255, 0, 1, 2, 3, 4, 5, 6, 7, 8, 9, 255, 255, 255,
+    255, 255, 255, 255, 10, 11, 12, 13, 14, 15, 255, 255, 255, 255, 255, 255, 255, 255, 255, 255,
+    255, 255, 255, 255, 255, 255, 255, 255, 255, 255, 255, 255, 255, 255, 255, 255, 10, 11, 12, 13,
+    14, 15, 255, 255, 255, 255, 255, 255, 255, 255, 255, 255, 255, 255, 255, 255, 255, 255, 255,
+    255, 255, 255, 255, 255, 255, 255, 255, 255, 255, 255, 255, 255, 255, 255, 255, 255, 255, 255,
+    255, 255, 255, 255, 255, 255, 255, 255, 255, 255, 255, 255, 255, 255, 255, 255, 255, 255, 255,
+    255, 255, 255, 255, 255, 255, 255, 255, 255, 255, 255, 255, 255, 255, 255, 255, 255, 255, 255,
+    255, 255, 255, 255, 255, 255, 255, 255, 255, 255, 255, 255, 255, 255, 255, 255, 255, 255, 255,
+    255, 255, 255, 255, 255, 255, 255, 255, 255, 255, 255, 255, 255, 255, 255, 255, 255, 255, 255,
+    255, 255, 255, 255, 255, 255, 255, 255, 255, 255, 255, 255, 255, 255, 255, 255, 255, 255, 255,
+    255, 255, 255, 255, 255, 255, 255, 255, 255, 255, 255, 255, 255, 255, 255, 255, 255, 255, 255,
+    255, 255, 255,
+];
+
+/// All of them.
+fn values() -> &'static [u8; 256]
+    ensures { result.now ≡ VALUES }
+{
+    &VALUES
+}
+
+/// The value of a digit, in either case; 255 of an octet that is none. Cost: one look-up.
+fn value_of(octet: u8) -> u8
+    ensures { result ≡ value_of octet }
+{
+    values()[usize::from(octet)]
+}
+
+/// How many octets a vector has.
+const LANES: usize = 16;
+
+/// The values of digits, in either case; 255 of each octet that is none.
+#[inline(always)]
+fn values_in(octets: u8x16) -> u8x16
+    requires { AreOctets octets }
+    ensures { result ≡ map value_of octets }
+{
+    let digits = octets - u8x16::splat(b'0');
+    let letters = (octets | u8x16::splat(32)) - u8x16::splat(b'a');
+    let is_letter = letters.simd_lt(u8x16::splat(6));
+    let others = is_letter.select(letters + u8x16::splat(10), u8x16::splat(255));
+    digits.simd_lt(u8x16::splat(10)).select(digits, others)
+}
+
+/// Decodes the first sixteen pairs of octets, whether they are digits or not. Returns what [`decode_pairs`] returns.
+#[inline(always)]
+fn decode_block(word: &[u8], room: &mut [u8]) -> u8
+    requires word { 2 * LANES ≤ length word.now }
+    requires room { LANES ≤ length room.old }
+    ensures { ArePairs word.now room.new LANES result }
+{
+    let front = values_in(u8x16::from_slice(word));
+    let back = values_in(u8x16::from_slice(&word[LANES..]));
+    let (high, low) = front.deinterleave(back);
+    (high * u8x16::splat(16) + low).copy_to_slice(room);
+    (high | low).reduce_or()
+}
+
+/// Decodes pairs of octets, whether they are digits or not, one by one. Returns what [`decode_pairs`] returns.
+fn decode_few(word: &[u8], room: &mut [u8]) -> u8
+    requires { length word.now ≡ 2 * length room.old }
+    ensures { ArePairs word.now room.new (length room.old) result }
+{
+    let mut seen = 0;
+    'pairs: for index in 0..room.len() {
+        let high = value_of(word[2 * index]);
+        let low = value_of(word[2 * index + 1]);
+        seen |= high | low;
+        room[index] = high.wrapping_mul(16).wrapping_add(low);
+    }
+    seen
+}
+
+/// Decodes pairs of octets, whether they are digits or not, sixteen at once. The last sixteen may include some that are
+/// decoded already. Returns what [`decode_pairs`] returns.
+fn decode_many(word: &[u8], room: &mut [u8]) -> u8
+    requires word { length word.now ≡ 2 * length room.old }
+    requires many { LANES ≤ length room.old }
+    ensures { ArePairs word.now room.new (length room.old) result }
+{
+    let mut seen = 0;
+    let mut start = 0;
+    'vectors: while room.len() - start > LANES {
+        seen |= decode_block(&word[2 * start..], &mut room[start..]);
+        start += LANES;
+    }
+    let last = room.len() - LANES;
+    seen | decode_block(&word[2 * last..], &mut room[last..])
+}
+
+/// Decodes pairs of octets, whether they are digits or not. Returns their values, all or-ed together: below 16 exactly
+/// if each is a digit. It takes no branch on a digit.
+fn decode_pairs(word: &[u8], room: &mut [u8]) -> u8
+    requires { length word.now ≡ 2 * length room.old }
+    ensures { ArePairs word.now room.new (length room.old) result }
+{
+    if room.len() < LANES {
+        decode_few(word, room)
+    } else {
+        decode_many(word, room)
+    }
+}
+
+/// Decodes a word into room for as many octets as it has pairs of digits.
+pub(crate) fn decode_into(word: &[u8], room: &mut [u8]) -> Result<(), LineFault>
+    requires { length room.old ≡ length word.now / 2 }
+    ensures octets { OnOk result (room.new ≡ octets_in (decode_of word.now)) }
+    ensures good { IsOk result ↔ IsOk (decode_of word.now) }
+{
+    if word.len() % 2 != 0 {
+        return Err(LineFault::Bad);
+    }
+    if decode_pairs(word, room) < 16 {
+        Ok(())
+    } else {
+        Err(LineFault::Bad)
+    }
+}
