@@ -165,8 +165,11 @@ impl Stage {
         Ok(())
     }
 
-    /// The receiving entity begins here, where no event came before.
-    pub(crate) fn begin(&mut self, alloc: Global) -> Result<(), AllocError>
+    /// The receiving entity begins here, where no event came before. Not inlined: the room of its locals is large, and the
+    /// lines after the first event are not to pay for it.
+    #[cold]
+    #[inline(never)]
+    fn create_entity(&mut self, alloc: Global) -> Result<(), AllocError>
         ensures { OnOk result (stage_of self.new ≡ IsRunning (world_of (stage_of self.old))) }
     {
         let Stage::Preparing(_, config, protected) = self else {
@@ -175,6 +178,16 @@ impl Stage {
         let config = with_prefixes(config, mem::replace(protected, Protected::new()));
         *self = Stage::Running(entity_of(alloc, config)?);
         Ok(())
+    }
+
+    /// The same. Costs nothing after the first event.
+    pub(crate) fn begin(&mut self, alloc: Global) -> Result<(), AllocError>
+        ensures { OnOk result (stage_of self.new ≡ IsRunning (world_of (stage_of self.old))) }
+    {
+        match self {
+            Stage::Preparing(..) => self.create_entity(alloc),
+            Stage::Running(_) => Ok(()),
+        }
     }
 
     /// The core of the entity, which begins here where no event came before.
