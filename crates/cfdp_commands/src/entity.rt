@@ -1,7 +1,9 @@
 //! A receiving entity that a script tells what happens.
 ghost use Rattle.std.specs.Prelude.{◌≡◌, ◌++◌, ℕ, List, IfOk, OnOk};
 ghost use Rattle.cfdp_actions.specs.Store.{empty_store};
+ghost use Rattle.cfdp_pdus.specs.Canonical.{IsHeader};
 ghost use Rattle.cfdp_transactions.specs.Events.{about, event_at};
+ghost use Rattle.cfdp_transactions.specs.declared.event.Event.TheVariants.{Data as DataCame};
 ghost use Rattle.cfdp_transactions.specs.Next.{next, replies, run};
 ghost use Rattle.cfdp_transactions.specs.World.{start};
 ghost use Rattle.cfdp_transactions.specs.Writable.{IsReadable};
@@ -10,9 +12,9 @@ ghost use Rattle.cfdp_commands.specs.Replay.{Running, most_runs, read_told, step
 ghost use Rattle.cfdp_texts.specs.Replies.{listing_text, reply_line, told_lines};
 
 use cfdp_actions::Filestore;
-use cfdp_pdus::PduFault;
+use cfdp_pdus::{Header, PduFault, Piece, read_piece};
 use cfdp_texts::{fault_line, not_ours_line, write_listing, write_reply};
-use cfdp_transactions::{Config, Core, Event, Reply, laws, read_event};
+use cfdp_transactions::{Config, Core, Event, Reply, laws, read_event, transaction_of};
 use std::alloc::{AllocError, Global};
 
 /// How many steps `run` takes at most.
@@ -54,13 +56,27 @@ impl<S: Filestore> Entity<S> {
         }
     }
 
-    /// Takes the octets of a PDU, and appends the line of what came of them.
-    pub(crate) fn receive(
+    /// Takes a File Data PDU, where its octets lie, and appends the line of its reply.
+    fn keep(
         &mut self,
         alloc: Global,
-        octets: &[u8],
+        header: &Header,
+        piece: &Piece<'_>,
         text: &mut Vec<u8>,
     ) -> Result<(), AllocError>
+        requires { IsHeader header.now }
+        ensures world { OnOk result (self.new.core.world ≡ (next self.old.core.world (DataCame header.now piece.now)).0) }
+        ensures text { OnOk result (text.new.items ≡ text.old.items
+            ++ reply_line (about (DataCame header.now piece.now)) (next self.old.core.world (DataCame header.now piece.now)).1) }
+    {
+        match self.core.file_data(header, piece) {
+            Reply::Memory => Err(AllocError),
+            reply => write_reply(alloc, transaction_of(header), &reply, text),
+        }
+    }
+
+    /// Takes the octets of a PDU that is copied as it is read, and appends the line of what came of them.
+    fn hear(&mut self, alloc: Global, octets: &[u8], text: &mut Vec<u8>) -> Result<(), AllocError>
         ensures { OnOk result ((lines : List ℕ) × (read_told self.old.core.world (event_at octets.now) ≡ (Running self.new.core.world, lines))
             × (text.new.items ≡ text.old.items ++ lines)) }
     {
@@ -70,6 +86,26 @@ impl<S: Filestore> Entity<S> {
             Err(PduFault::Memory) => Err(AllocError),
             Err(fault) => text.extend_from_slice(fault_line(fault)),
         }
+    }
+
+    /// Takes the octets of a PDU, and appends the line of what came of them. The octets of a File Data PDU are copied once,
+    /// into the filestore.
+    pub(crate) fn receive(
+        &mut self,
+        alloc: Global,
+        octets: &[u8],
+        text: &mut Vec<u8>,
+    ) -> Result<(), AllocError>
+        ensures { OnOk result ((lines : List ℕ) × (read_told self.old.core.world (event_at octets.now) ≡ (Running self.new.core.world, lines))
+            × (text.new.items ≡ text.old.items ++ lines)) }
+    {
+        let Some((header, piece)) = read_piece(octets) else {
+            return self.hear(alloc, octets, text);
+        };
+        if header.toward_sender {
+            return text.extend_from_slice(not_ours_line());
+        }
+        self.keep(alloc, &header, &piece, text)
     }
 
     /// Performs the next items, of one transaction after the other, until none has any: at most 4,224. The lines of the
