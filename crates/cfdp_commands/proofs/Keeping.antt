@@ -1,5 +1,5 @@
 -- What a File Data PDU brings, whichever way it goes.
-use Rattle.std.proofs.Common.{◌≡◌, ℕ, List, Bool, true, false, Option, Some, None, Result, Ok, refl, ap, ◌∙◌}
+use Rattle.std.proofs.Common.{◌≡◌, ℕ, List, Bool, true, false, Option, Some, None, Result, Ok, ap, ◌∙◌}
 use Rattle.std.specs.Prelude.{if◌then◌else◌}
 use Rattle.cfdp_pdus.specs.First.{pdu_at}
 use Rattle.cfdp_pdus.specs.Values.{FileDataFields}

@@ -1,5 +1,5 @@
 -- Words decoded by a table: it has the value of each digit, and pairs of digits make the octets.
-use Rattle.std.proofs.Common.{◌≡◌, ◌≢◌, ◌∙◌, ℕ, zero, suc, ◌+◌, ◌*◌, ◌/◌, ◌%◌, ◌<◌, ◌≤◌, Bool, true, false, ◌&&◌, eqb, List, [], ◌∷◌, length, get_or, set, Option, Some, None, Result, Ok, Err, refl, sym, ap, subst, arith, ◌⊎◌, inl, inr, is_some, below_more, get_or-set_other, get_or-set_same}
+use Rattle.std.proofs.Common.{◌≡◌, ◌≢◌, ◌∙◌, ℕ, zero, suc, ◌+◌, ◌*◌, ◌/◌, ◌%◌, ◌<◌, Bool, true, false, ◌&&◌, eqb, List, [], ◌∷◌, length, get_or, set, Option, Some, None, Ok, refl, sym, ap, subst, arith, inl, inr, is_some, below_more, get_or-set_other, get_or-set_same}
 use Rattle.std.specs.Prelude.{IsOk}
 use Rattle.std.specs.Int.Bits.{bit_or}
 use Rattle.std.proofs.lemmas.Bool.{eqb-true, cases_lt}
@@ -46,8 +46,8 @@ value_of-is octet h =
 -- ---- one pair more
 
 -- the octet of pair k
-abbrev octet_at : List ℕ → ℕ → ℕ
-octet_at word k = (value_of (get_or word (2 * k) 0) * 16 % 256 + value_of (get_or word (2 * k + 1) 0)) % 256
+abbrev pub octet_at : List ℕ → ℕ → ℕ
+octet_at word k = value_of (get_or word (2 * k) 0) * 16 + value_of (get_or word (2 * k + 1) 0)
 
 -- a fact of each octet before a pair, and of both of its own
 of_pair : (P : ℕ → Type 0) (i k : ℕ) → k < 2 * (i + 1) → (k < 2 * i → P k) → P (2 * i) → P (2 * i + 1) → P k
@@ -59,9 +59,14 @@ of_pair P i k h below high low = elim (cases_lt k (2 * i)) [
   ]
 ]
 
-pub pair_more : (word room : List ℕ) (i seen high low : ℕ) → i < length room → ArePairs word room i seen
+-- two values make an octet
+pub of_values : (word : List ℕ) (k high low : ℕ) → high < 16 → low < 16
+    → high ≡ value_of (get_or word (2 * k) 0) → low ≡ value_of (get_or word (2 * k + 1) 0) → (high * 16 % 256 + low) % 256 ≡ octet_at word k
+of_values word k high low h l high-is low-is = omega (arith, h, l, high-is, low-is)
+
+pub pair_more : (word room : List ℕ) (i seen high low : ℕ) → i < length room → ArePairs word room i (seen < 16)
     → high ≡ value_of (get_or word (2 * i) 0) → low ≡ value_of (get_or word (2 * i + 1) 0)
-    → ArePairs word (set room i ((high * 16 % 256 + low) % 256)) (i + 1) (bit_or seen (bit_or high low))
+    → ArePairs word (set room i ((high * 16 % 256 + low) % 256)) (i + 1) (bit_or seen (bit_or high low) < 16)
 pair_more word room i seen high low within pairs high-is low-is =
     let pair = bit_or high low in
     let octet = (high * 16 % 256 + low) % 256 in
@@ -69,18 +74,15 @@ pair_more word room i seen high low within pairs high-is low-is =
     let pair-le = le_or_r seen pair in
     let high-le = le_or_l high low in
     let low-le = le_or_r high low in
+    let P : ℕ → Type 0 = λ n. n < 16 in
     record {
-      spelled = below_more (λ k. get_or (set room i octet) k 0 ≡ octet_at word k) i
-          (λ k h. let ne : k ≢ i = omega arith in get_or-set_other room i k octet 0 ne ∙ pairs.spelled k h)
-          (get_or-set_same room i octet 0 within ∙ ap (λ (x : ℕ). (x * 16 % 256 + low) % 256) high-is
-          ∙ ap (λ (x : ℕ). (value_of (get_or word (2 * i) 0) * 16 % 256 + x) % 256) low-is);
+      spelled = λ few. below_more (λ k. get_or (set room i octet) k 0 ≡ octet_at word k) i
+          (λ k h. let ne : k ≢ i = omega arith in get_or-set_other room i k octet 0 ne ∙ pairs.spelled (omega arith) k h)
+          (get_or-set_same room i octet 0 within ∙ of_values word i high low (omega arith) (omega arith) high-is low-is);
       tested = λ few k h. of_pair (λ n. value_of (get_or word n 0) < 16) i k h
-          (pairs.tested (omega arith) k)
-          (let P : ℕ → Type 0 = λ n. n < 16 in subst P high-is (omega arith))
-          (let P : ℕ → Type 0 = λ n. n < 16 in subst P low-is (omega arith));
+          (pairs.tested (omega arith) k) (subst P high-is (omega arith)) (subst P low-is (omega arith));
       good = λ all. or_lt 4 seen pair (pairs.good (λ k h. all k (omega arith)))
-          (or_lt 4 high low (let P : ℕ → Type 0 = λ n. n < 16 in subst P (sym high-is) (all (2 * i) (omega arith)))
-          (let P : ℕ → Type 0 = λ n. n < 16 in subst P (sym low-is) (all (2 * i + 1) (omega arith))));
+          (or_lt 4 high low (subst P (sym high-is) (all (2 * i) (omega arith))) (subst P (sym low-is) (all (2 * i + 1) (omega arith))));
     }
 
 -- ---- all pairs
@@ -113,24 +115,23 @@ of_digits at (a ∷ b ∷ rest) (o ∷ os) len spelled small =
     let a-is = some_value a at (hex_digit_value a) a-lt in
     let b-is = some_value b (at + 1) (hex_digit_value b) b-lt in
     let pair : pair_value a b at ≡ Ok (value_of a * 16 + value_of b) = rw (a-is, b-is) refl in
-    let first : o ≡ (value_of a * 16 % 256 + value_of b) % 256 = spelled 0 (omega arith) in
-    let o-is : value_of a * 16 + value_of b ≡ o = omega (arith, first, a-lt, b-lt) in
+    let o-is : value_of a * 16 + value_of b ≡ o = sym (spelled 0 (omega arith)) in
     let two : (k : ℕ) → 2 * suc k ≡ suc (suc (2 * k)) = λ k. omega arith in
     let two_more : (k : ℕ) → 2 * suc k + 1 ≡ suc (suc (2 * k + 1)) = λ k. omega arith in
     let moved : (k : ℕ) → octet_at word (suc k) ≡ octet_at rest k = λ k.
-    ap (λ (n : ℕ). (value_of (get_or word n 0) * 16 % 256 + value_of (get_or word (2 * suc k + 1) 0)) % 256) (two k)
-    ∙ ap (λ (n : ℕ). (value_of (get_or rest (2 * k) 0) * 16 % 256 + value_of (get_or word n 0)) % 256) (two_more k) in
+    ap (λ (n : ℕ). value_of (get_or word n 0) * 16 + value_of (get_or word (2 * suc k + 1) 0)) (two k)
+    ∙ ap (λ (n : ℕ). value_of (get_or rest (2 * k) 0) * 16 + value_of (get_or word n 0)) (two_more k) in
     let ih = of_digits (at + 2) rest os (omega arith) (λ k h. spelled (suc k) (omega arith) ∙ moved k) (λ k h. small (suc (suc k)) (omega arith)) in
     decode_pairs-ok_pair at a b (value_of a * 16 + value_of b) rest pair
     ∙ ap (cons_byte (value_of a * 16 + value_of b)) ih
     ∙ ap (λ (v : ℕ). Ok (v ∷ os)) o-is
 
 module _ (word out : List ℕ) (n seen : ℕ) (even : length word % 2 ≡ 0) (half : n ≡ length word / 2) (len : length out ≡ n)
-    (pairs : ArePairs word out n seen) where
+    (pairs : ArePairs word out n (seen < 16)) where
   pub word_of_digits : seen < 16 → decode_of word ≡ Ok out
   word_of_digits few =
       decode_of-even word even
-      ∙ of_digits 0 word out (omega arith) (λ k h. pairs.spelled k (omega arith)) (λ k h. pairs.tested few k (omega arith))
+      ∙ of_digits 0 word out (omega arith) (λ k h. pairs.spelled few k (omega arith)) (λ k h. pairs.tested few k (omega arith))
 
   pub word_decoded : seen < 16 → out ≡ octets_in (decode_of word)
   word_decoded few = sym (ap octets_in (word_of_digits few))

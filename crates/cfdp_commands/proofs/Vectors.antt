@@ -1,14 +1,16 @@
 -- Words decoded sixteen octets at once.
-use Rattle.std.proofs.Common.{◌≡◌, ◌∙◌, ℕ, zero, suc, ◌+◌, ◌-◌, ◌*◌, ◌%◌, ◌<◌, ◌≤◌, Bool, true, false, ◌&&◌, cond, eqb, List, [], ◌∷◌, ◌++◌, length, map, take, drop, get_or, length-take, length-drop, replicate, Fits, w8, refl, sym, ap, ap₂, subst, arith, inl, inr}
+use Rattle.std.proofs.Common.{◌≡◌, ◌∙◌, ℕ, zero, suc, ◌+◌, ◌-◌, ◌*◌, ◌/◌, ◌%◌, ◌<◌, ◌≤◌, Bool, true, ◌&&◌, ◌||◌, cond, eqb, leb, List, [], ◌∷◌, ◌++◌, length, map, take, drop, get_or, length-take, length-drop, replicate, Fits, w8, refl, sym, ap, ap₂, subst, arith, inl, inr}
 use Rattle.std.specs.Int.Bits.{bit_or}
-use Rattle.std.proofs.lemmas.Bool.{eqb-true, cases_lt, and_parts}
+use Rattle.std.specs.List.{range_with_len}
+use Rattle.std.specs.Simd.Lanes.{fold_l}
+use Rattle.std.proofs.lemmas.Bool.{cases_lt, and_parts}
 use Rattle.std.proofs.lemmas.List.{take_all, get_or-drop, get_or-map, get_or-take, get_or_past, length-map, get_or_append_left, get_or-append_right}
 use Rattle.std.proofs.lemmas.List.FromFn.{get_or-map-range_with_len}
 use Rattle.std.proofs.lemmas.Nat.{or_lt, le_or_l, le_or_r}
-use Rattle.std.proofs.lemmas.Simd.{length-chunk, get_or-chunk, get_or-put_chunk_at}
-use Rattle.std.specs.List.{range_with_len}
+use Rattle.std.proofs.lemmas.Simd.{length-chunk, get_or-chunk, get_or-put_chunk_at, Each1-get_or, Each1-from_get_or}
 use lib.Lanes.{chunk, zip2, sel_l, top, put_chunk}
-use Rattle.cfdp_commands.specs.Digits.{AreOctets, ArePairs, value_of}
+use Rattle.cfdp_commands.specs.Digits.{AreOctets, ArePairs, AreSmall, AreValues, IsValue, value_of}
+use Rattle.cfdp_commands.proofs.Pairs.{octet_at, of_values}
 
 -- ---- lane by lane
 
@@ -17,7 +19,8 @@ zip2-map h f g [] = refl
 zip2-map h f g (x ∷ xs) = ap (λ r. h (f x) (g x) ∷ r) (zip2-map h f g xs)
 
 -- an operator on two vectors that were made lane by lane from v
-pub joined : (h : ℕ → ℕ → ℕ) (f g : ℕ → ℕ) (v : List ℕ) {a b : List ℕ} → a ≡ map f v → b ≡ map g v → zip2 h a b ≡ map (λ x. h (f x) (g x)) v
+pub joined : (h : ℕ → ℕ → ℕ) (f g : ℕ → ℕ) (v : List ℕ) {a b : List ℕ} → a ≡ map f v → b ≡ map g v
+    → zip2 h a b ≡ map (λ x. h (f x) (g x)) v
 joined h f g v p q = ap₂ (zip2 h) p q ∙ zip2-map h f g v
 
 sel-map : (m f g : ℕ → ℕ) (xs : List ℕ) → sel_l (map (top 7) (map m xs)) (map f xs) (map g xs) ≡ map (λ x. cond (top 7 (m x)) (f x) (g x)) xs
@@ -25,12 +28,21 @@ sel-map m f g [] = refl
 sel-map m f g (x ∷ xs) = ap (λ r. cond (top 7 (m x)) (f x) (g x) ∷ r) (sel-map m f g xs)
 
 -- a choice between two such vectors
-pub chosen : (m f g : ℕ → ℕ) (v : List ℕ) {s a b : List ℕ} → s ≡ map m v → a ≡ map f v → b ≡ map g v
+chosen : (m f g : ℕ → ℕ) (v : List ℕ) {s a b : List ℕ} → s ≡ map m v → a ≡ map f v → b ≡ map g v
     → sel_l (map (top 7) s) a b ≡ map (λ x. cond (top 7 (m x)) (f x) (g x)) v
 chosen m f g v {s} {a} {b} r p q =
     ap (λ (l : List ℕ). sel_l (map (top 7) l) a b) r
     ∙ ap₂ (sel_l (map (top 7) (map m v))) p q
     ∙ sel-map m f g v
+
+-- the lesser of both in each lane, and the greater, by what an operator tells of them
+pub lesser : (h : ℕ → ℕ → ℕ) (f g : ℕ → ℕ) (v : List ℕ) {a b : List ℕ} → a ≡ map f v → b ≡ map g v
+    → sel_l (map (top 7) (zip2 h a b)) a b ≡ map (λ x. cond (top 7 (h (f x) (g x))) (f x) (g x)) v
+lesser h f g v p q = chosen (λ x. h (f x) (g x)) f g v (joined h f g v p q) p q
+
+pub greater : (h : ℕ → ℕ → ℕ) (f g : ℕ → ℕ) (v : List ℕ) {a b : List ℕ} → a ≡ map f v → b ≡ map g v
+    → sel_l (map (top 7) (zip2 h a b)) b a ≡ map (λ x. cond (top 7 (h (f x) (g x))) (g x) (f x)) v
+greater h f g v p q = chosen (λ x. h (f x) (g x)) g f v (joined h f g v p q) q p
 
 -- one number in each lane
 pub splat_is : (v : List ℕ) (n y : ℕ) → length v ≡ n → replicate n y ≡ map (λ _. y) v
@@ -41,181 +53,218 @@ pub itself : (v : List ℕ) → v ≡ map (λ x. x) v
 itself [] = refl
 itself (x ∷ xs) = ap (λ r. x ∷ r) (itself xs)
 
--- those of a load
+-- the octets of a load
 pub chunk_octets : (i : ℕ) (xs : List ℕ) → i + 16 ≤ length xs → ((k : ℕ) → Fits w8 (get_or xs k 0)) → AreOctets (chunk i 16 xs)
-chunk_octets i xs room fits = record {
-  long = length-chunk i 16 xs room;
-  small = λ k. elim (cases_lt k 16) [
-    | inl within ↦ let P : ℕ → Type 0 = λ n. n < 256 in subst P (sym (get_or-chunk i 16 xs k 0 within)) (fits (i + k)).fits
-    | inr past ↦ let P : ℕ → Type 0 = λ n. n < 256 in
-        subst P (sym (get_or_past (chunk i 16 xs) k 0 (omega (arith, length-chunk i 16 xs room)))) (omega arith)
-  ];
-}
+chunk_octets i xs room fits =
+    let P : ℕ → Type 0 = λ n. n < 256 in
+    let long = length-chunk i 16 xs room in
+    record {
+      long = long;
+      small = λ k. elim (cases_lt k 16) [
+        | inl within ↦ subst P (sym (get_or-chunk i 16 xs k 0 within)) (fits (i + k)).fits
+        | inr past ↦ subst P (sym (get_or_past (chunk i 16 xs) k 0 (omega (arith, long)))) (omega arith)
+      ];
+    }
 
 -- ---- the values of digits
 
-abbrev pub agree : (ℕ → ℕ) → ℕ → Bool
-agree f zero = true
-agree f (suc n) = eqb (f n) (value_of n) && agree f n
+-- what is computed of an octet is its value, or neither is below 16
+abbrev is_value : ℕ → ℕ → Bool
+is_value number value = eqb number value || (leb 16 number && leb 16 value)
 
-agree_at : (f : ℕ → ℕ) (n k : ℕ) → agree f n ≡ true → k < n → f k ≡ value_of k
-agree_at f zero k h lt = absurd (omega arith)
-agree_at f (suc n) k h lt =
-    let parts = and_parts (eqb (f n) (value_of n)) (agree f n) h in
+abbrev pub are_values : (ℕ → ℕ) → ℕ → Bool
+are_values f zero = true
+are_values f (suc n) = is_value (f n) (value_of n) && are_values f n
+
+from_test : (number value : ℕ) → is_value number value ≡ true → IsValue number value
+from_test number value e = record { read = λ h. grind (arith, e); found = λ h. grind (arith, e) }
+
+value_at : (f : ℕ → ℕ) (n k : ℕ) → are_values f n ≡ true → k < n → IsValue (f k) (value_of k)
+value_at f zero k h lt = absurd (omega arith)
+value_at f (suc n) k h lt =
+    let parts = and_parts (is_value (f n) (value_of n)) (are_values f n) h in
     elim (cases_lt k n) [
-      | inl below ↦ agree_at f n k parts.1 below
+      | inl below ↦ value_at f n k parts.1 below
       | inr last ↦
-          let e : k ≡ n = omega arith in
-          rw e (eqb-true (f n) (value_of n) parts.0)
+          let e : n ≡ k = omega arith in
+          subst (λ (j : ℕ). IsValue (f j) (value_of j)) e (from_test (f n) (value_of n) parts.0)
     ]
 
-map_agrees : (f : ℕ → ℕ) (v : List ℕ) → agree f 256 ≡ true → ((k : ℕ) → get_or v k 0 < 256) → map f v ≡ map value_of v
-map_agrees f [] h small = refl
-map_agrees f (x ∷ xs) h small = ap₂ (λ (y : ℕ) (ys : List ℕ). y ∷ ys) (agree_at f 256 x h (small 0)) (map_agrees f xs h (λ k. small (suc k)))
+pub values_are : (v z : List ℕ) → AreOctets v → (f : ℕ → ℕ) → z ≡ map f v → are_values f 256 ≡ true → AreValues v z
+values_are v z octets f lanes all = record {
+  long = ap length lanes ∙ length-map v f ∙ octets.long;
+  are = λ k h.
+      let number = ap (λ (l : List ℕ). get_or l k 0) lanes ∙ get_or-map f v k 0 0 (omega (arith, octets.long)) in
+      subst (λ (n : ℕ). IsValue n (value_of (get_or v k 0))) (sym number) (value_at f 256 (get_or v k 0) all (octets.small k));
+}
 
-pub values_are : (v z : List ℕ) → AreOctets v → (f : ℕ → ℕ) → z ≡ map f v → agree f 256 ≡ true → z ≡ map value_of v
-values_are v z are f lanes all = lanes ∙ map_agrees f v all are.small
-
--- ---- sixteen pairs
-
--- the octet of pair k of some values
-abbrev pub pair_at : List ℕ → ℕ → ℕ
-pair_at values k = (get_or values (2 * k) 0 * 16 % 256 + get_or values (2 * k + 1) 0) % 256
-
--- the first n + 1 pairs, all or-ed together
-abbrev pub seen_in : List ℕ → ℕ → ℕ
-seen_in values zero = bit_or (get_or values 0 0) (get_or values 1 0)
-seen_in values (suc n) = bit_or (seen_in values n) (bit_or (get_or values (2 * suc n) 0) (get_or values (2 * suc n + 1) 0))
-
-or_bounds : (a b : ℕ) → (a ≤ bit_or a b) × (b ≤ bit_or a b)
-or_bounds a b = (le_or_l a b, le_or_r a b)
-
-at_most : (P : ℕ → Type 0) (i k : ℕ) → k < 2 * (suc i + 1) → (k < 2 * (i + 1) → P k) → P (2 * suc i) → P (2 * suc i + 1) → P k
-at_most P i k h below high low = elim (cases_lt k (2 * (i + 1))) [
-  | inl before ↦ below before
-  | inr after ↦ elim (cases_lt k (2 * suc i + 1)) [
-    | inl first ↦ subst P (omega arith) high
-    | inr second ↦ subst P (omega arith) low
-  ]
-]
-
-seen_bounds : (values : List ℕ) (n k : ℕ) → k < 2 * (n + 1) → get_or values k 0 ≤ seen_in values n
-seen_bounds values zero k h =
-    let both = or_bounds (get_or values 0 0) (get_or values 1 0) in
-    elim (cases_lt k 1) [
-      | inl first ↦ let e : 0 ≡ k = omega arith in subst (λ (j : ℕ). get_or values j 0 ≤ seen_in values 0) e both.0
-      | inr second ↦ let e : 1 ≡ k = omega arith in subst (λ (j : ℕ). get_or values j 0 ≤ seen_in values 0) e both.1
-    ]
-seen_bounds values (suc n) k h =
-    let high = get_or values (2 * suc n) 0 in
-    let low = get_or values (2 * suc n + 1) 0 in
-    let last = or_bounds high low in
-    let all = or_bounds (seen_in values n) (bit_or high low) in
-    at_most (λ (j : ℕ). get_or values j 0 ≤ seen_in values (suc n)) n k h
-    (λ before. let ih = seen_bounds values n k before in omega (arith, ih, all.0))
-    (omega (arith, last.0, all.1))
-    (omega (arith, last.1, all.1))
-
-seen_small : (values : List ℕ) (n : ℕ) → ((k : ℕ) → k < 2 * (n + 1) → get_or values k 0 < 16) → seen_in values n < 16
-seen_small values zero small = or_lt 4 (get_or values 0 0) (get_or values 1 0) (small 0 (omega arith)) (small 1 (omega arith))
-seen_small values (suc n) small =
-    let high = get_or values (2 * suc n) 0 in
-    let low = get_or values (2 * suc n + 1) 0 in
-    or_lt 4 (seen_in values n) (bit_or high low)
-    (seen_small values n (λ k h. small k (omega arith)))
-    (or_lt 4 high low (small (2 * suc n) (omega arith)) (small (2 * suc n + 1) (omega arith)))
-
--- the octets of sixteen pairs
-abbrev pub octets_of_sixteen : List ℕ → List ℕ
-octets_of_sixteen values = map (pair_at values) (range_with_len 0 16)
-
-module _ (word values : List ℕ) (are : (k : ℕ) → k < 32 → get_or values k 0 ≡ value_of (get_or word k 0)) where
-  pub block_pairs : (room : List ℕ) → 16 ≤ length room → ArePairs word (put_chunk 0 room (octets_of_sixteen values)) 16 (seen_in values 15)
-  block_pairs room fits = record {
-    spelled = λ k h.
-        let ys = octets_of_sixteen values in
-        let same : 0 + k ≡ k = omega arith in
-        ap (λ (j : ℕ). get_or (put_chunk 0 room ys) j 0) (sym same)
-        ∙ get_or-put_chunk_at 0 room ys k 0 h fits
-        ∙ get_or-map-range_with_len (pair_at values) 0 16 k k 0 h same
-        ∙ ap (λ (x : ℕ). (x * 16 % 256 + get_or values (2 * k + 1) 0) % 256) (are (2 * k) (omega arith))
-        ∙ ap (λ (x : ℕ). (value_of (get_or word (2 * k) 0) * 16 % 256 + x) % 256) (are (2 * k + 1) (omega arith));
-    tested = λ few k h. let bound = seen_bounds values 15 k h in
-        let P : ℕ → Type 0 = λ n. n < 16 in subst P (are k h) (omega (arith, bound, few));
-    good = λ all. seen_small values 15 (λ k h. let P : ℕ → Type 0 = λ n. n < 16 in subst P (sym (are k h)) (all k h));
-  }
-
-pub values_at : (word front back : List ℕ) → 32 ≤ length word → front ≡ map value_of (chunk 0 16 word) → back ≡ map value_of (chunk 16 16 word)
-    → (k : ℕ) → k < 32 → get_or (front ++ back) k 0 ≡ value_of (get_or word k 0)
-values_at word front back long front-is back-is k h =
-    let first = length-chunk 0 16 word (omega arith) in
-    let second = length-chunk 16 16 word (omega arith) in
-    let whole : length front ≡ 16 = ap length front-is ∙ length-map (chunk 0 16 word) value_of ∙ first in
+-- of two loads, one behind the other
+pub values_at : (word front back : List ℕ) → 32 ≤ length word → AreValues (chunk 0 16 word) front
+    → AreValues (chunk 16 16 word) back → (k : ℕ) → k < 32 → IsValue (get_or (front ++ back) k 0) (value_of (get_or word k 0))
+values_at word front back long first second k h =
     elim (cases_lt k 16) [
       | inl low ↦
           let same : 0 + k ≡ k = omega arith in
-          get_or_append_left front back 0 k (omega arith)
-          ∙ ap (λ (l : List ℕ). get_or l k 0) front-is
-          ∙ get_or-map value_of (chunk 0 16 word) k 0 0 (omega arith)
-          ∙ ap value_of (get_or-chunk 0 16 word k 0 low ∙ ap (λ (j : ℕ). get_or word j 0) same)
+          let number = get_or_append_left front back 0 k (omega (arith, first.long)) in
+          let octet = get_or-chunk 0 16 word k 0 low ∙ ap (λ (j : ℕ). get_or word j 0) same in
+          subst (λ (n : ℕ). IsValue n (value_of (get_or word k 0))) (sym number)
+          (subst (λ (x : ℕ). IsValue (get_or front k 0) (value_of x)) octet (first.are k low))
       | inr high ↦
           let at : k - 16 < 16 = omega arith in
           let same : 16 + (k - 16) ≡ k = omega arith in
-          get_or-append_right front back 16 k 0 whole high
-          ∙ ap (λ (l : List ℕ). get_or l (k - 16) 0) back-is
-          ∙ get_or-map value_of (chunk 16 16 word) (k - 16) 0 0 (omega arith)
-          ∙ ap value_of (get_or-chunk 16 16 word (k - 16) 0 at ∙ ap (λ (j : ℕ). get_or word j 0) same)
+          let number = get_or-append_right front back 16 k 0 first.long high in
+          let octet = get_or-chunk 16 16 word (k - 16) 0 at ∙ ap (λ (j : ℕ). get_or word j 0) same in
+          subst (λ (n : ℕ). IsValue n (value_of (get_or word k 0))) (sym number)
+          (subst (λ (x : ℕ). IsValue (get_or back (k - 16) 0) (value_of x)) octet (second.are (k - 16) at))
     ]
+
+-- ---- sixteen pairs
+
+abbrev pub pair_at : List ℕ → ℕ → ℕ
+pair_at values k = (get_or values (2 * k) 0 * 16 % 256 + get_or values (2 * k + 1) 0) % 256
+
+abbrev pub both_at : List ℕ → ℕ → ℕ
+both_at values k = bit_or (get_or values (2 * k) 0) (get_or values (2 * k + 1) 0)
+
+abbrev pub sixteen : (ℕ → ℕ) → List ℕ
+sixteen f = map f (range_with_len 0 16)
+
+sixteen_at : (f : ℕ → ℕ) (k : ℕ) → k < 16 → get_or (sixteen f) k 0 ≡ f k
+sixteen_at f k h = get_or-map-range_with_len f 0 16 k k 0 h (omega arith)
+
+-- the lane of a pair is small: so are both values
+both_small : (values : List ℕ) (j : ℕ) → both_at values j < 16 → (get_or values (2 * j) 0 < 16) × (get_or values (2 * j + 1) 0 < 16)
+both_small values j h =
+    let l = le_or_l (get_or values (2 * j) 0) (get_or values (2 * j + 1) 0) in
+    let r = le_or_r (get_or values (2 * j) 0) (get_or values (2 * j + 1) 0) in
+    (omega (arith, l, h), omega (arith, r, h))
+
+module _ (values : List ℕ) where
+  lane_small : AreSmall (sixteen (both_at values)) → (j : ℕ) → j < 16 → both_at values j < 16
+  lane_small few j h =
+      let P : ℕ → Type 0 = λ n. n < 16 in
+      subst P (sixteen_at (both_at values) j h) (Each1-get_or P (sixteen (both_at values)) j 0 h few)
+
+  value_small : AreSmall (sixteen (both_at values)) → (k : ℕ) → k < 32 → get_or values k 0 < 16
+  value_small few k h =
+      let j = k / 2 in
+      let within : j < 16 = omega arith in
+      let both = both_small values j (lane_small few j within) in
+      elim (cases_lt k (2 * j + 1)) [
+        | inl first ↦ let e : 2 * j ≡ k = omega arith in subst (λ (n : ℕ). get_or values n 0 < 16) e both.0
+        | inr second ↦ let e : 2 * j + 1 ≡ k = omega arith in subst (λ (n : ℕ). get_or values n 0 < 16) e both.1
+      ]
+
+  lanes_small : ((k : ℕ) → k < 32 → get_or values k 0 < 16) → AreSmall (sixteen (both_at values))
+  lanes_small small =
+      let P : ℕ → Type 0 = λ n. n < 16 in
+      Each1-from_get_or P (sixteen (both_at values)) 0 (λ j h.
+      subst P (sym (sixteen_at (both_at values) j h))
+      (or_lt 4 (get_or values (2 * j) 0) (get_or values (2 * j + 1) 0) (small (2 * j) (omega (arith, h))) (small (2 * j + 1) (omega (arith, h)))))
+
+pub block_pairs : (word values room : List ℕ) → ((k : ℕ) → k < 32 → IsValue (get_or values k 0) (value_of (get_or word k 0)))
+    → 16 ≤ length room → ArePairs word (put_chunk 0 room (sixteen (pair_at values))) 16 (AreSmall (sixteen (both_at values)))
+block_pairs word values room are fits = record {
+  spelled = λ few k h.
+      let ys = sixteen (pair_at values) in
+      let same : 0 + k ≡ k = omega arith in
+      let high = value_small values few (2 * k) (omega arith) in
+      let low = value_small values few (2 * k + 1) (omega arith) in
+      ap (λ (j : ℕ). get_or (put_chunk 0 room ys) j 0) (sym same)
+      ∙ get_or-put_chunk_at 0 room ys k 0 h fits
+      ∙ sixteen_at (pair_at values) k h
+      ∙ of_values word k (get_or values (2 * k) 0) (get_or values (2 * k + 1) 0) high low
+      ((are (2 * k) (omega arith)).read high) ((are (2 * k + 1) (omega arith)).read low);
+  tested = λ few k h.
+      let small = value_small values few k h in
+      let P : ℕ → Type 0 = λ n. n < 16 in subst P ((are k h).read small) small;
+  good = λ all. lanes_small values (λ k h.
+      let P : ℕ → Type 0 = λ n. n < 16 in subst P (sym ((are k h).found (all k h))) (all k h));
+}
+
+-- ---- lanes that are small
+
+small_or : (xs ys : List ℕ) → length xs ≡ length ys → AreSmall (zip2 bit_or xs ys) → AreSmall xs × AreSmall ys
+small_or [] [] e h = (tt, tt)
+small_or [] (y ∷ ys) e h = absurd (omega arith)
+small_or (x ∷ xs) [] e h = absurd (omega arith)
+small_or (x ∷ xs) (y ∷ ys) e h =
+    let rest = small_or xs ys (omega arith) h.1 in
+    let l = le_or_l x y in
+    let r = le_or_r x y in
+    let both : bit_or x y < 16 = h.0 in
+    ((omega (arith, l, both), rest.0), (omega (arith, r, both), rest.1))
+
+or_small : (xs ys : List ℕ) → AreSmall xs → AreSmall ys → AreSmall (zip2 bit_or xs ys)
+or_small [] ys a b = tt
+or_small (x ∷ xs) [] a b = tt
+or_small (x ∷ xs) (y ∷ ys) a b = (or_lt 4 x y a.0 b.0, or_small xs ys a.1 b.1)
 
 -- ---- sixteen pairs more
 
-module _ (word sub : List ℕ) (i more : ℕ) (next : ArePairs (drop (2 * i) word) sub 16 more) where
-  behind : (k : ℕ) → 2 * i ≤ k → value_of (get_or (drop (2 * i) word) (k - 2 * i) 0) ≡ value_of (get_or word k 0)
-  behind k h =
-      let same : 2 * i + (k - 2 * i) ≡ k = omega arith in
-      ap value_of (get_or-drop (2 * i) word (k - 2 * i) 0 ∙ ap (λ (j : ℕ). get_or word j 0) same)
+module _ (word sub : List ℕ) (i : ℕ) (more : List ℕ) (next : ArePairs (drop (2 * i) word) sub 16 (AreSmall more)) where
+  behind_at : (j k : ℕ) → 2 * i + j ≡ k → value_of (get_or (drop (2 * i) word) j 0) ≡ value_of (get_or word k 0)
+  behind_at j k e = ap value_of (get_or-drop (2 * i) word j 0 ∙ ap (λ (n : ℕ). get_or word n 0) e)
 
-  behind_at : (j k : ℕ) → j ≡ k - 2 * i → 2 * i ≤ k → value_of (get_or (drop (2 * i) word) j 0) ≡ value_of (get_or word k 0)
-  behind_at j k e h = ap (λ (n : ℕ). value_of (get_or (drop (2 * i) word) n 0)) e ∙ behind k h
-
-  next_spelled : (k : ℕ) → i ≤ k → k < i + 16 → get_or sub (k - i) 0 ≡ (value_of (get_or word (2 * k) 0) * 16 % 256 + value_of (get_or word (2 * k + 1) 0)) % 256
-  next_spelled k from to =
-      next.spelled (k - i) (omega arith)
-      ∙ ap (λ (x : ℕ). (x * 16 % 256 + value_of (get_or (drop (2 * i) word) (2 * (k - i) + 1) 0)) % 256)
-      (behind_at (2 * (k - i)) (2 * k) (omega arith) (omega arith))
-      ∙ ap (λ (x : ℕ). (value_of (get_or word (2 * k) 0) * 16 % 256 + x) % 256)
-      (behind_at (2 * (k - i) + 1) (2 * k + 1) (omega arith) (omega arith))
+  next_spelled : AreSmall more → (k : ℕ) → i ≤ k → k < i + 16 → get_or sub (k - i) 0 ≡ octet_at word k
+  next_spelled few k from to =
+      next.spelled few (k - i) (omega arith)
+      ∙ ap (λ (x : ℕ). x * 16 + value_of (get_or (drop (2 * i) word) (2 * (k - i) + 1) 0)) (behind_at (2 * (k - i)) (2 * k) (omega arith))
+      ∙ ap (λ (x : ℕ). value_of (get_or word (2 * k) 0) * 16 + x) (behind_at (2 * (k - i) + 1) (2 * k + 1) (omega arith))
 
   -- also where pairs from i on were decoded already
-  pub block_more : (room post : List ℕ) (n seen : ℕ) → ArePairs word room n seen → i ≤ n → n ≤ i + 16 → i ≤ length room → 16 ≤ length sub
-      → ArePairs word (take i room ++ (sub ++ post)) (i + 16) (bit_or seen more)
-  block_more room post n seen pairs from to within long =
+  pub block_more : (room post seen : List ℕ) (n : ℕ) → ArePairs word room n (AreSmall seen) → i ≤ n → n ≤ i + 16 → i ≤ length room
+      → 16 ≤ length sub → length seen ≡ length more → ArePairs word (take i room ++ (sub ++ post)) (i + 16) (AreSmall (zip2 bit_or seen more))
+  block_more room post seen n pairs from to within long lanes =
       let front : length (take i room) ≡ i = omega (arith, length-take i room) in
-      let bounds = or_bounds seen more in
+      let P : ℕ → Type 0 = λ n. n < 16 in
       record {
-        spelled = λ k h. elim (cases_lt k i) [
-          | inl before ↦
-              get_or_append_left (take i room) (sub ++ post) 0 k (omega (arith, front))
-              ∙ get_or-take i room k 0 before
-              ∙ pairs.spelled k (omega arith)
-          | inr after ↦
-              get_or-append_right (take i room) (sub ++ post) i k 0 front after
-              ∙ get_or_append_left sub post 0 (k - i) (omega (arith, long))
-              ∙ next_spelled k after h
-        ];
-        tested = λ few k h. elim (cases_lt k (2 * i)) [
-          | inl before ↦ pairs.tested (omega (arith, bounds.0)) k (omega arith)
-          | inr after ↦ let P : ℕ → Type 0 = λ n. n < 16 in
-              subst P (behind k after) (next.tested (omega (arith, bounds.1)) (k - 2 * i) (omega arith))
-        ];
-        good = λ all. or_lt 4 seen more (pairs.good (λ k h. all k (omega arith)))
-            (next.good (λ k h. let P : ℕ → Type 0 = λ n. n < 16 in
-            subst P (sym (behind_at k (2 * i + k) (omega arith) (omega arith))) (all (2 * i + k) (omega arith))));
+        spelled = λ few k h.
+            let both = small_or seen more lanes few in
+            elim (cases_lt k i) [
+              | inl before ↦
+                  get_or_append_left (take i room) (sub ++ post) 0 k (omega (arith, front))
+                  ∙ get_or-take i room k 0 before
+                  ∙ pairs.spelled both.0 k (omega arith)
+              | inr after ↦
+                  get_or-append_right (take i room) (sub ++ post) i k 0 front after
+                  ∙ get_or_append_left sub post 0 (k - i) (omega (arith, long))
+                  ∙ next_spelled both.1 k after h
+            ];
+        tested = λ few k h.
+            let both = small_or seen more lanes few in
+            elim (cases_lt k (2 * i)) [
+              | inl before ↦ pairs.tested both.0 k (omega arith)
+              | inr after ↦ subst P (behind_at (k - 2 * i) k (omega arith)) (next.tested both.1 (k - 2 * i) (omega arith))
+            ];
+        good = λ all. or_small seen more (pairs.good (λ k h. all k (omega arith)))
+            (next.good (λ k h. subst P (sym (behind_at k (2 * i + k) refl)) (all (2 * i + k) (omega arith))));
       }
 
 -- a load of what lies from one place on
-pub from_there : (word sub : List ℕ) (i more : ℕ) → ArePairs (take (length word - 2 * i) (drop (2 * i) word)) sub 16 more
-    → ArePairs (drop (2 * i) word) sub 16 more
-from_there word sub i more next =
+pub from_there : (word sub : List ℕ) (i : ℕ) (digits : Type 0) → ArePairs (take (length word - 2 * i) (drop (2 * i) word)) sub 16 digits
+    → ArePairs (drop (2 * i) word) sub 16 digits
+from_there word sub i digits next =
     let rest = drop (2 * i) word in
-    subst (λ (w : List ℕ). ArePairs w sub 16 more) (take_all (length word - 2 * i) rest (omega (arith, length-drop (2 * i) word))) next
+    subst (λ (w : List ℕ). ArePairs w sub 16 digits) (take_all (length word - 2 * i) rest (omega (arith, length-drop (2 * i) word))) next
+
+-- ---- all lanes or-ed together
+
+fold_small : (seen : ℕ) (lanes : List ℕ) → fold_l bit_or seen lanes < 16 → (seen < 16) × AreSmall lanes
+fold_small seen [] h = (h, tt)
+fold_small seen (lane ∷ lanes) h =
+    let rest = fold_small (bit_or seen lane) lanes h in
+    let l = le_or_l seen lane in
+    let r = le_or_r seen lane in
+    (omega (arith, l, rest.0), (omega (arith, r, rest.0), rest.1))
+
+small_fold : (seen : ℕ) (lanes : List ℕ) → seen < 16 → AreSmall lanes → fold_l bit_or seen lanes < 16
+small_fold seen [] h few = h
+small_fold seen (lane ∷ lanes) h few = small_fold (bit_or seen lane) lanes (or_lt 4 seen lane h few.0) few.1
+
+pub by_fold : (word room lanes : List ℕ) (n : ℕ) → ArePairs word room n (AreSmall lanes) → ArePairs word room n (fold_l bit_or 0 lanes < 16)
+by_fold word room lanes n pairs = record {
+  spelled = λ few. pairs.spelled (fold_small 0 lanes few).1;
+  tested = λ few. pairs.tested (fold_small 0 lanes few).1;
+  good = λ all. small_fold 0 lanes (omega arith) (pairs.good all);
+}

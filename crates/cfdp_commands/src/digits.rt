@@ -1,7 +1,7 @@
 //! Words of hexadecimal digits, decoded without a branch on a digit: which digits come cannot be foreseen.
-ghost use Rattle.std.specs.Prelude.{◌≡◌, ◌*◌, ◌/◌, ◌≤◌, ◌↔◌, length, map, IsOk, OnOk};
+ghost use Rattle.std.specs.Prelude.{◌≡◌, ◌*◌, ◌/◌, ◌<◌, ◌≤◌, ◌↔◌, length, IsOk, OnOk};
 ghost use Rattle.hex.specs.Hex.{decode_of};
-ghost use Rattle.cfdp_commands.specs.Digits.{AreOctets, ArePairs, value_of};
+ghost use Rattle.cfdp_commands.specs.Digits.{AreOctets, ArePairs, AreSmall, AreValues, value_of};
 ghost use Rattle.cfdp_commands.specs.Hexadecimal.{octets_in};
 
 use cfdp_lines::LineFault;
@@ -42,37 +42,58 @@ fn value_of(octet: u8) -> u8
 /// How many octets a vector has.
 const LANES: usize = 16;
 
-/// The values of digits, in either case; 255 of each octet that is none.
+/// The values of digits, in either case; 16 or more for each octet that is none. An octet is moved so that `0` to `9`
+/// are 246 to 255, and again so that `A` to `F` are 0 to 5. All others are cut to a range that the last difference, or
+/// sum, takes to 16 to 255.
 #[inline(always)]
 fn values_in(octets: u8x16) -> u8x16
     requires { AreOctets octets }
-    ensures { result ≡ map value_of octets }
+    ensures { AreValues octets result }
 {
-    let digits = octets - u8x16::splat(b'0');
-    let letters = (octets | u8x16::splat(32)) - u8x16::splat(b'a');
-    let is_letter = letters.simd_lt(u8x16::splat(6));
-    let others = is_letter.select(letters + u8x16::splat(10), u8x16::splat(255));
-    digits.simd_lt(u8x16::splat(10)).select(digits, others)
+    let moved = octets + u8x16::splat(198);
+    let digits = moved.simd_max(u8x16::splat(6)) - u8x16::splat(246);
+    let moved = (octets & u8x16::splat(223)) - u8x16::splat(b'A');
+    let letters = moved.simd_min(u8x16::splat(245)) + u8x16::splat(10);
+    digits.simd_min(letters)
 }
 
-/// Decodes the first sixteen pairs of octets, whether they are digits or not. Returns what [`decode_pairs`] returns.
+/// Decodes the first sixteen pairs of octets, whether they are digits or not. Returns for each pair both values, or-ed
+/// together.
 #[inline(always)]
-fn decode_block(word: &[u8], room: &mut [u8]) -> u8
+fn decode_block(word: &[u8], room: &mut [u8]) -> u8x16
     requires word { 2 * LANES ≤ length word.now }
     requires room { LANES ≤ length room.old }
-    ensures { ArePairs word.now room.new LANES result }
+    ensures { ArePairs word.now room.new LANES (AreSmall result) }
 {
     let front = values_in(u8x16::from_slice(word));
     let back = values_in(u8x16::from_slice(&word[LANES..]));
     let (high, low) = front.deinterleave(back);
     (high * u8x16::splat(16) + low).copy_to_slice(room);
-    (high | low).reduce_or()
+    high | low
+}
+
+/// Decodes pairs of octets, whether they are digits or not, sixteen at once. The last sixteen may include some that are
+/// decoded already. Returns what [`decode_pairs`] returns.
+fn decode_many(word: &[u8], room: &mut [u8]) -> u8
+    requires word { length word.now ≡ 2 * length room.old }
+    requires many { LANES ≤ length room.old }
+    ensures { ArePairs word.now room.new (length room.old) (result < 16) }
+{
+    let mut seen = u8x16::splat(0);
+    let mut start = 0;
+    'vectors: while room.len() - start > LANES {
+        seen = seen | decode_block(&word[2 * start..], &mut room[start..]);
+        start += LANES;
+    }
+    let last = room.len() - LANES;
+    let all = seen | decode_block(&word[2 * last..], &mut room[last..]);
+    all.reduce_or()
 }
 
 /// Decodes pairs of octets, whether they are digits or not, one by one. Returns what [`decode_pairs`] returns.
 fn decode_few(word: &[u8], room: &mut [u8]) -> u8
     requires { length word.now ≡ 2 * length room.old }
-    ensures { ArePairs word.now room.new (length room.old) result }
+    ensures { ArePairs word.now room.new (length room.old) (result < 16) }
 {
     let mut seen = 0;
     'pairs: for index in 0..room.len() {
@@ -84,28 +105,11 @@ fn decode_few(word: &[u8], room: &mut [u8]) -> u8
     seen
 }
 
-/// Decodes pairs of octets, whether they are digits or not, sixteen at once. The last sixteen may include some that are
-/// decoded already. Returns what [`decode_pairs`] returns.
-fn decode_many(word: &[u8], room: &mut [u8]) -> u8
-    requires word { length word.now ≡ 2 * length room.old }
-    requires many { LANES ≤ length room.old }
-    ensures { ArePairs word.now room.new (length room.old) result }
-{
-    let mut seen = 0;
-    let mut start = 0;
-    'vectors: while room.len() - start > LANES {
-        seen |= decode_block(&word[2 * start..], &mut room[start..]);
-        start += LANES;
-    }
-    let last = room.len() - LANES;
-    seen | decode_block(&word[2 * last..], &mut room[last..])
-}
-
 /// Decodes pairs of octets, whether they are digits or not. Returns their values, all or-ed together: below 16 exactly
 /// if each is a digit. It takes no branch on a digit.
 fn decode_pairs(word: &[u8], room: &mut [u8]) -> u8
     requires { length word.now ≡ 2 * length room.old }
-    ensures { ArePairs word.now room.new (length room.old) result }
+    ensures { ArePairs word.now room.new (length room.old) (result < 16) }
 {
     if room.len() < LANES {
         decode_few(word, room)

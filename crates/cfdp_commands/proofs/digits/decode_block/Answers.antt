@@ -13,5 +13,6 @@ returns c =
     let front = c.values_in-front.result in
     let back = c.values_in-back.result in
     let word = c.args.word.now in
-    block_pairs word (front ++ back) (values_at word front back c.requires.word c.values_in-front.ensures c.values_in-back.ensures)
-    c.args.room.now c.requires.room
+    block_pairs word (front ++ back) c.args.room.now
+    (values_at word front back c.requires.word c.values_in-front.ensures c.values_in-back.ensures)
+    c.requires.room

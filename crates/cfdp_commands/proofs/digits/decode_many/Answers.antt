@@ -1,5 +1,5 @@
 use Rattle.std.proofs.Common.{◌≡◌, ◌+◌, ◌-◌, length, arith}
-use Rattle.cfdp_commands.proofs.Vectors.{block_more, from_there}
+use Rattle.cfdp_commands.proofs.Vectors.{block_more, by_fold, from_there}
 use Rattle.cfdp_commands.proofs.digits.decode_many.Goals as goal
 
 pub vectors-preserved : goal.vectors-preserved
@@ -9,7 +9,7 @@ vectors-preserved c =
     let sub = c.decode_block-seen.new.room in
     record {
       pairs = block_more word sub start c.decode_block-seen.result (from_there word sub start _ c.decode_block-seen.ensures)
-          c.vectors.room _ start c.vectors.seen c.vectors.invariant.pairs (omega arith) (omega arith) (omega arith) (omega arith);
+          c.vectors.room _ c.vectors.seen start c.vectors.invariant.pairs (omega arith) (omega arith) (omega arith) (omega arith) (omega arith);
       within = omega arith;
     }
 
@@ -21,5 +21,6 @@ returns c =
     let sub = c.decode_block.new.room in
     let all : last + 16 ≡ length c.args.room.now = omega arith in
     rw (← all)
+    (by_fold word _ _ (last + 16)
     (block_more word sub last c.decode_block.result (from_there word sub last _ c.decode_block.ensures)
-    room _ c.vectors.start c.vectors.seen c.vectors.invariant.pairs (omega arith) (omega arith) (omega arith) (omega arith))
+    room _ c.vectors.seen c.vectors.start c.vectors.invariant.pairs (omega arith) (omega arith) (omega arith) (omega arith) (omega arith)))
