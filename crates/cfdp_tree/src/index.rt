@@ -43,6 +43,7 @@ fn hash_of(directory: Option<BlockId>, name: &[u8]) -> u64
 }
 
 /// The place of the head of a directory and a name.
+#[inline(always)]
 pub(crate) fn place_of(heads: &[Head], directory: Option<BlockId>, name: &[u8]) -> usize
     requires some { 0 < length heads.now }
     ensures place { result ≡ place_of directory name.now (length heads.now) }
@@ -151,6 +152,7 @@ fn node_before(arena: &Arena, head: &Head, node: &BlockId) -> BlockId
 }
 
 /// The node that stands in this directory under this name. In expected constant time.
+#[inline(always)]
 pub(crate) fn find(
     arena: &Arena,
     heads: &[Head],
