@@ -18,20 +18,23 @@ use Rattle.cfdp_tree.proofs.HeldLaws.{held_part}
 pub no_marks : (arena : Blocks) (run : Run) (numbers : List ℕ) → numbers ≡ [] → IsMarked arena run numbers
 no_marks arena run numbers none j less = absurd (omega (arith, less, ap (λ (xs : List ℕ). length xs) none))
 
-pub marks_grown : (old new : Blocks) (run after : Run) (numbers : List ℕ) → run.count ≤ after.count → ((k : ℕ) → k < run.count → nth new after.first k ≡ nth old run.first k)
-    → IsMarked old run numbers → IsMarked new after numbers
+pub marks_grown : (old new : Blocks) (run after : Run) (numbers : List ℕ) → run.count ≤ after.count
+    → ((k : ℕ) → k < run.count → nth new after.first k ≡ nth old run.first k) → IsMarked old run numbers → IsMarked new after numbers
 marks_grown old new run after numbers more places marked j known =
     let was = marked j known in (omega (arith, was.0, more), was.1 ∙ sym (places (32 * j) was.0))
 
-pub place_small : (arena : Blocks) (run : Run) (cursor : Cursor) → IsHeld arena run → length arena ≤ 65536 → IsAt arena run cursor → cursor.index < run.count → cursor.block < 65536
+pub place_small : (arena : Blocks) (run : Run) (cursor : Cursor) → IsHeld arena run → length arena ≤ 65536 → IsAt arena run cursor
+    → cursor.index < run.count → cursor.block < 65536
 place_small arena run cursor held small at within =
     omega (arith, small, live_within arena cursor.block (held_part arena run held cursor.index within cursor.block at.1).live)
 
-pub tail_place : (arena : Blocks) (run : Run) (cursor : Cursor) → IsHeld arena run → 0 < run.count → cursor.block ≡ run.last → cursor.index ≡ run.count - 1 → IsAt arena run cursor
+pub tail_place : (arena : Blocks) (run : Run) (cursor : Cursor) → IsHeld arena run → 0 < run.count → cursor.block ≡ run.last
+    → cursor.index ≡ run.count - 1 → IsAt arena run cursor
 tail_place arena run cursor held some block index =
     (omega (arith, index), block ∙ held.last some ∙ ap (nth arena run.first) (sym index))
 
-pub slot_starts : (arena : Blocks) (slot : Slot) → slot.place.block ≡ slot.contents.run.first → slot.place.index ≡ 0 → slot.marks.numbers.items ≡ [] → IsPlaced arena slot
+pub slot_starts : (arena : Blocks) (slot : Slot) → slot.place.block ≡ slot.contents.run.first → slot.place.index ≡ 0
+    → slot.marks.numbers.items ≡ [] → IsPlaced arena slot
 slot_starts arena slot block index marks = record {
   place = (omega (arith, index), block ∙ ap (nth arena slot.contents.run.first) (sym index));
   marked = no_marks arena slot.contents.run slot.marks.numbers.items marks;

@@ -84,6 +84,7 @@ impl Slot {
 
     /// Adds zeros at the end, up to the size, which is at most that of 65,536 blocks, and marks no block. In time linear
     /// in the blocks that are taken.
+    #[inline(always)]
     fn grow(&mut self, arena: &mut Arena, size: u32)
         requires filled { IsFilled arena.old self.old.contents }
         requires placed { IsPlaced arena.old self.old }

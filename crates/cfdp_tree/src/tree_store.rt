@@ -39,8 +39,8 @@ use std::marker::Model;
 /// `remove`, `unstage` and `install` over a file give back the blocks that are dropped, one by one; `stage_extend`
 /// fills those that it takes with zeros. `read`, `read_staged`, `stage_put`, `append` and `replace` copy the octets
 /// that they are asked for by slices of a block; `append` and `replace` copy them from block to block with no buffer.
-/// `read_staged` and `stage_put` find the offset in at most 32 steps from block to block, in whatever order octets come.
-/// `read` begins at the file's first block. `deepest` and `standing` go through what is at and below the path,
+/// `read_staged` and `stage_put` find the offset in at most 32 steps from block to block, in whatever order octets
+/// come. `read` begins at the file's first block. `deepest` and `standing` go through what is at and below the path,
 /// `listing` through everything with all octets, and `next_entry` through the entries of the directories on the way.
 #[derive(Drop)]
 pub struct TreeStore {
