@@ -1,4 +1,5 @@
 -- The lists of the index.
+--     place_within     the head of a directory and a name is one of the heads
 --     chain_more       a list's first node, and those behind it
 --     no_entry         what was denied
 --     own_first, own_rest, rest_has      of all of its nodes, of the first one, and of those behind it
@@ -6,13 +7,21 @@
 --     once_first, once_rest    no node stands in it twice
 --     kept_links               a list of nodes whose links have stayed
 --     kept_chain               a list in which the node does not stand whose link has changed
-use Rattle.std.proofs.Common.{◌≡◌, ◌≢◌, ℕ, suc, zero, ◌<◌, List, ◌∷◌, length, get_or, refl, ap, ◌∙◌, subst, inl, inr, arith, Bool, false}
+use Rattle.std.proofs.Common.{◌≡◌, ◌≢◌, ℕ, suc, zero, ◌*◌, ◌%◌, ◌^◌, ◌<◌, List, ◌∷◌, length, get_or, refl, ap, ◌∙◌, subst, inl, inr, arith, lit<, Bool, false}
+use Rattle.std.proofs.Math.Nat.{div-lt_iff_lt-mul, mul-lt-mul_of_pos_left}
 use Rattle.std.proofs.lemmas.Bool.{cases_eq}
-use Rattle.std.specs.Prelude.{All, AllPairs, Contains, IsTrue}
+use Rattle.std.specs.Prelude.{All, AllPairs, Contains, IsTrue, Option}
 use Rattle.cfdp_arena.specs.Arena.{Blocks}
 use Rattle.cfdp_tree.specs.Tree.{row_at}
-use Rattle.cfdp_tree.specs.Index.{chain}
+use Rattle.cfdp_paths.specs.Paths.{Name}
+use Rattle.cfdp_tree.specs.Index.{hash_of, place_of, chain}
 use Rattle.cfdp_tree.specs.Lists as lists
+
+pub place_within : (directory : Option ℕ) (name : Name) (n : ℕ) → 0 < n → place_of directory name n < n
+place_within directory name n some =
+    let hash = hash_of directory name % 2 ^ 64 in
+    let small : hash < 2 ^ 64 = omega arith in
+    (div-lt_iff_lt-mul {k = 2 ^ 64} {x = n * hash} {y = n} (lit< tt)).1 (mul-lt-mul_of_pos_left {m = hash} {n = 2 ^ 64} {k = n} small some)
 
 pub chain_more : (nodes : Blocks) (n m b : ℕ) → n ≡ suc m → chain nodes n b ≡ b ∷ chain nodes m (row_at nodes b).same_head
 chain_more nodes n m b e = ap (λ k. chain nodes k b) e

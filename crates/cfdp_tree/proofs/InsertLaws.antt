@@ -15,7 +15,7 @@ use Rattle.cfdp_tree.specs.Index.{Heads, place_of, chain, no_head, list_of, list
 use Rattle.cfdp_tree.proofs.Counts.{live_count-written}
 use Rattle.cfdp_tree.proofs.PlaceLaws.{kept_by}
 use Rattle.cfdp_tree.proofs.LinkLaws.{next_here, next_other}
-use Rattle.cfdp_tree.proofs.IndexLaws.{chain_more, has_later, has_first, kept_chain}
+use Rattle.cfdp_tree.proofs.IndexLaws.{place_within, chain_more, has_later, has_first, kept_chain}
 
 module _ (nodes : Blocks) (heads : Heads) (b : ℕ) (block : List ℕ) (k : ℕ) (within : k < length heads) (index : IsIndex nodes heads (Some b)) (node : IsNode nodes b)
     (place : place_of (home nodes b) (name_at nodes b) (length heads) ≡ k) (head : Head) (head_is : head ≡ get_or heads k no_head)
@@ -99,11 +99,10 @@ module _ (nodes : Blocks) (heads : Heads) (b : ℕ) (block : List ℕ) (k : ℕ)
 
   has_at : (c : ℕ) → IsNode nodes c → Contains (list_at new after (place_of (home nodes c) (name_at nodes c) (length heads))) c
   has_at c was =
-      let filled = index.some in
       elim (cases_eq c b) [
         | inl e ↦ subst (λ x. Contains (list_at new after (place_of (home nodes x) (name_at nodes x) (length heads))) x) (sym e)
             (subst (λ i. Contains (list_at new after i) b) (sym place) (subst (λ xs. Contains xs b) (sym list_here) (has_first b (list_at nodes heads k))))
-        | inr other ↦ has_old c (place_of (home nodes c) (name_at nodes c) (length heads)) (omega arith) (index.all c was (λ e. other (sym (some_same e))))
+        | inr other ↦ has_old c (place_of (home nodes c) (name_at nodes c) (length heads)) (place_within (home nodes c) (name_at nodes c) (length heads) index.some) (index.all c was (λ e. other (sym (some_same e))))
       ]
 
   small_at : (j : ℕ) → j < length heads → (get_or after j no_head).first < 65536

@@ -14,7 +14,7 @@ use Rattle.cfdp_tree.specs.Tree.{IsNode, row_at, name_at, home_in, home, SamePla
 use Rattle.cfdp_tree.specs.Index.{Heads, place_of, chain, no_head, list_at, count_out, IsListed, IsIndex}
 use Rattle.cfdp_tree.specs.Changes.{Regrouped}
 use Rattle.cfdp_tree.proofs.Counts.{live_count-taken, live_count-written, live_count-given, live_count-same}
-use Rattle.cfdp_tree.proofs.IndexLaws.{kept_chain}
+use Rattle.cfdp_tree.proofs.IndexLaws.{place_within, kept_chain}
 
 module _ (old new : Blocks) (b : ℕ) (heads : Heads) (was now : Option ℕ) (others : (c : ℕ) → c ≢ b → octets_at new c ≡ octets_at old c)
     (was_out : IsNode old b → was ≡ Some b) (now_out : IsNode new b → now ≡ Some b) (was_no_other : (c : ℕ) → c ≢ b → was ≢ Some c) (no_other : (c : ℕ) → c ≢ b → now ≢ Some c)
@@ -44,10 +44,9 @@ module _ (old new : Blocks) (b : ℕ) (heads : Heads) (was now : Option ℕ) (ot
   all_still : (c : ℕ) → IsNode new c → now ≢ Some c → Contains (list_at new heads (place_of (home new c) (name_at new c) (length heads))) c
   all_still c node inside =
       let other : c ≢ b = λ e. inside (now_out (subst (IsNode new) e node) ∙ ap Some (sym e)) in
-      let some = index.some in
       let k = place_of (home old c) (name_at old c) (length heads) in
       subst (λ j. Contains (list_at new heads j) c) (sym (same_place c other))
-      (subst (λ xs. Contains xs c) (sym (list_same k (omega arith))) (index.all c (subst IsSome (others c other) node) (was_no_other c other)))
+      (subst (λ xs. Contains xs c) (sym (list_same k (place_within (home old c) (name_at old c) (length heads) index.some))) (index.all c (subst IsSome (others c other) node) (was_no_other c other)))
 
   index_out : IsIndex new heads now
   index_out = record {

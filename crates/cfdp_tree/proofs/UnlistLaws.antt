@@ -12,6 +12,7 @@ use Rattle.cfdp_tree.specs.declared.index.Head.{Head}
 use Rattle.cfdp_tree.specs.Tree.{IsNode, name_at, home, SamePlaces}
 use Rattle.cfdp_tree.specs.Index.{Heads, place_of, no_head, list_of, list_at, without, IsListed, IsIndex}
 use Rattle.cfdp_tree.proofs.CutLaws.{without_has}
+use Rattle.cfdp_tree.proofs.IndexLaws.{place_within}
 
 module _ (nodes new : Blocks) (heads : Heads) (b k : ℕ) (within : k < length heads) (index : IsIndex nodes heads None) (head : Head)
     (place : place_of (home nodes b) (name_at nodes b) (length heads) ≡ k) (same : SamePlaces nodes new) (small : head.first < 65536)
@@ -85,8 +86,7 @@ module _ (nodes new : Blocks) (heads : Heads) (b k : ℕ) (within : k < length h
 
   all_at : (c : ℕ) → IsNode new c → Some b ≢ Some c → Contains (list_at new after (place_of (home nodes c) (name_at nodes c) (length heads))) c
   all_at c node stays =
-      let filled = index.some in
-      has_at c (place_of (home nodes c) (name_at nodes c) (length heads)) (omega arith) (λ e. stays (ap Some (sym e)))
+      has_at c (place_of (home nodes c) (name_at nodes c) (length heads)) (place_within (home nodes c) (name_at nodes c) (length heads) index.some) (λ e. stays (ap Some (sym e)))
       (index.all c (sym (same.nodes c) ∙ node) none_some)
 
   small_at : (j : ℕ) → j < length heads → (get_or after j no_head).first < 65536

@@ -2,7 +2,7 @@
 -- A node stands in the list of its own directory and name, once. How many nodes a list has stands in its head.
 --     Heads                      the heads
 --     hash_of                    a number for a directory and a name: what the hasher of std's maps makes of the two
---     place_of directory name n  the head of the two among n of them
+--     place_of directory name n  the head of the two among n of them: the high 64 bits of the product of n and the number
 --     chain nodes n b            n nodes from b on
 --     list_of nodes head         the list of a head
 --     list_at nodes heads k      the list of the head at a place
@@ -10,7 +10,7 @@
 --     IsListed nodes out n k b   the node b stands in the list k of n lists, and is not the one that stands in none
 --     count_out out              how many nodes stand in no list
 --     IsIndex nodes heads out    each node stands in its list, but for the one that is out, and each list has just its nodes
-use Rattle.std.specs.Prelude.{◌≡◌, ◌≢◌, ℕ, ◌+◌, ◌%◌, ◌<◌, ◌==◌, not, List, Option, Some, None, All, AllPairs, Contains, filter, fold, length, slice_index_or, sum_by}
+use Rattle.std.specs.Prelude.{◌≡◌, ◌≢◌, ℕ, ◌+◌, ◌*◌, ◌/◌, ◌%◌, ◌^◌, ◌<◌, ◌==◌, not, List, Option, Some, None, All, AllPairs, Contains, filter, fold, length, slice_index_or, sum_by}
 use Rattle.std.specs.Hash as fed
 use Rattle.std.specs.Hash.FoldHasher as hasher
 use Rattle.cfdp_arena.specs.Arena.{Blocks, live_count}
@@ -28,7 +28,7 @@ hash_of None name = hasher.finish (hasher.write hasher.initial name)
 hash_of (Some d) name = hasher.finish (hasher.write (fold hasher.write hasher.initial (fed.u32 d)) name)
 
 abbrev pub place_of : Option ℕ → Name → ℕ → ℕ
-place_of directory name n = hash_of directory name % n
+place_of directory name n = n * (hash_of directory name % 2 ^ 64) / 2 ^ 64
 
 abbrev pub chain : Blocks → ℕ → ℕ → List ℕ
 chain nodes n b = lists.chain (λ c. (row_at nodes c).same_head) n b

@@ -42,14 +42,17 @@ fn hash_of(directory: Option<BlockId>, name: &[u8]) -> u64
     hasher.finish()
 }
 
-/// The place of the head of a directory and a name.
+/// The place of the head of a directory and a name. A product takes their number of 64 bits down to the number of heads,
+/// because a division is many times slower.
 #[inline(always)]
 pub(crate) fn place_of(heads: &[Head], directory: Option<BlockId>, name: &[u8]) -> usize
     requires some { 0 < length heads.now }
     ensures place { result ≡ place_of directory name.now (length heads.now) }
     ensures within { result < length heads.now }
 {
-    hash_of(directory, name) as usize % heads.len()
+    let hash = hash_of(directory, name);
+    let product = heads.len() as u128 * hash as u128;
+    (product >> 64) as usize
 }
 
 /// Puts a node that stands in no list into the list of its directory and name. In constant time.
