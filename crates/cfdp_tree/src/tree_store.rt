@@ -36,9 +36,9 @@ use std::marker::Model;
 /// Cost: a call looks each name of its paths up by the directory and the name, in expected constant time whatever else
 /// the directory has. `kind`, `parent_is_good`, `has_entries`, `size`, `make_file`, `make_dir`, `install` of a new
 /// file, and `rename`, also of a directory, take no more than that; `free` and `staged_size` take constant time.
-/// `remove`, `unstage` and `install` over a file give back the blocks that are dropped, one by one; `stage_extend`
-/// fills those that it takes with zeros. `read`, `read_staged`, `stage_put`, `append` and `replace` copy the octets
-/// that they are asked for by slices of a block; `append` and `replace` copy them from block to block with no buffer.
+/// `remove`, `unstage` and `install` over a file give back the blocks that are dropped as one, in constant time;
+/// `stage_extend` fills those that it takes with zeros. `read`, `read_staged`, `stage_put`, `append` and `replace` copy
+/// the octets that they are asked for by slices of a block; `append` and `replace` from block to block with no buffer.
 /// `read_staged` and `stage_put` find the offset in at most 32 steps from block to block, in whatever order octets
 /// come. `read` begins at the file's first block. `deepest` and `standing` go through what is at and below the path,
 /// `listing` through everything with all octets, and `next_entry` through the entries of the directories on the way.
