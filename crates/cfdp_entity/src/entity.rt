@@ -1,5 +1,6 @@
 //! The receiving entity.
-ghost use Rattle.std.specs.Prelude.{◌≡◌, ◌<◌, ◌≤◌, ◌++◌, ℕ, List, [], drop, length, true, IsFalse, IsNone, IsOk, IfOk, IfErr, OnErr, Ok, Err, Some, None};
+ghost use Rattle.std.specs.Prelude.{◌≡◌, ◌<◌, ◌≤◌, ◌++◌, ℕ, List, [], drop, length, true, IsFalse, IsNone, IsOk, IfOk, IfErr, IfSome, OnErr, Ok, Err, Some, None};
+ghost use Rattle.std.specs.Option.{option_map};
 ghost use Rattle.cfdp_actions.specs.Filestore.{File, node_at};
 ghost use Rattle.cfdp_pdus.specs.First.{pdu_at};
 ghost use Rattle.cfdp_pdus.specs.Sound.{IsNoFileData};
@@ -23,7 +24,7 @@ use crate::{NotHeard, NotTaken};
 use cfdp_paths::Memory;
 use cfdp_pdus::{Header, PduFault, Piece, read_piece};
 use cfdp_status::TransactionId;
-use cfdp_transactions::{Config, Core, Event, Reply, laws, read_event, transaction_of};
+use cfdp_transactions::{Config, Core, Event, Outcome, Reply, laws, read_event, transaction_of};
 use cfdp_tree::TreeStore;
 use std::alloc::Global;
 use std::marker::Model;
@@ -167,16 +168,42 @@ impl Entity {
         Ok((transaction_of(&header), self.keep(&header, &piece)))
     }
 
-    /// The octets that are to be sent of a transaction's outcome once it is taken: none where there is no outcome.
-    fn octets_to_send(&self, alloc: Global, id: TransactionId) -> Result<Vec<u8>, Memory>
-        ensures octets { IfOk result (λ octets. octets.items ≡ sent (next self.now (TakeCame id)).1) }
+    /// The outcome of a transaction, and the octets that are to be sent of it once it is taken: nothing where there is no
+    /// outcome.
+    fn outcome_to_send(
+        &self,
+        alloc: Global,
+        id: TransactionId,
+    ) -> Result<Option<(Outcome, Vec<u8>)>, Memory>
+        ensures outcome { IfOk result (λ made. outcome_in self.now id ≡ option_map (λ m. m.0) made) }
+        ensures octets { IfOk result (λ made. IfSome made (λ m. m.1.items ≡ sent (next self.now (TakeCame id)).1)) }
+        ensures none { IfOk result (λ made. IsNone made → sent (next self.now (TakeCame id)).1 ≡ []) }
         ensures most { length (sent (next self.now (TakeCame id)).1) ≤ longest_finished }
         ensures lean { IsNone (outcome_in self.now id) → IsOk result }
     {
         match self.core.outcome(id)? {
-            None => Ok(Vec::new(alloc)),
-            Some(outcome) => outcome.octets(alloc),
+            None => Ok(None),
+            Some(outcome) => {
+                let octets = outcome.octets(alloc)?;
+                Ok(Some((outcome, octets)))
+            }
         }
+    }
+
+    /// The outcome of a transaction is handed out, which was made before.
+    fn hand_out(&mut self, id: TransactionId, outcome: Outcome) -> Reply
+        requires made { outcome_in self.old id ≡ Some outcome }
+        ensures follows { Follows self.old (TakeCame id) result self.new }
+    {
+        self.core.hand_out(id, outcome)
+    }
+
+    /// A transaction is taken that is live or not known: it has no outcome.
+    fn take_none(&mut self, id: TransactionId) -> Reply
+        requires { IsNone (outcome_in self.old id) }
+        ensures { next self.old (TakeCame id) ≡ (self.new, result) }
+    {
+        self.apply(&Event::Take(id))
     }
 
     /// The outcome of a transaction is taken, with which it is forgotten (CCSDS 727.0-B-5 §4.6.1): the reply, and how many
@@ -188,7 +215,7 @@ impl Entity {
     /// [`NotTaken::TooShort`] where the Finished PDU does not fit in `out`, with its length, and want of memory. Neither comes
     /// where the transaction is live or not known. The entity and `out` are as before.
     ///
-    /// Cost: three copies of the requests' names.
+    /// Cost: one copy of the requests' names into an outcome, and two of its octets.
     pub fn take(
         &mut self,
         alloc: Global,
@@ -204,11 +231,13 @@ impl Entity {
         ensures unchanged { OnErr result (self.new ≡ self.old) }
         ensures unwritten { OnErr result (out.new ≡ out.old) }
     {
-        let octets = self.octets_to_send(alloc, id)?;
+        let Some((outcome, octets)) = self.outcome_to_send(alloc, id)? else {
+            return Ok((self.take_none(id), 0));
+        };
         if out.len() < octets.len() {
             return Err(NotTaken::TooShort(octets.len()));
         }
-        match self.apply(&Event::Take(id)) {
+        match self.hand_out(id, outcome) {
             Reply::Memory => Err(NotTaken::Memory),
             reply => {
                 out[..octets.len()].copy_from_slice(&octets);

@@ -58,7 +58,19 @@ live_by false o none = absurd cc
 pub live_where_none : (W : World) (id : TransactionId) (e : Entry) → entry_of W id ≡ Some e → IsNone (outcome_in W id) → IsTrue (is_live e.phase)
 live_where_none W id e there none = live_by (is_live e.phase) (outcome_of e) (rw there at none)
 
+-- the outcome of a transaction that is over
+over_by : (live : Bool) (o given : Outcome) → (if live then None else Some o) ≡ Some given → IsFalse live → given ≡ o
+over_by true o given e over = absurd cc
+over_by false o given e over = cc
+
+pub outcome_where_over : (W : World) (id : TransactionId) (e : Entry) (given : Outcome) → entry_of W id ≡ Some e → outcome_in W id ≡ Some given → IsFalse (is_live e.phase) → given ≡ outcome_of e
+outcome_where_over W id e given there made over = over_by (is_live e.phase) (outcome_of e) given (rw there at made) over
+
 module _ (s : Store) (b : Books) (id : TransactionId) where
+  pub outcome_made : (place : ℕ) → place ≡ row_place id b.table → (given : Outcome) → outcome_in (world_of s b) id ≡ Some given →
+      (e : Entry) → slice_get (world_of s b).table place ≡ Some e → IsFalse (is_live e.phase) → given ≡ outcome_of e
+  outcome_made place is given made e at over = outcome_where_over (world_of s b) id e given (rw (index_is s b id ∙ sym is) at) made over
+
   pub found_entry : (place : ℕ) → place ≡ row_place id b.table → place < length b.table → (e : Entry) × (entry_of (world_of s b) id ≡ Some e)
   found_entry place is within =
       let here = get_at b.table place within in

@@ -1,6 +1,6 @@
 //! The core of a receiving entity.
 
-ghost use Rattle.std.specs.Prelude.{◌≡◌, ◌∷◌, [], IfOk, IsOk, IsNone, IsTrue, IsFalse, map, slice_get};
+ghost use Rattle.std.specs.Prelude.{◌≡◌, ◌∷◌, [], Some, IfOk, IsOk, IsNone, IsTrue, IsFalse, map, slice_get};
 ghost use Rattle.cfdp_actions.specs.Store.{empty_store};
 ghost use Rattle.cfdp_transactions.specs.Sound.{Sound};
 ghost use Rattle.cfdp_transactions.specs.World.{leases_of, next_outcome, next_runnable, spare, start};
@@ -289,6 +289,22 @@ impl<S: Filestore> Core<S> {
         let reply = self.apply(event);
         let again = reply.share().unwrap();
         (reply, again)
+    }
+
+    /// The outcome of a transaction is handed out, with which it is forgotten, as [`apply`](Core::apply) does with Take. The
+    /// outcome was made before, by [`outcome`](Core::outcome): no name of a request is copied once more.
+    ///
+    /// Out of memory the reply is [`Reply::Memory`], the world is as before, and the outcome is dropped. Cost: one allocation.
+    pub fn hand_out(&mut self, id: TransactionId, outcome: Outcome) -> Reply
+        requires made { outcome_in self.old.world id ≡ Some outcome }
+        ensures follows { Follows self.old.world (Take id) result self.new.world }
+        ensures steady { self.new.takes_no_memory ≡ self.old.takes_no_memory }
+    {
+        laws::follows_is_sound();
+        let Some(place) = self.books.table.find(id) else {
+            return Reply::Unknown;
+        };
+        taking::hand_out(self.alloc, &self.store, &mut self.books, place, outcome)
     }
 
     /// A Metadata PDU came (CCSDS 727.0-B-5 §5.2.5): it is copied where it begins a transaction.

@@ -1,11 +1,11 @@
 //! The outcome of a transaction, which is taken once it is over (CCSDS 727.0-B-5 §4.6.1 and §5.2.3).
 
-ghost use Rattle.std.specs.Prelude.{◌≡◌, ℕ, ◌<◌, ◌≤◌, IfOk, length, Some, None};
+ghost use Rattle.std.specs.Prelude.{◌≡◌, ℕ, ◌<◌, ◌≤◌, IfOk, IsFalse, length, slice_get, Some, None};
 ghost use Rattle.cfdp_actions.specs.Filestore.{Filestore as Files};
 ghost use Rattle.cfdp_status.specs.Codes.{action_of};
 ghost use Rattle.cfdp_transactions.specs.Books.{AnswersAt, IsAnswered, IsBooked, IsLiveAt, world_of};
 ghost use Rattle.cfdp_transactions.specs.Ending.{taken_out};
-ghost use Rattle.cfdp_transactions.specs.Entry.{has_file};
+ghost use Rattle.cfdp_transactions.specs.Entry.{Entry as Transaction, has_file, is_live};
 ghost use Rattle.cfdp_transactions.specs.Outcome.{condition_of, outcome_of, responses_of};
 ghost use Rattle.cfdp_transactions.specs.Rows.{entry_in};
 ghost use Rattle.cfdp_transactions.specs.Sound.{Sound};
@@ -58,6 +58,32 @@ pub(crate) fn take<S: Filestore>(
     };
     books.table.forget(place);
     (Reply::Taken(outcome), Reply::Taken(again))
+}
+
+/// The same for an outcome that was made before: the transaction at a place is forgotten, and the outcome handed out. Where
+/// memory is refused nothing has changed. Cost: one allocation.
+pub(crate) fn hand_out<S: Filestore>(
+    alloc: Global,
+    store: &S,
+    books: &mut Books,
+    place: usize,
+    outcome: Outcome,
+) -> Reply
+    requires booked { IsBooked (S.state store.now) books.old }
+    requires within { place < length books.old.table }
+    requires made { (e : Transaction) → slice_get (world_of (S.state store.now) books.old).table place ≡ Some e → IsFalse (is_live e.phase) → outcome ≡ outcome_of e }
+    ensures answer { let W = world_of (S.state store.now) books.old in
+        AnswersAt W (world_of (S.state store.now) books.new) place (taken_out W place) result }
+    ensures booked { IsBooked (S.state store.now) books.new }
+{
+    if books.table.at(place).phase().is_live() {
+        return Reply::Idle;
+    }
+    let Ok(shared) = SharedOutcome::new(alloc, outcome) else {
+        return Reply::Memory;
+    };
+    books.table.forget(place);
+    Reply::Taken(shared)
 }
 
 /// Two handles of the outcome of a transaction that is over.

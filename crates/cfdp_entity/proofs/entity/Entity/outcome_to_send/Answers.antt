@@ -1,5 +1,5 @@
 use Rattle.cfdp_entity.proofs.Sending.{some_fits, sent_len}
-use Rattle.cfdp_entity.proofs.entity.Entity.octets_to_send.Goals as goal
+use Rattle.cfdp_entity.proofs.entity.Entity.outcome_to_send.Goals as goal
 
 pub octets-requires : goal.octets-requires
 octets-requires c =
@@ -11,5 +11,8 @@ returns-in_err-outcome-clause-most c = rw (← c.self.view_is) (sent_len c.self.
 pub returns-in-None-clause-most : goal.returns-in-None-clause-most
 returns-in-None-clause-most c = rw (← c.self.view_is) (sent_len c.self.inside.core.world c.args.id c.self.inside.writable)
 
-pub returns-in-Some-clause-most : goal.returns-in-Some-clause-most
-returns-in-Some-clause-most c = rw (← c.self.view_is) (sent_len c.self.inside.core.world c.args.id c.self.inside.writable)
+pub returns-in_ok-octets-in-Some-clause-most : goal.returns-in_ok-octets-in-Some-clause-most
+returns-in_ok-octets-in-Some-clause-most c = rw (← c.self.view_is) (sent_len c.self.inside.core.world c.args.id c.self.inside.writable)
+
+pub returns-in_err-octets-in-Some-clause-most : goal.returns-in_err-octets-in-Some-clause-most
+returns-in_err-octets-in-Some-clause-most c = rw (← c.self.view_is) (sent_len c.self.inside.core.world c.args.id c.self.inside.writable)
