@@ -3,9 +3,8 @@
 --     live_is_absent              a live block is not on the chain
 --     live_count-view             the count of live blocks
 --     taken, given, written       the arena after a block was taken, given back or written
-use Rattle.std.proofs.Common.{◌≡◌, ◌≢◌, ℕ, suc, zero, ◌+◌, ◌-◌, ◌<◌, ◌≤◌, List, [], ◌∷◌, ◌++◌, length, map, replicate, get_or, set, Option, Some, None, refl, sym, ap, ◌∙◌, subst, inl, inr, arith, length-set}
-use Rattle.std.proofs.lemmas.List.{get_or-set_same, get_or-set_other, set-set, set_comm, map-set, length-map, length-replicate, set_at, append_assoc, replicate_more}
-use Rattle.std.proofs.Math.Seq.{get_or-append_seam}
+use Rattle.std.proofs.Common.{◌≡◌, ◌≢◌, ℕ, suc, zero, ◌+◌, ◌<◌, List, [], ◌∷◌, length, map, get_or, set, Option, Some, None, refl, sym, ap, ◌∙◌, subst, inl, inr, arith, length-set}
+use Rattle.std.proofs.lemmas.List.{get_or-set_same, get_or-set_other, set-set, set_comm, map-set, length-map}
 use Rattle.std.proofs.lemmas.Bool.{cases_eq}
 use Rattle.std.specs.Prelude.{IsSome}
 use Rattle.cfdp_arena.specs.Arena.{Blocks, live_count, octets_at, IsLive, free_count, with_block, without_block}
@@ -127,7 +126,6 @@ module _ {blocks : List (List ℕ)} {free head : ℕ} {value : Blocks} (sound : 
           let long = length-set blocks number octets in
           record {
             apart = subst (λ xs. AreApart (length (set blocks number octets)) xs) (sym same) (subst (λ n. AreApart n (chain blocks free head)) (sym long) sound.apart);
-            some = omega (arith, long, sound.some);
             small = omega (arith, long, sound.small);
             fits = sound.fits;
           }
@@ -155,7 +153,6 @@ module _ {blocks : List (List ℕ)} {free head : ℕ} {value : Blocks} (sound : 
           record {
             apart = subst (λ n. AreApart (length after) (chain after n number)) (sym more) (subst (λ xs. AreApart (length after) xs) (sym given_chain)
                 (omega (arith, long, within), absent, subst (λ n. AreApart n (chain blocks free head)) (sym long) sound.apart));
-            some = omega (arith, long, sound.some);
             small = omega (arith, long, sound.small);
             fits = omega (arith, within, sound.small);
           }
@@ -204,7 +201,6 @@ module _ {blocks : List (List ℕ)} {free head : ℕ} {value : Blocks} (sound : 
           let long = length-set blocks head octets in
           record {
             apart = subst (λ xs. AreApart (length (set blocks head octets)) xs) (sym taken_chain) (subst (λ n. AreApart n rest) (sym long) first_apart.2);
-            some = omega (arith, long, sound.some);
             small = omega (arith, long, sound.small);
             fits = fits;
           }
@@ -216,37 +212,3 @@ module _ {blocks : List (List ℕ)} {free head : ℕ} {value : Blocks} (sound : 
           ∙ vacated-set rest (map Some blocks) head (Some octets) first_apart.1
           ∙ sym (set-set (vacated rest (map Some blocks)) head None (Some octets))
           ∙ ap (λ v. set v head (Some octets)) value_is
-
--- k of n blocks are free, and the others live with the same octets
-module _ (k n : ℕ) (entry : Option (List ℕ)) (more : k < n) where
-  one_more : replicate (n - k) entry ≡ entry ∷ replicate (n - (k + 1)) entry
-  one_more = let e : n - k ≡ suc (n - (k + 1)) = omega arith in ap (λ m. replicate m entry) e
-
-  pub next_live : octets_at (replicate k None ++ replicate (n - k) entry) k ≡ entry
-  next_live =
-      let front = replicate {A = Option (List ℕ)} k None in
-      (λ j. octets_at (front ++ one_more j) (sym (length-replicate {A = Option (List ℕ)} k None) j))
-      ∙ get_or-append_seam front entry (replicate (n - (k + 1)) entry) None
-
-  pub next_freed : set (replicate k None ++ replicate (n - k) entry) k None ≡ replicate (k + 1) None ++ replicate (n - (k + 1)) entry
-  next_freed =
-      let front = replicate {A = Option (List ℕ)} k None in let rest = replicate (n - (k + 1)) entry in
-      ap (λ xs. set (front ++ xs) k None) one_more
-      ∙ set_at front entry rest None k (length-replicate k None)
-      ∙ sym (append_assoc front (None ∷ []) rest)
-      ∙ ap (λ xs. xs ++ rest) (replicate_more k None)
-
-pub map-replicate : (n : ℕ) (block : List ℕ) → map Some (replicate n block) ≡ replicate n (Some block)
-map-replicate zero block = refl
-map-replicate (suc n) block = ap (λ xs. Some block ∷ xs) (map-replicate n block)
-
--- all blocks live
-module _ {blocks : List (List ℕ)} (n : ℕ) (block : List ℕ) (blank : blocks ≡ replicate n block) where
-  pub all_live : arena_view blocks 0 0 ≡ replicate (n - 0) (Some block)
-  unfolding arena_view
-  all_live = let all : n ≡ n - 0 = omega arith in ap (map Some) blank ∙ map-replicate n block ∙ ap (λ m. replicate m (Some block)) all
-
-  pub all_live_sound : 0 < n → n ≤ 65536 → IsSound blocks 0 0
-  all_live_sound some most =
-      let long : length blocks ≡ n = ap length blank ∙ length-replicate n block in
-      record { apart = tt; some = omega arith; small = omega arith; fits = omega arith }

@@ -127,7 +127,6 @@ module _ {blocks : List (List ℕ)} {free head : ℕ} {value : Blocks} (sound : 
           let long = length-set blocks number written in
           record {
             apart = subst (λ xs. AreApart (length (set blocks number written)) xs) (sym chain_is) (subst (λ n. AreApart n (given ++ chain blocks free head)) (sym long) apart_all);
-            some = omega (arith, long, sound.some);
             small = omega (arith, long, sound.small);
             fits = omega (arith, within sound view_is refl first_live, sound.small);
           }

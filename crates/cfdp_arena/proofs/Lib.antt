@@ -2,6 +2,7 @@ pub mod Chains
 pub mod GivenChains
 pub mod Heap
 pub mod Laws
+pub mod Made
 pub mod Rows
 pub mod Sharing
 pub mod Steps

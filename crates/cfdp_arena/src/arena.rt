@@ -16,32 +16,44 @@ use std::marker::Model;
 /// A fixed number of blocks of 128 octets, each of them free or live. A clause sees a list with an entry for each
 /// block: its octets where it is live.
 ///
-/// The blocks and the links between the free ones are in the arena's memory. Beside it are only four numbers: the
-/// address of the memory, the number of its blocks, the first free block and the number of free blocks.
+/// A block is made when it is first taken: it gets the next number, and its octets are set to 0. So the blocks that
+/// were made are the first ones, and nothing was written to the memory after them. A block that was given back is on a
+/// list, and `take` takes it from there before it makes another. A block that is not made yet is free too.
+///
+/// The blocks and the links of the list are in the arena's memory. Beside it are only its address and a few numbers:
+/// how many blocks it has room for, how many were made, how many are on the list, and the first one there.
 pub struct Arena {
+    /// What the memory was taken from, and goes back to.
     alloc: Global,
+    /// The memory, with room for every block, and the blocks that were made.
     region: Region,
+    /// How many blocks the arena has, made or not.
+    capacity: u32,
+    /// How many blocks were made: the first ones.
+    made: u32,
+    /// The first block of the list, if the list has one.
     head: u32,
-    free: u32,
+    /// How many blocks are on the list.
+    listed: u32,
 }
 
 impl Model for Arena {
     ghost use Rattle.cfdp_arena.specs.Arena.{Blocks};
-    ghost use Rattle.cfdp_arena.specs.FreeList.{arena_view, IsSound};
+    ghost use Rattle.cfdp_arena.specs.FreeList.{whole_view, IsArena};
 
     ghost Value = { Blocks };
 
-    ghost view = { λ a. arena_view a.region.blocks a.free a.head };
+    ghost view = { λ a. whole_view a.region.blocks a.listed a.head a.capacity };
 
-    ghost invariant = { λ a. IsSound a.region.blocks a.free a.head };
+    ghost invariant = { λ a. IsArena a.region.blocks a.listed a.head a.made a.capacity a.region.room };
 }
 
 impl Arena {
     ghost use Rattle.cfdp_arena.specs.Lending.{LendsOctets};
 
     /// Takes the memory of `blocks` blocks, from 1 to 65,536, all of them free. This is the only call that takes
-    /// memory: 128 octets a block, which go back when the arena is dropped. The arena never grows after it. In time
-    /// linear in `blocks`.
+    /// memory: 128 octets a block, which go back when the arena is dropped. The arena never grows after it. Nothing is
+    /// written to that memory yet: a block's octets are set to 0 when it is first taken. In constant time.
     ///
     /// # Errors
     ///
@@ -51,20 +63,19 @@ impl Arena {
         requires at_most { blocks ≤ 65536 }
         ensures all_free { IfOk result (λ arena. arena ≡ all_free blocks) }
     {
-        let region = Region::new(&alloc, blocks as usize)?;
-        let mut arena = Arena {
+        let region = Region::reserve(&alloc, blocks as usize)?;
+        Ok(Arena {
             alloc,
             region,
+            capacity: blocks,
+            made: 0,
             head: 0,
-            free: 0,
-        };
-        for number in 0..blocks {
-            arena.give(BlockId::of_number(number));
-        }
-        Ok(arena)
+            listed: 0,
+        })
     }
 
-    /// Takes a free block, which is then live and has 128 octets 0. `None` where no block is free. In constant time.
+    /// Takes a free block, which is then live and has 128 octets 0. `None` where no block is free. In constant time. It
+    /// takes no memory, also where the block was never taken before.
     pub fn take(&mut self) -> Option<BlockId>
         ensures none { IsNone result ↔ (free_count self.old ≡ 0) }
         ensures was_free { IfSome result (λ block. octets_at self.old block ≡ None) }
@@ -72,15 +83,21 @@ impl Arena {
         ensures zeros { IfSome result (λ block. self.new ≡ with_block self.old block blank_block) }
         ensures unchanged { IfNone result (self.new ≡ self.old) }
     {
-        if self.free == 0 {
-            return None;
+        if self.listed == 0 {
+            let number = self.made;
+            if number == self.capacity {
+                return None;
+            }
+            self.region.append_blank(number as usize);
+            self.made += 1;
+            return Some(BlockId::of_number(number));
         }
         let number = self.head;
         let block = self.region.block_mut(number as usize);
         let next = links::next_free(block);
         links::blank(block);
         self.head = next;
-        self.free -= 1;
+        self.listed -= 1;
         Some(BlockId::of_number(number))
     }
 
@@ -93,7 +110,7 @@ impl Arena {
         let next = self.head;
         links::link_to(self.region.block_mut(number as usize), next);
         self.head = number;
-        self.free += 1;
+        self.listed += 1;
     }
 
     /// Gives a chain of live blocks back as one: `count` blocks, from `first` to `last`, each of which but the last has
@@ -111,7 +128,7 @@ impl Arena {
         let head = self.head;
         links::link_to(self.region.block_mut(last.number() as usize), head);
         self.head = first.number();
-        self.free += count;
+        self.listed += count;
     }
 
     /// Shows the octets of a live block: 8 for its owner's links, and the payload after them. In constant time.
@@ -164,7 +181,7 @@ impl Arena {
         ensures within { result ≤ length self.now }
         ensures capacity { (0 < length self.now) × (length self.now ≤ 65536) }
     {
-        self.free
+        self.listed + (self.capacity - self.made)
     }
 }
 
@@ -173,8 +190,10 @@ impl Drop for Arena {
         let Arena {
             alloc,
             region,
+            capacity: _,
+            made: _,
             head: _,
-            free: _,
+            listed: _,
         } = self;
         region.release(&alloc);
     }

@@ -1,10 +1,10 @@
 //! The block arena of the receiver's filestore: a fixed number of blocks of 128 octets, all taken from memory at once.
 //!
 //! An `Arena` hands out blocks and takes them back, and never asks for memory again after `new`. A block has 8
-//! octets for its owner's links and a payload of 120 octets. The free blocks are a list whose links are in the
-//! free blocks themselves (`links`). Octets go from payload to payload with no buffer (`payload`). Callers see a
-//! capacity and a map from the live blocks to their octets. The memory is one region, reached through a raw pointer
-//! that only `region` uses.
+//! octets for its owner's links and a payload of 120 octets. Its octets are first written when it is first taken. The
+//! blocks that were given back are a list whose links are in these blocks themselves (`links`). Octets go from payload
+//! to payload with no buffer (`payload`). Callers see a capacity and a map from the live blocks to their octets. The
+//! memory is one region, reached through a raw pointer that only `region` uses.
 #![tactic(auto)]
 
 mod arena;

@@ -1,6 +1,6 @@
 //! The memory of an arena: one allocation, reached through a raw pointer, in which blocks of 128 octets are side by
 //! side.
-ghost use Rattle.std.specs.Prelude.{◌≡◌, ◌+◌, ◌*◌, ◌^◌, ◌<◌, ◌≤◌, ℕ, List, [], ◌∷◌, ◌++◌, length, replicate, take};
+ghost use Rattle.std.specs.Prelude.{◌≡◌, ◌+◌, ◌*◌, ◌^◌, ◌<◌, ◌≤◌, ℕ, List, [], ◌∷◌, ◌++◌, length, take};
 ghost use Rattle.std.specs.Prelude.{slice_index_or, slice_set, IfOk};
 ghost use Rattle.std.specs.Borrow.{sem};
 ghost use Rattle.cfdp_arena.specs.Blocks.{blank_block, copied};
@@ -31,20 +31,8 @@ unsafe impl Send for Region {}
 impl Region {
     ghost use Rattle.cfdp_arena.specs.Region.{LendsBlock, LendsFront};
 
-    /// Takes the memory of `blocks` blocks, and sets every octet to 0.
-    pub(crate) fn new(alloc: &Global, blocks: usize) -> Result<Region, AllocError>
-        requires small { blocks * 128 < 2 ^ 63 }
-        ensures blank { IfOk result (λ region. region.blocks ≡ replicate blocks blank_block) }
-    {
-        let mut region = Region::reserve(alloc, blocks)?;
-        for number in 0..blocks {
-            region.append_blank(number);
-        }
-        Ok(region)
-    }
-
-    /// Takes the memory of `room` blocks, and fills none.
-    fn reserve(alloc: &Global, room: usize) -> Result<Region, AllocError>
+    /// Takes the memory of `room` blocks, and writes none of it.
+    pub(crate) fn reserve(alloc: &Global, room: usize) -> Result<Region, AllocError>
         requires small { room * 128 < 2 ^ 63 }
         ensures room { IfOk result (λ region. region.room ≡ room) }
         ensures empty { IfOk result (λ region. region.blocks ≡ []) }
@@ -58,8 +46,8 @@ impl Region {
         }
     }
 
-    /// Makes a block of zeros after the blocks that exist.
-    fn append_blank(&mut self, number: usize)
+    /// Makes a block of zeros after the blocks that exist: the block of the next number.
+    pub(crate) fn append_blank(&mut self, number: usize)
         requires next { number ≡ length self.old.blocks }
         requires room { number < self.old.room }
         ensures blocks { self.new.blocks ≡ self.old.blocks ++ blank_block ∷ [] }
@@ -120,6 +108,7 @@ impl Region {
         requires to_within { to_at + len ≤ 120 }
         ensures blocks { self.new.blocks ≡ slice_set self.old.blocks to
             (copied (slice_index_or self.old.blocks from []) from_at (slice_index_or self.old.blocks to []) to_at len) }
+        ensures room { self.new.room ≡ self.old.room }
     {
         if from == to {
             copy_within(self.block_mut(from), from_at, to_at, len);

@@ -1,5 +1,5 @@
 use Rattle.std.proofs.Common.{Some, sym, ap, ◌∙◌}
-use Rattle.cfdp_arena.proofs.Chains.{within, octets}
+use Rattle.cfdp_arena.proofs.Made.{within, octets}
 use Rattle.cfdp_arena.proofs.arena.Arena.bytes.Goals as goal
 
 pub block-requires : goal.block-requires

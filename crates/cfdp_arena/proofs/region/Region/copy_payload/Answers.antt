@@ -1,4 +1,4 @@
-use Rattle.std.proofs.Common.{◌≡◌, ◌+◌, ◌++◌, [], get_or, set, take, drop, sym, ap, ◌∙◌, arith}
+use Rattle.std.proofs.Common.{◌≡◌, ◌+◌, ◌++◌, [], get_or, set, take, drop, refl, sym, ap, ◌∙◌, arith}
 use Rattle.std.proofs.lemmas.List.{get_or-take, set-append_left, take-append-drop, length-take-le}
 use Rattle.cfdp_arena.specs.Blocks.{copied}
 use Rattle.cfdp_arena.proofs.region.Region.copy_payload.Goals as goal
@@ -16,4 +16,5 @@ returns-else-from-to c =
           ∙ ap (λ l. set l to (copied (get_or l from []) c.args.from_at (get_or l to []) c.args.to_at c.args.len)) c.front_mut-blocks.ensures.value)
           ∙ sym (set-append_left front rest to new (omega arith))
           ∙ (λ k. set (take-append-drop n blocks k) to (copied (source k) c.args.from_at (target k) c.args.to_at c.args.len));
+      room = refl;
     }
