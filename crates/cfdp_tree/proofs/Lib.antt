@@ -36,6 +36,7 @@ pub mod FoundLaws
 pub mod ListingLaws
 pub mod SoundLaws
 pub mod AlikeLaws
+pub mod AloneLaws
 pub mod ChangedLaws
 pub mod DropLaws
 pub mod EntryLaws

@@ -1,5 +1,5 @@
 //! What stands at nodes, as callers see it.
-ghost use Rattle.std.specs.Prelude.{◌≡◌, [], Some, All, IfOk, length, map};
+ghost use Rattle.std.specs.Prelude.{◌≡◌, [], ◌∷◌, Some, All, IfOk, length, map};
 ghost use Rattle.cfdp_arena.specs.Arena.{octets_of};
 ghost use Rattle.cfdp_checksum.specs.Checksum.{checksum};
 ghost use Rattle.cfdp_actions.specs.Filestore.{octets_in};
@@ -34,6 +34,26 @@ pub(crate) fn standings(
     for (path, node) in found {
         all.push(standing(arena, path, &node))?;
     }
+    Ok(all)
+}
+
+/// What exists at the path of a node that has nothing below it: one element. In time linear in the octets of the path.
+///
+/// # Errors
+///
+/// [`Memory`] when out of memory: one allocation for the path and one for the vector.
+pub(crate) fn only_standing(
+    alloc: Global,
+    arena: &Arena,
+    path: &Path,
+    node: &BlockId,
+) -> Result<Vec<Standing>, Memory>
+    requires { IsSound arena.now (path.now, node.now) }
+    ensures { IfOk result (λ all. all.items
+        ≡ standing_of (shown arena.now (nodes_in arena.now) (path.now, node.now)) ∷ []) }
+{
+    let mut all = Vec::with_capacity(alloc, 1)?;
+    all.push(standing(arena, path.copy(alloc)?, node))?;
     Ok(all)
 }
 

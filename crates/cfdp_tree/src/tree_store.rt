@@ -10,14 +10,14 @@ use crate::entries::{link_entry, unlink_entry};
 use crate::files::{find_file, set_contents};
 use crate::index;
 use crate::index::{Head, insert};
-use crate::listing::{entries, standings};
+use crate::listing::{entries, only_standing, standings};
 use crate::lookup::{find_path, lookup};
 use crate::nodes::{create_node, delete_node, rename_node};
 use crate::rows::{home_of, kind_of, size_of};
 use crate::slots::Slot;
 use crate::summing::checksum_of;
 use crate::survey::survey;
-use crate::walk::deepest_in;
+use crate::walk::{deepest_in, entries_in};
 use cfdp_actions::{Entry, Filestore, Kind, Standing};
 use cfdp_arena::Arena;
 use cfdp_paths::{Memory, Path};
@@ -198,6 +198,10 @@ impl Filestore for TreeStore {
         let Some(node) = find_path(&self.arena, &self.heads, path) else {
             return Ok(Vec::new(alloc));
         };
+        let entries = entries_in(self.arena.bytes(node)).count;
+        if entries == 0 {
+            return only_standing(alloc, &self.arena, path, &node);
+        }
         let alone = Head {
             first: node,
             count: 1,
