@@ -10,20 +10,26 @@ use cfdp_paths::{LONGEST_NAME, MOST_NAMES, Memory, Path};
 use std::alloc::Global;
 
 /// The most octets of the names of a path, with a slash before each.
-const MOST_OCTETS: usize = MOST_NAMES * (LONGEST_NAME + 1);
+pub(crate) const MOST_OCTETS: usize = MOST_NAMES * (LONGEST_NAME + 1);
 
-/// The path of a node. In time linear in its octets.
+/// The path of a node. The text is overwritten, and has room for at least [`MOST_OCTETS`] octets. In time linear in the
+/// octets of the path.
 ///
 /// # Errors
 ///
-/// [`Memory`] where there was none for the path: one allocation of its length.
-pub(crate) fn path_of(alloc: Global, arena: &Arena, node: &BlockId) -> Result<Path, Memory>
+/// [`Memory`] when out of memory: one allocation of the length of the path.
+pub(crate) fn path_of(
+    alloc: Global,
+    arena: &Arena,
+    node: &BlockId,
+    text: &mut [u8],
+) -> Result<Path, Memory>
     requires tree { IsTree (nodes_in arena.now) }
     requires node { IsNode (nodes_in arena.now) node.now }
+    requires room { 776 ≤ length text.old }
     ensures { IfOk result (λ path. path ≡ path_of (nodes_in arena.now) node.now) }
 {
-    let mut text = [0; MOST_OCTETS];
-    let start = write_path(arena, node, &mut text);
+    let start = write_path(arena, node, text);
     Path::parse(alloc, &text[start..]).map_err(|_| Memory {})
 }
 

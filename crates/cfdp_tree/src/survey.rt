@@ -6,7 +6,7 @@ ghost use Rattle.cfdp_tree.specs.Walk.{chain_of, walks_at, StandAt, HasLists};
 ghost use Rattle.cfdp_tree.specs.Survey.{with_path, by_path};
 
 use crate::index::Head;
-use crate::spelling::path_of;
+use crate::spelling::{MOST_OCTETS, path_of};
 use crate::walk::collect_nodes;
 use cfdp_arena::{Arena, BlockId};
 use cfdp_paths::{Memory, Path};
@@ -38,7 +38,7 @@ pub(crate) fn survey(
     Ok(found)
 }
 
-/// The nodes, each with its path.
+/// The nodes, each with its path. One buffer serves to spell all of them.
 fn with_paths(
     alloc: Global,
     arena: &Arena,
@@ -49,8 +49,9 @@ fn with_paths(
     ensures { IfOk result (λ found. found.items ≡ map (with_path (nodes_in arena.now)) nodes.now) }
 {
     let mut found = Vec::with_capacity(alloc, nodes.len())?;
+    let mut text = [0; MOST_OCTETS];
     for node in nodes {
-        found.push((path_of(alloc, arena, node)?, *node))?;
+        found.push((path_of(alloc, arena, node, &mut text)?, *node))?;
     }
     Ok(found)
 }

@@ -1,4 +1,4 @@
-use Rattle.std.proofs.Common.{◌≡◌, ◌-◌, ℕ, List, take, drop, IfOk, IsErrAnd, MatchResult, Result, Ok, Err, refl, sym, ◌∙◌, subst, inl, arith}
+use Rattle.std.proofs.Common.{◌≡◌, ◌-◌, ℕ, List, take, drop, length, IfOk, IsErrAnd, MatchResult, Result, Ok, Err, refl, sym, ◌∙◌, subst, inl, arith}
 use Rattle.std.proofs.lemmas.List.{take_all, length-drop}
 use Rattle.cfdp_paths.specs.Paths.{Path, Spells}
 use Rattle.cfdp_paths.proofs.Spelling.{spelled_once}
@@ -21,7 +21,8 @@ pub returns : goal.returns
 returns c =
     let nodes = nodes_in c.args.arena.now in let path = path_of nodes c.args.node.now in
     let text = c.write_path-start.new.text in let start = c.write_path-start.result in
-    let whole : take (776 - start) (drop start text) ≡ drop start text = take_all (776 - start) (drop start text) (omega (arith, length-drop start text, c.write_path-start.ensures.length)) in
+    let rest = length text - start in
+    let whole : take rest (drop start text) ≡ drop start text = take_all rest (drop start text) (omega (arith, length-drop start text)) in
     renamed _ (λ p. p ≡ path) c.parse.result c.map_err.result c.map_err.ensures.cases
     (one_path _ path c.parse.result
     (subst (λ t. Spells t path) (sym (whole ∙ c.write_path-start.ensures.text)) (path_good nodes c.requires.tree c.args.node.now c.requires.node, inl refl))
