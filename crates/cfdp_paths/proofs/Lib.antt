@@ -7,3 +7,4 @@ pub mod InOrder
 pub mod Pieces
 pub mod Separators
 pub mod Moving
+pub mod Parting

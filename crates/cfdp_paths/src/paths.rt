@@ -71,6 +71,21 @@ impl Path {
         Ok(Path { octets, depth })
     }
 
+    /// The path of `depth` names that are in the octets in order, with the octet 0 between each two of them. Needs names
+    /// that make a path: they are not looked at. [`Path::parse`] is for octets of which that is not known.
+    ///
+    /// # Errors
+    ///
+    /// [`Memory`] when out of memory: one allocation of the length of the octets. Cost: one copy of them.
+    pub fn from_names(alloc: Global, names: &[u8], depth: usize) -> Result<Path, Memory>
+        requires path { IsPath (names_of names.now) }
+        requires depth { depth ≡ length (names_of names.now) }
+        ensures { IfOk result (λ path. path ≡ names_of names.now) }
+    {
+        let octets = Vec::from_slice(alloc, names)?;
+        Ok(Path { octets, depth })
+    }
+
     /// How many names the path has. Takes no memory. In constant time.
     pub fn depth(&self) -> usize
         ensures depth { result ≡ length self.now }

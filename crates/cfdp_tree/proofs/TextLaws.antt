@@ -1,34 +1,35 @@
 -- The octets of a path.
 --     text-push, text_home      one name more;  a node's path by its directory
---     text_slash                a slash, and the names with slashes between them
+--     text_whole                a separator, and the names with separators between them
 --     path_good                 a node's path is one
 use Rattle.std.proofs.Common.{◌≡◌, ℕ, zero, suc, List, [], ◌∷◌, ◌++◌, length, length-append, Option, Some, None, refl, ap, ◌∙◌, arith}
 use Rattle.std.proofs.lemmas.Grind.{flat_map-append}
 use Rattle.std.proofs.lemmas.List.{append-nil, append_assoc}
 use Rattle.std.proofs.lemmas.List.Elements.{All-append, All-cons, All-nil}
+use Rattle.std.specs.List.{join_with_byte}
 use Rattle.std.specs.Option.{option_map_or}
 use Rattle.std.specs.Prelude.{All}
 use Rattle.cfdp_arena.specs.Arena.{Blocks}
-use Rattle.cfdp_paths.specs.Paths.{Name, Path, IsName, IsPath, slash, joined}
+use Rattle.cfdp_paths.specs.Paths.{Name, Path, IsName, IsPath}
 use Rattle.cfdp_tree.specs.Tree.{IsNode, name_at, home, climb, most_names, path_of, Ends, IsTree}
 use Rattle.cfdp_tree.specs.Places.{path_at}
-use Rattle.cfdp_tree.specs.Text.{slashed, text_of}
+use Rattle.cfdp_tree.specs.Text.{preceded, text_of}
 use Rattle.cfdp_tree.proofs.ClimbLaws.{path_by_home}
 use Rattle.cfdp_tree.proofs.WalkLaws.{few_names}
 
-pub text-push : (p : Path) (name : Name) → text_of (p ++ name ∷ []) ≡ text_of p ++ slash ∷ name
-text-push p name = flat_map-append slashed p (name ∷ []) ∙ ap (λ t. text_of p ++ slash ∷ t) (append-nil name)
+pub text-push : (octet : ℕ) (p : Path) (name : Name) → text_of octet (p ++ name ∷ []) ≡ text_of octet p ++ octet ∷ name
+text-push octet p name = flat_map-append (preceded octet) p (name ∷ []) ∙ ap (λ t. text_of octet p ++ octet ∷ t) (append-nil name)
 
-pub text_home : (p q : Path) (name : Name) (rest : List ℕ) → q ≡ p ++ name ∷ [] → text_of q ++ rest ≡ text_of p ++ slash ∷ (name ++ rest)
-text_home p q name rest e = ap (λ x. text_of x ++ rest) e ∙ ap (λ t. t ++ rest) (text-push p name) ∙ append_assoc (text_of p) (slash ∷ name) rest
+pub text_home : (octet : ℕ) (p q : Path) (name : Name) (rest : List ℕ) → q ≡ p ++ name ∷ [] → text_of octet q ++ rest ≡ text_of octet p ++ octet ∷ (name ++ rest)
+text_home octet p q name rest e = ap (λ x. text_of octet x ++ rest) e ∙ ap (λ t. t ++ rest) (text-push octet p name) ∙ append_assoc (text_of octet p) (octet ∷ name) rest
 
-text_joined : (name : Name) (p : Path) → text_of (name ∷ p) ≡ slash ∷ joined (name ∷ p)
-text_joined name [] = ap (λ t. slash ∷ t) (append-nil name)
-text_joined name (other ∷ p) = ap (λ t. slash ∷ name ++ t) (text_joined other p)
+text_joined : (octet : ℕ) (name : Name) (p : Path) → text_of octet (name ∷ p) ≡ octet ∷ join_with_byte octet (name ∷ p)
+text_joined octet name [] = ap (λ t. octet ∷ t) (append-nil name)
+text_joined octet name (other ∷ p) = ap (λ t. octet ∷ name ++ t) (text_joined octet other p)
 
-pub text_slash : (p : Path) → IsPath p → text_of p ≡ slash ∷ joined p
-text_slash [] good = absurd (omega (arith, good.some))
-text_slash (name ∷ p) good = text_joined name p
+pub text_whole : (octet : ℕ) (p : Path) → IsPath p → text_of octet p ≡ octet ∷ join_with_byte octet p
+text_whole octet [] good = absurd (omega (arith, good.some))
+text_whole octet (name ∷ p) good = text_joined octet name p
 
 module _ (nodes : Blocks) (tree : IsTree nodes) where
   names_good : (n b : ℕ) → IsNode nodes b → Ends nodes n b → All IsName (climb nodes n b)

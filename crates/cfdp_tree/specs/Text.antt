@@ -1,11 +1,11 @@
--- The octets of a path's names, with a slash before each.
---     slashed name, text_of p     of one name, and of all
+-- The octets of a path's names, with a separator before each.
+--     preceded octet name, text_of octet p     of one name, and of all
 use Rattle.std.specs.Prelude.{ℕ, List, ◌∷◌}
 use Rattle.std.specs.List.{flat_map}
-use Rattle.cfdp_paths.specs.Paths.{Name, Path, slash}
+use Rattle.cfdp_paths.specs.Paths.{Name, Path}
 
-abbrev pub slashed : Name → List ℕ
-slashed name = slash ∷ name
+abbrev pub preceded : ℕ → Name → List ℕ
+preceded octet name = octet ∷ name
 
-abbrev pub text_of : Path → List ℕ
-text_of p = flat_map slashed p
+abbrev pub text_of : ℕ → Path → List ℕ
+text_of octet p = flat_map (preceded octet) p

@@ -1,5 +1,6 @@
 //! The paths of nodes.
 ghost use Rattle.std.specs.Prelude.{◌≡◌, ◌+◌, ◌≤◌, ◌++◌, IfOk, take, drop, length};
+ghost use Rattle.std.specs.List.{join_with_byte};
 ghost use Rattle.cfdp_paths.specs.Paths.{joined};
 ghost use Rattle.cfdp_tree.specs.Nodes.{nodes_in};
 ghost use Rattle.cfdp_tree.specs.Tree.{IsTree, IsNode, path_of};
@@ -12,8 +13,20 @@ use std::alloc::Global;
 /// The most octets of the names of a path, with a slash before each.
 pub(crate) const MOST_OCTETS: usize = MOST_NAMES * (LONGEST_NAME + 1);
 
-/// The path of a node. The text is overwritten, and has room for at least [`MOST_OCTETS`] octets. In time linear in the
-/// octets of the path.
+/// What is between the names that [`Path::from_names`] takes.
+const SEPARATOR: u8 = 0;
+
+/// The names of a path in a buffer, which they fill up to its end.
+#[derive(Clone, Copy)]
+struct Spelled {
+    /// Where they begin.
+    start: usize,
+    /// How many they are.
+    depth: usize,
+}
+
+/// The path of a node, whose names are good and are not looked at again. The text is overwritten, and has room for at
+/// least [`MOST_OCTETS`] octets. In time linear in the octets of the path.
 ///
 /// # Errors
 ///
@@ -29,8 +42,8 @@ pub(crate) fn path_of(
     requires room { 776 ≤ length text.old }
     ensures { IfOk result (λ path. path ≡ path_of (nodes_in arena.now) node.now) }
 {
-    let start = write_path(arena, node, text);
-    Path::parse(alloc, &text[start..]).map_err(|_| Memory {})
+    let names = write_names(arena, node, text, SEPARATOR);
+    Path::from_names(alloc, &text[names.start..], names.depth)
 }
 
 /// Writes the names of a node's path, with slashes between them, to the end of the buffer. Answers where they begin.
@@ -44,17 +57,34 @@ pub(crate) fn write_path(arena: &Arena, node: &BlockId, text: &mut [u8]) -> usiz
     ensures text { drop result text.new ≡ joined (path_of (nodes_in arena.now) node.now) }
     ensures before { take result text.new ≡ take result text.old }
 {
+    write_names(arena, node, text, b'/').start
+}
+
+/// Writes the names of a node's path, with a separator between each two of them, to the end of the buffer. The octets
+/// before that stay. In time linear in the octets.
+fn write_names(arena: &Arena, node: &BlockId, text: &mut [u8], separator: u8) -> Spelled
+    requires tree { IsTree (nodes_in arena.now) }
+    requires node { IsNode (nodes_in arena.now) node.now }
+    requires room { 776 ≤ length text.old }
+    ensures length { length text.new ≡ length text.old }
+    ensures within { result.start ≤ length text.new }
+    ensures text { drop result.start text.new ≡ join_with_byte separator (path_of (nodes_in arena.now) node.now) }
+    ensures before { take result.start text.new ≡ take result.start text.old }
+    ensures depth { result.depth ≡ length (path_of (nodes_in arena.now) node.now) }
+{
     let mut start = text.len();
+    let mut depth = 1;
     let mut node = *node;
     loop {
         let block = arena.bytes(node);
         start = put_before(text, start, name_in(block));
         match home_of(block, &node) {
             Some(parent) => {
-                start = put_before(text, start, b"/");
+                start = put_before(text, start, &[separator]);
+                depth += 1;
                 node = parent;
             }
-            None => return start,
+            None => return Spelled { start, depth },
         }
     }
 }
