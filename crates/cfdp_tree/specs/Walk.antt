@@ -5,12 +5,14 @@
 --     entries_of nodes b       the entries of a node
 --     walk nodes n b           the node and what stands below it, as far down as n names
 --     walks nodes n list       the same of each node of a list
+--     walk_up, walks_up        the same with each node after what is below it
 --     walks_at nodes depth list    all of it, where each node of the list has a path of so many names
+--     walks_up_at              the same with each node after what is below it
 --     longest nodes list       the number of names of the longest path of some nodes
 --     StandsDeep nodes depth b a node whose path has as many names
 --     StandAt nodes depth list each is such a node
 --     HasLists nodes           the nodes stand in lists of entries
-use Rattle.std.specs.Prelude.{◌≡◌, ℕ, suc, zero, ◌-◌, max, List, [], ◌∷◌, None, length, All}
+use Rattle.std.specs.Prelude.{◌≡◌, ℕ, suc, zero, ◌-◌, max, List, [], ◌∷◌, ◌++◌, None, length, All}
 use Rattle.std.specs.List.{flat_map}
 use Rattle.cfdp_arena.specs.Arena.{Blocks, octets_of}
 use Rattle.cfdp_actions.specs.declared.kind.Kind.{Kind}
@@ -40,9 +42,19 @@ walk nodes (suc n) b = b ∷ flat_map (walk nodes n) (entries_of nodes b)
 abbrev pub walks : Blocks → ℕ → List ℕ → List ℕ
 walks nodes n list = flat_map (walk nodes n) list
 
+abbrev pub walk_up : Blocks → ℕ → ℕ → List ℕ
+walk_up nodes zero b = []
+walk_up nodes (suc n) b = flat_map (walk_up nodes n) (entries_of nodes b) ++ b ∷ []
+
+abbrev pub walks_up : Blocks → ℕ → List ℕ → List ℕ
+walks_up nodes n list = flat_map (walk_up nodes n) list
+
 -- a path has 8 names at most
 abbrev pub walks_at : Blocks → ℕ → List ℕ → List ℕ
 walks_at nodes depth list = walks nodes (9 - depth) list
+
+abbrev pub walks_up_at : Blocks → ℕ → List ℕ → List ℕ
+walks_up_at nodes depth list = walks_up nodes (9 - depth) list
 
 abbrev pub longest : Blocks → List ℕ → ℕ
 longest nodes [] = 0

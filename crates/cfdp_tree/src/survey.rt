@@ -12,12 +12,13 @@ use cfdp_arena::{Arena, BlockId};
 use cfdp_paths::{Memory, Path};
 use std::alloc::Global;
 
-/// The nodes of a list, each of which has a path of `depth` names, and all that stands below them, each with its path, in
-/// path order. In time linear in what stands there, times a logarithm.
+/// The nodes of a list, each of which has a path of `depth` names, and all that is below them, each with its path, in
+/// path order. In time linear in their octets, times a logarithm; without that factor where the entries of each directory
+/// were made in path order.
 ///
 /// # Errors
 ///
-/// [`Memory`] where there was none for the paths: one allocation for each, and some for the vectors.
+/// [`Memory`] when out of memory: one allocation for each path, and some for the vectors.
 pub(crate) fn survey(
     alloc: Global,
     arena: &Arena,

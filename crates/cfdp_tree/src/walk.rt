@@ -2,7 +2,7 @@
 ghost use Rattle.std.specs.Prelude.{◌≡◌, ◌≤◌, ◌++◌, OnOk};
 ghost use Rattle.cfdp_tree.specs.Nodes.{nodes_in};
 ghost use Rattle.cfdp_tree.specs.Tree.{IsTree};
-ghost use Rattle.cfdp_tree.specs.Walk.{entries_in, chain_of, walks_at, longest, StandAt, HasLists};
+ghost use Rattle.cfdp_tree.specs.Walk.{entries_in, chain_of, walks_at, walks_up_at, longest, StandAt, HasLists};
 
 use crate::index::Head;
 use crate::rows::{first_of, kind_of, next_entry_of, size_of};
@@ -46,12 +46,13 @@ pub(crate) fn deepest_in(arena: &Arena, list: &Head, depth: usize) -> usize
     deepest
 }
 
-/// Puts the nodes of a list, each of which has a path of `depth` names, at the end of a vector, each before the nodes
-/// below it. In time linear in what stands there, by at most 9 calls within one another.
+/// Puts the nodes of a list, each of which has a path of `depth` names, at the end of a vector, each after the nodes
+/// below it. A list begins with the newest entry, so that the paths fall where entries were made in path order. In time
+/// linear in the nodes, by at most 9 calls within one another.
 ///
 /// # Errors
 ///
-/// [`Memory`] where there was none for the vector.
+/// [`Memory`] when out of memory.
 pub(crate) fn collect_nodes(
     arena: &Arena,
     list: &Head,
@@ -62,13 +63,13 @@ pub(crate) fn collect_nodes(
     requires lists { HasLists (nodes_in arena.now) }
     requires nodes { StandAt (nodes_in arena.now) depth (chain_of (nodes_in arena.now) list.now) }
     ensures { OnOk result (found.new.items ≡ found.old.items
-        ++ walks_at (nodes_in arena.now) depth (chain_of (nodes_in arena.now) list.now)) }
+        ++ walks_up_at (nodes_in arena.now) depth (chain_of (nodes_in arena.now) list.now)) }
 {
     let mut node = list.first;
     for _step in 0..list.count {
-        found.push(node)?;
         let block = arena.bytes(node);
         collect_nodes(arena, &entries_in(block), depth + 1, found)?;
+        found.push(node)?;
         node = next_entry_of(block);
     }
     Ok(())
