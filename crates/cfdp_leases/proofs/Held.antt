@@ -1,19 +1,25 @@
 -- What the map by path has, before and after a change.
---     IsRows items f holders       the map that f reads has at each path these holders, and no row where there are none
---     rows_same                    the same holders in other words
---     changed                      one path has another row
---     row_there, row_none          what is found tells of the holders
+--     holds_same, holds_kept       the same holders in other words;  the same rows in other maps
+--     holds_unwritten              a row was lent, and is as it was
+--     under_changed, other_changed      one path has another row: under its hash, or among the others
+--     under_written, under_removed      the path's own row under its hash has other holders, or is gone
+--     under_is, under_there, other_is, other_there, other_none, free_none      what is found tells of the holders, and the other way round
+--     other_apart, other_absent    when a path is not the one under its hash
+--     under_once                   a path under its hash is not among the others
 --     when-..                      a holder more, at one path and at a path more
 --     others-..                    a transaction's leases taken away
-use Rattle.std.proofs.Common.{◌≡◌, refl, sym, ◌∙◌, ap, subst, Bool, true, false, cond, not, ◌||◌, ◌&&◌, ◌==◌, if◌then◌else◌, inl, inr, List, [], ◌∷◌, ◌++◌, Option, Some, None, ℕ, ◌+◌, ◌<◌, arith, length, get_or, take, drop, append_assoc, length-take, take-append-drop}
-use Rattle.std.specs.Prelude.{filter, OnErr, Result, Ok, Err}
-use Rattle.std.specs.Option.{option_map}
+use Rattle.std.proofs.Common.{◌≡◌, refl, sym, ◌∙◌, ap, subst, Bool, true, false, cond, not, ◌||◌, ◌&&◌, ◌==◌, if◌then◌else◌, inl, inr, List, [], ◌∷◌, ◌++◌, Option, Some, None, ℕ, ◌+◌, ◌<◌, arith, length, get_or, take, drop, is_some, append_assoc, length-take, take-append-drop}
+use Rattle.std.specs.Prelude.{filter, IsSome, OnErr, Result, Ok, Err}
+use Rattle.std.specs.BTreeMap.{get}
+use Rattle.std.specs.Option.{option_map, option_or}
 use Rattle.std.specs.List.{list_any}
 use Rattle.std.specs.List.Sorted.{IsStrictlySortedBy}
-use Rattle.std.specs.Ordering.{is_eq}
-use Rattle.std.specs.Cmp.{eq_by_cmp_equiv, nat_eq_equiv}
+use Rattle.std.specs.Ordering.{is_eq, nat_cmp}
+use Rattle.std.specs.Cmp.{eq_by_cmp_equiv, nat_cmp_total, nat_eq_equiv, tied_itself}
 use Rattle.std.specs.FinSet as set
-use Rattle.std.specs.declared.cmp.Ordering.TheVariants.{Less}
+use Rattle.std.specs.FinMap.{nat_cmp-IsAntisymmetric}
+use Rattle.std.specs.declared.cmp.Ordering.{Ordering}
+use Rattle.std.specs.declared.cmp.Ordering.TheVariants.{Less, Equal, Greater}
 use Rattle.std.proofs.lemmas.List.{append-nil, take_more, get_or_default, get_or-take}
 use Rattle.std.proofs.lemmas.List.Elements.{filter-append}
 use Rattle.std.proofs.lemmas.List.Folds.{list_any-append}
@@ -24,9 +30,11 @@ use Rattle.cfdp_paths.specs.Paths.{Path, path_cmp, same_path}
 use Rattle.cfdp_paths.proofs.Comparing.{same_path-Decides}
 use Rattle.cfdp_leases.specs.declared.leased_paths.Holder.{Holder}
 use Rattle.cfdp_leases.specs.Leases.{is_same}
+use Rattle.cfdp_leases.specs.declared.leased_paths.Holders.{Holders}
+use Rattle.cfdp_leases.specs.declared.leased_paths.Row.{Row}
 use Rattle.cfdp_leases.specs.declared.leased_paths.LeasedPaths.{LeasedPaths}
 use Rattle.cfdp_leases.specs.Footprint.{PathSet, Footprint, leased}
-use Rattle.cfdp_leases.specs.Holders.{AreFree, when, others, unless_none, HoldsSome}
+use Rattle.cfdp_leases.specs.Holders.{AreFree, Holds, HoldsSome, IsOther, hash_of, holders_in, others, own_row, row_of, under_hash, unless_none, when}
 use Rattle.cfdp_leases.proofs.Apart.{or_both}
 use Rattle.cfdp_leases.proofs.Sets.{path_cmp_total, same_path-itself, Contains_from_stands, stands_from_Contains, stands}
 
@@ -59,32 +67,184 @@ row_left xs hs n none is len e = sym (ap unless_none is) ∙ by xs n none len e
     by [] n none len e = sym (ap (λ b. if b then None else Some []) (e ∙ eq-eqb n 0 len))
     by (x ∷ xs) n none len e = sym (ap (λ b. if b then None else Some (x ∷ xs)) (e ∙ ne_eqb n 0 (λ is. omega (arith, is, len))))
 
-module _ {R : Type 0} (items : R → List Holder) where
-  abbrev pub IsRows : (Path → Option R) → (Path → List Holder) → Type 0
-  IsRows f holders = (p : Path) → option_map items (f p) ≡ unless_none (holders p)
+none_mapped : {A B : Type 0} (f : A → B) (o : Option A) → option_map f o ≡ None → o ≡ None
+none_mapped f None e = refl
+none_mapped f (Some x) e = absurd (cc e)
 
-  pub rows_same : (f : Path → Option R) (holders now : Path → List Holder) → ((p : Path) → holders p ≡ now p) → IsRows f holders → IsRows f now
-  rows_same f holders now same rows p = rows p ∙ ap unless_none (same p)
+or_none : {A : Type 0} (o : Option A) → option_or o None ≡ o
+or_none None = refl
+or_none (Some x) = refl
 
-  -- the row of one path is another one, and the holders of all others are the same
-  pub changed : (f g : Path → Option R) (k : Path) (w : Option R) (holders now : Path → List Holder)
-      → ((q : Path) → g q ≡ cond (is_eq (path_cmp k q)) w (f q)) → option_map items w ≡ unless_none (now k)
-      → ((q : Path) → same_path q k ≡ false → now q ≡ holders q) → IsRows f holders → IsRows g now
-  changed f g k w holders now update row same rows q =
-      elim (cases_Bool (same_path k q)) [
-        | inl here ↦
-            ap (option_map items) (update q ∙ ap (λ b. cond b w (f q)) here)
-            ∙ subst (λ x. option_map items w ≡ unless_none (now x)) ((same_path-Decides k q).0 here) row
-        | inr there ↦
-            ap (option_map items) (update q ∙ ap (λ b. cond b w (f q)) there) ∙ rows q
-            ∙ sym (ap unless_none (same q (same_back q k ∙ there)))
-      ]
+neither : {A : Type 0} (o p : Option A) → option_or o p ≡ None → (o ≡ None) × (p ≡ None)
+neither None p e = (refl, e)
+neither (Some x) p e = absurd (cc e)
 
-  pub row_there : (f : Path → Option R) (k : Path) (row : R) (holders : Path → List Holder) → f k ≡ Some row → IsRows f holders → items row ≡ holders k
-  row_there f k row holders found rows = unless_some (items row) (holders k) (sym (ap (option_map items) found) ∙ rows k)
+not_some : {A : Type 0} (P : Type 0) (o : Option A) → o ≡ None → IsSome o → P
+not_some P o none some = absurd (true≢false (sym some ∙ ap is_some none))
 
-  pub row_none : (f : Path → Option R) (k : Path) (holders : Path → List Holder) → f k ≡ None → IsRows f holders → [] ≡ holders k
-  row_none f k holders found rows = unless_empty (holders k) (sym (ap (option_map items) found) ∙ rows k)
+equal : (o : Ordering) → is_eq o ≡ true → o ≡ Equal
+equal Less e = absurd (true≢false (sym e))
+equal Equal e = refl
+equal Greater e = absurd (true≢false (sym e))
+
+-- the row is the path's, if there is one
+abbrev pub IsOf : Path → Option Row → Type 0
+IsOf k None = Unit {0}
+IsOf k (Some row) = row.path ≡ k
+
+pub none_of : (k : Path) (r : Option Row) → is_some r ≡ false → IsOf k r
+none_of k None none = tt
+none_of k (Some row) none = absurd (true≢false none)
+
+own_here : (r : Option Row) (k : Path) → IsOf k r → own_row r k ≡ option_map (λ row. row.holders) r
+own_here None k of = refl
+own_here (Some row) k of = ap (λ b. cond b (Some row.holders) None) (ap (λ p. same_path p k) of ∙ same_path-itself k)
+
+own_apart : (r : Option Row) (k q : Path) → IsOf k r → same_path k q ≡ false → own_row r q ≡ None
+own_apart None k q of apart = refl
+own_apart (Some row) k q of apart = ap (λ b. cond b (Some row.holders) None) (ap (λ p. same_path p q) of ∙ apart)
+
+pub holds_same : (paths : LeasedPaths) (holders now : Path → List Holder) → ((p : Path) → holders p ≡ now p) → Holds paths holders → Holds paths now
+holds_same paths holders now same held = record { rows = λ p. held.rows p ∙ ap unless_none (same p); once = held.once }
+
+-- the row under the path's hash is another path's, or there is none
+module _ (paths : LeasedPaths) (k : Path) (h : ℕ) (hash : h ≡ hash_of k) where
+  pub other_apart : (row : Row) → get nat_cmp paths.rows h ≡ Some row → same_path row.path k ≡ false → IsOther paths k
+  other_apart row found apart = ap (λ r. own_row r k) (ap (get nat_cmp paths.rows) (sym hash) ∙ found) ∙ ap (λ b. cond b (Some row.holders) None) apart
+
+  pub other_absent : get nat_cmp paths.rows h ≡ None → IsOther paths k
+  other_absent none = ap (λ r. own_row r k) (ap (get nat_cmp paths.rows) (sym hash) ∙ none)
+
+module _ (paths : LeasedPaths) (k : Path) (holders : Path → List Holder) (held : Holds paths holders) where
+  -- the row under the path's hash is its own
+  module _ (h : ℕ) (hash : h ≡ hash_of k) (row : Row) (found : get nat_cmp paths.rows h ≡ Some row) (own : row.path ≡ k) where
+    own_there : under_hash paths k ≡ Some row.holders
+    own_there = ap (λ r. own_row r k) (ap (get nat_cmp paths.rows) (sym hash) ∙ found) ∙ own_here (Some row) k own
+
+    pub under_is : Some (holders_in row.holders) ≡ unless_none (holders k)
+    under_is = sym (ap (λ o. option_map holders_in (option_or o (get path_cmp paths.others k))) own_there) ∙ held.rows k
+
+    pub under_there : holders_in row.holders ≡ holders k
+    under_there = unless_some (holders_in row.holders) (holders k) under_is
+
+    pub under_once : get path_cmp paths.others k ≡ None
+    under_once = held.once k (ap is_some own_there)
+
+  module _ (other : IsOther paths k) where
+    of_others : option_map holders_in (get path_cmp paths.others k) ≡ unless_none (holders k)
+    of_others = sym (ap (λ o. option_map holders_in (option_or o (get path_cmp paths.others k))) other) ∙ held.rows k
+
+    pub other_is : (row : Holders) → get path_cmp paths.others k ≡ Some row → Some (holders_in row) ≡ unless_none (holders k)
+    other_is row found = sym (ap (option_map holders_in) found) ∙ of_others
+
+    pub other_there : (row : Holders) → get path_cmp paths.others k ≡ Some row → holders_in row ≡ holders k
+    other_there row found = unless_some (holders_in row) (holders k) (other_is row found)
+
+    pub other_none : get path_cmp paths.others k ≡ None → [] ≡ holders k
+    other_none found = unless_empty (holders k) (sym (ap (option_map holders_in) found) ∙ of_others)
+
+  -- a path that nobody holds has no row
+  pub free_none : holders k ≡ [] → (under_hash paths k ≡ None) × (get path_cmp paths.others k ≡ None)
+  free_none free = neither (under_hash paths k) (get path_cmp paths.others k) (none_mapped holders_in (row_of paths k) (held.rows k ∙ ap unless_none free))
+
+-- what is written back is what was there
+unwritten : {X : Type 0} (f g : ℕ → Option X) (h : ℕ) (x : X) → ((q : ℕ) → g q ≡ cond (is_eq (nat_cmp h q)) (Some x) (f q)) → f h ≡ Some x → (q : ℕ) → g q ≡ f q
+unwritten f g h x update found q =
+    elim (cases_Bool (is_eq (nat_cmp h q))) [
+      | inl tie ↦
+          update q ∙ ap (λ b. cond b (Some x) (f q)) tie ∙ sym found
+          ∙ ap f (nat_cmp-IsAntisymmetric h q (equal (nat_cmp h q) tie))
+      | inr differs ↦ update q ∙ ap (λ b. cond b (Some x) (f q)) differs
+    ]
+
+-- what `Holds` says at one path
+abbrev HoldsAt : LeasedPaths → (Path → List Holder) → Path → Type 0
+HoldsAt paths holders p = (option_map holders_in (row_of paths p) ≡ unless_none (holders p)) × (IsSome (under_hash paths p) → get path_cmp paths.others p ≡ None)
+
+holds_each : (paths : LeasedPaths) (holders : Path → List Holder) → ((p : Path) → HoldsAt paths holders p) → Holds paths holders
+holds_each paths holders at = record { rows = λ p. (at p).0; once = λ p. (at p).1 }
+
+module _ (old new : LeasedPaths) (holders : Path → List Holder) (held : Holds old holders) where
+  -- both maps have the same rows
+  pub holds_kept : ((h : ℕ) → get nat_cmp new.rows h ≡ get nat_cmp old.rows h) → ((p : Path) → get path_cmp new.others p ≡ get path_cmp old.others p) → Holds new holders
+  holds_kept rows others =
+      let under : (p : Path) → under_hash new p ≡ under_hash old p = λ p. ap (λ r. own_row r p) (rows (hash_of p)) in
+      record {
+        rows = λ p. (λ i. option_map holders_in (option_or (under p i) (others p i))) ∙ held.rows p;
+        once = λ p some. others p ∙ held.once p (sym (ap is_some (under p)) ∙ some);
+      }
+
+  -- a row was lent, and is as it was
+  pub holds_unwritten : (h : ℕ) (row : Row) → ((q : ℕ) → get nat_cmp new.rows q ≡ cond (is_eq (nat_cmp h q)) (Some row) (get nat_cmp old.rows q))
+      → get nat_cmp old.rows h ≡ Some row → ((p : Path) → get path_cmp new.others p ≡ get path_cmp old.others p) → Holds new holders
+  holds_unwritten h row update found = holds_kept (unwritten (get nat_cmp old.rows) (get nat_cmp new.rows) h row update found)
+
+  module _ (k : Path) (now : Path → List Holder) (same : (q : Path) → same_path q k ≡ false → now q ≡ holders q) where
+    apart_same : (q : Path) → same_path k q ≡ false → under_hash new q ≡ under_hash old q → get path_cmp new.others q ≡ get path_cmp old.others q → HoldsAt new now q
+    apart_same q apart under others = (
+      (λ i. option_map holders_in (option_or (under i) (others i))) ∙ held.rows q ∙ sym (ap unless_none (same q (same_back q k ∙ apart))),
+      λ some. others ∙ held.once q (sym (ap is_some under) ∙ some),
+    )
+
+    -- the path has another row under its hash, or none there any more
+    pub under_changed : (h : ℕ) → h ≡ hash_of k → (w : Option Row) → ((q : ℕ) → get nat_cmp new.rows q ≡ cond (is_eq (nat_cmp h q)) w (get nat_cmp old.rows q))
+        → ((p : Path) → get path_cmp new.others p ≡ get path_cmp old.others p) → IsOf k (get nat_cmp old.rows h) → IsOf k w → get path_cmp old.others k ≡ None
+        → option_map holders_in (option_map (λ row. row.holders) w) ≡ unless_none (now k) → Holds new now
+    under_changed h hash w rows others before after none row =
+        holds_each new now (λ q. elim (cases_Bool (same_path k q)) [
+          | inl here ↦ subst (HoldsAt new now) ((same_path-Decides k q).0 here) own
+          | inr apart ↦ apart_same q apart (elsewhere q apart) (others q)
+        ])
+      where
+        own : HoldsAt new now k
+        own =
+            let under : under_hash new k ≡ option_map (λ r. r.holders) w =
+            ap (λ r. own_row r k)
+            (ap (get nat_cmp new.rows) (sym hash) ∙ rows h ∙ ap (λ o. cond (is_eq o) w (get nat_cmp old.rows h)) (tied_itself nat_cmp_total h)) ∙ own_here w k after in
+            let gone : get path_cmp new.others k ≡ None = others k ∙ none in
+            ((λ i. option_map holders_in (option_or (under i) (gone i))) ∙ ap (option_map holders_in) (or_none (option_map (λ r. r.holders) w)) ∙ row, λ some. gone)
+
+        elsewhere : (q : Path) → same_path k q ≡ false → under_hash new q ≡ under_hash old q
+        elsewhere q apart =
+            elim (cases_Bool (is_eq (nat_cmp h (hash_of q)))) [
+              | inl tie ↦
+                  let same_hash : h ≡ hash_of q = nat_cmp-IsAntisymmetric h (hash_of q) (equal (nat_cmp h (hash_of q)) tie) in
+                  ap (λ r. own_row r q) (rows (hash_of q) ∙ ap (λ b. cond b w (get nat_cmp old.rows (hash_of q))) tie) ∙ own_apart w k q after apart
+                  ∙ sym (own_apart (get nat_cmp old.rows (hash_of q)) k q (subst (λ x. IsOf k (get nat_cmp old.rows x)) same_hash before) apart)
+              | inr differs ↦ ap (λ r. own_row r q) (rows (hash_of q) ∙ ap (λ b. cond b w (get nat_cmp old.rows (hash_of q))) differs)
+            ]
+
+    -- the path has another row among the others, or none there any more
+    pub other_changed : (w : Option Holders) → ((h : ℕ) → get nat_cmp new.rows h ≡ get nat_cmp old.rows h)
+        → ((p : Path) → get path_cmp new.others p ≡ cond (is_eq (path_cmp k p)) w (get path_cmp old.others p)) → IsOther old k
+        → option_map holders_in w ≡ unless_none (now k) → Holds new now
+    other_changed w rows others other row =
+        holds_each new now (λ q. elim (cases_Bool (same_path k q)) [
+          | inl here ↦ subst (HoldsAt new now) ((same_path-Decides k q).0 here) own
+          | inr apart ↦ apart_same q apart (under q) (others q ∙ ap (λ b. cond b w (get path_cmp old.others q)) apart)
+        ])
+      where
+        under : (q : Path) → under_hash new q ≡ under_hash old q
+        under q = ap (λ r. own_row r q) (rows (hash_of q))
+
+        own : HoldsAt new now k
+        own =
+            let found : get path_cmp new.others k ≡ w = others k ∙ ap (λ b. cond b w (get path_cmp old.others k)) (same_path-itself k) in
+            let none : under_hash new k ≡ None = under k ∙ other in
+            ((λ i. option_map holders_in (option_or (none i) (found i))) ∙ row, not_some (get path_cmp new.others k ≡ None) (under_hash new k) none)
+
+    -- the row under the path's hash is its own, and has other holders, or is gone
+    module _ (h : ℕ) (hash : h ≡ hash_of k) (row : Row) (found : get nat_cmp old.rows h ≡ Some row) (own : row.path ≡ k)
+        (others : (p : Path) → get path_cmp new.others p ≡ get path_cmp old.others p) where
+      pub under_written : (after : Holders) → ((q : ℕ) → get nat_cmp new.rows q ≡ cond (is_eq (nat_cmp h q)) (Some (record { path = row.path; holders = after })) (get nat_cmp old.rows q))
+          → Some (holders_in after) ≡ unless_none (now k) → Holds new now
+      under_written after rows now_has =
+          under_changed h hash (Some (record { path = row.path; holders = after })) rows others (subst (IsOf k) (sym found) own) own
+          (under_once old k holders held h hash row found own) now_has
+
+      pub under_removed : ((q : ℕ) → get nat_cmp new.rows q ≡ cond (is_eq (nat_cmp h q)) None (get nat_cmp old.rows q)) → None ≡ unless_none (now k) → Holds new now
+      under_removed rows now_has =
+          under_changed h hash None rows others (subst (IsOf k) (sym found) own) tt (under_once old k holders held h hash row found own) now_has
 
 -- ---- one holder more
 

@@ -6,7 +6,6 @@
 --     kept_same, kept_admitted, kept_released      what is kept, after each change
 use Rattle.std.proofs.Common.{◌≡◌, ◌≢◌, refl, sym, ◌∙◌, ap, subst, ℕ, Bool, false, cond, not, inl, inr, List, [], ◌∷◌, ◌++◌, length, arith, Option, Some, None, is_some}
 use Rattle.std.specs.Prelude.{find, filter, slice_get, unwrap_or, IsSome}
-use Rattle.std.specs.BTreeMap as tree
 use Rattle.std.specs.FinSet as set
 use Rattle.std.specs.Option.{option_map}
 use Rattle.std.specs.List.{prefix_len, AllByRecursion}
@@ -14,17 +13,16 @@ use Rattle.std.proofs.lemmas.Bool.{cases_Bool, true≢false}
 use Rattle.std.proofs.lemmas.List.{map-append, append-nil}
 use Rattle.std.proofs.lemmas.Grind.{flat_map-append}
 use Rattle.std.proofs.lemmas.Option.{slice_get-map}
-use Rattle.cfdp_paths.specs.Paths.{path_cmp}
 use Rattle.cfdp_leases.specs.declared.leased_paths.LeasedPaths.{LeasedPaths}
 use Rattle.slab.specs.Slab.{Slab, get, Updates}
 use Rattle.cfdp_status.specs.declared.transaction.TransactionId.{TransactionId}
 use Rattle.cfdp_leases.specs.declared.leases.Live.{Live}
 use Rattle.cfdp_leases.specs.Footprint.{Footprint, HasAncestors, leased, of_lists}
-use Rattle.cfdp_leases.specs.Holders.{holders_in, Holds, holders_at, holders_of}
+use Rattle.cfdp_leases.specs.Holders.{Holds, holders_at, holders_of}
 use Rattle.cfdp_leases.specs.Leases.{AreApart, first_conflict, holds, is_same, without}
 use Rattle.cfdp_leases.specs.Live.{AreKept, HaveFootprints, footprint_at, grants_of}
 use Rattle.cfdp_leases.proofs.Apart.{all_filter, apart_push, apart_filter}
-use Rattle.cfdp_leases.proofs.Held.{rows_same, left}
+use Rattle.cfdp_leases.proofs.Held.{holds_same, left}
 use Rattle.cfdp_leases.proofs.Views.{find-map, option_map-map}
 use Rattle.cfdp_leases.proofs.Admitted.{place_in, released}
 use Rattle.cfdp_leases.proofs.Places.{prefix_len-map}
@@ -183,7 +181,7 @@ kept_admitted s t live new fp before paths kept none update ancestors free unhel
       rooted = subst (AllByRecursion (λ g. HasAncestors g.1)) grants (all_push (λ g. HasAncestors g.1) gs (new.transaction, fp) kept.rooted ancestors);
       apart = subst AreApart grants (apart_push gs (new.transaction, fp) kept.apart free unheld);
       rows = subst (λ ks. Holds paths (holders_at ks)) grants
-          (rows_same holders_in (tree.get path_cmp paths.holders) (λ p. holders_at gs p ++ holders_of new.transaction fp p) (holders_at (gs ++ (new.transaction, fp) ∷ []))
+          (holds_same paths (λ p. holders_at gs p ++ holders_of new.transaction fp p) (holders_at (gs ++ (new.transaction, fp) ∷ []))
           (λ p. sym (flat_map-append (λ g. holders_of g.0 g.1 p) gs ((new.transaction, fp) ∷ []) ∙ ap (λ hs. holders_at gs p ++ hs) (append-nil (holders_of new.transaction fp p))))
           rows);
     }
@@ -229,6 +227,6 @@ kept_released s t live id l fp before paths kept found has update rows =
       rooted = subst (AllByRecursion (λ g. HasAncestors g.1)) grants (all_filter (λ g. HasAncestors g.1) (λ g. not (is_same g.0 id)) gs kept.rooted);
       apart = subst AreApart grants (apart_filter (λ g. not (is_same g.0 id)) gs kept.apart);
       rows = subst (λ ks. Holds paths (holders_at ks)) grants
-          (rows_same holders_in (tree.get path_cmp paths.holders) (λ p. left id (set.contains (leased fp) p) (holders_at gs p)) (holders_at (without gs id))
+          (holds_same paths (λ p. left id (set.contains (leased fp) p) (holders_at gs p)) (holders_at (without gs id))
           (λ p. released gs id (l.transaction, fp) p kept.apart there) rows);
     }

@@ -4,20 +4,27 @@
 --     holders_at grants p       those by all grants, in order of admission
 --     others id holders         those of other transactions
 --     holders_in row            the holders that a row of the map has
---     Holds paths holders       the map has at each path these holders, and no row where there are none
+--     hash_of p                 a number for a path: what the hasher of std's maps makes of its names
+--     own_row row p             the holders that a row has, where it is the path's
+--     under_hash paths p        those that the row under the path's hash has, where it is the path's;  IsOther paths p: it is not
+--     row_of paths p            the holders of a path: of its own row, else by the map of the other paths
+--     Holds paths holders       at each path there are these holders, and no row where there are none
 --     AreFree at holders        nobody holds a path of the test;  AreOwn id at holders: nobody but the transaction does
 --     HoldsSome id at holders paths      these holders, and of the transaction whichever, where `at` is true
-use Rattle.std.specs.Prelude.{◌≡◌, Bool, true, false, not, if◌then◌else◌, List, [], ◌∷◌, ◌++◌, Option, Some, None, filter, flat_map}
-use Rattle.std.specs.Option.{option_map}
+use Rattle.std.specs.Prelude.{◌≡◌, ℕ, Bool, true, false, not, if◌then◌else◌, List, [], ◌∷◌, ◌++◌, Option, Some, None, filter, flat_map, fold, IsSome}
+use Rattle.std.specs.Hash.FoldHasher as hasher
+use Rattle.std.specs.Option.{option_map, option_or}
+use Rattle.std.specs.Ordering.{nat_cmp}
 use Rattle.std.specs.FinSet as set
 use Rattle.std.specs.BTreeMap.{get}
 use Rattle.cfdp_status.specs.declared.transaction.TransactionId.{TransactionId}
-use Rattle.cfdp_paths.specs.Paths.{Path, path_cmp}
+use Rattle.cfdp_paths.specs.Paths.{Path, path_cmp, same_path}
 use Rattle.cfdp_leases.specs.declared.lease.Lease.TheVariants.{Exclusive, Shared}
 use Rattle.cfdp_leases.specs.declared.leased_paths.Holder.{Holder}
 use Rattle.cfdp_leases.specs.declared.leased_paths.Holders.{Holders}
 use Rattle.cfdp_leases.specs.declared.leased_paths.Holders.TheVariants.{One, Many}
 use Rattle.cfdp_leases.specs.declared.leased_paths.LeasedPaths.{LeasedPaths}
+use Rattle.cfdp_leases.specs.declared.leased_paths.Row.{Row}
 use Rattle.cfdp_leases.specs.Footprint.{Footprint}
 use Rattle.cfdp_leases.specs.Leases.{Grants, is_same}
 
@@ -44,9 +51,30 @@ abbrev pub holders_in : Holders → List Holder
 holders_in (One holder) = holder ∷ []
 holders_in (Many holders) = holders.items
 
--- the map has at each path the holders that the function says, and no row where it says none
-abbrev pub Holds : LeasedPaths → (Path → List Holder) → Type 0
-Holds paths holders = (p : Path) → option_map holders_in (get path_cmp paths.holders p) ≡ unless_none (holders p)
+-- the names are written to the hasher one after the other
+abbrev pub hash_of : Path → ℕ
+hash_of p = hasher.finish (fold hasher.write hasher.initial p)
+
+abbrev pub own_row : Option Row → Path → Option Holders
+own_row None p = None
+own_row (Some row) p = if same_path row.path p then Some row.holders else None
+
+abbrev pub under_hash : LeasedPaths → Path → Option Holders
+under_hash paths p = own_row (get nat_cmp paths.rows (hash_of p)) p
+
+-- the path is not the one under its hash
+abbrev pub IsOther : LeasedPaths → Path → Type 0
+IsOther paths p = under_hash paths p ≡ None
+
+-- the row of a path, wherever it is
+abbrev pub row_of : LeasedPaths → Path → Option Holders
+row_of paths p = option_or (under_hash paths p) (get path_cmp paths.others p)
+
+-- each path has the holders that the function says, and no row where it says none; and no path is both under its hash and
+-- among the others
+pub record Holds (paths : LeasedPaths) (holders : Path → List Holder) : Type 0 where
+  pub rows : (p : Path) → option_map holders_in (row_of paths p) ≡ unless_none (holders p)
+  pub once : (p : Path) → IsSome (under_hash paths p) → get path_cmp paths.others p ≡ None
 
 -- nobody holds a path at which the test is true
 abbrev pub AreFree : (Path → Bool) → (Path → List Holder) → Type 0

@@ -6,7 +6,7 @@ ghost use Rattle.std.specs.List.Sorted.{IsStrictlySortedBy};
 ghost use Rattle.std.specs.FinSet as set;
 ghost use Rattle.cfdp_paths.specs.Paths.{Path as Names, path_cmp, same_path};
 ghost use Rattle.cfdp_leases.specs.Footprint.{leased};
-ghost use Rattle.cfdp_leases.specs.Holders.{AreFree, AreOwn, Holds, HoldsSome, holders_in, holders_of, others, unless_none, when};
+ghost use Rattle.cfdp_leases.specs.Holders.{AreFree, AreOwn, Holds, HoldsSome, IsOther, hash_of, holders_in, holders_of, others, unless_none, when};
 
 use crate::footprints::Footprint;
 use crate::lease::Lease;
@@ -14,6 +14,7 @@ use cfdp_paths::{Memory, Path};
 use cfdp_status::TransactionId;
 use std::alloc::Global;
 use std::collections::BTreeMap;
+use std::hash::{FoldHasher, Hasher};
 
 /// One transaction's lease of a path.
 #[derive(Clone, Copy, Debug, PartialEq, Eq)]
@@ -79,10 +80,23 @@ impl Holders {
     }
 }
 
+/// A leased path and its holders.
+#[derive(Debug, Drop)]
+struct Row {
+    path: Path,
+    holders: Holders,
+}
+
 /// The holders of each leased path, in order of admission. No path is in it without a holder.
+///
+/// A path is looked up by its hash, because numbers compare much faster than paths. Whoever picks the paths can make
+/// their hashes equal: so only one path of each hash is found by it, and all further ones are found by comparing paths.
 #[derive(Debug, Drop)]
 pub(crate) struct LeasedPaths {
-    holders: BTreeMap<Path, Holders>,
+    /// By hash, one path that has it.
+    rows: BTreeMap<u64, Row>,
+    /// The paths that came while another path with their hash was in `rows`. No path is in both.
+    others: BTreeMap<Path, Holders>,
 }
 
 impl LeasedPaths {
@@ -91,24 +105,30 @@ impl LeasedPaths {
         ensures { Holds result (λ _. []) }
     {
         LeasedPaths {
-            holders: BTreeMap::new(alloc),
+            rows: BTreeMap::new(alloc),
+            others: BTreeMap::new(alloc),
         }
     }
 
-    /// The holder of the path that was admitted first. Takes no memory. Cost: one search.
+    /// The holder of the path that was admitted first. Takes no memory. Cost: one pass over the path's octets, a search
+    /// by its hash, and another by the path where it is not found so.
     pub(crate) fn first(&self, path: &Path) -> Option<Holder>
         ensures { (holders : Names → List Holder) → Holds self.now holders → result ≡ slice_get (holders path.now) 0 }
     {
-        self.holders.get(path)?.first()
+        match self.rows.get(&hash_of(path)) {
+            Some(row) if row.path == *path => row.holders.first(),
+            _ => self.others.get(path)?.first(),
+        }
     }
 
-    /// Lets a transaction, which holds no path, hold those of its footprint, behind all others. Nobody holds its exclusive
-    /// paths.
+    /// Lets a transaction, which holds no path, hold those of its footprint, after all others. Nobody holds its
+    /// exclusive paths.
     ///
     /// # Errors
     ///
-    /// Want of memory: the holders of each path are as before. Cost: for each exclusive path a copy and one search, and for
-    /// each shared one a search, and a copy and another search where nobody holds it yet.
+    /// [`Memory`] where there was none; the holders of each path are then as before. Cost: for each exclusive path a
+    /// copy and two searches, and for each shared one two searches at most, and a copy and two more where nobody holds
+    /// it yet.
     pub(crate) fn lease(
         &mut self,
         alloc: Global,
@@ -127,8 +147,9 @@ impl LeasedPaths {
         leased
     }
 
-    /// Takes the leases of a transaction away from the paths of its footprint. Nobody else holds its exclusive paths. Takes no
-    /// memory. Cost: for each exclusive path one search, and for each shared one two at most and a pass over its holders.
+    /// Takes the leases of a transaction away from the paths of its footprint. Nobody else holds its exclusive paths.
+    /// Takes no memory. Cost: for each exclusive path two searches, and for each shared one three at most and a pass
+    /// over its holders.
     pub(crate) fn release(&mut self, transaction: TransactionId, footprint: &Footprint)
         ensures { (holders : Names → List Holder) → Holds self.old holders → AreOwn transaction (set.contains footprint.now.exclusive) holders
             → Holds self.new (λ p. if set.contains (leased footprint.now) p then others transaction (holders p) else holders p) }
@@ -182,8 +203,14 @@ impl LeasedPaths {
             → OnOk result (Holds self.new (λ p. holders p ++ when (same_path p path.now) holder)) }
         ensures err { (holders : Names → List Holder) → Holds self.old holders → OnErr result (Holds self.new holders) }
     {
-        self.holders
-            .insert(path.copy(alloc)?, Holders::One(holder))?;
+        let hash = hash_of(path);
+        let path = path.copy(alloc)?;
+        let holders = Holders::One(holder);
+        if self.rows.contains_key(&hash) {
+            self.others.insert(path, holders)?;
+        } else {
+            self.rows.insert(hash, Row { path, holders })?;
+        }
         Ok(())
     }
 
@@ -201,19 +228,28 @@ impl LeasedPaths {
         Ok(())
     }
 
-    /// Adds a holder to a path, behind those that it has.
+    /// Adds a holder to a path, after those that it has.
     fn add(&mut self, alloc: Global, path: &Path, holder: Holder) -> Result<(), Memory>
         ensures ok { (holders : Names → List Holder) → Holds self.old holders
             → OnOk result (Holds self.new (λ p. holders p ++ when (same_path p path.now) holder)) }
         ensures err { (holders : Names → List Holder) → Holds self.old holders → OnErr result (Holds self.new holders) }
     {
-        match self.holders.get_mut(path) {
+        match self.rows.get_mut(&hash_of(path)) {
+            Some(row) if row.path == *path => row.holders.add(alloc, holder),
+            _ => self.add_other(alloc, path, holder),
+        }
+    }
+
+    /// Adds a holder to a path that is not in `rows`, after those that it has.
+    fn add_other(&mut self, alloc: Global, path: &Path, holder: Holder) -> Result<(), Memory>
+        requires { IsOther self.old path.now }
+        ensures ok { (holders : Names → List Holder) → Holds self.old holders
+            → OnOk result (Holds self.new (λ p. holders p ++ when (same_path p path.now) holder)) }
+        ensures err { (holders : Names → List Holder) → Holds self.old holders → OnErr result (Holds self.new holders) }
+    {
+        match self.others.get_mut(path) {
             Some(holders) => holders.add(alloc, holder),
-            None => {
-                self.holders
-                    .insert(path.copy(alloc)?, Holders::One(holder))?;
-                Ok(())
-            }
+            None => self.add_new(alloc, path, holder),
         }
     }
 
@@ -232,7 +268,15 @@ impl LeasedPaths {
         ensures { (holders : Names → List Holder) → Holds self.old holders
             → Holds self.new (λ p. if same_path p path.now then [] else holders p) }
     {
-        let _ = self.holders.remove(path);
+        let hash = hash_of(path);
+        match self.rows.get(&hash) {
+            Some(row) if row.path == *path => {
+                let _ = self.rows.remove(&hash);
+            }
+            _ => {
+                let _ = self.others.remove(path);
+            }
+        }
     }
 
     /// Takes the leases of a transaction away from each of the paths.
@@ -250,11 +294,40 @@ impl LeasedPaths {
         ensures { (holders : Names → List Holder) → Holds self.old holders
             → Holds self.new (λ p. if same_path p path.now then others transaction (holders p) else holders p) }
     {
-        let Some(holders) = self.holders.get_mut(path) else {
+        let hash = hash_of(path);
+        match self.rows.get_mut(&hash) {
+            Some(row) if row.path == *path => {
+                if row.holders.remove(transaction) {
+                    self.rows.remove(&hash);
+                }
+            }
+            _ => self.remove_other(path, transaction),
+        }
+    }
+
+    /// Takes the leases of a transaction away from a path that is not in `rows`, and the path where nobody else holds
+    /// it.
+    fn remove_other(&mut self, path: &Path, transaction: TransactionId)
+        requires { IsOther self.old path.now }
+        ensures { (holders : Names → List Holder) → Holds self.old holders
+            → Holds self.new (λ p. if same_path p path.now then others transaction (holders p) else holders p) }
+    {
+        let Some(holders) = self.others.get_mut(path) else {
             return;
         };
         if holders.remove(transaction) {
-            self.holders.remove(path);
+            self.others.remove(path);
         }
     }
+}
+
+/// A number for a path. Cost: one pass over its octets.
+fn hash_of(path: &Path) -> u64
+    ensures { result ≡ hash_of path.now }
+{
+    let mut hasher = FoldHasher::default();
+    for name in path.names() {
+        hasher.write(name);
+    }
+    hasher.finish()
 }

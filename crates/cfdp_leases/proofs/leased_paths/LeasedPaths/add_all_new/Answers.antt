@@ -1,9 +1,8 @@
-use Rattle.std.proofs.Common.{take, ◌++◌}
-use Rattle.std.specs.BTreeMap.{get}
+use Rattle.std.proofs.Common.{List, subst, take, take_all, ◌++◌}
 use Rattle.std.specs.List.{list_any}
-use Rattle.cfdp_paths.specs.Paths.{path_cmp, same_path}
-use Rattle.cfdp_leases.specs.Holders.{holders_in, when}
-use Rattle.cfdp_leases.proofs.Held.{on_err, free_yet, rows_same, when_more, when_not, others_when, not_before}
+use Rattle.cfdp_paths.specs.Paths.{Path, same_path}
+use Rattle.cfdp_leases.specs.Holders.{Holds, when}
+use Rattle.cfdp_leases.proofs.Held.{on_err, free_yet, holds_same, when_more, when_not, others_when, not_before}
 use Rattle.cfdp_leases.proofs.leased_paths.LeasedPaths.add_all_new.Goals as goal
 
 pub returns-in_err-add_new-clause-err : goal.returns-in_err-add_new-clause-err
@@ -19,7 +18,12 @@ returns-in_err-add_new-clause-err c = λ holders rows free.
 
 pub loop-path-preserved : goal.loop-path-preserved
 loop-path-preserved c = λ holders rows free.
-    rows_same holders_in (get path_cmp c.add_new.new.self.holders)
+    holds_same c.add_new.new.self
     (λ p. (holders p ++ when (list_any (same_path p) (take c.loop-path.path-index c.args.paths.now)) c.args.holder) ++ when (same_path p c.path-item.result) c.args.holder) _
     (λ p. when_more c.args.paths.now c.loop-path.path-index c.path-item.result p c.args.holder (holders p) c.requires c.loop-path-test.true c.path-item.is)
     (c.in_ok-add_new.ensures.ok _ (c.loop-path.invariant holders rows free) (free_yet c.args.paths.now c.loop-path.path-index c.path-item.result c.args.holder holders c.requires c.loop-path-test.true c.path-item.is free))
+
+pub returns-clause-ok : goal.returns-clause-ok
+returns-clause-ok c = λ holders rows free.
+    subst (λ (xs : List Path). Holds c.loop-path.self (λ p. holders p ++ when (list_any (same_path p) xs) c.args.holder))
+    (take_all c.loop-path.path-index c.args.paths.now c.loop-path-test.false) (c.loop-path.invariant holders rows free)

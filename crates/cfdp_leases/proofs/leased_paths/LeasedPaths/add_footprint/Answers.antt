@@ -1,14 +1,13 @@
 use Rattle.std.proofs.Common.{refl, sym, ◌∙◌, ap, ◌++◌, append_assoc}
-use Rattle.std.specs.BTreeMap.{get}
 use Rattle.std.specs.List.{list_any}
 use Rattle.std.specs.FinSet as set
 use Rattle.std.proofs.lemmas.Result.{on_ok_weaker, on_err_weaker}
-use Rattle.cfdp_paths.specs.Paths.{path_cmp, same_path}
+use Rattle.cfdp_paths.specs.Paths.{same_path}
 use Rattle.cfdp_leases.specs.declared.lease.Lease.TheVariants.{Exclusive, Shared}
 use Rattle.cfdp_leases.specs.declared.leased_paths.Holder.{Holder}
 use Rattle.cfdp_leases.specs.Footprint.{leased}
-use Rattle.cfdp_leases.specs.Holders.{holders_in, when}
-use Rattle.cfdp_leases.proofs.Held.{on_err, rows_same, in_slice, unleased, when_not, others_when, some_wider}
+use Rattle.cfdp_leases.specs.Holders.{when}
+use Rattle.cfdp_leases.proofs.Held.{on_err, holds_same, in_slice, unleased, when_not, others_when, some_wider}
 use Rattle.cfdp_leases.proofs.leased_paths.LeasedPaths.add_footprint.Goals as goal
 
 pub returns-in_err-add_all_new-clause-err : goal.returns-in_err-add_all_new-clause-err
@@ -28,7 +27,7 @@ returns-clause-ok c = λ holders rows free.
     let first : Holder = record { transaction = c.args.transaction; lease = Exclusive } in
     let second : Holder = record { transaction = c.args.transaction; lease = Shared } in
     on_ok_weaker c.add_all.result
-    (rows_same holders_in (get path_cmp c.add_all.new.self.holders) (λ p. (holders p ++ when (list_any (same_path p) xs) first) ++ when (list_any (same_path p) ys) second) _
+    (holds_same c.add_all.new.self (λ p. (holders p ++ when (list_any (same_path p) xs) first) ++ when (list_any (same_path p) ys) second) _
     (λ p. append_assoc (holders p) (when (list_any (same_path p) xs) first) (when (list_any (same_path p) ys) second)
     ∙ ap (λ more. holders p ++ more) (λ i. when (in_slice xs fp.exclusive p c.exclusive.ensures.paths i) first ++ when (in_slice ys fp.shared p c.shared.ensures.paths i) second)))
     (c.add_all.ensures.ok _ (c.in_ok-add_all_new.ensures.ok holders rows (λ p has. free p (sym (in_slice xs fp.exclusive p c.exclusive.ensures.paths) ∙ has))))

@@ -1,16 +1,36 @@
-use Rattle.std.proofs.Common.{sym, ap, None}
-use Rattle.std.specs.BTreeMap.{get}
-use Rattle.cfdp_paths.specs.Paths.{path_cmp, same_path}
-use Rattle.cfdp_leases.specs.Holders.{holders_in, unless_none}
+use Rattle.std.proofs.Common.{refl, sym, ◌∙◌, ap, subst, None}
+use Rattle.cfdp_paths.specs.Paths.{same_path}
+use Rattle.cfdp_paths.proofs.Comparing.{same_path-Decides}
+use Rattle.cfdp_leases.specs.declared.leased_paths.LeasedPaths.{LeasedPaths}
+use Rattle.cfdp_leases.specs.Holders.{Holds, IsOther, unless_none}
 use Rattle.cfdp_leases.proofs.Sets.{same_path-itself}
-use Rattle.cfdp_leases.proofs.Held.{changed, emptied}
+use Rattle.cfdp_leases.proofs.Held.{emptied, other_absent, other_apart, other_changed, under_removed}
 use Rattle.cfdp_leases.proofs.leased_paths.LeasedPaths.drop_path.Goals as goal
+use Rattle.cfdp_leases.proofs.leased_paths.LeasedPaths.drop_path.Goals.{in_default-via-in-Some+else-eq, in_default-via-in_default}
 
-pub returns : goal.returns
-returns c = λ holders rows.
+pub returns-in-Some : goal.returns-in-Some
+returns-in-Some c = λ holders held.
     let k = c.args.path.now in
-    changed holders_in (get path_cmp c.args.self.now.holders) (get path_cmp c.remove.new.self) k None holders (λ p. emptied (same_path p k) (holders p))
-    c.remove.ensures.updates.0
+    let row = c.in-Some.row.now in
+    let old = c.args.self.now in
+    let new : LeasedPaths = record { rows = c.remove.new.self; others = old.others } in
+    under_removed old new holders held k (λ p. emptied (same_path p k) (holders p)) (λ q other. ap (λ b. emptied b (holders q)) other)
+    c.hash_of-hash.result c.hash_of-hash.ensures row (sym c.in-Some.ensures.value) ((same_path-Decides row.path k).0 (sym c.eq.ensures ∙ c.if-eq.true)) (λ p. refl) c.remove.ensures.updates.0
     (sym (ap (λ b. unless_none (emptied b (holders k))) (same_path-itself k)))
-    (λ q other. ap (λ b. emptied b (holders q)) other)
-    rows
+
+pub returns-in_default : goal.returns-in_default
+returns-in_default c = λ holders held.
+    let k = c.args.path.now in
+    let old = c.in_default.self in
+    let new : LeasedPaths = record { rows = old.rows; others = c.remove-in_default.new.self } in
+    let before : IsOther old k × Holds old holders = elim c.in_default.branch [
+      | in_default-via-in-Some+else-eq w ↦
+          subst (λ paths. IsOther paths k × Holds paths holders) (sym w.self-is)
+          (other_apart c.args.self.now k c.hash_of-hash.result c.hash_of-hash.ensures w.in-Some.row.now (sym w.in-Some.ensures.value) (sym w.eq.ensures ∙ w.if-eq.false), held)
+      | in_default-via-in_default w ↦
+          subst (λ paths. IsOther paths k × Holds paths holders) (sym w.self-is)
+          (other_absent c.args.self.now k c.hash_of-hash.result c.hash_of-hash.ensures (sym w.in_default.ensures.value), held)
+    ] in
+    other_changed old new holders before.1 k (λ p. emptied (same_path p k) (holders p)) (λ q other. ap (λ b. emptied b (holders q)) other) None (λ h. refl)
+    c.remove-in_default.ensures.updates.0 before.0
+    (sym (ap (λ b. unless_none (emptied b (holders k))) (same_path-itself k)))

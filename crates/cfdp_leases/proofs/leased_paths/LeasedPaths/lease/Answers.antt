@@ -1,11 +1,9 @@
-use Rattle.std.specs.BTreeMap.{get}
 use Rattle.std.specs.FinSet as set
 use Rattle.std.proofs.Common.{◌∙◌, ap}
 use Rattle.std.proofs.lemmas.Result.{on_err_weaker}
-use Rattle.cfdp_paths.specs.Paths.{path_cmp}
 use Rattle.cfdp_leases.specs.Footprint.{leased}
-use Rattle.cfdp_leases.proofs.Held.{rows_same, left, taken_back}
-use Rattle.cfdp_leases.specs.Holders.{holders_in, others}
+use Rattle.cfdp_leases.proofs.Held.{holds_same, left, taken_back}
+use Rattle.cfdp_leases.specs.Holders.{others}
 use Rattle.cfdp_leases.proofs.leased_paths.LeasedPaths.lease.Goals as goal
 
 -- what some of them have is taken back
@@ -14,7 +12,7 @@ returns-then-is_err-clause-err c = λ holders rows free unheld.
     let id = c.args.transaction in
     let at = set.contains (leased c.args.footprint.now) in
     on_err_weaker c.add_footprint-leased.result
-    (λ some. rows_same holders_in (get path_cmp c.release.new.self.holders) (λ p. left id (at p) (some.now p)) holders
+    (λ some. holds_same c.release.new.self (λ p. left id (at p) (some.now p)) holders
     (λ p. taken_back id at holders c.add_footprint-leased.new.self some p (unheld p))
     (c.release.ensures some.now some.rows (λ p has. some.kept p ∙ ap (others id) (free p has))))
     (c.add_footprint-leased.ensures.err holders rows free)
