@@ -1,19 +1,20 @@
 -- Lists of paths that have the proper ancestors of each path.
 --     none_closed, listed_closed, closed_more      no paths;  those of a list of items;  with the ancestors of one path more
---     same_set-above                               where its parent is there, all ancestors of a path are
+--     same_set-parent                              where its parent is there, all ancestors of a path are
+--     parent_there, found_some                     where a parent was found
 --     same_set-swap                                in the other order
-use Rattle.std.proofs.Common.{◌≡◌, refl, sym, ◌∙◌, ap, ℕ, ◌+◌, ◌≤◌, Bool, true, false, ◌||◌, inl, inr, List, [], ◌∷◌, ◌++◌, length, take, take_all, arith}
-use Rattle.std.specs.Prelude.{flat_map, IfOk, Result, Ok, Err}
-use Rattle.std.specs.Result.{is_ok}
+use Rattle.std.proofs.Common.{◌≡◌, refl, sym, ◌∙◌, ap, subst, ℕ, ◌+◌, ◌-◌, ◌<◌, ◌≤◌, Bool, true, false, ◌||◌, inl, inr, List, [], ◌∷◌, ◌++◌, length, get_or, take, take_all, arith}
+use Rattle.std.specs.Prelude.{flat_map, IfOk, OnSome, Option, Result, Ok, Err}
+use Rattle.std.specs.Result.{result_ok}
 use Rattle.std.specs.List.{list_any}
 use Rattle.std.proofs.lemmas.Bool.{true≢false}
 use Rattle.std.proofs.lemmas.List.Folds.{list_any-append}
-use Rattle.cfdp_paths.specs.Paths.{Path, same_path, ancestors}
+use Rattle.cfdp_paths.specs.Paths.{Path, same_path, ancestors, parent}
 use Rattle.cfdp_paths.proofs.Comparing.{same_path-Decides}
-use Rattle.cfdp_paths.proofs.Below.{ancestors-take}
+use Rattle.cfdp_paths.proofs.Below.{ancestors-take, parent-take}
 use Rattle.cfdp_actions.specs.Actions.{Item}
 use Rattle.cfdp_leases.specs.Footprint.{HaveAncestors, SameSet, shared_in}
-use Rattle.cfdp_leases.proofs.Sets.{stands, stands-append_left, stands-append_right, stands-append_cases}
+use Rattle.cfdp_leases.proofs.Sets.{stands, stands_from_Contains, stands-append_left, stands-append_right, stands-append_cases}
 use Rattle.cfdp_leases.proofs.Conflict.{higher, list_ancestors}
 use Rattle.cfdp_leases.proofs.Ordered.{same_set_from, same_members}
 
@@ -61,7 +62,7 @@ same_set-alone xs n one =
     same_set-within xs (ancestors n) (λ q h. absurd (true≢false (sym h ∙ ap (list_any (same_path q)) (no_ancestors n one))))
 
 -- where its parent is there
-pub same_set-above : (xs : List Path) (n : Path) (d : ℕ) → HaveAncestors xs → 1 ≤ d → length n ≡ d + 1 → stands (take d n) xs → SameSet xs (xs ++ ancestors n)
+same_set-above : (xs : List Path) (n : Path) (d : ℕ) → HaveAncestors xs → 1 ≤ d → length n ≡ d + 1 → stands (take d n) xs → SameSet xs (xs ++ ancestors n)
 same_set-above xs n d closed some deep there = same_set-within xs (ancestors n) each
   where
     are : ancestors n ≡ ancestors (take d n) ++ take d n ∷ []
@@ -74,9 +75,18 @@ same_set-above xs n d closed some deep there = same_set-within xs (ancestors n) 
           | inr last ↦ ap (λ p. list_any (same_path p) xs) (only (take d n) q last) ∙ there
         ]
 
-pub found_ok : {A B : Type 0} (r : Result A B) (P : Type 0) → is_ok r ≡ true → IfOk r (λ _. P) → P
-found_ok (Ok x) P ok h = h
-found_ok (Err e) P ok h = absurd (true≢false (sym ok))
+pub same_set-parent : (xs : List Path) (n : Path) → HaveAncestors xs → 2 ≤ length n → stands (parent n) xs → SameSet xs (xs ++ ancestors n)
+same_set-parent xs n closed deep there =
+    same_set-above xs n (length n - 1) closed (omega (arith, deep)) (omega (arith, deep)) (subst (λ p. stands p xs) (parent-take n) there)
+
+-- what is at an index is there
+pub parent_there : (xs : List Path) (n held : Path) (i : ℕ) → i < length xs → held ≡ get_or xs i held → parent n ≡ held → stands (parent n) xs
+parent_there xs n held i within read is = subst (λ p. stands p xs) (sym is) (stands_from_Contains held xs (i, within, sym read))
+
+-- what a search found
+pub found_some : {A B : Type 0} (r : Result A B) (o : Option A) (P : Type 0) → o ≡ result_ok r → IfOk r (λ _. P) → OnSome o P
+found_some (Ok x) o P is h = subst (λ s. OnSome s P) (sym is) h
+found_some (Err e) o P is h = subst (λ s. OnSome s P) (sym is) tt
 
 or_comm : (a b c : Bool) → (a || (b || c)) ≡ (a || (c || b))
 or_comm true b c = refl

@@ -1,11 +1,11 @@
 //! How the footprint of a list is gathered.
 
-ghost use Rattle.std.specs.Prelude.{◌≡◌, ◌≤◌, ◌++◌, ◌∷◌, [], IsTrue, OnOk, IfOk, IfErr, flat_map, insert, length, take};
+ghost use Rattle.std.specs.Prelude.{◌≡◌, ◌≤◌, ◌++◌, ◌∷◌, [], IsTrue, OnOk, OnSome, IfOk, IfErr, flat_map, insert, length, take};
 ghost use Rattle.std.specs.FinSet as set;
 ghost use Rattle.std.specs.List.{list_any};
 ghost use Rattle.std.specs.List.Sorted.{IsStrictlySortedBy};
 ghost use Rattle.std.specs.Option.{option_copied};
-ghost use Rattle.cfdp_paths.specs.Paths.{ancestors, path_cmp, same_path};
+ghost use Rattle.cfdp_paths.specs.Paths.{ancestors, parent, path_cmp, same_path};
 ghost use Rattle.cfdp_actions.specs.Actions.{Perform};
 ghost use Rattle.cfdp_leases.specs.Footprint.{AreNamed, HaveAncestors, SameSet, exclusive_in, footprint_of, read_in, shared_in};
 ghost use Rattle.cfdp_leases.specs.Items.{install_of, items_of};
@@ -20,8 +20,9 @@ use std::alloc::Global;
 ///
 /// # Errors
 ///
-/// Want of memory. Cost: for each named path two binary searches among those gathered so far, of the path and of its
-/// parent; where the parent is new, one for each proper ancestor. A path is copied once, however often it comes; it is put in its place then, and those behind it are shifted.
+/// [`Memory`] where there was none. Cost: for each named path a binary search among those gathered so far, and one for
+/// its parent where that is not the parent of the path before; where the parent is new, one for each proper ancestor. A
+/// path is copied once, however often it comes; those after it are shifted then.
 pub fn footprint(
     alloc: Global,
     requests: &[Request],
@@ -32,9 +33,11 @@ pub fn footprint(
     let mut exclusive = Vec::new(alloc);
     let mut shared = Vec::new(alloc);
     add_install(alloc, &mut exclusive, &mut shared, destination)?;
+    // The index of the last parent: most paths have the same parent as the path before.
+    let mut parent = 0;
     for request in requests {
         add_changed(alloc, &mut exclusive, request)?;
-        add_above(alloc, &mut shared, request)?;
+        parent = add_above(alloc, &mut shared, request, parent)?;
         add_read(alloc, &mut shared, request)?;
     }
     Ok(Footprint { exclusive, shared })
@@ -60,7 +63,8 @@ fn add_install(
         None => Ok(()),
         Some(path) => {
             add(alloc, exclusive, path)?;
-            add_ancestors(alloc, shared, path)
+            add_ancestors(alloc, shared, path, 0)?;
+            Ok(())
         }
     }
 }
@@ -91,65 +95,87 @@ fn add_read(alloc: Global, paths: &mut Vec<Path>, request: &Request) -> Result<(
     }
 }
 
-/// Adds the proper ancestors of the paths that a request names.
-fn add_above(alloc: Global, paths: &mut Vec<Path>, request: &Request) -> Result<(), Memory>
+/// Adds the proper ancestors of the paths that a request names. Looks for a parent at the index `guess` first, and
+/// returns the index at which the last one was.
+fn add_above(
+    alloc: Global,
+    paths: &mut Vec<Path>,
+    request: &Request,
+    guess: usize,
+) -> Result<usize, Memory>
     requires ordered { IsStrictlySortedBy path_cmp paths.old.items }
     requires above { HaveAncestors paths.old.items }
     ensures ordered { OnOk result (IsStrictlySortedBy path_cmp paths.new.items) }
     ensures added { OnOk result (SameSet paths.new.items (paths.old.items ++ flat_map ancestors (exclusive_in (Perform request.now) ++ read_in (Perform request.now)))) }
 {
-    add_ancestors(alloc, paths, request.first())?;
+    let parent = add_ancestors(alloc, paths, request.first(), guess)?;
     match request.second() {
-        Some(second) => add_ancestors(alloc, paths, second),
-        None => Ok(()),
+        Some(second) => add_ancestors(alloc, paths, second, parent),
+        None => Ok(parent),
     }
 }
 
-/// Adds the proper ancestors of a path to paths that have those of each.
-fn add_ancestors(alloc: Global, paths: &mut Vec<Path>, path: &Path) -> Result<(), Memory>
+/// Adds the proper ancestors of a path to paths that have those of each. Looks for its parent at the index `guess`
+/// first, and returns the index at which it is, or the guess where it has none.
+fn add_ancestors(
+    alloc: Global,
+    paths: &mut Vec<Path>,
+    path: &Path,
+    guess: usize,
+) -> Result<usize, Memory>
     requires ordered { IsStrictlySortedBy path_cmp paths.old.items }
     requires above { HaveAncestors paths.old.items }
     ensures ordered { OnOk result (IsStrictlySortedBy path_cmp paths.new.items) }
     ensures added { OnOk result (SameSet paths.new.items (paths.old.items ++ ancestors path.now)) }
     ensures above { OnOk result (HaveAncestors paths.new.items) }
 {
-    if has_ancestors(paths, path) {
-        return Ok(());
+    let depth = path.depth();
+    if depth == 1 {
+        return Ok(guess);
     }
-    for depth in 1..path.depth() {
-        add_beginning(alloc, paths, path, depth)?;
+    if let Some(parent) = find_parent(paths, path, guess) {
+        return Ok(parent);
     }
-    Ok(())
+    let mut parent = guess;
+    for count in 1..depth {
+        parent = add_beginning(alloc, paths, path, count)?;
+    }
+    Ok(parent)
 }
 
-/// Whether the proper ancestors of a path are there: where its parent is, all are. Cost: one binary search at most.
-fn has_ancestors(paths: &[Path], path: &Path) -> bool
+/// The index of a path's parent, if it is there: then all proper ancestors of the path are. Cost: one comparison, and a
+/// binary search where the parent is not at the index `guess`.
+#[tactic(auto, using(crate::proofs::Closed::parent_there))]
+fn find_parent(paths: &[Path], path: &Path, guess: usize) -> Option<usize>
     requires ordered { IsStrictlySortedBy path_cmp paths.now }
-    requires above { HaveAncestors paths.now }
-    ensures { IsTrue result → SameSet paths.now (paths.now ++ ancestors path.now) }
+    ensures { OnSome result (IsTrue (list_any (same_path (parent path.now)) paths.now)) }
 {
     let depth = path.depth();
-    depth == 1 || find_beginning(paths, path, depth - 1).is_ok()
+    match paths.get(guess) {
+        Some(held) if path.is_child_of(held) => Some(guess),
+        _ => find_beginning(paths, path, depth - 1).ok(),
+    }
 }
 
-/// Adds a path, in its place.
+/// Adds a path, where it keeps the order.
 fn add(alloc: Global, paths: &mut Vec<Path>, path: &Path) -> Result<(), Memory>
     requires { IsStrictlySortedBy path_cmp paths.old.items }
     ensures ordered { OnOk result (IsStrictlySortedBy path_cmp paths.new.items) }
     ensures added { OnOk result (SameSet paths.new.items (paths.old.items ++ path.now ∷ [])) }
     ensures named { AreNamed paths.old.items → OnOk result (AreNamed paths.new.items) }
 {
-    add_beginning(alloc, paths, path, path.depth())
+    add_beginning(alloc, paths, path, path.depth())?;
+    Ok(())
 }
 
-/// Adds the path of the first `depth` names of a path in its place, and shifts those behind. No path is made where it is
-/// there.
+/// Adds the path of the first `depth` names of a path where it keeps the order, shifts those after it, and returns its
+/// index. No path is made where it is there.
 fn add_beginning(
     alloc: Global,
     paths: &mut Vec<Path>,
     path: &Path,
     depth: usize,
-) -> Result<(), Memory>
+) -> Result<usize, Memory>
     requires ordered { IsStrictlySortedBy path_cmp paths.old.items }
     requires some { 1 ≤ depth }
     requires within { depth ≤ length path.now }
@@ -158,11 +184,11 @@ fn add_beginning(
     ensures named { AreNamed paths.old.items → OnOk result (AreNamed paths.new.items) }
 {
     match find_beginning(paths, path, depth) {
-        Ok(_) => Ok(()),
-        Err(place) => {
+        Ok(index) => Ok(index),
+        Err(index) => {
             let beginning = path.beginning(alloc, depth)?;
-            paths.insert(place, beginning)?;
-            Ok(())
+            paths.insert(index, beginning)?;
+            Ok(index)
         }
     }
 }

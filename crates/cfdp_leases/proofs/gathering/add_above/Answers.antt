@@ -10,4 +10,4 @@ returns-in-Some-clause-added c =
     subst (λ (more : List Path). OnOk c.add_ancestors-in-Some.result (SameSet c.add_ancestors-in-Some.new.paths.items (c.args.paths.now.items ++ more)))
     (above-two c.args.request.now c.first.result.now c.in-Some.second.now c.first.ensures c.in-Some.ensures.path)
     (and_then c.add_ancestors-in-Some.result c.args.paths.now.items c.add_ancestors.new.paths.items c.add_ancestors-in-Some.new.paths.items
-    (ancestors c.first.result.now) (ancestors c.in-Some.second.now) c.in_ok-add_ancestors.ensures.added c.add_ancestors-in-Some.ensures.added)
+    (ancestors c.first.result.now) (ancestors c.in-Some.second.now) c.in_ok-parent.ensures.added c.add_ancestors-in-Some.ensures.added)

@@ -10,5 +10,5 @@ returns-in-Ok-clause-added c = let h = c.deref.ensures.value in let k = c.in-Ok.
 
 pub returns-in_ok-insert-in-Err-clause-added : goal.returns-in_ok-insert-in-Err-clause-added
 returns-in_ok-insert-in-Err-clause-added c =
-    ap set.from_list (c.in_ok-insert-in-Err.ensures.items ∙ ap (insert c.args.paths.now.items c.in-Err.place) c.in_ok-beginning-in-Err.ensures)
-    ∙ same_set-insert c.args.paths.now.items (take c.args.depth c.args.path.now) c.in-Err.place
+    ap set.from_list (c.in_ok-insert-in-Err.ensures.items ∙ ap (insert c.args.paths.now.items c.in-Err.index) c.in_ok-beginning-in-Err.ensures)
+    ∙ same_set-insert c.args.paths.now.items (take c.args.depth c.args.path.now) c.in-Err.index

@@ -40,7 +40,7 @@ loop-request-preserved c =
           ∙ ap set.from_list (sym (items-more exclusive_in destination c.args.requests.now c.loop-request.request-index c.request-item.result c.loop-request-test.true c.request-item.is));
       shared =
           same_set-then c.loop-request.shared.items c.add_above.new.paths.items c.add_read.new.paths.items (flat_map ancestors (exclusive_in item ++ read_in item)) (read_in item)
-          c.in_ok-add_above.ensures.added c.in_ok-add_read.ensures.added
+          c.in_ok-parent.ensures.added c.in_ok-add_read.ensures.added
           ∙ same_set-swap c.loop-request.shared.items (flat_map ancestors (exclusive_in item ++ read_in item)) (read_in item)
           ∙ same_set-append c.loop-request.shared.items (flat_map shared_in (items_of destination requests)) (shared_in item) c.loop-request.invariant.shared
           ∙ ap set.from_list (sym (items-more shared_in destination c.args.requests.now c.loop-request.request-index c.request-item.result c.loop-request-test.true c.request-item.is));
