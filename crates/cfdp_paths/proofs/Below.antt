@@ -5,6 +5,7 @@
 --     parent-push, parent-take, parent_below, below_parent, child_from_below, length-child, below_from_child
 --     ancestors-push, ancestors-take, ancestors-Contains, below_ancestor, ancestor_from_below
 --     IsPath-take, IsPath-prefix, IsPath-rebased           paths made of paths
+--     rebased_depth                                        the depth of such a path
 --     path_cmp-below                                       a path stands before what is below it
 use Rattle.std.proofs.Common.{◌≡◌, ◌≢◌, refl, sym, ◌∙◌, ap, subst, ℕ, zero, suc, ◌+◌, ◌-◌, ◌≤◌, ◌<◌, true, false, not, ◌⊎◌, ◌↔◌, inl, inr, List, [], ◌∷◌, ◌++◌, map, length, take, drop, arith, length-append, length-take, length-drop, take-append-drop, get_or, Some, None, Contains}
 use Rattle.std.specs.Bool.{Decides}
@@ -197,6 +198,10 @@ IsPath-rebased p q x room above v w = record {
   few = omega (arith, length-rebased p q x);
   names = All-append IsName q (drop (length p) x) v.names (All-drop IsName (length p) x w.names);
 }
+
+-- its depth, where the depths of the three are known
+pub rebased_depth : (own to from : ℕ) (x q p : Path) → length p ≤ length x → own ≡ length x → to ≡ length q → from ≡ length p → own + to - from ≡ length (rebased p q x)
+rebased_depth own to from x q p short own_is to_is from_is = omega (arith, length-rebased p q x, short, own_is, to_is, from_is)
 
 -- a prefix of a path, the root apart, is a path
 pub IsPath-prefix : (p q : Path) → is_at_or_below p q ≡ true → q ≢ [] → IsPath p → IsPath q

@@ -6,6 +6,7 @@
 --     moved_ordered              the order is kept
 --     with_paths-rebased         new paths are the rebased ones
 --     one_tree, one_read, one_rest, one_below, one_shallow, one_moved     where the piece is one entry
+--     moved_up_to, not_moved_yet, all_moved, length-moved, below_at, shallow_at    where entries move one after the other
 --     puts_piece                 where nothing stands at or below the path, the entries go in as one piece
 use Rattle.std.proofs.Common.{◌≡◌, ℕ, zero, suc, ◌+◌, ◌-◌, ◌<◌, ◌≤◌, Bool, true, false, not, Result, Ok, Err, OnOk, OnErr, List, [], ◌∷◌, ◌++◌, map, length, take, drop, get_or, refl, sym, ap, subst, ◌∙◌, arith, append_assoc, length-take, length-drop, length-append}
 use Rattle.std.specs.Cmp.{tied_itself}
@@ -16,8 +17,9 @@ use Rattle.std.specs.declared.alloc.AllocError.{AllocError}
 use Rattle.std.specs.List.{list_all, between, remove}
 use Rattle.std.specs.Ordering.{is_lt, nat_cmp}
 use Rattle.std.specs.declared.cmp.Ordering.TheVariants.{Less, Equal, Greater}
+use Rattle.std.proofs.Math.ListN.{drop_of_length-le}
 use Rattle.std.proofs.lemmas.Bool.{and_parts, or_parts, ltb-false, true≢false}
-use Rattle.std.proofs.lemmas.List.{get_or_default, take-append-drop, take_at, drop_at, drop-take, take-take, drop-drop}
+use Rattle.std.proofs.lemmas.List.{append-nil, get_or_default, take-append-drop, take_all, take_at, drop_at, drop-take, take-take, drop-drop}
 use Rattle.cfdp_paths.specs.Paths.{Path, path_cmp, is_at_or_below, rebased}
 use Rattle.cfdp_paths.specs.PathMaps.{IsPieceOf, rank, spread, tree_in, rest_in, puts, moved_to, with_paths, is_too_deep}
 use Rattle.cfdp_paths.proofs.Comparing.{path_cmp-total}
@@ -287,3 +289,36 @@ module _ {X : Type 0} where
   one_moved p q es e f x tree same made rest left =
       ap (λ ys. put path_cmp x f.1 ys) left ∙ ap (λ (g : Path × X). put path_cmp x g.1 (rest_in p es)) same
       ∙ ap (λ y. put path_cmp y e.1 (rest_in p es)) made ∙ ap (λ ts. puts (rest_in p es) (moved_to p q ts)) (sym tree)
+
+  -- ---- one entry after the other, in its place
+
+  -- the entries before the index are moved
+  abbrev pub moved_up_to : Path → Path → List (Path × X) → ℕ → List (Path × X)
+  moved_up_to p q es i = moved_to p q (take i es) ++ drop i es
+
+  pub not_moved_yet : (p q : Path) (es : List (Path × X)) (i : ℕ) (e : Path × X) → i < length es → get_or (moved_up_to p q es i) i e ≡ get_or es i e
+  not_moved_yet p q [] i e within = absurd (omega arith)
+  not_moved_yet p q (f ∷ es) zero e within = refl
+  not_moved_yet p q (f ∷ es) (suc i) e within = not_moved_yet p q es i e (omega arith)
+
+  pub below_at : (p : Path) (es : List (Path × X)) (i : ℕ) (e : Path × X) → list_all (λ f. is_at_or_below f.0 p) es ≡ true → i < length es → is_at_or_below (get_or es i e).0 p ≡ true
+  below_at p [] i e all within = absurd (omega arith)
+  below_at p (f ∷ es) zero e all within = (and_parts (is_at_or_below f.0 p) (list_all (λ g. is_at_or_below g.0 p) es) all).0
+  below_at p (f ∷ es) (suc i) e all within = below_at p es i e (and_parts (is_at_or_below f.0 p) (list_all (λ g. is_at_or_below g.0 p) es) all).1 (omega arith)
+
+  pub shallow_at : (p q : Path) (es : List (Path × X)) (i : ℕ) (e : Path × X) → is_too_deep p q es ≡ false → i < length es → length (get_or es i e).0 + length q ≤ 8 + length p
+  shallow_at p q [] i e shallow within = absurd (omega arith)
+  shallow_at p q (f ∷ es) zero e shallow within =
+      let short : length (rebased p q f.0) ≤ 8 = ltb-false 8 (length (rebased p q f.0)) (or_parts _ (is_too_deep p q es) shallow).0 in
+      omega (arith, short, length-append q (drop (length p) f.0), length-drop (length p) f.0)
+  shallow_at p q (f ∷ es) (suc i) e shallow within = shallow_at p q es i e (or_parts _ (is_too_deep p q es) shallow).1 (omega arith)
+
+  pub all_moved : (p q : Path) (es : List (Path × X)) (i : ℕ) → length es ≤ i → moved_up_to p q es i ≡ moved_to p q es
+  all_moved p q es i past =
+      ap (λ (fs : List (Path × X)). moved_to p q fs ++ drop i es) (take_all i es past)
+      ∙ ap (λ (fs : List (Path × X)). moved_to p q es ++ fs) (drop_of_length-le es past)
+      ∙ append-nil (moved_to p q es)
+
+  pub length-moved : (p q : Path) (es : List (Path × X)) → length (moved_to p q es) ≡ length es
+  length-moved p q [] = refl
+  length-moved p q (e ∷ es) = ap suc (length-moved p q es)

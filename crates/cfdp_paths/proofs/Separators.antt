@@ -5,6 +5,7 @@
 --     names_of-cut, cut_there, cut_nowhere             the names before and behind a separator
 --     names_of-next, names_of-last                     the first name, up to the first separator;  the last one, where there is none
 --     text-names_of, names_of-parsed                   octets with `/` in place of each separator, and the other way round
+--     length-joined                                    such octets are as many as the buffer has
 --     names_of-spelled                                 the names that octets spell, once each `/` between them was replaced
 --     replace_more                                     one more octet is replaced
 --     rebased-names_of                                 what follows the octets of a path, behind those of another
@@ -18,7 +19,7 @@ use Rattle.std.specs.declared.cmp.Ordering.TheVariants.{Less, Equal, Greater}
 use Rattle.std.proofs.Math.Bool.{and_assoc}
 use Rattle.std.proofs.lemmas.Bool.{and_parts, false_from_ne_true, cond-false, eqb-true, eqb-false, ne_eqb}
 use Rattle.std.proofs.Math.Seq.{drop-cons}
-use Rattle.std.proofs.lemmas.List.{take_all, take_at, append-nil, get_or-take}
+use Rattle.std.proofs.lemmas.List.{take_all, take_at, append-nil, get_or-take, length-map}
 use Rattle.std.proofs.lemmas.List.Elements.{All-weaker, All-head, All-tail, All-cons, All-from_get_or}
 use Rattle.std.proofs.lemmas.List.Splits.{length-slice_split, slice_split_none}
 use Rattle.cfdp_paths.specs.Paths.{Name, Path, IsName, IsPath, is_separator, names_of, path_cmp, same_name, same_path, is_at_or_below, slash, is_slash, without_slash, joined, names_in, rebased}
@@ -184,6 +185,10 @@ text_more x a text false h = ap (λ t. x ∷ t) h ∙ sym (joined_onto x (names_
 pub text-names_of : (a : List ℕ) → map (λ octet. cond (octet == 0) slash octet) a ≡ joined (names_of a)
 text-names_of [] = refl
 text-names_of (x ∷ a) = text_more x a (map (λ octet. cond (octet == 0) slash octet) a) (is_separator x) (text-names_of a)
+
+-- a path is spelled by as many octets as its buffer has
+pub length-joined : (a : List ℕ) → length (joined (names_of a)) ≡ length a
+length-joined a = ap length (sym (text-names_of a)) ∙ length-map a (λ octet. cond (octet == 0) slash octet)
 
 abbrev pub LacksZero : Name → Type 0
 LacksZero name = All (λ octet. octet ≢ 0) name

@@ -1,6 +1,6 @@
 //! The names of a path in one buffer.
 
-ghost use Rattle.std.specs.Prelude.{◌≡◌, ◌≤◌, ◌==◌, if◌then◌else◌, IfOk, map, take};
+ghost use Rattle.std.specs.Prelude.{◌≡◌, ◌≤◌, ◌==◌, ◌++◌, if◌then◌else◌, IfOk, drop, length, map, take};
 ghost use Rattle.cfdp_paths.specs.Paths.{is_at_or_below, names_of};
 
 use crate::octet_order::is_same;
@@ -32,6 +32,30 @@ pub(crate) fn replace(octets: &mut [u8], old: u8, new: u8)
             *octet = new;
         }
     }
+}
+
+/// Puts the octets `new` in place of the first `count` octets, of which there are as many or more. Takes no memory. Cost:
+/// one copy of the octets at most.
+pub(crate) fn replace_front(octets: &mut Vec<u8>, count: usize, new: &[u8])
+    requires within { count ≤ length octets.old.items }
+    requires short { length new.now ≤ count }
+    ensures { octets.new.items ≡ new.now ++ drop count octets.old.items }
+{
+    let shorter = count - new.len();
+    if shorter > 0 {
+        let kept = octets.len() - shorter;
+        octets.copy_within(shorter.., 0);
+        octets.truncate(kept);
+    }
+    overwrite(octets, new);
+}
+
+/// Puts the octets `new` over the first ones.
+fn overwrite(octets: &mut [u8], new: &[u8])
+    requires { length new.now ≤ length octets.old }
+    ensures { octets.new ≡ new.now ++ drop (length new.now) octets.old }
+{
+    octets[..new.len()].copy_from_slice(new);
 }
 
 /// The octets of the first `count` names, or all octets where there are no more names. Takes no memory. Cost: one pass

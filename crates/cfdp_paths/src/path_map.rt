@@ -104,9 +104,9 @@ impl<T: Drop> PathMap<T> {
     ///
     /// # Errors
     ///
-    /// Want of memory; the map is then as before. Cost: a few searches, a path for each entry that moves, and one shift of
-    /// the entries behind. Only where something stands at or below the second path is each entry that moves searched for
-    /// its place by itself.
+    /// [`Memory`] when out of memory; the map is then as before. Cost: a few searches, a copy of the octets of each entry that
+    /// moves, and one shift of the entries after them. If the second path has more octets than the first, an allocation for
+    /// each entry that moves. If an entry exists at or below the second path, one search more for each entry that moves.
     pub fn relocate(&mut self, from: &Path, to: &Path) -> Result<(), Memory>
         requires { is_too_deep from.now to.now (tree_in from.now self.old) ≡ false }
         ensures ok { OnOk result (self.new

@@ -5,12 +5,12 @@ ghost use Rattle.std.specs.Cmp.Rules.{comparing};
 ghost use Rattle.std.specs.Cmp.{partial_order_from_own_ties};
 ghost use Rattle.std.specs.Option.{option_copied};
 ghost use Rattle.std.specs.Ordering.{as_partial_cmp};
-ghost use Rattle.std.specs.Prelude.{◌≡◌, ◌≢◌, ◌+◌, ◌≤◌, ◌↔◌, ◌⊎◌, List, [], length, slice_index_or, take, IsTrue, IsOk, IfOk, IfErr, MatchResult};
+ghost use Rattle.std.specs.Prelude.{◌≡◌, ◌≢◌, ◌+◌, ◌≤◌, ◌↔◌, ◌⊎◌, List, [], length, nat_le, slice_index_or, take, IsTrue, IsOk, IfOk, IfErr, MatchResult};
 ghost use Rattle.cfdp_paths.specs.Faults.{fault_of};
 ghost use Rattle.cfdp_paths.specs.Paths.{Name, IsPath, Spells, ancestors, is_at_or_below, is_below, joined, names_of, parent, path_cmp, path_in, path_of, rebased, same_path, unless_root};
 
 use crate::Memory;
-use crate::buffers::{SEPARATOR, begins, first_names, replaced};
+use crate::buffers::{SEPARATOR, begins, first_names, replace_front, replaced};
 use crate::fault::PathFault;
 use crate::names::Names;
 use crate::octet_order::{is_same, order};
@@ -282,6 +282,25 @@ impl Path {
         octets.extend_from_slice(rest)?;
         let depth = self.depth + to.depth - from.depth;
         Ok(Path { octets, depth })
+    }
+
+    /// Whether this path has no more octets than `other`. Takes no memory. In constant time.
+    pub(crate) fn is_no_longer_than(&self, other: &Path) -> bool
+        ensures { result ≡ nat_le (length (joined self.now)) (length (joined other.now)) }
+    {
+        self.octets.len() <= other.octets.len()
+    }
+
+    /// This path, which is `from/r`, becomes `to/r`, as by [`rebased`](Path::rebased), in the memory that it has. Takes no
+    /// memory. Cost: one copy of its octets at most.
+    pub(crate) fn rebase(&mut self, from: &Path, to: &Path)
+        requires below { IsTrue (is_at_or_below self.old from.now) }
+        requires room { length self.old + length to.now ≤ 8 + length from.now }
+        requires short { length (joined to.now) ≤ length (joined from.now) }
+        ensures { self.new ≡ rebased from.now to.now self.old }
+    {
+        replace_front(&mut self.octets, from.octets.len(), &to.octets);
+        self.depth = self.depth + to.depth - from.depth;
     }
 }
 

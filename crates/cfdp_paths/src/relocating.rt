@@ -2,7 +2,7 @@
 
 ghost use Rattle.std.specs.Prelude.{◌≡◌, ◌+◌, ◌≤◌, false, IsTrue, IfOk, OnOk, OnErr, [], ◌++◌, length, take, drop, map, vec_len, vec_capacity};
 ghost use Rattle.std.specs.List.{list_all, between};
-ghost use Rattle.cfdp_paths.specs.Paths.{is_at_or_below, rebased};
+ghost use Rattle.cfdp_paths.specs.Paths.{is_at_or_below, joined, rebased};
 ghost use Rattle.cfdp_paths.specs.PathMaps.{IsOrdered, IsPieceOf, tree_in, rest_in, puts, moved_to, with_paths, is_too_deep};
 
 use crate::path_map::{piece, put_reserved};
@@ -27,6 +27,9 @@ pub(crate) fn relocate<T: Drop>(
     if end - start == 1 {
         return relocate_entry(entries, start, from, to);
     }
+    if to.is_no_longer_than(from) {
+        return relocate_in_memory(entries, start, end, from, to);
+    }
     let paths = new_paths(alloc, &entries[start..end], from, to)?;
     let moved = Vec::with_capacity(alloc, paths.len())?;
     let taken = detach(entries, start, end)?;
@@ -49,11 +52,70 @@ fn relocate_entry<T: Drop>(
         ≡ puts (rest_in from.now entries.old.items) (moved_to from.now to.now (tree_in from.now entries.old.items))) }
     ensures err { OnErr result (entries.new.items ≡ entries.old.items) }
 {
+    if to.is_no_longer_than(from) {
+        relocate_entry_in_memory(entries, place, from, to);
+        return Ok(());
+    }
     let alloc = *entries.allocator();
     let path = entries[place].0.rebased(alloc, from, to)?;
     let (_, value) = entries.remove(place);
     put_reserved(entries, path, value);
     Ok(())
+}
+
+/// The same where the second path has no more octets than the first: the path stays in the memory that it has. Takes no
+/// memory.
+fn relocate_entry_in_memory<T: Drop>(
+    entries: &mut Vec<(Path, T)>,
+    place: usize,
+    from: &Path,
+    to: &Path,
+)
+    requires ordered { IsOrdered entries.old.items }
+    requires piece { IsPieceOf from.now entries.old.items place (place + 1) }
+    requires depth { is_too_deep from.now to.now (tree_in from.now entries.old.items) ≡ false }
+    requires short { length (joined to.now) ≤ length (joined from.now) }
+    ensures { entries.new.items
+        ≡ puts (rest_in from.now entries.old.items) (moved_to from.now to.now (tree_in from.now entries.old.items)) }
+{
+    let (mut path, value) = entries.remove(place);
+    path.rebase(from, to);
+    put_reserved(entries, path, value);
+}
+
+/// Moves the entries from `start` up to `end`, which are all that is at and below the first path, to the second path, which
+/// has no more octets: each path stays in the memory that it has.
+fn relocate_in_memory<T: Drop>(
+    entries: &mut Vec<(Path, T)>,
+    start: usize,
+    end: usize,
+    from: &Path,
+    to: &Path,
+) -> Result<(), Memory>
+    requires ordered { IsOrdered entries.old.items }
+    requires piece { IsPieceOf from.now entries.old.items start end }
+    requires depth { is_too_deep from.now to.now (tree_in from.now entries.old.items) ≡ false }
+    requires short { length (joined to.now) ≤ length (joined from.now) }
+    ensures ok { OnOk result (entries.new.items
+        ≡ puts (rest_in from.now entries.old.items) (moved_to from.now to.now (tree_in from.now entries.old.items))) }
+    ensures err { OnErr result (entries.new.items ≡ entries.old.items) }
+{
+    let mut moved = detach(entries, start, end)?;
+    rebase_all(&mut moved, from, to);
+    settle(entries, to, moved);
+    Ok(())
+}
+
+/// Each path p/r becomes q/r, in the memory that it has. Takes no memory.
+fn rebase_all<T>(entries: &mut [(Path, T)], from: &Path, to: &Path)
+    requires below { IsTrue (list_all (λ e. is_at_or_below e.0 from.now) entries.old) }
+    requires depth { is_too_deep from.now to.now entries.old ≡ false }
+    requires short { length (joined to.now) ≤ length (joined from.now) }
+    ensures { entries.new ≡ moved_to from.now to.now entries.old }
+{
+    for entry in entries.iter_mut() {
+        entry.0.rebase(from, to);
+    }
 }
 
 /// The new paths of what stands at and below the first path, in order.

@@ -1,11 +1,8 @@
-use Rattle.std.proofs.Common.{◌≡◌, ℕ, ◌+◌, ◌-◌, ◌≤◌, true, length, ◌∙◌, ap, subst, ◌++◌, drop, arith, length-append, length-drop}
-use Rattle.cfdp_paths.specs.Paths.{Path, names_of, IsPath, is_at_or_below, rebased}
-use Rattle.cfdp_paths.proofs.Below.{IsPath-rebased, length-at_or_below}
+use Rattle.std.proofs.Common.{◌≡◌, true, length, ◌∙◌, ap, subst, ◌++◌, drop, arith, length-append}
+use Rattle.cfdp_paths.specs.Paths.{names_of, IsPath, is_at_or_below, rebased}
+use Rattle.cfdp_paths.proofs.Below.{IsPath-rebased, length-at_or_below, rebased_depth}
 use Rattle.cfdp_paths.proofs.Separators.{behind, rebased-names_of}
 use Rattle.cfdp_paths.proofs.paths.Path.rebased.Goals as goal
-
-rebased_depth : (own to from : ℕ) (x q p : Path) → length p ≤ length x → own ≡ length x → to ≡ length q → from ≡ length p → own + to - from ≡ length (rebased p q x)
-rebased_depth own to from x q p short own_is to_is from_is = omega (arith, length-append q (drop (length p) x), length-drop (length p) x)
 
 pub overflow_sub-depth : goal.overflow_sub-depth
 overflow_sub-depth c =
