@@ -34,7 +34,8 @@ use Rattle.cfdp_leases.specs.declared.leased_paths.Holders.{Holders}
 use Rattle.cfdp_leases.specs.declared.leased_paths.Row.{Row}
 use Rattle.cfdp_leases.specs.declared.leased_paths.LeasedPaths.{LeasedPaths}
 use Rattle.cfdp_leases.specs.Footprint.{PathSet, Footprint, leased}
-use Rattle.cfdp_leases.specs.Holders.{AreFree, Holds, HoldsSome, IsOther, hash_of, holders_in, others, own_row, row_of, under_hash, unless_none, when}
+use Rattle.cfdp_paths.specs.Hashes.{hash_of}
+use Rattle.cfdp_leases.specs.Holders.{AreFree, Holds, HoldsSome, IsOther, holders_in, others, own_row, row_of, under_hash, unless_none, when}
 use Rattle.cfdp_leases.proofs.Apart.{or_both}
 use Rattle.cfdp_leases.proofs.Sets.{path_cmp_total, same_path-itself, Contains_from_stands, stands_from_Contains, stands}
 

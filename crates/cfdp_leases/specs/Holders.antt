@@ -4,20 +4,19 @@
 --     holders_at grants p       those by all grants, in order of admission
 --     others id holders         those of other transactions
 --     holders_in row            the holders that a row of the map has
---     hash_of p                 a number for a path: what the hasher of std's maps makes of its names
 --     own_row row p             the holders that a row has, where it is the path's
 --     under_hash paths p        those that the row under the path's hash has, where it is the path's;  IsOther paths p: it is not
 --     row_of paths p            the holders of a path: of its own row, else by the map of the other paths
 --     Holds paths holders       at each path there are these holders, and no row where there are none
 --     AreFree at holders        nobody holds a path of the test;  AreOwn id at holders: nobody but the transaction does
 --     HoldsSome id at holders paths      these holders, and of the transaction whichever, where `at` is true
-use Rattle.std.specs.Prelude.{◌≡◌, ℕ, Bool, true, false, not, if◌then◌else◌, List, [], ◌∷◌, ◌++◌, Option, Some, None, filter, flat_map, fold, IsSome}
-use Rattle.std.specs.Hash.FoldHasher as hasher
+use Rattle.std.specs.Prelude.{◌≡◌, Bool, true, false, not, if◌then◌else◌, List, [], ◌∷◌, ◌++◌, Option, Some, None, filter, flat_map, IsSome}
 use Rattle.std.specs.Option.{option_map, option_or}
 use Rattle.std.specs.Ordering.{nat_cmp}
 use Rattle.std.specs.FinSet as set
 use Rattle.std.specs.BTreeMap.{get}
 use Rattle.cfdp_status.specs.declared.transaction.TransactionId.{TransactionId}
+use Rattle.cfdp_paths.specs.Hashes.{hash_of}
 use Rattle.cfdp_paths.specs.Paths.{Path, path_cmp, same_path}
 use Rattle.cfdp_leases.specs.declared.lease.Lease.TheVariants.{Exclusive, Shared}
 use Rattle.cfdp_leases.specs.declared.leased_paths.Holder.{Holder}
@@ -50,10 +49,6 @@ unless_none (h ∷ holders) = Some (h ∷ holders)
 abbrev pub holders_in : Holders → List Holder
 holders_in (One holder) = holder ∷ []
 holders_in (Many holders) = holders.items
-
--- the names are written to the hasher one after the other
-abbrev pub hash_of : Path → ℕ
-hash_of p = hasher.finish (fold hasher.write hasher.initial p)
 
 abbrev pub own_row : Option Row → Path → Option Holders
 own_row None p = None

@@ -6,7 +6,7 @@ ghost use Rattle.std.specs.List.Sorted.{IsStrictlySortedBy};
 ghost use Rattle.std.specs.FinSet as set;
 ghost use Rattle.cfdp_paths.specs.Paths.{Path as Names, path_cmp, same_path};
 ghost use Rattle.cfdp_leases.specs.Footprint.{leased};
-ghost use Rattle.cfdp_leases.specs.Holders.{AreFree, AreOwn, Holds, HoldsSome, IsOther, hash_of, holders_in, holders_of, others, unless_none, when};
+ghost use Rattle.cfdp_leases.specs.Holders.{AreFree, AreOwn, Holds, HoldsSome, IsOther, holders_in, holders_of, others, unless_none, when};
 
 use crate::footprints::Footprint;
 use crate::lease::Lease;
@@ -14,7 +14,6 @@ use cfdp_paths::{Memory, Path};
 use cfdp_status::TransactionId;
 use std::alloc::Global;
 use std::collections::BTreeMap;
-use std::hash::{FoldHasher, Hasher};
 
 /// One transaction's lease of a path.
 #[derive(Clone, Copy, Debug, PartialEq, Eq)]
@@ -115,7 +114,7 @@ impl LeasedPaths {
     pub(crate) fn first(&self, path: &Path) -> Option<Holder>
         ensures { (holders : Names → List Holder) → Holds self.now holders → result ≡ slice_get (holders path.now) 0 }
     {
-        match self.rows.get(&hash_of(path)) {
+        match self.rows.get(&path.hash()) {
             Some(row) if row.path == *path => row.holders.first(),
             _ => self.others.get(path)?.first(),
         }
@@ -203,7 +202,7 @@ impl LeasedPaths {
             → OnOk result (Holds self.new (λ p. holders p ++ when (same_path p path.now) holder)) }
         ensures err { (holders : Names → List Holder) → Holds self.old holders → OnErr result (Holds self.new holders) }
     {
-        let hash = hash_of(path);
+        let hash = path.hash();
         let path = path.copy(alloc)?;
         let holders = Holders::One(holder);
         if self.rows.contains_key(&hash) {
@@ -234,7 +233,7 @@ impl LeasedPaths {
             → OnOk result (Holds self.new (λ p. holders p ++ when (same_path p path.now) holder)) }
         ensures err { (holders : Names → List Holder) → Holds self.old holders → OnErr result (Holds self.new holders) }
     {
-        match self.rows.get_mut(&hash_of(path)) {
+        match self.rows.get_mut(&path.hash()) {
             Some(row) if row.path == *path => row.holders.add(alloc, holder),
             _ => self.add_other(alloc, path, holder),
         }
@@ -268,7 +267,7 @@ impl LeasedPaths {
         ensures { (holders : Names → List Holder) → Holds self.old holders
             → Holds self.new (λ p. if same_path p path.now then [] else holders p) }
     {
-        let hash = hash_of(path);
+        let hash = path.hash();
         match self.rows.get(&hash) {
             Some(row) if row.path == *path => {
                 let _ = self.rows.remove(&hash);
@@ -294,7 +293,7 @@ impl LeasedPaths {
         ensures { (holders : Names → List Holder) → Holds self.old holders
             → Holds self.new (λ p. if same_path p path.now then others transaction (holders p) else holders p) }
     {
-        let hash = hash_of(path);
+        let hash = path.hash();
         match self.rows.get_mut(&hash) {
             Some(row) if row.path == *path => {
                 if row.holders.remove(transaction) {
@@ -319,15 +318,4 @@ impl LeasedPaths {
             self.others.remove(path);
         }
     }
-}
-
-/// A number for a path. Cost: one pass over its octets.
-fn hash_of(path: &Path) -> u64
-    ensures { result ≡ hash_of path.now }
-{
-    let mut hasher = FoldHasher::default();
-    for name in path.names() {
-        hasher.write(name);
-    }
-    hasher.finish()
 }

@@ -1,5 +1,6 @@
 pub mod Paths
 pub mod Faults
+pub mod Hashes
 pub mod Laws
 pub mod Words
 pub mod PathMaps

@@ -7,6 +7,7 @@ ghost use Rattle.std.specs.Option.{option_copied};
 ghost use Rattle.std.specs.Ordering.{as_partial_cmp};
 ghost use Rattle.std.specs.Prelude.{◌≡◌, ◌≢◌, ◌+◌, ◌≤◌, ◌↔◌, ◌⊎◌, List, [], length, nat_le, slice_index_or, take, IsTrue, IsOk, IfOk, IfErr, MatchResult};
 ghost use Rattle.cfdp_paths.specs.Faults.{fault_of};
+ghost use Rattle.cfdp_paths.specs.Hashes.{hash_of};
 ghost use Rattle.cfdp_paths.specs.Paths.{Name, IsPath, Spells, ancestors, is_at_or_below, is_below, joined, names_of, parent, path_cmp, path_in, path_of, rebased, same_path, unless_root};
 
 use crate::Memory;
@@ -18,6 +19,7 @@ use crate::parsing::{count_names, strip_slash};
 use std::alloc::Global;
 use std::cmp::Ordering;
 use std::fmt;
+use std::hash::{FoldHasher, Hasher};
 use std::marker::Model;
 
 /// A path of the filestore: 1 to 8 names of 1 to 96 octets, none of which holds `/` or the octet 0, or is `.` or `..`.
@@ -147,6 +149,16 @@ impl Path {
         ensures { IsTrue result ↔ (parent self.now ≡ other.now) }
     {
         self.is_at_or_below(other) && self.depth() == other.depth() + 1
+    }
+
+    /// A number for the path, the same for the same path: what the hasher of std's maps makes of its octets. Its seed is
+    /// fixed, so whoever picks paths can make two of them with one number. Takes no memory. Cost: one pass over the octets.
+    pub fn hash(&self) -> u64
+        ensures { result ≡ hash_of self.now }
+    {
+        let mut hasher = FoldHasher::default();
+        hasher.write(&self.octets);
+        hasher.finish()
     }
 
     /// How this path stands to the path of these names. Takes no memory. Cost: one comparison.

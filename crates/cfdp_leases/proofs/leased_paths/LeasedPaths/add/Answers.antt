@@ -19,9 +19,9 @@ returns-in-Some-clause-err c = λ holders held.
     let new : LeasedPaths = record { rows = c.get_mut.follows.lender (record { path = row.path; holders = c.add.new.self }); others = old.others } in
     let own = (same_path-Decides row.path k).0 (sym c.eq.ensures ∙ c.if-eq.true) in
     on_err_weaker c.add.result
-    (λ same. under_written old new holders held k holders (λ q other. refl) c.hash_of.result c.hash_of.ensures row (sym c.in-Some.ensures.value) own (λ p. refl) c.add.new.self
+    (λ same. under_written old new holders held k holders (λ q other. refl) c.hash.result c.hash.ensures row (sym c.in-Some.ensures.value) own (λ p. refl) c.add.new.self
     ((c.get_mut.follows.holds (record { path = row.path; holders = c.add.new.self })).3 (search rules)).0
-    (ap Some same ∙ under_is old k holders held c.hash_of.result c.hash_of.ensures row (sym c.in-Some.ensures.value) own)) c.add.ensures.err
+    (ap Some same ∙ under_is old k holders held c.hash.result c.hash.ensures row (sym c.in-Some.ensures.value) own)) c.add.ensures.err
 
 pub returns-in-Some-clause-ok : goal.returns-in-Some-clause-ok
 returns-in-Some-clause-ok c = λ holders held.
@@ -31,10 +31,10 @@ returns-in-Some-clause-ok c = λ holders held.
     let old = c.args.self.now in
     let new : LeasedPaths = record { rows = c.get_mut.follows.lender (record { path = row.path; holders = c.add.new.self }); others = old.others } in
     let own = (same_path-Decides row.path k).0 (sym c.eq.ensures ∙ c.if-eq.true) in
-    let before = under_there old k holders held c.hash_of.result c.hash_of.ensures row (sym c.in-Some.ensures.value) own in
+    let before = under_there old k holders held c.hash.result c.hash.ensures row (sym c.in-Some.ensures.value) own in
     on_ok_weaker c.add.result
     (λ more. under_written old new holders held k (λ p. holders p ++ when (same_path p k) h) (λ q other. when_not (same_path q k) h (holders q) other)
-    c.hash_of.result c.hash_of.ensures row (sym c.in-Some.ensures.value) own (λ p. refl) c.add.new.self
+    c.hash.result c.hash.ensures row (sym c.in-Some.ensures.value) own (λ p. refl) c.add.new.self
     ((c.get_mut.follows.holds (record { path = row.path; holders = c.add.new.self })).3 (search rules)).0
     (ap Some (more ∙ ap (λ xs. xs ++ h ∷ []) before) ∙ some_pushed (holders k) h ∙ ap unless_none (when_here k h (holders k)))) c.add.ensures.ok
 
@@ -48,7 +48,7 @@ returns-in_default-clause-ok c = λ holders held.
           let row = w.in-Some.row.now in
           let new : LeasedPaths = record { rows = c.get_mut.follows.lender row; others = old.others } in
           subst (λ paths. Holds paths holders) (sym w.self-is)
-          (holds_unwritten old new holders held c.hash_of.result row ((c.get_mut.follows.holds row).3 (search rules)).0 (sym w.in-Some.ensures.value) (λ p. refl))
+          (holds_unwritten old new holders held c.hash.result row ((c.get_mut.follows.holds row).3 (search rules)).0 (sym w.in-Some.ensures.value) (λ p. refl))
       | in_default-via-in-None-1 w ↦
           let new : LeasedPaths = record { rows = c.get_mut.follows.lender-at-none; others = old.others } in
           subst (λ paths. Holds paths holders) (sym w.self-is)
@@ -64,7 +64,7 @@ returns-in_default-clause-err c = λ holders held.
           let row = w.in-Some.row.now in
           let new : LeasedPaths = record { rows = c.get_mut.follows.lender row; others = old.others } in
           subst (λ paths. Holds paths holders) (sym w.self-is)
-          (holds_unwritten old new holders held c.hash_of.result row ((c.get_mut.follows.holds row).3 (search rules)).0 (sym w.in-Some.ensures.value) (λ p. refl))
+          (holds_unwritten old new holders held c.hash.result row ((c.get_mut.follows.holds row).3 (search rules)).0 (sym w.in-Some.ensures.value) (λ p. refl))
       | in_default-via-in-None-1 w ↦
           let new : LeasedPaths = record { rows = c.get_mut.follows.lender-at-none; others = old.others } in
           subst (λ paths. Holds paths holders) (sym w.self-is)

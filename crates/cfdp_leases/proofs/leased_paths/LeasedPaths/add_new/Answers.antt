@@ -40,9 +40,9 @@ returns-in_ok-insert-2-clause-ok c = λ holders held free.
     let k = c.args.path.now in
     let h = c.args.holder in
     let old = c.args.self.now in
-    let hash = c.hash_of-hash.result in
+    let hash = c.hash-hash.result in
     let new : LeasedPaths = record { rows = c.insert-else-contains_key.new.self; others = old.others } in
-    under_changed old new holders held k (λ p. holders p ++ when (same_path p k) h) (λ q other. when_not (same_path q k) h (holders q) other) hash c.hash_of-hash.ensures
+    under_changed old new holders held k (λ p. holders p ++ when (same_path p k) h) (λ q other. when_not (same_path q k) h (holders q) other) hash c.hash-hash.ensures
     (Some (record { path = c.in_ok-path.path; holders = One h })) c.in_ok-insert-2.ensures.updates.0 (λ p. refl)
     (none_of k (get nat_cmp old.rows hash) (sym c.contains_key.ensures ∙ c.if-contains_key.false)) c.in_ok-path.ensures
     (free_none old k holders held free).1
