@@ -1,19 +1,22 @@
 -- From an event of the entry at a place to the next world.
-use Rattle.std.proofs.Common.{◌≡◌, ◌⊎◌, inl, inr, ℕ, zero, suc, ◌<◌, ◌≤◌, List, [], ◌∷◌, length, refl, sym, ◌∙◌, arith}
-use Rattle.std.specs.Prelude.{Bool, true, false, ◌&&◌, ◌==◌, if◌then◌else◌, nat_lt, nat_le, Option, Some, None, IsNone, IsTrue, IsFalse, slice_get}
-use Rattle.std.proofs.lemmas.Bool.{ltb-false, leb-false}
+use Rattle.std.proofs.Common.{◌≡◌, ℕ, zero, suc, ◌<◌, ◌≤◌, List, [], ◌∷◌, length, refl, ap, sym, ◌∙◌, arith}
+use Rattle.std.specs.Prelude.{Bool, true, false, ◌==◌, if◌then◌else◌, nat_lt, nat_le, Option, Some, None, is_some, is_none, IfSome, IfNone, IsNone, IsTrue, IsFalse, slice_get}
+use Rattle.std.proofs.lemmas.Bool.{and_parts, ltb-true, leb-true, lt-ltb, le-leb, lt-leb}
 use Rattle.cfdp_status.specs.declared.transaction.TransactionId.{TransactionId}
 use Rattle.cfdp_pdus.specs.Values.{MetadataFields}
 use Rattle.cfdp_pdus.specs.declared.header.Header.{Header}
+use Rattle.cfdp_actions.specs.Filestore.{Filestore}
 use Rattle.cfdp_actions.specs.Store.{Store}
+use Rattle.cfdp_leases.specs.Leases.{is_same}
+use Rattle.cfdp_verifier.specs.declared.refusal.Refusal.TheVariants.{TooManyRequests}
 use Rattle.cfdp_transactions.specs.Entry.{Entry, id_of, is_live}
-use Rattle.cfdp_transactions.specs.Events.{Event, Reply}
-use Rattle.cfdp_transactions.specs.World.{World, index_of, entry_of}
+use Rattle.cfdp_transactions.specs.Events.{Event, MetadataCame, Reply}
+use Rattle.cfdp_transactions.specs.World.{World, place_of, index_of, entry_of}
 use Rattle.cfdp_transactions.specs.Next.{for_us, next}
 use Rattle.cfdp_transactions.specs.Needs.{Follows, FollowsIsSound}
 use Rattle.cfdp_transactions.specs.Outcome.{outcome_of}
 use Rattle.cfdp_transactions.specs.declared.outcome.Outcome.{Outcome}
-use Rattle.cfdp_transactions.specs.Rows.{entry_in, row_place}
+use Rattle.cfdp_transactions.specs.Rows.{Row, entry_in, table_of, row_name, row_place}
 use Rattle.cfdp_transactions.specs.Books.{AnswersAt, Carries, IsBooked, IsLiveAt, world_of}
 use Rattle.cfdp_transactions.specs.Engine.{IsWhole, begins, outcome_in}
 use Rattle.cfdp_transactions.specs.declared.books.Books.{Books}
@@ -76,6 +79,16 @@ module _ (s : Store) (b : Books) (id : TransactionId) where
       let here = get_at b.table place within in
       (entry_in s.filestore here.0, rw (index_is s b id ∙ sym is) (row_at s.filestore b.table place here.0 here.1))
 
+  -- where a look-up finds it, and where it finds nothing
+  pub found_some : (o : Option ℕ) → IfSome o (λ place. place ≡ row_place id b.table) → IfSome o (λ place. place < length b.table) → is_some o ≡ true →
+      (e : Entry) × (entry_of (world_of s b) id ≡ Some e)
+  found_some (Some place) is within some = found_entry place is within
+  found_some None is within some = absurd cc
+
+  pub absent_none : (o : Option ℕ) → IfNone o (row_place id b.table ≡ length b.table) → is_some o ≡ false → entry_of (world_of s b) id ≡ None
+  absent_none None gone none = absent_entry s b id gone
+  absent_none (Some place) gone none = absurd cc
+
   pub live_place : (place : ℕ) → place ≡ row_place id b.table → place < length b.table → IsNone (outcome_in (world_of s b) id) → IsLiveAt (world_of s b) place
   live_place place is within none =
       let here = get_at b.table place within in
@@ -88,16 +101,46 @@ still_whole law s t b d event reply whole follows booked = record { sound = law 
 pub ours : (W V : World) (h : Header) (answer : World × Reply) (reply : Reply) → (h.destination == W.config.entity) ≡ true → Carries W V answer reply → Carries W V (for_us W h answer) reply
 ours W V h answer reply mine carried = rw mine carried
 
--- Metadata that begin no transaction ------------------------------------------------
+-- Metadata that begin a transaction -------------------------------------------------
 
-either_false : (a b : Bool) → (a && b) ≡ false → (a ≡ false) ⊎ (b ≡ false)
-either_false true b both = inr both
-either_false false b both = inl refl
+pub record Begins (W : World) (h : Header) (m : MetadataFields) : Type 0 where
+  pub mine : (h.destination == W.config.entity) ≡ true
+  pub absent : entry_of W (id_of h) ≡ None
+  pub few : length W.table < 64
+  pub short : length m.requests ≤ 64
 
--- of a transaction that is not there: they meet a full table, or have too long a list
-pub begin_none : (W : World) (h : Header) (m : MetadataFields) → (h.destination == W.config.entity) ≡ true → entry_of W (id_of h) ≡ None → IsFalse (begins W h m) →
-    (64 ≤ length W.table) ⊎ (64 < length m.requests)
-begin_none W h m mine none begun = elim (either_false (nat_lt (length W.table) 64) (nat_le (length m.requests) 64) (rw (mine, none) at begun)) [
-  | inl full ↦ inl (ltb-false _ _ full)
-  | inr long ↦ inr (leb-false _ _ long)
-]
+none_so : {X : Type 0} (o : Option X) → is_none o ≡ true → o ≡ None
+none_so None e = refl
+none_so (Some x) e = absurd cc
+
+pub begins_so : (W : World) (h : Header) (m : MetadataFields) → IsTrue (begins W h m) → Begins W h m
+begins_so W h m begun =
+    let last = and_parts _ (nat_le (length m.requests) 64) begun in
+    let third = and_parts _ (nat_lt (length W.table) 64) last.0 in
+    let first = and_parts (h.destination == W.config.entity) (is_none (entry_of W (id_of h))) third.0 in
+    record { mine = first.0; absent = none_so (entry_of W (id_of h)) first.1; few = ltb-true _ _ third.1; short = leb-true _ _ last.1 }
+
+pub begins_when : (W : World) (h : Header) (m : MetadataFields) → Begins W h m → IsTrue (begins W h m)
+begins_when W h m b = rw (b.mine, b.absent, lt-ltb (length W.table) 64 b.few, le-leb (length m.requests) 64 b.short) refl
+
+absent_step : (F : Filestore) (id : TransactionId) (r : Row) (rows : List Row) (b : Bool) → (slice_get (table_of F rows) (place_of id (table_of F rows)) ≡ None → row_place id rows ≡ length rows) →
+    slice_get (entry_in F r ∷ table_of F rows) (if b then 0 else suc (place_of id (table_of F rows))) ≡ None → (if b then 0 else suc (row_place id rows)) ≡ suc (length rows)
+absent_step F id r rows true later none = absurd cc
+absent_step F id r rows false later none = ap suc (later none)
+
+absent_rows : (F : Filestore) (id : TransactionId) (rows : List Row) → slice_get (table_of F rows) (place_of id (table_of F rows)) ≡ None → row_place id rows ≡ length rows
+absent_rows F id [] none = refl
+absent_rows F id (r ∷ rows) none = absent_step F id r rows (is_same (row_name r) id) (absent_rows F id rows) none
+
+pub absent_place : (s : Store) (b : Books) (id : TransactionId) → entry_of (world_of s b) id ≡ None → row_place id b.table ≡ length b.table
+absent_place s b id none = absent_rows s.filestore id b.table none
+
+-- and that begin none: they meet a full table, or have too long a list
+
+pub full_answer : (W : World) (h : Header) (m : MetadataFields) → (h.destination == W.config.entity) ≡ true → entry_of W (id_of h) ≡ None → 64 ≤ length W.table →
+    next W (MetadataCame h m) ≡ (W, Reply.TableFull)
+full_answer W h m mine absent full = rw (mine, absent, le-leb 64 (length W.table) full) refl
+
+pub long_answer : (W : World) (h : Header) (m : MetadataFields) → (h.destination == W.config.entity) ≡ true → entry_of W (id_of h) ≡ None → length W.table < 64 →
+    64 < length m.requests → next W (MetadataCame h m) ≡ (W, Reply.Refused TooManyRequests)
+long_answer W h m mine absent few long = rw (mine, absent, lt-leb 64 (length W.table) few, lt-ltb 64 (length m.requests) long) refl

@@ -11,20 +11,18 @@ ghost use Rattle.cfdp_transactions.specs.Adding.{AddsEntry};
 ghost use Rattle.cfdp_transactions.specs.Admission.{is_known_checksum, metadata_came, new_entry, proposal_of, refused_entry};
 ghost use Rattle.cfdp_verifier.specs.Answers.{answered, granted_items, HasFootprint};
 ghost use Rattle.cfdp_verifier.specs.Verdict.{verdict};
-ghost use Rattle.cfdp_transactions.specs.Books.{Carries, IsAnswered, IsBooked, world_of};
+ghost use Rattle.cfdp_transactions.specs.Books.{Carries, IsBooked, world_of};
 ghost use Rattle.cfdp_transactions.specs.Rows.{row_place};
 
 use crate::books::Books;
 use crate::conditions::UNSUPPORTED_CHECKSUM_TYPE;
-use crate::copying::copy_metadata;
 use crate::entry::Entry;
-use crate::table::MOST_TRANSACTIONS;
 use crate::{Config, Phase, Reply};
 use cfdp_actions::Filestore;
 use cfdp_paths::Memory;
 use cfdp_pdus::{Header, Metadata};
 use cfdp_quota::{Quota, SLOTS};
-use cfdp_verifier::{Grant, MOST_REQUESTS, Proposal, Refusal, Verdict, verify};
+use cfdp_verifier::{Grant, Proposal, Verdict, verify};
 use std::alloc::Global;
 
 /// The modular checksum (§4.2.2).
@@ -33,38 +31,33 @@ const MODULAR_CHECKSUM: u8 = 0;
 /// The null checksum, which is not looked at (§4.2.2).
 pub(crate) const NULL_CHECKSUM: u8 = 15;
 
-/// The Metadata of a transaction that is not in the table. Where memory is refused nothing has changed. Cost: that of
-/// `verify`, one copy of the Metadata, and a pass over the slots.
+/// The Metadata of a transaction that is not in the table, while there is room for it and its list. It is moved into
+/// the table. Out of memory nothing has changed, and the Metadata is dropped. Cost: that of `verify`, and a pass over
+/// the slots.
 pub(crate) fn admit<S: Filestore>(
     alloc: Global,
     store: &S,
     books: &mut Books,
     header: &Header,
-    metadata: &Metadata,
+    metadata: Metadata,
 ) -> Reply
     requires sound { Sound (world_of (S.state store.now) books.old) }
     requires booked { IsBooked (S.state store.now) books.old }
     requires absent { row_place (id_of header.now) books.old.table ≡ length books.old.table }
+    requires few { length books.old.table < 64 }
+    requires short { length metadata.requests ≤ 64 }
     ensures answer { let W = world_of (S.state store.now) books.old in
-        Carries W (world_of (S.state store.now) books.new) (metadata_came W header.now metadata.now None) result }
-    ensures full { 64 ≤ length books.old.table → IsAnswered result }
-    ensures long { 64 < length metadata.now.requests → IsAnswered result }
+        Carries W (world_of (S.state store.now) books.new) (metadata_came W header.now metadata None) result }
     ensures booked { IsBooked (S.state store.now) books.new }
 {
-    if books.table.len() >= MOST_TRANSACTIONS {
-        return Reply::TableFull;
-    }
-    if metadata.requests.len() > MOST_REQUESTS {
-        return Reply::Refused(Refusal::TooManyRequests);
-    }
-    if names_file(metadata) && !is_known_checksum(metadata.checksum_type) {
+    if names_file(&metadata) && !is_known_checksum(metadata.checksum_type) {
         let phase = Phase::Ended(UNSUPPORTED_CHECKSUM_TYPE);
         return match add_final(alloc, store, books, header, metadata, phase) {
             Ok(()) => Reply::Faulted(UNSUPPORTED_CHECKSUM_TYPE),
             Err(_) => Reply::Memory,
         };
     }
-    match judge(alloc, store, books, metadata) {
+    match judge(alloc, store, books, &metadata) {
         Err(_) => Reply::Memory,
         Ok(Verdict::Refuse(refusal)) => {
             match add_final(alloc, store, books, header, metadata, Phase::Refused) {
@@ -147,19 +140,18 @@ fn add_final<S: Filestore>(
     store: &S,
     books: &mut Books,
     header: &Header,
-    metadata: &Metadata,
+    metadata: Metadata,
     phase: Phase,
 ) -> Result<(), Memory>
     requires booked { IsBooked (S.state store.now) books.old }
     requires absent { row_place (id_of header.now) books.old.table ≡ length books.old.table }
     requires over { IsFalse (is_live phase) }
     ensures adds { OnOk result (AddsEntry (world_of (S.state store.now) books.old) (world_of (S.state store.now) books.new)
-        (refused_entry header.now metadata.now phase)) }
+        (refused_entry header.now metadata phase)) }
     ensures err { OnErr result (world_of (S.state store.now) books.new ≡ world_of (S.state store.now) books.old) }
     ensures booked { IsBooked (S.state store.now) books.new }
 {
-    let copy = copy_metadata(alloc, metadata)?;
-    let entry = Entry::new(*header, copy, phase, 0, None, Vec::new(alloc), 0, 0);
+    let entry = Entry::new(*header, metadata, phase, 0, None, Vec::new(alloc), 0, 0);
     books.table.push(entry)?;
     Ok(())
 }
@@ -170,7 +162,7 @@ fn add_granted<S: Filestore>(
     store: &S,
     books: &mut Books,
     header: &Header,
-    metadata: &Metadata,
+    metadata: Metadata,
     grant: Grant,
 ) -> Result<(), Memory>
     requires sound { Sound (world_of (S.state store.now) books.old) }
@@ -181,7 +173,7 @@ fn add_granted<S: Filestore>(
     requires apart { first_conflict books.old.leases grant.footprint ≡ None }
     requires room { grant.blocks ≤ spare books.old.quota }
     ensures adds { let W = world_of (S.state store.now) books.old in OnOk result (AddsEntry W (world_of (S.state store.now) books.new)
-        (new_entry header.now metadata.now Receiving (free_slot W.table) (granted_items grant) grant.blocks grant.steps)) }
+        (new_entry header.now metadata Receiving (free_slot W.table) (granted_items grant) grant.blocks grant.steps)) }
     ensures err { OnErr result (world_of (S.state store.now) books.new ≡ world_of (S.state store.now) books.old) }
     ensures booked { IsBooked (S.state store.now) books.new }
 {
@@ -193,10 +185,9 @@ fn add_granted<S: Filestore>(
         steps,
     } = grant;
     let slot = first_closed(&books.quota);
-    let copy = copy_metadata(alloc, metadata)?;
     let entry = Entry::new(
         *header,
-        copy,
+        metadata,
         Phase::Receiving,
         slot,
         destination,

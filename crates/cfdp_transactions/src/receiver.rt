@@ -1,6 +1,6 @@
 //! The core of a receiving entity.
 
-ghost use Rattle.std.specs.Prelude.{◌≡◌, ◌∷◌, [], Some, IfOk, IsOk, IsNone, IsTrue, IsFalse, map, slice_get};
+ghost use Rattle.std.specs.Prelude.{◌≡◌, ◌∷◌, [], Some, IfSome, IfNone, IfOk, IsOk, IsNone, IsTrue, IsFalse, map, slice_get};
 ghost use Rattle.cfdp_actions.specs.Store.{empty_store};
 ghost use Rattle.cfdp_transactions.specs.Sound.{Sound};
 ghost use Rattle.cfdp_transactions.specs.World.{leases_of, next_outcome, next_runnable, spare, start};
@@ -12,9 +12,10 @@ ghost use Rattle.std.specs.Option.{option_copied, option_map};
 ghost use Rattle.cfdp_transactions.specs.Engine.{AsksForNone, begins, outcome_in, read_of};
 
 use crate::books::Books;
+use crate::copying::copy_metadata;
 use crate::event::transaction_of;
 use crate::ranges::{MOST_GAPS, Range};
-use crate::table::Table;
+use crate::table::{MOST_TRANSACTIONS, Table};
 use crate::{
     Config, Event, Outcome, Phase, Reply, admission, closing, delivery, file_data, laws, step,
     taking,
@@ -26,6 +27,7 @@ use cfdp_paths::Memory;
 use cfdp_pdus::{Eof, Header, Metadata, Piece};
 use cfdp_quota::Quota;
 use cfdp_status::TransactionId;
+use cfdp_verifier::{MOST_REQUESTS, Refusal};
 use std::alloc::Global;
 use std::marker::Model;
 
@@ -273,6 +275,20 @@ impl<S: Filestore> Core<S> {
         }
     }
 
+    /// The same as [`apply`](Core::apply), for an event that is given away: its Metadata is moved, not copied. Out of
+    /// memory the event is dropped.
+    pub fn apply_owned(&mut self, event: Event) -> Reply
+        ensures follows { Follows self.old.world event result self.new.world }
+        ensures answered { IsFalse (may_want_memory self.old.takes_no_memory event) → IsAnswered result }
+        ensures lean { AsksForNone self.old.world event → IsAnswered result }
+        ensures steady { self.new.takes_no_memory ≡ self.old.takes_no_memory }
+    {
+        match event {
+            Event::Metadata(header, metadata) => self.metadata_given(&header, metadata),
+            other => self.apply(&other),
+        }
+    }
+
     /// The same as [`apply`](Core::apply), with its reply twice: for a journal, and for whom it answers. An outcome's second
     /// handle is made before anything changes.
     pub fn apply_both(&mut self, event: &Event) -> (Reply, Reply)
@@ -307,20 +323,64 @@ impl<S: Filestore> Core<S> {
         taking::hand_out(self.alloc, &self.store, &mut self.books, place, outcome)
     }
 
-    /// A Metadata PDU came (CCSDS 727.0-B-5 §5.2.5): it is copied where it begins a transaction.
+    /// A Metadata PDU came (CCSDS 727.0-B-5 §5.2.5), which is lent: it is copied if it may begin a transaction.
     fn metadata_came(&mut self, header: &Header, metadata: &Metadata) -> Reply
         ensures follows { Follows self.old.world (MetadataCame header.now metadata.now) result self.new.world }
         ensures lean { IsFalse (begins self.old.world header.now metadata.now) → IsAnswered result }
         ensures steady { self.new.takes_no_memory ≡ self.old.takes_no_memory }
     {
-        laws::follows_is_sound();
+        if let Some(reply) = self.turned_away(header, metadata) {
+            return reply;
+        }
+        match copy_metadata(self.alloc, metadata) {
+            Ok(copy) => self.begin(header, copy),
+            Err(_) => Reply::Memory,
+        }
+    }
+
+    /// A Metadata PDU came, which is given away: it is moved if it may begin a transaction, and dropped otherwise.
+    fn metadata_given(&mut self, header: &Header, metadata: Metadata) -> Reply
+        ensures follows { Follows self.old.world (MetadataCame header.now metadata) result self.new.world }
+        ensures lean { IsFalse (begins self.old.world header.now metadata) → IsAnswered result }
+        ensures steady { self.new.takes_no_memory ≡ self.old.takes_no_memory }
+    {
+        match self.turned_away(header, &metadata) {
+            Some(reply) => reply,
+            None => self.begin(header, metadata),
+        }
+    }
+
+    /// The reply to a Metadata PDU that begins no transaction: it is for another entity, its transaction is already
+    /// there, the table is full, or it has too many requests. `None` if it may begin one. Takes no memory. Cost: a
+    /// look-up.
+    fn turned_away(&self, header: &Header, metadata: &Metadata) -> Option<Reply>
+        ensures follows { IfSome result (λ reply. Follows self.now.world (MetadataCame header.now metadata.now) reply self.now.world) }
+        ensures answered { IfSome result IsAnswered }
+        ensures begins { IfNone result (IsTrue (begins self.now.world header.now metadata.now)) }
+    {
         if header.destination != self.books.config.entity() {
-            return Reply::NotForUs;
+            return Some(Reply::NotForUs);
         }
-        match self.books.table.find(transaction_of(header)) {
-            Some(_) => Reply::Duplicate,
-            None => admission::admit(self.alloc, &self.store, &mut self.books, header, metadata),
+        if self.books.table.find(transaction_of(header)).is_some() {
+            return Some(Reply::Duplicate);
         }
+        if self.books.table.len() >= MOST_TRANSACTIONS {
+            return Some(Reply::TableFull);
+        }
+        if metadata.requests.len() > MOST_REQUESTS {
+            return Some(Reply::Refused(Refusal::TooManyRequests));
+        }
+        None
+    }
+
+    /// Metadata that may begin a transaction. Out of memory the world is as before, and the Metadata is dropped.
+    fn begin(&mut self, header: &Header, metadata: Metadata) -> Reply
+        requires { IsTrue (begins self.old.world header.now metadata) }
+        ensures follows { Follows self.old.world (MetadataCame header.now metadata) result self.new.world }
+        ensures steady { self.new.takes_no_memory ≡ self.old.takes_no_memory }
+    {
+        laws::follows_is_sound();
+        admission::admit(self.alloc, &self.store, &mut self.books, header, metadata)
     }
 
     /// A File Data PDU came (CCSDS 727.0-B-5 §5.3, copy file procedures at the receiving entity). Does what [`apply`](Core::apply)
