@@ -74,7 +74,7 @@ impl Entity {
         &self.core
     }
 
-    /// Takes an event that may have come from a PDU that was read.
+    /// Takes an event, which is lent.
     fn apply(&mut self, event: &Event) -> Reply
         requires { IsReadable event.now }
         ensures follows { Follows self.old event.now result self.new }
@@ -83,6 +83,15 @@ impl Entity {
         ensures lean { AsksForNone self.old event.now → IsAnswered result }
     {
         self.core.apply(event)
+    }
+
+    /// The same for an event that is given away: its Metadata is moved into the table, not copied.
+    fn apply_owned(&mut self, event: Event) -> Reply
+        requires { IsReadable event }
+        ensures follows { Follows self.old event result self.new }
+        ensures answered { IsFalse (may_want_memory true event) → IsAnswered result }
+    {
+        self.core.apply_owned(event)
     }
 
     /// Takes an event that never wants memory.
@@ -137,7 +146,7 @@ impl Entity {
             Err(fault) => return Err(NotHeard::Fault(fault)),
         };
         let id = event.transaction();
-        match self.apply(&event) {
+        match self.apply_owned(event) {
             Reply::Memory => Err(NotHeard::Fault(PduFault::Memory)),
             reply => Ok((id, reply)),
         }
