@@ -56,6 +56,25 @@ impl<S: Filestore> Entity<S> {
         }
     }
 
+    /// The same for an event that is given away: its Metadata is moved into the table, not copied.
+    fn tell_owned(
+        &mut self,
+        alloc: Global,
+        event: Event,
+        text: &mut Vec<u8>,
+    ) -> Result<(), AllocError>
+        requires { IsReadable event }
+        ensures world { OnOk result (self.new.core.world ≡ (next self.old.core.world event).0) }
+        ensures text { OnOk result (text.new.items
+            ≡ text.old.items ++ reply_line (about event) (next self.old.core.world event).1) }
+    {
+        let id = event.transaction();
+        match self.core.apply_owned(event) {
+            Reply::Memory => Err(AllocError),
+            reply => write_reply(alloc, id, &reply, text),
+        }
+    }
+
     /// Takes a File Data PDU, where its octets lie, and appends the line of its reply.
     fn keep(
         &mut self,
@@ -81,7 +100,7 @@ impl<S: Filestore> Entity<S> {
             × (text.new.items ≡ text.old.items ++ lines)) }
     {
         match read_event(alloc, octets) {
-            Ok(Some(event)) => self.tell(alloc, &event, text),
+            Ok(Some(event)) => self.tell_owned(alloc, event, text),
             Ok(None) => text.extend_from_slice(not_ours_line()),
             Err(PduFault::Memory) => Err(AllocError),
             Err(fault) => text.extend_from_slice(fault_line(fault)),
