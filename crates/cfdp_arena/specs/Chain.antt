@@ -1,5 +1,5 @@
 -- A chain of live blocks: each has the number of the next one in its first two octets, the low one first.
---     chain_in     the blocks of a chain: so many of them, from this one on
+--     chain_in     the first `count` blocks of the chain that begins at this one
 use Rattle.std.specs.Prelude.{ℕ, suc, zero, List, [], ◌∷◌}
 use Rattle.cfdp_arena.specs.Arena.{Blocks, octets_of}
 use Rattle.cfdp_arena.specs.FreeList.{link}
