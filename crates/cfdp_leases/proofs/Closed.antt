@@ -1,13 +1,15 @@
 -- Lists of paths that have the proper ancestors of each path.
 --     none_closed, listed_closed, closed_more      no paths;  those of a list of items;  with the ancestors of one path more
+--     same_set-beginning                           where the path of its first names is there
 --     same_set-parent                              where its parent is there, all ancestors of a path are
---     parent_there, found_some                     where a parent was found
+--     parent_there, found_some, found_ok           where a parent, or another path, was found
 --     same_set-swap                                in the other order
-use Rattle.std.proofs.Common.{◌≡◌, refl, sym, ◌∙◌, ap, subst, ℕ, ◌+◌, ◌-◌, ◌<◌, ◌≤◌, Bool, true, false, ◌||◌, inl, inr, List, [], ◌∷◌, ◌++◌, length, get_or, take, take_all, arith}
+use Rattle.std.proofs.Common.{◌≡◌, refl, sym, ◌∙◌, ap, subst, ℕ, ◌+◌, ◌-◌, ◌<◌, ◌≤◌, Bool, true, false, ◌||◌, inl, inr, List, [], ◌∷◌, ◌++◌, length, get_or, take, take_all, length-take, arith}
 use Rattle.std.specs.Prelude.{flat_map, IfOk, OnSome, Option, Result, Ok, Err}
-use Rattle.std.specs.Result.{result_ok}
+use Rattle.std.specs.Result.{is_ok, result_ok}
 use Rattle.std.specs.List.{list_any}
 use Rattle.std.proofs.lemmas.Bool.{true≢false}
+use Rattle.std.proofs.lemmas.List.{take-take}
 use Rattle.std.proofs.lemmas.List.Folds.{list_any-append}
 use Rattle.cfdp_paths.specs.Paths.{Path, same_path, ancestors, parent}
 use Rattle.cfdp_paths.proofs.Comparing.{same_path-Decides}
@@ -75,6 +77,11 @@ same_set-above xs n d closed some deep there = same_set-within xs (ancestors n) 
           | inr last ↦ ap (λ p. list_any (same_path p) xs) (only (take d n) q last) ∙ there
         ]
 
+-- where the path of its first names is there, and one name more
+pub same_set-beginning : (xs : List Path) (n : Path) (d : ℕ) → HaveAncestors xs → 1 ≤ d → d + 1 ≤ length n → stands (take d n) xs → SameSet xs (xs ++ ancestors (take (d + 1) n))
+same_set-beginning xs n d closed some deep there =
+    same_set-above xs (take (d + 1) n) d closed some (omega (arith, length-take (d + 1) n, deep)) (subst (λ p. stands p xs) (sym (take-take d (d + 1) n (omega arith))) there)
+
 pub same_set-parent : (xs : List Path) (n : Path) → HaveAncestors xs → 2 ≤ length n → stands (parent n) xs → SameSet xs (xs ++ ancestors n)
 same_set-parent xs n closed deep there =
     same_set-above xs n (length n - 1) closed (omega (arith, deep)) (omega (arith, deep)) (subst (λ p. stands p xs) (parent-take n) there)
@@ -87,6 +94,10 @@ parent_there xs n held i within read is = subst (λ p. stands p xs) (sym is) (st
 pub found_some : {A B : Type 0} (r : Result A B) (o : Option A) (P : Type 0) → o ≡ result_ok r → IfOk r (λ _. P) → OnSome o P
 found_some (Ok x) o P is h = subst (λ s. OnSome s P) (sym is) h
 found_some (Err e) o P is h = subst (λ s. OnSome s P) (sym is) tt
+
+pub found_ok : {A B : Type 0} (r : Result A B) (P : Type 0) → is_ok r ≡ true → IfOk r (λ _. P) → P
+found_ok (Ok x) P is h = h
+found_ok (Err e) P is h = absurd (true≢false (sym is))
 
 or_comm : (a b c : Bool) → (a || (b || c)) ≡ (a || (c || b))
 or_comm true b c = refl

@@ -1,6 +1,6 @@
 //! How the footprint of a list is gathered.
 
-ghost use Rattle.std.specs.Prelude.{◌≡◌, ◌≤◌, ◌++◌, ◌∷◌, [], IsTrue, OnOk, OnSome, IfOk, IfErr, flat_map, insert, length, take};
+ghost use Rattle.std.specs.Prelude.{◌≡◌, ◌≤◌, ◌+◌, ◌++◌, ◌∷◌, [], IsTrue, OnOk, OnSome, IfOk, IfErr, flat_map, insert, length, take};
 ghost use Rattle.std.specs.FinSet as set;
 ghost use Rattle.std.specs.List.{list_any};
 ghost use Rattle.std.specs.List.Sorted.{IsStrictlySortedBy};
@@ -137,10 +137,27 @@ fn add_ancestors(
         return Ok(parent);
     }
     let mut parent = guess;
-    for count in 1..depth {
+    for count in 1 + longest_above(paths, path)..depth {
         parent = add_beginning(alloc, paths, path, count)?;
     }
     Ok(parent)
+}
+
+/// How many names the longest path above a path's parent has that is there: then all paths above that one are there too.
+/// 0 where none is. Cost: a binary search for each that is not there, and one more.
+fn longest_above(paths: &[Path], path: &Path) -> usize
+    requires ordered { IsStrictlySortedBy path_cmp paths.now }
+    requires above { HaveAncestors paths.now }
+    requires deep { 2 ≤ length path.now }
+    ensures within { result + 2 ≤ length path.now }
+    ensures there { SameSet paths.now (paths.now ++ ancestors (take (result + 1) path.now)) }
+{
+    for count in (1..path.depth() - 1).rev() {
+        if find_beginning(paths, path, count).is_ok() {
+            return count;
+        }
+    }
+    0
 }
 
 /// The index of a path's parent, if it is there: then all proper ancestors of the path are. Cost: one comparison, and a
