@@ -423,7 +423,7 @@ ARENA_BOXES = (
     (820, 396, 126, 50, ["block 4: rank 2", "240 to 299"], "#ffffff"),
     (500, 578, 126, 50, ["block 5: rank 0", "what arrived"], "#ffffff"),
     (660, 578, 126, 50, ["block 6: rank 1", "what arrived"], "#ffffff"),
-    (850, 578, 116, 50, ["block 7: free", "next 8, and on"], GREY),
+    (850, 578, 116, 50, ["block 7, ..", "not made yet"], GREY),
 )
 # From block to block of a run.
 NEXT_LINKS = ([(626, 421), (660, 421)], [(786, 421), (820, 421)], [(626, 603), (660, 603)])
@@ -466,7 +466,7 @@ def draw_block(picture, y, name, fields):
 
 def draw_arena():
     picture = Picture(1000, 760, "Blocks, runs and nodes of the filestore")
-    draw_block(picture, 40, "A free block", FREE_BLOCK)
+    draw_block(picture, 40, "A block that was given back", FREE_BLOCK)
     draw_block(picture, 136, "A block of a run: 8 octets of links, 120 octets of payload", HEADER + PAYLOAD)
     draw_block(picture, 232, "A node: one file or directory", HEADER + NODE)
     example = "An example: directory d with a file d/f of 300 octets, and a file that arrives in slot 0"
