@@ -64,14 +64,15 @@ impl Arena {
         ensures all_free { IfOk result (λ arena. arena ≡ all_free blocks) }
     {
         let region = Region::reserve(&alloc, blocks as usize)?;
-        Ok(Arena {
+        let arena = Arena {
             alloc,
             region,
             capacity: blocks,
             made: 0,
             head: 0,
             listed: 0,
-        })
+        };
+        Ok(arena)
     }
 
     /// Takes a free block, which is then live and has 128 octets 0. `None` where no block is free. In constant time. It
