@@ -1,6 +1,6 @@
 //! The names of a path in one buffer.
 
-ghost use Rattle.std.specs.Prelude.{◌≡◌, ◌≤◌, ◌==◌, ◌++◌, if◌then◌else◌, IfOk, drop, length, map, take};
+ghost use Rattle.std.specs.Prelude.{◌≡◌, ◌≤◌, ◌+◌, ◌-◌, ◌*◌, ◌==◌, ◌++◌, ◌&&◌, if◌then◌else◌, IfOk, drop, length, map, nat_le, take, vec_capacity, vec_len};
 ghost use Rattle.cfdp_paths.specs.Paths.{is_at_or_below, names_of};
 
 use crate::octet_order::is_same;
@@ -48,6 +48,16 @@ pub(crate) fn replace_front(octets: &mut Vec<u8>, count: usize, new: &[u8])
         octets.truncate(kept);
     }
     overwrite(octets, new);
+}
+
+/// Whether [`replace_front`] takes these octets, and leaves them in memory of at most twice the length that they then have.
+/// Takes no memory. In constant time.
+pub(crate) fn suits_front(octets: &Vec<u8>, count: usize, new: &[u8]) -> bool
+    requires { count ≤ vec_len octets.now }
+    ensures { result ≡ (nat_le (length new.now) count
+        && nat_le (vec_capacity octets.now) (2 * (vec_len octets.now - count + length new.now))) }
+{
+    new.len() <= count && octets.capacity() <= 2 * (octets.len() - count + new.len())
 }
 
 /// Puts the octets `new` over the first ones.

@@ -11,7 +11,7 @@ ghost use Rattle.cfdp_paths.specs.Hashes.{hash_of};
 ghost use Rattle.cfdp_paths.specs.Paths.{Name, IsPath, Spells, ancestors, is_at_or_below, is_below, joined, names_of, parent, path_cmp, path_in, path_of, rebased, same_path, unless_root};
 
 use crate::Memory;
-use crate::buffers::{SEPARATOR, begins, first_names, replace_front, replaced};
+use crate::buffers::{SEPARATOR, begins, first_names, replace_front, replaced, suits_front};
 use crate::fault::PathFault;
 use crate::names::Names;
 use crate::octet_order::{is_same, order};
@@ -303,8 +303,24 @@ impl Path {
         self.octets.len() <= other.octets.len()
     }
 
-    /// This path, which is `from/r`, becomes `to/r`, as by [`rebased`](Path::rebased), in the memory that it has. Takes no
-    /// memory. Cost: one copy of its octets at most.
+    /// Whether this path, which is `from/r`, is to become `to/r` in the memory that it has: where `to` has no more octets than
+    /// `from`, and the memory is at most twice the octets of `to/r`. Takes no memory. In constant time.
+    pub(crate) fn may_stay(&self, from: &Path, to: &Path) -> bool
+        requires { IsTrue (is_at_or_below self.now from.now) }
+        ensures { IsTrue result → length (joined to.now) ≤ length (joined from.now) }
+    {
+        suits_front(&self.octets, from.octets.len(), &to.octets)
+    }
+
+    /// How many octets the memory of this path holds.
+    #[cfg(test)]
+    pub(crate) fn capacity(&self) -> usize {
+        self.octets.capacity()
+    }
+
+    /// This path, which is `from/r`, becomes `to/r`, as by [`rebased`](Path::rebased), in the memory that it has, all of which
+    /// it keeps: [`may_stay`](Path::may_stay) says whether that is too much. Takes no memory. Cost: one copy of its octets at
+    /// most.
     pub(crate) fn rebase(&mut self, from: &Path, to: &Path)
         requires below { IsTrue (is_at_or_below self.old from.now) }
         requires room { length self.old + length to.now ≤ 8 + length from.now }

@@ -27,7 +27,7 @@ pub(crate) fn relocate<T: Drop>(
     if end - start == 1 {
         return relocate_entry(entries, start, from, to);
     }
-    if to.is_no_longer_than(from) {
+    if all_may_stay(&entries[start..end], from, to) {
         return relocate_in_memory(entries, start, end, from, to);
     }
     let paths = new_paths(alloc, &entries[start..end], from, to)?;
@@ -35,6 +35,20 @@ pub(crate) fn relocate<T: Drop>(
     let taken = detach(entries, start, end)?;
     settle(entries, to, renamed(taken, paths, moved));
     Ok(())
+}
+
+/// Whether each of these paths, which are p/r, is to become q/r in the memory that it has: where `to` has no more octets than
+/// `from`, and the memory of each is at most twice the octets of q/r. Takes no memory. Cost: a look at each entry at most.
+fn all_may_stay<T>(entries: &[(Path, T)], from: &Path, to: &Path) -> bool
+    requires { IsTrue (list_all (λ e. is_at_or_below e.0 from.now) entries.now) }
+    ensures { IsTrue result → length (joined to.now) ≤ length (joined from.now) }
+{
+    for entry in entries {
+        if !entry.0.may_stay(from, to) {
+            return false;
+        }
+    }
+    to.is_no_longer_than(from)
 }
 
 /// Moves the entry at the place, which is all that stands at and below the first path. Cost: one path, one search, and
@@ -52,7 +66,7 @@ fn relocate_entry<T: Drop>(
         ≡ puts (rest_in from.now entries.old.items) (moved_to from.now to.now (tree_in from.now entries.old.items))) }
     ensures err { OnErr result (entries.new.items ≡ entries.old.items) }
 {
-    if to.is_no_longer_than(from) {
+    if entries[place].0.may_stay(from, to) {
         relocate_entry_in_memory(entries, place, from, to);
         return Ok(());
     }

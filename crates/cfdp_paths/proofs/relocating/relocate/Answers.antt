@@ -7,18 +7,25 @@ use Rattle.cfdp_paths.proofs.InOrder.{ordered-where}
 use Rattle.cfdp_paths.proofs.Moving.{tree_of, rest_of, tree_all, moved_all, moved_is, tree_ordered, length-parts}
 use Rattle.cfdp_paths.proofs.relocating.relocate.Goals as goal
 
+pub all_may_stay-requires : goal.all_may_stay-requires
+all_may_stay-requires g c =
+    let es = c.args.entries.now.items in
+    let p = c.args.from.now in
+    ap (list_all (λ e. is_at_or_below e.0 p)) (tree_of p es c.deref.result.now c.deref-2.result.now c.piece-start.result.0 c.piece-start.result.1 c.requires.ordered c.deref.ensures.value c.deref-2.ensures.value c.piece-start.ensures)
+    ∙ tree_all p es
+
 pub new_paths-requires-clause-tree : goal.new_paths-requires-clause-tree
 new_paths-requires-clause-tree g c =
     let es = c.args.entries.now.items in
     let p = c.args.from.now in
-    ap (list_all (λ e. is_at_or_below e.0 p)) (tree_of p es c.deref.result.now c.deref-2.result.now c.piece-start.result.0 c.piece-start.result.1 c.requires.ordered c.deref.ensures.value c.deref-2.ensures.value c.piece-start.ensures)
+    ap (list_all (λ e. is_at_or_below e.0 p)) (tree_of p es c.deref.result.now c.deref-3.result.now c.piece-start.result.0 c.piece-start.result.1 c.requires.ordered c.deref.ensures.value c.deref-3.ensures.value c.piece-start.ensures)
     ∙ tree_all p es
 
 pub new_paths-requires-clause-depth : goal.new_paths-requires-clause-depth
 new_paths-requires-clause-depth g c =
     let es = c.args.entries.now.items in
     let p = c.args.from.now in
-    ap (is_too_deep p c.args.to.now) (tree_of p es c.deref.result.now c.deref-2.result.now c.piece-start.result.0 c.piece-start.result.1 c.requires.ordered c.deref.ensures.value c.deref-2.ensures.value c.piece-start.ensures)
+    ap (is_too_deep p c.args.to.now) (tree_of p es c.deref.result.now c.deref-3.result.now c.piece-start.result.0 c.piece-start.result.1 c.requires.ordered c.deref.ensures.value c.deref-3.ensures.value c.piece-start.ensures)
     ∙ c.requires.depth
 
 pub settle-requires-clause-ordered : goal.settle-requires-clause-ordered
@@ -35,7 +42,7 @@ settle-requires-clause-in_order g c =
     let q = c.args.to.now in
     let s = c.requires.ordered in
     let piece = c.piece-start.ensures in
-    let tree = tree_of p es c.deref.result.now c.deref-2.result.now c.piece-start.result.0 c.piece-start.result.1 s c.deref.ensures.value c.deref-2.ensures.value piece in
+    let tree = tree_of p es c.deref.result.now c.deref-3.result.now c.piece-start.result.0 c.piece-start.result.1 s c.deref.ensures.value c.deref-3.ensures.value piece in
     let taken = c.in_ok-taken.ensures.taken ∙ tree_of p es c.deref.result.now es c.piece-start.result.0 c.piece-start.result.1 s c.deref.ensures.value refl piece in
     ap (is_sorted path_cmp) (c.renamed.ensures ∙ moved_is p q es _ _ _ c.in_ok-paths.ensures tree taken) ∙ tree_ordered p q es s
 
@@ -46,7 +53,7 @@ settle-requires-clause-below g c =
     let q = c.args.to.now in
     let s = c.requires.ordered in
     let piece = c.piece-start.ensures in
-    let tree = tree_of p es c.deref.result.now c.deref-2.result.now c.piece-start.result.0 c.piece-start.result.1 s c.deref.ensures.value c.deref-2.ensures.value piece in
+    let tree = tree_of p es c.deref.result.now c.deref-3.result.now c.piece-start.result.0 c.piece-start.result.1 s c.deref.ensures.value c.deref-3.ensures.value piece in
     let taken = c.in_ok-taken.ensures.taken ∙ tree_of p es c.deref.result.now es c.piece-start.result.0 c.piece-start.result.1 s c.deref.ensures.value refl piece in
     ap (list_all (λ e. is_at_or_below e.0 q)) (c.renamed.ensures ∙ moved_is p q es _ _ _ c.in_ok-paths.ensures tree taken) ∙ moved_all p q (tree_in p es)
 
@@ -57,7 +64,7 @@ settle-requires-clause-room g c =
     let q = c.args.to.now in
     let s = c.requires.ordered in
     let piece = c.piece-start.ensures in
-    let tree = tree_of p es c.deref.result.now c.deref-2.result.now c.piece-start.result.0 c.piece-start.result.1 s c.deref.ensures.value c.deref-2.ensures.value piece in
+    let tree = tree_of p es c.deref.result.now c.deref-3.result.now c.piece-start.result.0 c.piece-start.result.1 s c.deref.ensures.value c.deref-3.ensures.value piece in
     let taken = c.in_ok-taken.ensures.taken ∙ tree_of p es c.deref.result.now es c.piece-start.result.0 c.piece-start.result.1 s c.deref.ensures.value refl piece in
     let rest = c.in_ok-taken.ensures.left ∙ rest_of p es c.deref.result.now c.piece-start.result.0 c.piece-start.result.1 s c.deref.ensures.value piece in
     let moved = c.renamed.ensures ∙ moved_is p q es _ _ _ c.in_ok-paths.ensures tree taken in
@@ -70,7 +77,7 @@ returns-clause-ok g c =
     let q = c.args.to.now in
     let s = c.requires.ordered in
     let piece = c.piece-start.ensures in
-    let tree = tree_of p es c.deref.result.now c.deref-2.result.now c.piece-start.result.0 c.piece-start.result.1 s c.deref.ensures.value c.deref-2.ensures.value piece in
+    let tree = tree_of p es c.deref.result.now c.deref-3.result.now c.piece-start.result.0 c.piece-start.result.1 s c.deref.ensures.value c.deref-3.ensures.value piece in
     let taken = c.in_ok-taken.ensures.taken ∙ tree_of p es c.deref.result.now es c.piece-start.result.0 c.piece-start.result.1 s c.deref.ensures.value refl piece in
     let rest = c.in_ok-taken.ensures.left ∙ rest_of p es c.deref.result.now c.piece-start.result.0 c.piece-start.result.1 s c.deref.ensures.value piece in
     let moved = c.renamed.ensures ∙ moved_is p q es _ _ _ c.in_ok-paths.ensures tree taken in
