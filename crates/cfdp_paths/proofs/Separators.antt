@@ -3,6 +3,7 @@
 --     path_cmp-names_of, same_path-names_of            the order by names is the order of the buffers
 --     at_or_below-names_of, begins_.., behind          what is at or below a path begins with its octets, up to a separator
 --     names_of-cut, cut_there, cut_nowhere             the names before and behind a separator
+--     some_separator, cut_last                         two names have a separator;  the names before the last one
 --     names_of-next, names_of-last                     the first name, up to the first separator;  the last one, where there is none
 --     text-names_of, names_of-parsed                   octets with `/` in place of each separator, and the other way round
 --     length-joined                                    such octets are as many as the buffer has
@@ -19,7 +20,7 @@ use Rattle.std.specs.declared.cmp.Ordering.TheVariants.{Less, Equal, Greater}
 use Rattle.std.proofs.Math.Bool.{and_assoc}
 use Rattle.std.proofs.lemmas.Bool.{and_parts, false_from_ne_true, cond-false, eqb-true, eqb-false, ne_eqb}
 use Rattle.std.proofs.Math.Seq.{drop-cons}
-use Rattle.std.proofs.lemmas.List.{take_all, take_at, append-nil, get_or-take, length-map}
+use Rattle.std.proofs.lemmas.List.{take_all, take_at, take-take, append-nil, get_or-take, length-map}
 use Rattle.std.proofs.lemmas.List.Elements.{All-weaker, All-head, All-tail, All-cons, All-from_get_or}
 use Rattle.std.proofs.lemmas.List.Splits.{length-slice_split, slice_split_none}
 use Rattle.cfdp_paths.specs.Paths.{Name, Path, IsName, IsPath, is_separator, names_of, path_cmp, same_name, same_path, is_at_or_below, slash, is_slash, without_slash, joined, names_in, rebased}
@@ -254,6 +255,18 @@ pub cut_nowhere : (octets : List ℕ) (place count left : ℕ) → length octets
 cut_nowhere octets place count left past passed some =
     let all : count_by is_separator (take place octets) ≡ count_by is_separator octets = ap (count_by is_separator) (take_all place octets past) in
     sym (take_all count (names_of octets) (omega (arith, depth-names_of octets)))
+
+-- ---- a walk back over the last names
+
+pub some_separator : (octets front : List ℕ) (kept : ℕ) → names_of front ≡ take kept (names_of octets) → 2 ≤ kept → kept ≤ length (names_of octets) → 1 ≤ count_by is_separator front
+some_separator octets front kept names more within = omega (arith, depth-names_of front, ap length names, length-take kept (names_of octets), more, within)
+
+pub cut_last : (octets front : List ℕ) (place kept : ℕ) → names_of front ≡ take kept (names_of octets) → kept ≤ length (names_of octets) → place < length front → get_or front place 0 ≡ 0
+    → count_by is_separator (take place front) + 1 ≡ count_by is_separator front → names_of (take place front) ≡ take (kept - 1) (names_of octets)
+cut_last octets front place kept names within inside separates last =
+    let count = count_by is_separator (take place front) + 1 in
+    let less : count ≡ kept - 1 = omega (arith, last, depth-names_of front, ap length names, length-take kept (names_of octets), within) in
+    cut_there front place count 1 inside separates refl refl ∙ ap (take count) names ∙ take-take count kept (names_of octets) (omega (arith, less)) ∙ ap (λ n. take n (names_of octets)) less
 
 -- ---- the first name
 

@@ -11,7 +11,9 @@ ghost use Rattle.cfdp_paths.specs.Hashes.{hash_of};
 ghost use Rattle.cfdp_paths.specs.Paths.{Name, IsPath, Spells, ancestors, is_at_or_below, is_below, joined, names_of, parent, path_cmp, path_in, path_of, rebased, same_path, unless_root};
 
 use crate::Memory;
-use crate::buffers::{SEPARATOR, begins, first_names, replace_front, replaced, suits_front};
+use crate::buffers::{
+    SEPARATOR, begins, first_names, replace_front, replaced, suits_front, without_last,
+};
 use crate::fault::PathFault;
 use crate::names::Names;
 use crate::octet_order::{is_same, order};
@@ -106,8 +108,8 @@ impl Path {
         }
     }
 
-    /// The first `depth` names in order, lent. Takes no memory. Cost: one pass over them; [`Names`] says what going through
-    /// them costs.
+    /// The first `depth` names in order, lent. Takes no memory. Cost: one pass over them, or over the names after them where
+    /// there are fewer of these; [`Names`] says what going through them costs.
     pub fn first_names(&self, depth: usize) -> Names<'_>
         requires { depth ≤ length self.now }
         ensures names { result ≡ take depth self.now }
@@ -180,13 +182,24 @@ impl Path {
         requires { depth ≤ length self.now }
         ensures path { path_in (option_copied result) ≡ take depth self.now }
     {
-        if depth == self.depth {
-            return self.octets();
-        }
         if depth == 0 {
             return None;
         }
-        Some(first_names(&self.octets, depth))
+        Some(self.front(depth))
+    }
+
+    /// The octets of the first `depth` names. Takes no memory. Cost: one pass over the octets of these names, or over those of
+    /// the names after them where there are fewer of these.
+    fn front(&self, depth: usize) -> &[u8]
+        requires some { 1 ≤ depth }
+        requires within { depth ≤ length self.now }
+        ensures { names_of result.now ≡ take depth self.now }
+    {
+        let dropped = self.depth - depth;
+        if dropped < depth {
+            return without_last(&self.octets, dropped);
+        }
+        first_names(&self.octets, depth)
     }
 
     /// How this path stands to the one that is looked up.
@@ -203,16 +216,15 @@ impl Path {
     ///
     /// # Errors
     ///
-    /// [`Memory`] where there was none for the copy: one allocation of its length. Cost: two passes over those names.
+    /// [`Memory`] where there was none for the copy: one allocation of its length. Cost: one copy of those names, and one pass
+    /// over them, or over the names after them where there are fewer of these.
     pub fn beginning(&self, alloc: Global, depth: usize) -> Result<Path, Memory>
         requires some { 1 ≤ depth }
         requires within { depth ≤ length self.now }
         ensures { IfOk result (λ path. path ≡ take depth self.now) }
     {
-        if depth == self.depth {
-            return self.copy(alloc);
-        }
-        let octets = Vec::from_slice(alloc, first_names(&self.octets, depth))?;
+        let _ = &self.octets;
+        let octets = Vec::from_slice(alloc, self.front(depth))?;
         Ok(Path { octets, depth })
     }
 
