@@ -8,3 +8,4 @@ pub mod Pieces
 pub mod Separators
 pub mod Moving
 pub mod Parting
+pub mod Marks

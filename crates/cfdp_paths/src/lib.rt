@@ -13,6 +13,7 @@ mod parsing;
 mod path_map;
 mod paths;
 mod relocating;
+mod scan;
 #[cfg(test)]
 mod tests;
 

@@ -8,7 +8,7 @@ ghost use Rattle.cfdp_paths.specs.Paths.{IsPath, names_of, path_of};
 use crate::buffers::{SEPARATOR, replace};
 use crate::fault::PathFault;
 use crate::parsing::{find_fault, slash_len};
-use memchr::memchr;
+use crate::scan::first_separator;
 use std::marker::Model;
 
 /// The names of a path that are still to come, in order. It lends them, and takes no memory: [`Path::names`] out of a
@@ -85,7 +85,7 @@ impl<'a> Iterator for Names<'a> {
 
     fn next(&mut self) -> Option<&'a [u8]> {
         let octets = self.octets?;
-        match memchr(SEPARATOR, octets) {
+        match first_separator(octets) {
             Some(place) => {
                 self.octets = Some(&octets[place + 1..]);
                 Some(&octets[..place])

@@ -1,0 +1,97 @@
+//! Searches for the octet that stands between names. Most names are short: a few octets are looked at all at once.
+
+ghost use Rattle.std.specs.Prelude.{◌≡◌, ◌+◌, ◌≤◌, ◌<◌, length};
+ghost use Rattle.memchr.specs.Find.{IsFirst, IsFirstByte, Passes};
+ghost use Rattle.cfdp_paths.specs.Paths.{is_separator};
+
+use crate::buffers::SEPARATOR;
+use std::simd::prelude::*;
+
+/// The place of the first separator, if there is one: what `memchr` of the separator returns. Takes no memory. Cost: one
+/// step for each sixteen octets up to there, or one for all where there are fewer.
+pub(crate) fn first_separator(octets: &[u8]) -> Option<usize>
+    ensures { IsFirstByte is_separator octets.now result }
+{
+    if octets.len() < 16 {
+        return first_of_few(octets);
+    }
+    let last = octets.len() - 16;
+    let mut start = 0;
+    while start < last {
+        let found = first_of_16(octets, start);
+        if found.is_some() {
+            return found;
+        }
+        start += 16;
+    }
+    // The last sixteen may have octets that were looked at already: these are no separators.
+    first_of_16(octets, last)
+}
+
+/// The same of fewer than sixteen octets.
+fn first_of_few(octets: &[u8]) -> Option<usize>
+    requires { length octets.now < 16 }
+    ensures { IsFirstByte is_separator octets.now result }
+{
+    let len = octets.len();
+    if 8 <= len {
+        return match first_of_8(octets, 0) {
+            None => first_of_8(octets, len - 8),
+            found => found,
+        };
+    }
+    if 4 <= len {
+        return match first_of_4(octets, 0) {
+            None => first_of_4(octets, len - 4),
+            found => found,
+        };
+    }
+    for (place, octet) in octets.iter().enumerate() {
+        if *octet == SEPARATOR {
+            return Some(place);
+        }
+    }
+    None
+}
+
+/// The same of the sixteen octets from the index on.
+#[inline(always)]
+fn first_of_16(octets: &[u8], index: usize) -> Option<usize>
+    requires { index + 16 ≤ length octets.now }
+    ensures { IsFirst (Passes is_separator octets.now) index (index + 16) result }
+{
+    let vector = u8x16::from_slice(&octets[index..]);
+    let marks = vector.simd_eq(u8x16::splat(SEPARATOR)).to_bitmask();
+    if marks == 0 {
+        return None;
+    }
+    Some(index + marks.trailing_zeros() as usize)
+}
+
+/// The same of the eight octets from the index on.
+#[inline(always)]
+fn first_of_8(octets: &[u8], index: usize) -> Option<usize>
+    requires { index + 8 ≤ length octets.now }
+    ensures { IsFirst (Passes is_separator octets.now) index (index + 8) result }
+{
+    let vector = u8x8::from_slice(&octets[index..]);
+    let marks = vector.simd_eq(u8x8::splat(SEPARATOR)).to_bitmask();
+    if marks == 0 {
+        return None;
+    }
+    Some(index + marks.trailing_zeros() as usize)
+}
+
+/// The same of the four octets from the index on.
+#[inline(always)]
+fn first_of_4(octets: &[u8], index: usize) -> Option<usize>
+    requires { index + 4 ≤ length octets.now }
+    ensures { IsFirst (Passes is_separator octets.now) index (index + 4) result }
+{
+    let vector = u8x4::from_slice(&octets[index..]);
+    let marks = vector.simd_eq(u8x4::splat(SEPARATOR)).to_bitmask();
+    if marks == 0 {
+        return None;
+    }
+    Some(index + marks.trailing_zeros() as usize)
+}

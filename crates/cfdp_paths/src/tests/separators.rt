@@ -1,0 +1,37 @@
+//! The search for a separator beside `memchr`, on octets of all lengths up to a few vectors.
+
+use crate::buffers::SEPARATOR;
+use crate::scan::first_separator;
+use memchr::memchr;
+
+/// The most octets: more than two vectors have.
+const MOST: usize = 40;
+
+/// Octets with a separator at one place and at another.
+fn with_separators(first: usize, second: usize) -> [u8; MOST] {
+    let mut octets = [b'x'; MOST];
+    for (place, octet) in octets.iter_mut().enumerate() {
+        if place == first || place == second {
+            *octet = SEPARATOR;
+        }
+    }
+    octets
+}
+
+/// Separators at each two places, of which those behind the end leave one or none.
+#[test]
+fn like_memchr(rt: HostRuntime) {
+    for first in 0..MOST {
+        for second in first..MOST {
+            let octets = with_separators(first, second);
+            for len in 0..MOST + 1 {
+                let front = &octets[..len];
+                assert_eq!(rt;
+                    first_separator(front),
+                    memchr(SEPARATOR, front),
+                    "at {first} and {second} of {len}"
+                );
+            }
+        }
+    }
+}
