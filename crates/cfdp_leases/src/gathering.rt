@@ -21,8 +21,9 @@ use std::alloc::Global;
 /// # Errors
 ///
 /// [`Memory`] where there was none. Cost: for each named path a binary search among those gathered so far, and one for
-/// its parent where that is not the parent of the path before; where the parent is new, one for each proper ancestor. A
-/// path is copied once, however often it comes; those after it are shifted then.
+/// its parent where that is not at the index of the parent before. Where the parent is not there yet, it is two
+/// in all for each proper ancestor that is not, the parent among them, and one for the deepest that is. A path is copied
+/// once, however often it comes; those after it are shifted then.
 pub fn footprint(
     alloc: Global,
     requests: &[Request],
