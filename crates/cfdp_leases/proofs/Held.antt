@@ -1,6 +1,6 @@
 -- What the map by path has, before and after a change.
 --     holds_same, holds_kept       the same holders in other words;  the same rows in other maps
---     holds_unwritten              a row was lent, and is as it was
+--     unwritten, holds_unwritten   a row was lent, and is as it was: of the map;  of both maps
 --     under_changed, other_changed      one path has another row: under its hash, or among the others
 --     under_written, under_removed      the path's own row under its hash has other holders, or is gone
 --     under_is, under_there, other_is, other_there, other_none, free_none      what is found tells of the holders, and the other way round
@@ -93,10 +93,6 @@ abbrev pub IsOf : Path → Option Row → Type 0
 IsOf k None = Unit {0}
 IsOf k (Some row) = row.path ≡ k
 
-pub none_of : (k : Path) (r : Option Row) → is_some r ≡ false → IsOf k r
-none_of k None none = tt
-none_of k (Some row) none = absurd (true≢false none)
-
 own_here : (r : Option Row) (k : Path) → IsOf k r → own_row r k ≡ option_map (λ row. row.holders) r
 own_here None k of = refl
 own_here (Some row) k of = ap (λ b. cond b (Some row.holders) None) (ap (λ p. same_path p k) of ∙ same_path-itself k)
@@ -149,7 +145,7 @@ module _ (paths : LeasedPaths) (k : Path) (holders : Path → List Holder) (held
   free_none free = neither (under_hash paths k) (get path_cmp paths.others k) (none_mapped holders_in (row_of paths k) (held.rows k ∙ ap unless_none free))
 
 -- what is written back is what was there
-unwritten : {X : Type 0} (f g : ℕ → Option X) (h : ℕ) (x : X) → ((q : ℕ) → g q ≡ cond (is_eq (nat_cmp h q)) (Some x) (f q)) → f h ≡ Some x → (q : ℕ) → g q ≡ f q
+pub unwritten : {X : Type 0} (f g : ℕ → Option X) (h : ℕ) (x : X) → ((q : ℕ) → g q ≡ cond (is_eq (nat_cmp h q)) (Some x) (f q)) → f h ≡ Some x → (q : ℕ) → g q ≡ f q
 unwritten f g h x update found q =
     elim (cases_Bool (is_eq (nat_cmp h q))) [
       | inl tie ↦

@@ -3,6 +3,7 @@
 ghost use Rattle.std.specs.Prelude.{◌≡◌, ◌++◌, ◌∷◌, [], ◌≤◌, List, None, Some, OnOk, OnErr, length, slice_get, take, if◌then◌else◌};
 ghost use Rattle.std.specs.List.{list_any};
 ghost use Rattle.std.specs.List.Sorted.{IsStrictlySortedBy};
+ghost use Rattle.std.specs.BTreeMap.{get};
 ghost use Rattle.std.specs.FinSet as set;
 ghost use Rattle.cfdp_paths.specs.Paths.{Path as Names, path_cmp, same_path};
 ghost use Rattle.cfdp_leases.specs.Footprint.{leased};
@@ -14,6 +15,7 @@ use cfdp_paths::{Memory, Path};
 use cfdp_status::TransactionId;
 use std::alloc::Global;
 use std::collections::BTreeMap;
+use std::collections::btree_map::Entry;
 
 /// One transaction's lease of a path.
 #[derive(Clone, Copy, Debug, PartialEq, Eq)]
@@ -125,9 +127,9 @@ impl LeasedPaths {
     ///
     /// # Errors
     ///
-    /// [`Memory`] where there was none; the holders of each path are then as before. Cost: for each exclusive path a
-    /// copy and two searches, and for each shared one two searches at most, and a copy and two more where nobody holds
-    /// it yet.
+    /// [`Memory`] where there was none; the holders of each path are then as before. Cost: for each path a search by its
+    /// hash, and a copy where nobody holds it yet. Where leased paths have shared a hash, up to one more search for each
+    /// exclusive path, and up to three more for each shared one.
     pub(crate) fn lease(
         &mut self,
         alloc: Global,
@@ -205,10 +207,13 @@ impl LeasedPaths {
         let hash = path.hash();
         let path = path.copy(alloc)?;
         let holders = Holders::One(holder);
-        if self.rows.contains_key(&hash) {
-            self.others.insert(path, holders)?;
-        } else {
-            self.rows.insert(hash, Row { path, holders })?;
+        match self.rows.entry(hash)? {
+            Entry::Vacant(place) => {
+                place.insert(Row { path, holders });
+            }
+            Entry::Occupied(_) => {
+                self.others.insert(path, holders)?;
+            }
         }
         Ok(())
     }
@@ -233,9 +238,39 @@ impl LeasedPaths {
             → OnOk result (Holds self.new (λ p. holders p ++ when (same_path p path.now) holder)) }
         ensures err { (holders : Names → List Holder) → Holds self.old holders → OnErr result (Holds self.new holders) }
     {
+        // `entry` may take memory where no row is under the hash, and a path that is among the others needs no row.
+        if self.others.is_empty() {
+            return self.add_to_rows(alloc, path, holder);
+        }
         match self.rows.get_mut(&path.hash()) {
             Some(row) if row.path == *path => row.holders.add(alloc, holder),
             _ => self.add_other(alloc, path, holder),
+        }
+    }
+
+    /// Adds a holder to a path that is not in `others`, after those that it has. Cost: one search in `rows`; the path is
+    /// copied where nobody holds it yet.
+    fn add_to_rows(&mut self, alloc: Global, path: &Path, holder: Holder) -> Result<(), Memory>
+        requires { get path_cmp self.old.others path.now ≡ None }
+        ensures ok { (holders : Names → List Holder) → Holds self.old holders
+            → OnOk result (Holds self.new (λ p. holders p ++ when (same_path p path.now) holder)) }
+        ensures err { (holders : Names → List Holder) → Holds self.old holders → OnErr result (Holds self.new holders) }
+    {
+        match self.rows.entry(path.hash())? {
+            Entry::Vacant(place) => {
+                let path = path.copy(alloc)?;
+                let holders = Holders::One(holder);
+                place.insert(Row { path, holders });
+                Ok(())
+            }
+            Entry::Occupied(place) => {
+                let row = place.into_mut();
+                if row.path == *path {
+                    return row.holders.add(alloc, holder);
+                }
+                self.others.insert(path.copy(alloc)?, Holders::One(holder))?;
+                Ok(())
+            }
         }
     }
 

@@ -85,8 +85,8 @@ impl Leases {
     /// # Errors
     ///
     /// [`Memory`] where there was none: nothing has changed then, and the footprint is dropped. Cost: for each path of
-    /// the footprint two searches at most among all leased paths, and for each shared path that nobody leased yet two
-    /// more; a copy where nobody leased it yet; the footprint itself is moved.
+    /// the footprint one search among all leased paths, and a copy where nobody leased it yet; where leased paths have
+    /// shared a hash, up to three searches more; the footprint itself is moved.
     pub fn grant(&mut self, transaction: TransactionId, footprint: Footprint) -> Result<(), Memory>
         requires free { first_conflict self.old footprint ≡ None }
         requires unheld { IsFalse (holds self.old transaction) }

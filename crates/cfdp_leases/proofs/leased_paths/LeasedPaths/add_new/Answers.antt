@@ -1,49 +1,48 @@
-use Rattle.std.proofs.Common.{refl, sym, ◌∙◌, ap, cond, ◌++◌, ◌∷◌, [], Some}
+use Rattle.std.proofs.Common.{rules, ◌≡◌, refl, sym, ◌∙◌, ap, cond, subst, ◌++◌, ◌∷◌, [], None, Some}
 use Rattle.std.specs.BTreeMap.{get}
 use Rattle.std.specs.Ordering.{is_eq, nat_cmp}
 use Rattle.cfdp_paths.specs.Paths.{path_cmp, same_path}
 use Rattle.cfdp_leases.specs.declared.leased_paths.Holders.TheVariants.{One}
 use Rattle.cfdp_leases.specs.declared.leased_paths.LeasedPaths.{LeasedPaths}
 use Rattle.cfdp_leases.specs.Holders.{when, unless_none}
-use Rattle.cfdp_leases.proofs.Held.{free_none, holds_kept, none_of, on_err, other_changed, some_pushed, under_changed, when_here, when_not}
+use Rattle.cfdp_leases.proofs.Held.{IsOf, free_none, holds_kept, on_err, other_changed, some_pushed, under_changed, when_here, when_not}
 use Rattle.cfdp_leases.proofs.leased_paths.LeasedPaths.add_new.Goals as goal
 
-pub returns-in_err-insert-clause-err : goal.returns-in_err-insert-clause-err
-returns-in_err-insert-clause-err c = λ holders held.
+-- no room for a row
+pub returns-in_err-place-clause-err : goal.returns-in_err-place-clause-err
+returns-in_err-place-clause-err c = λ holders held.
     let old = c.args.self.now in
-    let new : LeasedPaths = record { rows = old.rows; others = c.insert.new.self } in
-    let same = c.in_err-insert.ensures.err in
-    on_err c.from_residual-in_err-insert.result _ (holds_kept old new holders held (λ h. refl) (λ p. cc same))
+    let new : LeasedPaths = record { rows = c.entry.follows.lender-at-none; others = old.others } in
+    let same : c.entry.follows.lender-at-none.entries ≡ old.rows.entries = search rules in
+    on_err c.from_residual-in_err-place.result _ (holds_kept old new holders held (λ h. cc same) (λ p. refl))
 
-pub returns-in_err-insert-2-clause-err : goal.returns-in_err-insert-2-clause-err
-returns-in_err-insert-2-clause-err c = λ holders held.
+pub returns-in_err-insert-in-Occupied-clause-err : goal.returns-in_err-insert-in-Occupied-clause-err
+returns-in_err-insert-in-Occupied-clause-err c = λ holders held.
     let old = c.args.self.now in
-    let new : LeasedPaths = record { rows = c.insert-else-contains_key.new.self; others = old.others } in
-    let same = c.in_err-insert-2.ensures.err in
-    on_err c.from_residual-in_err-insert-2.result _ (holds_kept old new holders held (λ h. cc same) (λ p. refl))
+    let same = c.in_err-insert-in-Occupied.ensures.err in
+    on_err c.from_residual-in_err-insert-in-Occupied.result _ (holds_kept old _ holders held (λ h. search rules) (λ p. cc same))
 
 -- another path is under the hash
-pub returns-in_ok-insert-clause-ok : goal.returns-in_ok-insert-clause-ok
-returns-in_ok-insert-clause-ok c = λ holders held free.
+pub returns-in_ok-insert-in-Occupied-clause-ok : goal.returns-in_ok-insert-in-Occupied-clause-ok
+returns-in_ok-insert-in-Occupied-clause-ok c = λ holders held free.
     let k = c.args.path.now in
     let h = c.args.holder in
     let old = c.args.self.now in
-    let new : LeasedPaths = record { rows = old.rows; others = c.insert.new.self } in
-    other_changed old new holders held k (λ p. holders p ++ when (same_path p k) h) (λ q other. when_not (same_path q k) h (holders q) other) (Some (One h)) (λ q. refl)
-    (λ q. c.in_ok-insert.ensures.updates.0 q ∙ (λ i. cond (is_eq (path_cmp (c.in_ok-path.ensures i) q)) (Some (One h)) (get path_cmp old.others q)))
+    other_changed old _ holders held k (λ p. holders p ++ when (same_path p k) h) (λ q other. when_not (same_path q k) h (holders q) other) (Some (One h)) (λ q. search rules)
+    (λ q. c.in_ok-insert-in-Occupied.ensures.updates.0 q ∙ (λ i. cond (is_eq (path_cmp (c.in_ok-path.ensures i) q)) (Some (One h)) (get path_cmp old.others q)))
     (free_none old k holders held free).0
     (ap Some (ap (λ xs. xs ++ h ∷ []) (sym free)) ∙ some_pushed (holders k) h ∙ ap unless_none (when_here k h (holders k)))
 
 -- no path is under the hash
-pub returns-in_ok-insert-2-clause-ok : goal.returns-in_ok-insert-2-clause-ok
-returns-in_ok-insert-2-clause-ok c = λ holders held free.
+pub returns-in-Vacant-clause-ok : goal.returns-in-Vacant-clause-ok
+returns-in-Vacant-clause-ok c = λ holders held free.
     let k = c.args.path.now in
     let h = c.args.holder in
     let old = c.args.self.now in
     let hash = c.hash-hash.result in
-    let new : LeasedPaths = record { rows = c.insert-else-contains_key.new.self; others = old.others } in
-    under_changed old new holders held k (λ p. holders p ++ when (same_path p k) h) (λ q other. when_not (same_path q k) h (holders q) other) hash c.hash-hash.ensures
-    (Some (record { path = c.in_ok-path.path; holders = One h })) c.in_ok-insert-2.ensures.updates.0 (λ p. refl)
-    (none_of k (get nat_cmp old.rows hash) (sym c.contains_key.ensures ∙ c.if-contains_key.false)) c.in_ok-path.ensures
+    let absent : get nat_cmp old.rows hash ≡ None = search rules in
+    under_changed old _ holders held k (λ p. holders p ++ when (same_path p k) h) (λ q other. when_not (same_path q k) h (holders q) other) hash c.hash-hash.ensures
+    (Some (record { path = c.in_ok-path.path; holders = One h })) (λ q. search rules) (λ p. refl)
+    (subst (IsOf k) (sym absent) tt) c.in_ok-path.ensures
     (free_none old k holders held free).1
     (ap Some (ap (λ xs. xs ++ h ∷ []) (sym free)) ∙ some_pushed (holders k) h ∙ ap unless_none (when_here k h (holders k)))
