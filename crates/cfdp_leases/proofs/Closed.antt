@@ -1,15 +1,18 @@
 -- Lists of paths that have the proper ancestors of each path.
 --     none_closed, listed_closed, closed_more      no paths;  those of a list of items;  with the ancestors of one path more
+--     HaveAncestorsTo, closed_to-more              of each path of fewer names;  with one path more
+--     same_set-swap                                in the other order
 --     same_set-beginning                           where the path of its first names is there
 --     same_set-parent                              where its parent is there, all ancestors of a path are
---     parent_there, found_some, found_ok           where a parent, or another path, was found
---     same_set-swap                                in the other order
-use Rattle.std.proofs.Common.{◌≡◌, refl, sym, ◌∙◌, ap, subst, ℕ, ◌+◌, ◌-◌, ◌<◌, ◌≤◌, Bool, true, false, ◌||◌, inl, inr, List, [], ◌∷◌, ◌++◌, length, get_or, take, take_all, length-take, arith}
-use Rattle.std.specs.Prelude.{flat_map, IfOk, OnSome, Option, Result, Ok, Err}
-use Rattle.std.specs.Result.{is_ok, result_ok}
+--     same_set-left, same_set-last                 the ancestors that are left, and none
+--     parent_there                                 where a parent was found
+use Rattle.std.proofs.Common.{◌≡◌, refl, sym, ◌∙◌, ap, subst, ℕ, ◌+◌, ◌-◌, ◌<◌, ◌≤◌, Bool, true, false, ◌||◌, inl, inr, List, [], ◌∷◌, ◌++◌, length, get_or, take, take_all, length-take, append_assoc, arith}
+use Rattle.std.specs.Prelude.{flat_map, OnOk, Result, Ok, Err}
 use Rattle.std.specs.List.{list_any}
+use Rattle.std.specs.FinSet as set
+use Rattle.std.specs.declared.alloc.AllocError.{AllocError}
 use Rattle.std.proofs.lemmas.Bool.{true≢false}
-use Rattle.std.proofs.lemmas.List.{take-take}
+use Rattle.std.proofs.lemmas.List.{append-nil, take-take}
 use Rattle.std.proofs.lemmas.List.Folds.{list_any-append}
 use Rattle.cfdp_paths.specs.Paths.{Path, same_path, ancestors, parent}
 use Rattle.cfdp_paths.proofs.Comparing.{same_path-Decides}
@@ -18,7 +21,7 @@ use Rattle.cfdp_actions.specs.Actions.{Item}
 use Rattle.cfdp_leases.specs.Footprint.{HaveAncestors, SameSet, shared_in}
 use Rattle.cfdp_leases.proofs.Sets.{stands, stands_from_Contains, stands-append_left, stands-append_right, stands-append_cases}
 use Rattle.cfdp_leases.proofs.Conflict.{higher, list_ancestors}
-use Rattle.cfdp_leases.proofs.Ordered.{same_set_from, same_members}
+use Rattle.cfdp_leases.proofs.Ordered.{same_set_from, same_members, same_set-append}
 
 pub none_closed : HaveAncestors []
 none_closed p q h a = absurd (true≢false (sym h))
@@ -37,6 +40,12 @@ closed_more xs ys n closed same p q h a =
       | inr above ↦ stands-append_right q xs (ancestors n) (higher n p q above a)
     ]
 
+-- the same after a call that may find no memory
+pub closed_ok : {T : Type 0} (r : Result T AllocError) (xs ys : List Path) (n : Path) → HaveAncestors xs → OnOk r (SameSet ys (xs ++ ancestors n))
+    → OnOk r (HaveAncestors ys)
+closed_ok (Ok done) xs ys n closed same = closed_more xs ys n closed same
+closed_ok (Err refusal) xs ys n closed same = tt
+
 absorbed : (a b : Bool) → (b ≡ true → a ≡ true) → a ≡ (a || b)
 absorbed true b h = refl
 absorbed false true h = h refl
@@ -54,50 +63,15 @@ only p q h = (same_path-Decides q p).0 (one (same_path q p) h)
     one true h = refl
     one false h = h
 
-no_ancestors : (n : Path) → length n ≡ 1 → ancestors n ≡ []
-no_ancestors [] one = refl
-no_ancestors (m ∷ []) one = refl
-no_ancestors (m ∷ l ∷ n) one = absurd (omega (arith, one))
+no_ancestors : (n : Path) → length n ≤ 1 → ancestors n ≡ []
+no_ancestors [] few = refl
+no_ancestors (m ∷ []) few = refl
+no_ancestors (m ∷ l ∷ n) few = absurd (omega (arith, few))
 
-pub same_set-alone : (xs : List Path) (n : Path) → length n ≡ 1 → SameSet xs (xs ++ ancestors n)
-same_set-alone xs n one =
-    same_set-within xs (ancestors n) (λ q h. absurd (true≢false (sym h ∙ ap (list_any (same_path q)) (no_ancestors n one))))
-
--- where its parent is there
-same_set-above : (xs : List Path) (n : Path) (d : ℕ) → HaveAncestors xs → 1 ≤ d → length n ≡ d + 1 → stands (take d n) xs → SameSet xs (xs ++ ancestors n)
-same_set-above xs n d closed some deep there = same_set-within xs (ancestors n) each
-  where
-    are : ancestors n ≡ ancestors (take d n) ++ take d n ∷ []
-    are = ap ancestors (sym (take_all (d + 1) n (omega (arith, deep)))) ∙ ancestors-take n d some (omega (arith, deep))
-
-    each : (q : Path) → stands q (ancestors n) → stands q xs
-    each q h =
-        elim (stands-append_cases q (ancestors (take d n)) (take d n ∷ []) (sym (ap (list_any (same_path q)) are) ∙ h)) [
-          | inl above ↦ closed (take d n) q there above
-          | inr last ↦ ap (λ p. list_any (same_path p) xs) (only (take d n) q last) ∙ there
-        ]
-
--- where the path of its first names is there, and one name more
-pub same_set-beginning : (xs : List Path) (n : Path) (d : ℕ) → HaveAncestors xs → 1 ≤ d → d + 1 ≤ length n → stands (take d n) xs → SameSet xs (xs ++ ancestors (take (d + 1) n))
-same_set-beginning xs n d closed some deep there =
-    same_set-above xs (take (d + 1) n) d closed some (omega (arith, length-take (d + 1) n, deep)) (subst (λ p. stands p xs) (sym (take-take d (d + 1) n (omega arith))) there)
-
-pub same_set-parent : (xs : List Path) (n : Path) → HaveAncestors xs → 2 ≤ length n → stands (parent n) xs → SameSet xs (xs ++ ancestors n)
-same_set-parent xs n closed deep there =
-    same_set-above xs n (length n - 1) closed (omega (arith, deep)) (omega (arith, deep)) (subst (λ p. stands p xs) (parent-take n) there)
-
--- what is at an index is there
-pub parent_there : (xs : List Path) (n held : Path) (i : ℕ) → i < length xs → held ≡ get_or xs i held → parent n ≡ held → stands (parent n) xs
-parent_there xs n held i within read is = subst (λ p. stands p xs) (sym is) (stands_from_Contains held xs (i, within, sym read))
-
--- what a search found
-pub found_some : {A B : Type 0} (r : Result A B) (o : Option A) (P : Type 0) → o ≡ result_ok r → IfOk r (λ _. P) → OnSome o P
-found_some (Ok x) o P is h = subst (λ s. OnSome s P) (sym is) h
-found_some (Err e) o P is h = subst (λ s. OnSome s P) (sym is) tt
-
-pub found_ok : {A B : Type 0} (r : Result A B) (P : Type 0) → is_ok r ≡ true → IfOk r (λ _. P) → P
-found_ok (Ok x) P is h = h
-found_ok (Err e) P is h = absurd (true≢false (sym is))
+-- the path of one name has none
+pub same_set-last : (xs zs : List Path) (n : Path) → length n ≤ 1 → SameSet (xs ++ ancestors n) zs → SameSet xs zs
+same_set-last xs zs n few left =
+    ap set.from_list (sym (append-nil xs) ∙ ap (λ above. xs ++ above) (sym (no_ancestors n few))) ∙ left
 
 or_comm : (a b c : Bool) → (a || (b || c)) ≡ (a || (c || b))
 or_comm true b c = refl
@@ -112,3 +86,58 @@ same_set-swap xs a b =
     (λ q. list_any-append (same_path q) xs (a ++ b) ∙ ap (λ o. list_any (same_path q) xs || o) (list_any-append (same_path q) a b)
     ∙ or_comm (list_any (same_path q) xs) (list_any (same_path q) a) (list_any (same_path q) b)
     ∙ sym (list_any-append (same_path q) xs (b ++ a) ∙ ap (λ o. list_any (same_path q) xs || o) (list_any-append (same_path q) b a)))
+
+-- a list that has the proper ancestors of each of its paths of fewer than `count` names
+abbrev pub HaveAncestorsTo : ℕ → List Path → Type 0
+HaveAncestorsTo count xs = (p q : Path) → stands p xs → length p < count → stands q (ancestors p) → stands q xs
+
+-- it still has, where a path of no fewer names was put in
+pub closed_to-more : (xs ys : List Path) (t : Path) (more count : ℕ) → HaveAncestorsTo more xs → count ≤ more → count ≤ length t
+    → SameSet ys (xs ++ t ∷ []) → HaveAncestorsTo count ys
+closed_to-more xs ys t more count closed fewer long same p q h short a =
+    same_members ys (xs ++ t ∷ []) q same
+    ∙ elim (stands-append_cases p xs (t ∷ []) (sym (same_members ys (xs ++ t ∷ []) p same) ∙ h)) [
+      | inl old ↦ stands-append_left q xs (t ∷ []) (closed p q old (omega arith) a)
+      | inr this ↦ absurd (let e : length p ≡ length t = ap length (only t p this) in omega arith)
+    ]
+
+-- where its parent is there
+same_set-above : (xs : List Path) (n : Path) (d : ℕ) → HaveAncestorsTo (length n) xs → 1 ≤ d → length n ≡ d + 1 → stands (take d n) xs
+    → SameSet xs (xs ++ ancestors n)
+same_set-above xs n d closed some deep there = same_set-within xs (ancestors n) each
+  where
+    are : ancestors n ≡ ancestors (take d n) ++ take d n ∷ []
+    are = ap ancestors (sym (take_all (d + 1) n (omega (arith, deep)))) ∙ ancestors-take n d some (omega (arith, deep))
+
+    each : (q : Path) → stands q (ancestors n) → stands q xs
+    each q h =
+        elim (stands-append_cases q (ancestors (take d n)) (take d n ∷ []) (sym (ap (list_any (same_path q)) are) ∙ h)) [
+          | inl above ↦ closed (take d n) q there (omega (arith, length-take d n)) above
+          | inr last ↦ ap (λ p. list_any (same_path p) xs) (only (take d n) q last) ∙ there
+        ]
+
+-- where the path of its first names is there, and one name more
+pub same_set-beginning : (xs : List Path) (n : Path) (d more : ℕ) → HaveAncestorsTo more xs → 1 ≤ d → more ≡ d + 1 → more ≤ length n
+    → stands (take d n) xs → SameSet xs (xs ++ ancestors (take more n))
+same_set-beginning xs n d more closed some next within there =
+    same_set-above xs (take more n) d (λ p q h short a. closed p q h (omega (arith, length-take more n)) a) some (omega (arith, length-take more n))
+    (subst (λ p. stands p xs) (sym (take-take d more n (omega arith))) there)
+
+pub same_set-parent : (xs : List Path) (n : Path) → HaveAncestors xs → 2 ≤ length n → stands (parent n) xs → SameSet xs (xs ++ ancestors n)
+same_set-parent xs n closed deep there =
+    same_set-above xs n (length n - 1) (λ p q h short a. closed p q h a) (omega (arith, deep)) (omega (arith, deep))
+    (subst (λ p. stands p xs) (parent-take n) there)
+
+-- once the path of its first names was put in, the ancestors above that one are left
+pub same_set-left : (xs ys zs : List Path) (n : Path) (d more : ℕ) → 1 ≤ d → more ≡ d + 1 → more ≤ length n
+    → SameSet ys (xs ++ take d n ∷ []) → SameSet (xs ++ ancestors (take more n)) zs → SameSet (ys ++ ancestors (take d n)) zs
+same_set-left xs ys zs n d more some next within same left =
+    same_set-append ys (xs ++ take d n ∷ []) (ancestors (take d n)) same
+    ∙ ap set.from_list (append_assoc xs (take d n ∷ []) (ancestors (take d n)))
+    ∙ same_set-swap xs (take d n ∷ []) (ancestors (take d n))
+    ∙ ap (λ above. set.from_list (xs ++ above)) (sym (ap (λ k. ancestors (take k n)) next ∙ ancestors-take n d some (omega arith)))
+    ∙ left
+
+-- what is at an index is there
+pub parent_there : (xs : List Path) (n held : Path) (i : ℕ) → i < length xs → held ≡ get_or xs i held → parent n ≡ held → stands (parent n) xs
+parent_there xs n held i within read is = subst (λ p. stands p xs) (sym is) (stands_from_Contains held xs (i, within, sym read))

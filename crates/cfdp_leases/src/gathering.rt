@@ -1,6 +1,6 @@
 //! How the footprint of a list is gathered.
 
-ghost use Rattle.std.specs.Prelude.{◌≡◌, ◌≤◌, ◌+◌, ◌++◌, ◌∷◌, [], IsTrue, OnOk, OnSome, IfOk, IfErr, flat_map, insert, length, take};
+ghost use Rattle.std.specs.Prelude.{◌≡◌, ◌≤◌, ◌+◌, ◌++◌, ◌∷◌, [], IsTrue, OnOk, IfOk, IfErr, flat_map, insert, length, take};
 ghost use Rattle.std.specs.FinSet as set;
 ghost use Rattle.std.specs.List.{list_any};
 ghost use Rattle.std.specs.List.Sorted.{IsStrictlySortedBy};
@@ -20,10 +20,10 @@ use std::alloc::Global;
 ///
 /// # Errors
 ///
-/// [`Memory`] where there was none. Cost: for each named path a binary search among those gathered so far, and one for
-/// its parent where that is not at the index of the parent before. Where the parent is not there yet, it is two
-/// in all for each proper ancestor that is not, the parent among them, and one for the deepest that is. A path is copied
-/// once, however often it comes; those after it are shifted then.
+/// [`Memory`] where there was none. Cost: for each named path a binary search among those gathered so far, and one
+/// comparison with the path at the index of the parent before. Where that is not its parent, a binary search for the
+/// parent. Where the parent is new, one more search for each ancestor above it, from the deepest up to the first that
+/// is there. A path is copied once, however often it comes; those after it are shifted then.
 pub fn footprint(
     alloc: Global,
     requests: &[Request],
@@ -117,7 +117,8 @@ fn add_above(
 }
 
 /// Adds the proper ancestors of a path to paths that have those of each. Looks for its parent at the index `guess`
-/// first, and returns the index at which it is, or the guess where it has none.
+/// first, and returns the index at which it is then, or the guess where it has none. Cost: that of `find_parent`, and
+/// where the parent is not there that of `insert_ancestors`. No ancestor is searched for twice.
 fn add_ancestors(
     alloc: Global,
     paths: &mut Vec<Path>,
@@ -134,81 +135,94 @@ fn add_ancestors(
     if depth == 1 {
         return Ok(guess);
     }
-    if let Some(parent) = find_parent(paths, path, guess) {
-        return Ok(parent);
+    match find_parent(paths, path, guess) {
+        Ok(index) => Ok(index),
+        Err(place) => insert_ancestors(alloc, paths, path, place),
     }
-    let mut parent = guess;
-    for count in 1 + longest_above(paths, path)..depth {
-        parent = add_beginning(alloc, paths, path, count)?;
+}
+
+/// Inserts a path's parent at its place, and then the ancestors above it that are not there, from the deepest up to the
+/// first that is: all above that one are there too. Returns the index of the parent. Cost: a binary search for each
+/// ancestor above the parent that is not there, and one for the first that is; those after a new path are shifted.
+fn insert_ancestors(
+    alloc: Global,
+    paths: &mut Vec<Path>,
+    path: &Path,
+    place: usize,
+) -> Result<usize, Memory>
+    requires above { HaveAncestors paths.old.items }
+    requires deep { 2 ≤ length path.now }
+    requires place { place ≤ length paths.old.items }
+    requires gap { IsStrictlySortedBy path_cmp (insert paths.old.items place (parent path.now)) }
+    ensures ordered { OnOk result (IsStrictlySortedBy path_cmp paths.new.items) }
+    ensures added { OnOk result (SameSet paths.new.items (paths.old.items ++ ancestors path.now)) }
+{
+    let depth = path.depth();
+    insert_beginning(alloc, paths, path, depth - 1, place)?;
+    let mut parent = place;
+    for count in (1..depth - 1).rev() {
+        match find_beginning(paths, path, count) {
+            Ok(_) => return Ok(parent),
+            Err(before) => {
+                insert_beginning(alloc, paths, path, count, before)?;
+                // The parent is after it, so its index is one more now.
+                parent += 1;
+            }
+        }
     }
     Ok(parent)
 }
 
-/// How many names the longest path above a path's parent has that is there: then all paths above that one are there too.
-/// 0 where none is. Cost: a binary search for each that is not there, and one more.
-fn longest_above(paths: &[Path], path: &Path) -> usize
-    requires ordered { IsStrictlySortedBy path_cmp paths.now }
-    requires above { HaveAncestors paths.now }
-    requires deep { 2 ≤ length path.now }
-    ensures within { result + 2 ≤ length path.now }
-    ensures there { SameSet paths.now (paths.now ++ ancestors (take (result + 1) path.now)) }
-{
-    for count in (1..path.depth() - 1).rev() {
-        if find_beginning(paths, path, count).is_ok() {
-            return count;
-        }
-    }
-    0
-}
-
-/// The index of a path's parent, if it is there: then all proper ancestors of the path are. Cost: one comparison, and a
-/// binary search where the parent is not at the index `guess`.
+/// The index of a path's parent if it is there: then all proper ancestors of the path are. Or else the place where it
+/// keeps the order. Cost: one comparison, and a binary search where the parent is not at the index `guess`.
 #[tactic(auto, using(crate::proofs::Closed::parent_there))]
-fn find_parent(paths: &[Path], path: &Path, guess: usize) -> Option<usize>
+fn find_parent(paths: &[Path], path: &Path, guess: usize) -> Result<usize, usize>
     requires ordered { IsStrictlySortedBy path_cmp paths.now }
-    ensures { OnSome result (IsTrue (list_any (same_path (parent path.now)) paths.now)) }
+    ensures found { IfOk result (λ _. IsTrue (list_any (same_path (parent path.now)) paths.now)) }
+    ensures place { IfErr result (λ place. place ≤ length paths.now) }
+    ensures gap { IfErr result (λ place. IsStrictlySortedBy path_cmp (insert paths.now place (parent path.now))) }
 {
     let depth = path.depth();
     match paths.get(guess) {
-        Some(held) if path.is_child_of(held) => Some(guess),
-        _ => find_beginning(paths, path, depth - 1).ok(),
+        Some(held) if path.is_child_of(held) => Ok(guess),
+        _ => find_beginning(paths, path, depth - 1),
     }
 }
 
-/// Adds a path, where it keeps the order.
+/// Adds a path where it keeps the order. No path is made where it is there.
 fn add(alloc: Global, paths: &mut Vec<Path>, path: &Path) -> Result<(), Memory>
     requires { IsStrictlySortedBy path_cmp paths.old.items }
     ensures ordered { OnOk result (IsStrictlySortedBy path_cmp paths.new.items) }
     ensures added { OnOk result (SameSet paths.new.items (paths.old.items ++ path.now ∷ [])) }
     ensures named { AreNamed paths.old.items → OnOk result (AreNamed paths.new.items) }
 {
-    add_beginning(alloc, paths, path, path.depth())?;
-    Ok(())
+    match find_beginning(paths, path, path.depth()) {
+        Ok(_) => Ok(()),
+        Err(place) => insert_beginning(alloc, paths, path, path.depth(), place),
+    }
 }
 
-/// Adds the path of the first `depth` names of a path where it keeps the order, shifts those after it, and returns its
-/// index. No path is made where it is there.
-fn add_beginning(
+/// Inserts the path of the first `depth` names of a path at a place where it keeps the order, and shifts those from
+/// there on.
+fn insert_beginning(
     alloc: Global,
     paths: &mut Vec<Path>,
     path: &Path,
     depth: usize,
-) -> Result<usize, Memory>
-    requires ordered { IsStrictlySortedBy path_cmp paths.old.items }
+    place: usize,
+) -> Result<(), Memory>
     requires some { 1 ≤ depth }
     requires within { depth ≤ length path.now }
+    requires place { place ≤ length paths.old.items }
+    requires gap { IsStrictlySortedBy path_cmp (insert paths.old.items place (take depth path.now)) }
     ensures ordered { OnOk result (IsStrictlySortedBy path_cmp paths.new.items) }
     ensures added { OnOk result (SameSet paths.new.items (paths.old.items ++ take depth path.now ∷ [])) }
     ensures named { AreNamed paths.old.items → OnOk result (AreNamed paths.new.items) }
+    ensures one_more { OnOk result (length paths.new.items ≡ length paths.old.items + 1) }
 {
-    match find_beginning(paths, path, depth) {
-        Ok(index) => Ok(index),
-        Err(index) => {
-            let beginning = path.beginning(alloc, depth)?;
-            paths.insert(index, beginning)?;
-            Ok(index)
-        }
-    }
+    let beginning = path.beginning(alloc, depth)?;
+    paths.insert(place, beginning)?;
+    Ok(())
 }
 
 /// Where the path of the first `depth` names of a path stands, or else the place where it keeps the order.
