@@ -62,12 +62,15 @@ impl Leases {
     /// The first transaction, in order of admission, whose footprint conflicts with this one. Takes no memory, and makes
     /// no path.
     ///
-    /// Cost: for each path of this footprint a pass over its octets and two searches at most among all leased paths,
-    /// and where it conflicts there a pass over the transactions.
+    /// Cost: nothing where no transaction is live. Else for each path of this footprint a pass over its octets and two
+    /// searches at most among all leased paths, and where it conflicts there a pass over the transactions.
     pub fn conflict(&self, footprint: &Footprint) -> Option<TransactionId>
         ensures first { result ≡ first_conflict self.now footprint.now }
         ensures apart { AreApart self.now }
     {
+        if self.live.is_empty() {
+            return None;
+        }
         let leasing = self.first_leasing(&footprint.exclusive);
         let changing = self.first_changing(&footprint.shared);
         transaction_at(&self.live, leasing.min(changing))
@@ -85,8 +88,8 @@ impl Leases {
     /// # Errors
     ///
     /// [`Memory`] where there was none: nothing has changed then, and the footprint is dropped. Cost: for each path of
-    /// the footprint one search among all leased paths, and a copy where nobody leased it yet; where leased paths have
-    /// shared a hash, up to three searches more; the footprint itself is moved.
+    /// the footprint a pass over its octets, one search among all leased paths, and a copy where nobody leased it yet;
+    /// where leased paths have shared a hash, up to three searches more; the footprint itself is moved.
     pub fn grant(&mut self, transaction: TransactionId, footprint: Footprint) -> Result<(), Memory>
         requires free { first_conflict self.old footprint ≡ None }
         requires unheld { IsFalse (holds self.old transaction) }
@@ -104,8 +107,8 @@ impl Leases {
 
     /// Takes a transaction's footprint away; nothing changes where it holds none. Takes no memory.
     ///
-    /// Cost: a pass over the transactions, and for each exclusive path of the footprint two searches among all leased
-    /// paths, for each shared one three at most and a pass over its holders.
+    /// Cost: a pass over the transactions, for each path of the footprint a pass over its octets, for each exclusive one
+    /// two searches among all leased paths, and for each shared one three at most and a pass over its holders.
     pub fn release(&mut self, transaction: TransactionId)
         ensures { self.new ≡ without self.old transaction }
     {
