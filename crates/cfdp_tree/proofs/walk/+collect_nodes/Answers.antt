@@ -4,10 +4,9 @@ use Rattle.cfdp_tree.specs.Nodes.{nodes_in}
 use Rattle.cfdp_tree.specs.Row.{row_of}
 use Rattle.cfdp_tree.specs.Tree.{row_at}
 use Rattle.cfdp_tree.specs.Entries.{entry_chain}
-use Rattle.cfdp_tree.specs.Walk.{chain_of, entries_in, entries_of, walks_up, StandAt}
+use Rattle.cfdp_tree.specs.Walk.{chain_of, entries_in, entries_of, walks, StandAt}
 use Rattle.cfdp_tree.proofs.TreeLaws.{node_live, node_octets}
-use Rattle.cfdp_tree.proofs.WalkLaws.{few_names, deep_first, entries_deep}
-use Rattle.cfdp_tree.proofs.TurnedLaws.{walks_up_left}
+use Rattle.cfdp_tree.proofs.WalkLaws.{few_names, deep_first, entries_deep, walks_left}
 use Rattle.cfdp_tree.proofs.walk.+collect_nodes.Goals as goal
 
 pub bytes-block-requires : goal.bytes-block-requires
@@ -48,11 +47,11 @@ loop-step-preserved t c =
     let same = node_octets c.args.arena.now l.node first.0.node c.bytes-block.result.now c.bytes-block.ensures.octets in
     let next : (row_at nodes l.node).next_entry ≡ c.next_entry_of-node.result = ap (λ o. (row_of o).next_entry) (sym same) ∙ sym c.next_entry_of-node.ensures.value in
     let list : chain_of nodes c.entries_in.result ≡ entries_of nodes l.node = ap (λ (h : Head). chain_of nodes h) c.entries_in.ensures ∙ ap (λ o. chain_of nodes (entries_in o)) same in
-    let found : c.push.new.self.items ≡ (l.found.items ++ walks_up nodes (9 - (depth + 1)) (entries_of nodes l.node)) ++ l.node ∷ [] =
-    c.in_ok-push.ensures.items ∙ ap (λ xs. xs ++ l.node ∷ []) (c.in_ok-collect_nodes.ensures ∙ ap (λ xs. l.found.items ++ walks_up nodes (9 - (depth + 1)) xs) list) in
+    let found : c.collect_nodes.new.found.items ≡ (l.found.items ++ l.node ∷ []) ++ walks nodes (9 - (depth + 1)) (entries_of nodes l.node) =
+    c.in_ok-collect_nodes.ensures ∙ (λ k. c.in_ok-push.ensures.items k ++ walks nodes (9 - (depth + 1)) (list k)) in
     record {
       nodes = subst (λ b. StandAt nodes depth (entry_chain nodes m b)) next first.1;
-      found = (λ k. found k ++ walks_up nodes (9 - depth) (entry_chain nodes m (sym next k)))
-          ∙ sym (walks_up_left nodes (c.args.list.now.count - l._step) m l.node (9 - depth) (9 - (depth + 1)) l.found.items (omega (arith, c.loop-step-test.true)) (omega (arith, few, first.0.names)))
+      found = (λ k. found k ++ walks nodes (9 - depth) (entry_chain nodes m (sym next k)))
+          ∙ sym (walks_left nodes (c.args.list.now.count - l._step) m l.node (9 - depth) (9 - (depth + 1)) l.found.items (omega (arith, c.loop-step-test.true)) (omega (arith, few, first.0.names)))
           ∙ l.invariant.found;
     }
