@@ -1,10 +1,10 @@
 //! The names of a path in one buffer.
 
-ghost use Rattle.std.specs.Prelude.{◌≡◌, ◌<◌, ◌≤◌, ◌+◌, ◌-◌, ◌*◌, ◌==◌, ◌++◌, ◌&&◌, if◌then◌else◌, IfOk, drop, length, map, nat_le, slice_index, take, vec_capacity, vec_len};
-ghost use Rattle.std.specs.List.{count_by};
-ghost use Rattle.cfdp_paths.specs.Paths.{is_at_or_below, is_separator, names_of};
+ghost use Rattle.std.specs.Prelude.{◌≡◌, ◌<◌, ◌≤◌, ◌+◌, ◌-◌, ◌*◌, ◌==◌, ◌++◌, ◌&&◌, if◌then◌else◌, IfOk, drop, length, map, nat_le, take, vec_capacity, vec_len};
+ghost use Rattle.cfdp_paths.specs.Paths.{is_at_or_below, names_of};
 
 use crate::octet_order::is_same;
+use crate::scan::last_separator;
 use std::alloc::{AllocError, Global};
 
 /// What stands between the names: no name holds it, and it comes before all that a name may hold.
@@ -95,23 +95,9 @@ pub(crate) fn without_last(octets: &[u8], count: usize) -> &[u8]
 {
     let mut end = octets.len();
     for _dropped in 0..count {
-        end = last_separator(&octets[..end]);
+        end = last_separator(&octets[..end]).unwrap();
     }
     &octets[..end]
-}
-
-/// The place of the last separator, of which there is one. Cost: one pass over the octets behind it.
-fn last_separator(octets: &[u8]) -> usize
-    requires { 1 ≤ count_by is_separator octets.now }
-    ensures within { result < length octets.now }
-    ensures separator { slice_index octets.now result ≡ 0 }
-    ensures last { count_by is_separator (take result octets.now) + 1 ≡ count_by is_separator octets.now }
-{
-    let mut place = octets.len() - 1;
-    while octets[place] != SEPARATOR {
-        place -= 1;
-    }
-    place
 }
 
 /// Whether the first names of the octets are exactly those of `front`. Cost: one comparison of the octets of `front`, and

@@ -1,8 +1,8 @@
-//! The search for a separator beside `memchr`, on octets of all lengths up to a few vectors.
+//! The searches for a separator beside those of `memchr`, on octets of all lengths up to a few vectors.
 
 use crate::buffers::SEPARATOR;
-use crate::scan::first_separator;
-use memchr::memchr;
+use crate::scan::{first_separator, last_separator};
+use memchr::{memchr, memrchr};
 
 /// The most octets: more than two vectors have.
 const MOST: usize = 40;
@@ -29,7 +29,12 @@ fn like_memchr(rt: HostRuntime) {
                 assert_eq!(rt;
                     first_separator(front),
                     memchr(SEPARATOR, front),
-                    "at {first} and {second} of {len}"
+                    "the first, at {first} and {second} of {len}"
+                );
+                assert_eq!(rt;
+                    last_separator(front),
+                    memrchr(SEPARATOR, front),
+                    "the last, at {first} and {second} of {len}"
                 );
             }
         }

@@ -1,0 +1,6 @@
+use Rattle.std.proofs.Common.{arith}
+use Rattle.cfdp_paths.proofs.Marks.{marks_are}
+use Rattle.cfdp_paths.proofs.scan.marks_of_4.Goals as goal
+
+pub returns : goal.returns
+returns c = marks_are c.args.octets.now c.args.index 4 c.requires (omega arith)
