@@ -22,8 +22,10 @@ pub marks_are : (octets : List ℕ) (i n : ℕ) → i + n ≤ length octets → 
     → mask_l (map (top 7) (zip2 (λ a b. cond (a == b) 255 0) (chunk i n octets) (replicate n 0))) % 2 ^ 64 ≡ marks_of octets i n
 marks_are octets i n within few = bitmask_splat w8 (λ a b. a == b) (chunk i n octets) n 0 (length-chunk i n octets within) few
 
-pub no_mark : (octets : List ℕ) (i n marks : ℕ) → marks ≡ marks_of octets i n → i + n ≤ length octets → marks ≡ 0 → Nowhere (Passes is_separator octets) i (i + n)
-no_mark octets i n marks are within none = λ k low high passes. true≢false (sym passes ∙ none_from_empty_mask is_separator octets i n 0 within (sym are ∙ none) k low high)
+pub no_mark : (octets : List ℕ) (i n marks : ℕ) → marks ≡ marks_of octets i n → i + n ≤ length octets → marks ≡ 0
+    → Nowhere (Passes is_separator octets) i (i + n)
+no_mark octets i n marks are within none = λ k low high passes.
+    true≢false (sym passes ∙ none_from_empty_mask is_separator octets i n 0 within (sym are ∙ none) k low high)
 
 -- ---- the lowest mark
 
@@ -63,7 +65,8 @@ none_set (true ∷ marks) none k = absurd (omega (arith, none))
 none_set (false ∷ marks) none zero = refl
 none_set (false ∷ marks) none (suc k) = none_set marks (omega (arith, none)) k
 
-highest_set : (marks : List Bool) (j : ℕ) → 2 ^ j ≤ mask_l marks → mask_l marks < 2 ^ suc j → (get_or marks j false ≡ true) × ((k : ℕ) → j < k → get_or marks k false ≡ false)
+highest_set : (marks : List Bool) (j : ℕ) → 2 ^ j ≤ mask_l marks → mask_l marks < 2 ^ suc j
+    → (get_or marks j false ≡ true) × ((k : ℕ) → j < k → get_or marks k false ≡ false)
 highest_set [] j low high = absurd (omega (arith, low, pow_pos j))
 highest_set (true ∷ marks) zero low high = (refl, above)
   where
@@ -97,7 +100,8 @@ last_mark octets i n marks j are within low high =
         high = omega (arith, inside);
         after = λ k low high here.
             let there : i + (k - i) ≡ k = omega (arith, low) in
-            true≢false (sym here ∙ ap (λ m. is_separator (get_or octets m 0)) (sym there) ∙ sym (lane (k - i) (omega (arith, low, high))) ∙ highest.1 (k - i) (omega (arith, low)));
+            true≢false (sym here ∙ ap (λ m. is_separator (get_or octets m 0)) (sym there) ∙ sym (lane (k - i) (omega (arith, low, high)))
+            ∙ highest.1 (k - i) (omega (arith, low)));
       },
       sym (lane j inside) ∙ highest.0,
     )
@@ -111,10 +115,12 @@ none_counted (x ∷ octets) none =
     rw other (none_counted octets (λ k less here. none (suc k) (omega (arith, less)) here))
 
 last_counted : (octets : List ℕ) (place : ℕ) → place < length octets → is_separator (get_or octets place 0) ≡ true
-    → ((k : ℕ) → place + 1 ≤ k → k < length octets → is_separator (get_or octets k 0) ≡ true → ⊥) → count_by is_separator (take place octets) + 1 ≡ count_by is_separator octets
+    → ((k : ℕ) → place + 1 ≤ k → k < length octets → is_separator (get_or octets k 0) ≡ true → ⊥)
+    → count_by is_separator (take place octets) + 1 ≡ count_by is_separator octets
 last_counted octets place within here after =
     let none = none_counted (drop (place + 1) octets)
-    (λ k less there. after (place + 1 + k) (omega arith) (omega (arith, less, length-drop (place + 1) octets)) (ap is_separator (sym (get_or-drop (place + 1) octets k 0)) ∙ there)) in
+    (λ k less there. after (place + 1 + k) (omega arith) (omega (arith, less, length-drop (place + 1) octets))
+    (ap is_separator (sym (get_or-drop (place + 1) octets k 0)) ∙ there)) in
     omega (arith, none, count_by_more_yes is_separator octets place 0 within here, sum_by-take-drop (λ x. cond (is_separator x) 1 0) octets (place + 1))
 
 pub last_some : (octets : List ℕ) (r : Option ℕ) → IsLastByte is_separator octets r → 1 ≤ count_by is_separator octets → IsSome r
@@ -131,5 +137,9 @@ pub last_is : (octets : List ℕ) (r : Option ℕ) (place : ℕ) → IsLastByte 
 last_is octets None place last is = cc
 last_is octets (Some found) place last is =
     let same : found ≡ place = cc in
-    let whole : Last octets found = record { within = last.0.high; here = eqb-true (get_or octets found 0) 0 last.1; count = last_counted octets found last.0.high last.1 last.0.after } in
+    let whole : Last octets found = record {
+      within = last.0.high;
+      here = eqb-true (get_or octets found 0) 0 last.1;
+      count = last_counted octets found last.0.high last.1 last.0.after;
+    } in
     subst (Last octets) same whole

@@ -258,15 +258,18 @@ cut_nowhere octets place count left past passed some =
 
 -- ---- a walk back over the last names
 
-pub some_separator : (octets front : List ℕ) (kept : ℕ) → names_of front ≡ take kept (names_of octets) → 2 ≤ kept → kept ≤ length (names_of octets) → 1 ≤ count_by is_separator front
+pub some_separator : (octets front : List ℕ) (kept : ℕ) → names_of front ≡ take kept (names_of octets) → 2 ≤ kept
+    → kept ≤ length (names_of octets) → 1 ≤ count_by is_separator front
 some_separator octets front kept names more within = omega (arith, depth-names_of front, ap length names, length-take kept (names_of octets), more, within)
 
-pub cut_last : (octets front : List ℕ) (place kept : ℕ) → names_of front ≡ take kept (names_of octets) → kept ≤ length (names_of octets) → place < length front → get_or front place 0 ≡ 0
+pub cut_last : (octets front : List ℕ) (place kept : ℕ) → names_of front ≡ take kept (names_of octets) → kept ≤ length (names_of octets)
+    → place < length front → get_or front place 0 ≡ 0
     → count_by is_separator (take place front) + 1 ≡ count_by is_separator front → names_of (take place front) ≡ take (kept - 1) (names_of octets)
 cut_last octets front place kept names within inside separates last =
     let count = count_by is_separator (take place front) + 1 in
     let less : count ≡ kept - 1 = omega (arith, last, depth-names_of front, ap length names, length-take kept (names_of octets), within) in
-    cut_there front place count 1 inside separates refl refl ∙ ap (take count) names ∙ take-take count kept (names_of octets) (omega (arith, less)) ∙ ap (λ n. take n (names_of octets)) less
+    cut_there front place count 1 inside separates refl refl
+    ∙ ap (take count) names ∙ take-take count kept (names_of octets) (omega (arith, less)) ∙ ap (λ n. take n (names_of octets)) less
 
 -- ---- the first name
 

@@ -51,8 +51,8 @@ pub(crate) fn replace_front(octets: &mut Vec<u8>, count: usize, new: &[u8])
     overwrite(octets, new);
 }
 
-/// Whether [`replace_front`] takes these octets, and leaves them in memory of at most twice the length that they then have.
-/// Takes no memory. In constant time.
+/// Whether [`replace_front`] takes these octets, and leaves them in memory of at most twice the length that they then
+/// have. Takes no memory. In constant time.
 pub(crate) fn suits_front(octets: &Vec<u8>, count: usize, new: &[u8]) -> bool
     requires { count ≤ vec_len octets.now }
     ensures { result ≡ (nat_le (length new.now) count
@@ -87,8 +87,8 @@ pub(crate) fn first_names(octets: &[u8], count: usize) -> &[u8]
     octets
 }
 
-/// The octets of all names but the last `count`, of which there are more. Takes no memory. Cost: one pass over the octets
-/// of those last names.
+/// The octets of all names but the last `count`, of which there are more. Takes no memory. Cost: one pass over the
+/// octets of those last names.
 pub(crate) fn without_last(octets: &[u8], count: usize) -> &[u8]
     requires { count < length (names_of octets.now) }
     ensures { names_of result.now ≡ take (length (names_of octets.now) - count) (names_of octets.now) }

@@ -104,11 +104,11 @@ impl<T: Drop> PathMap<T> {
     ///
     /// # Errors
     ///
-    /// [`Memory`] when out of memory; the map is then as before. Cost: a few searches, a copy of the octets of each entry that
-    /// moves, and one shift of the entries after them. If an entry exists at or below the second path, one search more for
-    /// each entry that moves. The paths of these entries stay in the memory that they have if the second path has no more
-    /// octets than the first, and none of them keeps more than twice the memory that it then needs. Else each of them is
-    /// copied: one allocation of its new length.
+    /// [`Memory`] when out of memory; the map is then as before. Cost: a few searches, a copy of the octets of each
+    /// entry that moves, and one shift of the entries after them. If an entry exists at or below the second path, one
+    /// search more for each entry that moves. The paths of these entries stay in the memory that they have if the
+    /// second path has no more octets than the first, and none of them keeps more than twice the memory that it then
+    /// needs. Else each of them is copied: one allocation of its new length.
     pub fn relocate(&mut self, from: &Path, to: &Path) -> Result<(), Memory>
         requires { is_too_deep from.now to.now (tree_in from.now self.old) ≡ false }
         ensures ok { OnOk result (self.new

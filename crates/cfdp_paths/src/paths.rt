@@ -109,8 +109,8 @@ impl Path {
         }
     }
 
-    /// The first `depth` names in order, lent. Takes no memory. Cost: one pass over them, or over the names after them where
-    /// there are fewer of these; [`Names`] says what going through them costs.
+    /// The first `depth` names in order, lent. Takes no memory. Cost: one pass over them, or over the names after
+    /// them where there are fewer of these; [`Names`] says what going through them costs.
     pub fn first_names(&self, depth: usize) -> Names<'_>
         requires { depth ≤ length self.now }
         ensures names { result ≡ take depth self.now }
@@ -189,8 +189,8 @@ impl Path {
         Some(self.front(depth))
     }
 
-    /// The octets of the first `depth` names. Takes no memory. Cost: one pass over the octets of these names, or over those of
-    /// the names after them where there are fewer of these.
+    /// The octets of the first `depth` names. Takes no memory. Cost: one pass over the octets of these names, or over
+    /// those of the names after them where there are fewer of these.
     fn front(&self, depth: usize) -> &[u8]
         requires some { 1 ≤ depth }
         requires within { depth ≤ length self.now }
@@ -217,8 +217,8 @@ impl Path {
     ///
     /// # Errors
     ///
-    /// [`Memory`] where there was none for the copy: one allocation of its length. Cost: one copy of those names, and one pass
-    /// over them, or over the names after them where there are fewer of these.
+    /// [`Memory`] where there was none for the copy: one allocation of its length. Cost: one copy of those names, and
+    /// one pass over them, or over the names after them where there are fewer of these.
     pub fn beginning(&self, alloc: Global, depth: usize) -> Result<Path, Memory>
         requires some { 1 ≤ depth }
         requires within { depth ≤ length self.now }
@@ -316,8 +316,8 @@ impl Path {
         self.octets.len() <= other.octets.len()
     }
 
-    /// Whether this path, which is `from/r`, is to become `to/r` in the memory that it has: where `to` has no more octets than
-    /// `from`, and the memory is at most twice the octets of `to/r`. Takes no memory. In constant time.
+    /// Whether this path, which is `from/r`, is to become `to/r` in the memory that it has: where `to` has no more
+    /// octets than `from`, and the memory is at most twice the octets of `to/r`. Takes no memory. In constant time.
     pub(crate) fn may_stay(&self, from: &Path, to: &Path) -> bool
         requires { IsTrue (is_at_or_below self.now from.now) }
         ensures { IsTrue result → length (joined to.now) ≤ length (joined from.now) }
@@ -331,9 +331,9 @@ impl Path {
         self.octets.capacity()
     }
 
-    /// This path, which is `from/r`, becomes `to/r`, as by [`rebased`](Path::rebased), in the memory that it has, all of which
-    /// it keeps: [`may_stay`](Path::may_stay) says whether that is too much. Takes no memory. Cost: one copy of its octets at
-    /// most.
+    /// This path, which is `from/r`, becomes `to/r`, as by [`rebased`](Path::rebased), in the memory that it has, all
+    /// of which it keeps: [`may_stay`](Path::may_stay) says whether that is too much. Takes no memory. Cost: one copy
+    /// of its octets at most.
     pub(crate) fn rebase(&mut self, from: &Path, to: &Path)
         requires below { IsTrue (is_at_or_below self.old from.now) }
         requires room { length self.old + length to.now ≤ 8 + length from.now }

@@ -37,8 +37,9 @@ pub(crate) fn relocate<T: Drop>(
     Ok(())
 }
 
-/// Whether each of these paths, which are p/r, is to become q/r in the memory that it has: where `to` has no more octets than
-/// `from`, and the memory of each is at most twice the octets of q/r. Takes no memory. Cost: a look at each entry at most.
+/// Whether each of these paths, which are p/r, is to become q/r in the memory that it has: where `to` has no more
+/// octets than `from`, and the memory of each is at most twice the octets of q/r. Takes no memory. Cost: a look at
+/// each entry at most.
 fn all_may_stay<T>(entries: &[(Path, T)], from: &Path, to: &Path) -> bool
     requires { IsTrue (list_all (λ e. is_at_or_below e.0 from.now) entries.now) }
     ensures { IsTrue result → length (joined to.now) ≤ length (joined from.now) }

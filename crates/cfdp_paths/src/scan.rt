@@ -8,8 +8,8 @@ ghost use Rattle.cfdp_paths.specs.Paths.{is_separator};
 use crate::buffers::SEPARATOR;
 use std::simd::prelude::*;
 
-/// The place of the first separator, if there is one: what `memchr` of the separator returns. Takes no memory. Cost: one
-/// step for each sixteen octets up to there, or one for all where there are fewer.
+/// The place of the first separator, if there is one: what `memchr` of the separator returns. Takes no memory. Cost:
+/// one step for each sixteen octets up to there, or one for all where there are fewer.
 pub(crate) fn first_separator(octets: &[u8]) -> Option<usize>
     ensures { IsFirstByte is_separator octets.now result }
 {
@@ -55,8 +55,8 @@ fn first_of_few(octets: &[u8]) -> Option<usize>
     None
 }
 
-/// The place of the last separator, if there is one: what `memrchr` of the separator returns. Takes no memory. Cost: one
-/// step for each sixteen octets from the end down to there, or one for all where there are fewer.
+/// The place of the last separator, if there is one: what `memrchr` of the separator returns. Takes no memory. Cost:
+/// one step for each sixteen octets from the end down to there, or one for all where there are fewer.
 pub(crate) fn last_separator(octets: &[u8]) -> Option<usize>
     ensures { IsLastByte is_separator octets.now result }
 {

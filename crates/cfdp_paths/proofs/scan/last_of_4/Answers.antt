@@ -6,4 +6,5 @@ returns-then-marks-eq0 c = no_mark c.args.octets.now c.args.index 4 c.marks_of_4
 
 pub returns : goal.returns
 returns c =
-    last_mark c.args.octets.now c.args.index 4 c.marks_of_4-marks.result c.ilog2.result c.marks_of_4-marks.ensures c.requires c.ilog2.ensures.power_le c.ilog2.ensures.next_power_gt
+    last_mark c.args.octets.now c.args.index 4 c.marks_of_4-marks.result c.ilog2.result c.marks_of_4-marks.ensures c.requires
+    c.ilog2.ensures.power_le c.ilog2.ensures.next_power_gt
