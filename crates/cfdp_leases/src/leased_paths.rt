@@ -127,9 +127,9 @@ impl LeasedPaths {
     ///
     /// # Errors
     ///
-    /// [`Memory`] where there was none; the holders of each path are then as before. Cost: for each path a search by its
-    /// hash, and a copy where nobody holds it yet. Where leased paths have shared a hash, up to one more search for each
-    /// exclusive path, and up to three more for each shared one.
+    /// [`Memory`] where there was none; the holders of each path are then as before. Cost: for each path a search by
+    /// its hash, and a copy where nobody holds it yet. Where leased paths have shared a hash, up to one more search for
+    /// each exclusive path, and up to three more for each shared one.
     pub(crate) fn lease(
         &mut self,
         alloc: Global,
@@ -248,8 +248,8 @@ impl LeasedPaths {
         }
     }
 
-    /// Adds a holder to a path that is not in `others`, after those that it has. Cost: one search in `rows`; the path is
-    /// copied where nobody holds it yet.
+    /// Adds a holder to a path that is not in `others`, after those that it has. Cost: one search in `rows`; the path
+    /// is copied where nobody holds it yet.
     fn add_to_rows(&mut self, alloc: Global, path: &Path, holder: Holder) -> Result<(), Memory>
         requires { get path_cmp self.old.others path.now ≡ None }
         ensures ok { (holders : Names → List Holder) → Holds self.old holders

@@ -107,8 +107,8 @@ impl Leases {
 
     /// Takes a transaction's footprint away; nothing changes where it holds none. Takes no memory.
     ///
-    /// Cost: a pass over the transactions, for each path of the footprint a pass over its octets, for each exclusive one
-    /// two searches among all leased paths, and for each shared one three at most and a pass over its holders.
+    /// Cost: a pass over the transactions, for each path of the footprint a pass over its octets, for each exclusive
+    /// one two searches among all leased paths, and for each shared one three at most and a pass over its holders.
     pub fn release(&mut self, transaction: TransactionId)
         ensures { self.new ≡ without self.old transaction }
     {

@@ -1,6 +1,7 @@
 //! The names of a path in one buffer.
 
-ghost use Rattle.std.specs.Prelude.{◌≡◌, ◌<◌, ◌≤◌, ◌+◌, ◌-◌, ◌*◌, ◌==◌, ◌++◌, ◌&&◌, if◌then◌else◌, IfOk, drop, length, map, nat_le, take, vec_capacity, vec_len};
+ghost use Rattle.std.specs.Prelude.{◌≡◌, ◌<◌, ◌≤◌, ◌+◌, ◌-◌, ◌*◌, ◌==◌, ◌++◌, ◌&&◌, if◌then◌else◌, IfOk, drop, length};
+ghost use Rattle.std.specs.Prelude.{map, nat_le, take, vec_capacity, vec_len};
 ghost use Rattle.cfdp_paths.specs.Paths.{is_at_or_below, names_of};
 
 use crate::octet_order::is_same;

@@ -57,8 +57,8 @@ impl Path {
     /// The leftmost faulty name decides; within a name [`PathFault::EmptyName`], [`PathFault::BadName`] and
     /// [`PathFault::NameTooLong`] come in this order. A ninth name is [`PathFault::TooDeep`] before it is looked at. Octets
     /// that spell no path are told so whether or not there is memory; [`PathFault::Memory`] comes only where a path is
-    /// spelled. Cost: one pass over the octets for their faults. Where they spell a path, also one allocation of their length,
-    /// a copy, and a pass over it.
+    /// spelled. Cost: one pass over the octets for their faults. Where they spell a path, also one allocation of their
+    /// length, a copy, and a pass over it.
     pub fn parse(alloc: Global, octets: &[u8]) -> Result<Path, PathFault>
         ensures path { IfOk result (λ path. Spells octets.now path) }
         ensures only { (path : List Name) → Spells octets.now path → (result ≡ Ok path) ⊎ (result ≡ Err PathFault.Memory) }

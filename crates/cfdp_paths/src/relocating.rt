@@ -52,8 +52,8 @@ fn all_may_stay<T>(entries: &[(Path, T)], from: &Path, to: &Path) -> bool
     to.is_no_longer_than(from)
 }
 
-/// Moves the entry at the place, which is all that stands at and below the first path. Cost: one path at most, one search,
-/// and two shifts of the entries behind.
+/// Moves the entry at the place, which is all that stands at and below the first path. Cost: one path at most, one
+/// search, and two shifts of the entries behind.
 fn relocate_entry<T: Drop>(
     entries: &mut Vec<(Path, T)>,
     place: usize,

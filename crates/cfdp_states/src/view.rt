@@ -84,9 +84,10 @@ impl<'a> View<'a> {
     /// # Errors
     ///
     /// Want of memory, which only a request that makes a path takes, and only where it is successful; the view is then as
-    /// before. Cost: a few searches among what the view has, and, of a rename, the octets of each path that moves: they are
-    /// rewritten in the memory that they have, or copied, as [`PathMap::relocate`](cfdp_paths::PathMap::relocate) says. What
-    /// comes after in path order is shifted, in one piece.
+    /// before. Cost: a few searches among what the view has, and, of a rename, the octets of each path that moves: they
+    /// are rewritten in the memory that they have, or copied, as
+    /// [`PathMap::relocate`](cfdp_paths::PathMap::relocate) says. What comes after in path order is shifted, in one
+    /// piece.
     pub fn apply(&mut self, request: &Request) -> Result<Status, Memory>
         ensures told { IfOk result (λ status. Tells self.old self.new (Perform request.now) (Performed status)) }
         ensures prefixes { OnOk result (self.new.prefixes ≡ self.old.prefixes) }

@@ -276,8 +276,9 @@ impl<S: Filestore> Core<S> {
     }
 
     /// The same as [`apply`](Core::apply), for an event that is given away: its Metadata is moved, not copied. Out of
-    /// memory the event is dropped. Cost: as `apply`, less the copy of the Metadata. Vectors of it that have room to spare
-    /// keep that room as long as the transaction is in the table; those of [`read_event`](crate::read_event) have none.
+    /// memory the event is dropped. Cost: as `apply`, less the copy of the Metadata. Vectors of it that have room to
+    /// spare keep that room as long as the transaction is in the table; those of
+    /// [`read_event`](crate::read_event) have none.
     pub fn apply_owned(&mut self, event: Event) -> Reply
         ensures follows { Follows self.old.world event result self.new.world }
         ensures answered { IsFalse (may_want_memory self.old.takes_no_memory event) → IsAnswered result }
@@ -311,8 +312,8 @@ impl<S: Filestore> Core<S> {
     /// The outcome of a transaction is handed out, with which it is forgotten, as [`apply`](Core::apply) does with Take. The
     /// outcome was made before, by [`outcome`](Core::outcome): no name of a request is copied once more.
     ///
-    /// Out of memory the reply is [`Reply::Memory`], the world is as before, and the outcome is dropped. Cost: a look-up, one
-    /// allocation, the drop of what the table has of the transaction, and a move of the entries after it.
+    /// Out of memory the reply is [`Reply::Memory`], the world is as before, and the outcome is dropped. Cost: a
+    /// look-up, one allocation, the drop of what the table has of the transaction, and a move of the entries after it.
     pub fn hand_out(&mut self, id: TransactionId, outcome: Outcome) -> Reply
         requires made { outcome_in self.old.world id ≡ Some outcome }
         ensures follows { Follows self.old.world (Take id) result self.new.world }
@@ -325,8 +326,8 @@ impl<S: Filestore> Core<S> {
         taking::hand_out(self.alloc, &self.store, &mut self.books, place, outcome)
     }
 
-    /// A Metadata PDU came (CCSDS 727.0-B-5 §5.2.5), which is lent: it is copied if it may begin a transaction, before its
-    /// list is verified.
+    /// A Metadata PDU came (CCSDS 727.0-B-5 §5.2.5), which is lent: it is copied if it may begin a transaction, before
+    /// its list is verified.
     fn metadata_came(&mut self, header: &Header, metadata: &Metadata) -> Reply
         ensures follows { Follows self.old.world (MetadataCame header.now metadata.now) result self.new.world }
         ensures lean { IsFalse (begins self.old.world header.now metadata.now) → IsAnswered result }
