@@ -14,6 +14,9 @@ use std::alloc::Global;
 /// How many blocks of a run there are from one mark to the next.
 pub(crate) const STRIDE: u32 = 32;
 
+/// A run in a filestore of at most this number of blocks gets no marks: to walk over it takes less than to make them.
+const MOST_UNMARKED: u32 = 256;
+
 /// The numbers of a run's first block and of each 32nd block after that one, as far as they are known.
 #[derive(Drop)]
 pub(crate) struct Marks {
@@ -21,7 +24,8 @@ pub(crate) struct Marks {
 }
 
 impl Marks {
-    /// No marks yet, for a run that can grow to this number of blocks. It takes all the memory that they ever have.
+    /// No marks yet, for a run that can grow to this number of blocks. It takes all the memory that they ever have. With
+    /// at most 256 blocks it takes none, and no block is ever marked.
     ///
     /// # Errors
     ///
@@ -29,6 +33,11 @@ impl Marks {
     pub(crate) fn new(alloc: Global, blocks: u32) -> Result<Marks, Memory>
         ensures { IfOk result (λ marks. marks.numbers.items ≡ []) }
     {
+        if blocks <= MOST_UNMARKED {
+            return Ok(Marks {
+                numbers: Vec::new(alloc),
+            });
+        }
         Ok(Marks {
             numbers: Vec::with_capacity(alloc, blocks.div_ceil(STRIDE) as usize)?,
         })

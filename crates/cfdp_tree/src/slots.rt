@@ -107,21 +107,23 @@ impl Slot {
         }
     }
 
-    /// The place from which the search for an index begins: that of the last write, if it is at most 32 blocks before
-    /// the index, and the last mark at or before it otherwise. In constant time.
+    /// The place from which the search for an index begins: the last mark at or before it, or that of the last write, if
+    /// that is between the two. In constant time.
     fn near(&self, index: u32) -> Cursor
         ensures place { (arena : Blocks) → IsPlaced arena self.now → IsAt arena self.now.contents.run result }
         ensures before { result.index ≤ index }
     {
-        if self.place.index <= index && index - self.place.index <= STRIDE {
+        let mark = self.marks.before(&self.contents.run, index);
+        if mark.index <= self.place.index && self.place.index <= index {
             self.place
         } else {
-            self.marks.before(&self.contents.run, index)
+            mark
         }
     }
 
     /// Puts octets in the place of those from the offset `at` on. In time linear in the octets. In a list that has all
-    /// its marks, which is one that only `extend` made longer, at most 32 steps lead to the offset.
+    /// its marks, which is one that only `extend` made longer, at most 31 steps lead to the offset; in a filestore of at
+    /// most 256 blocks, which has no marks, at most 255.
     pub(crate) fn put(&mut self, arena: &mut Arena, at: u32, octets: &[u8])
         requires filled { IsFilled arena.old self.old.contents }
         requires placed { IsPlaced arena.old self.old }

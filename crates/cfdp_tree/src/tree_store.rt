@@ -30,8 +30,8 @@ use std::marker::Model;
 /// octets of files and of staged lists, 120 in each block. Beside the arena are the heads of the index's lists, one for
 /// each block, the head of the list of the root's entries, and 64 slots, each with the size, the first and the last
 /// block of a staged list, where it was last written, and the numbers of its first block and of each 32nd block after
-/// that one. [`TreeStore::new`] takes the memory of all of these, and none of them grows after it. `listing` and
-/// `standing` take memory for what they return, and no other call takes any.
+/// that one (marks). [`TreeStore::new`] takes the memory of all of these, and none of them grows after it. `listing`
+/// and `standing` take memory for what they return, and no other call takes any.
 ///
 /// Cost: a call looks each name of its paths up by the directory and the name, in expected constant time whatever else
 /// the directory has. `kind`, `parent_is_good`, `has_entries`, `size`, `make_file`, `make_dir`, `install` of a new
@@ -40,8 +40,10 @@ use std::marker::Model;
 /// `stage_extend` fills those that it takes with zeros. `read`, `read_staged`, `stage_put`, `append` and `replace` copy
 /// the octets that they are asked for by slices of a block; `append` and `replace` from block to block with no buffer.
 /// `read_staged` and `stage_put` find the offset in at most 32 steps from block to block, in whatever order octets
-/// come. `read` begins at the file's first block. `deepest` and `standing` go through what is at and below the path,
-/// `listing` through everything with all octets, and `next_entry` through the entries of the directories on the way.
+/// come. A store of at most 256 blocks keeps no marks: there it is at most 255 steps, from the last write, if that is
+/// before the offset. `read` begins at the file's first block. `deepest` and `standing` go through what is at and below
+/// the path, `listing` through everything with all octets, and `next_entry` through the entries of the directories on
+/// the way.
 #[derive(Drop)]
 pub struct TreeStore {
     pub(crate) arena: Arena,
@@ -71,7 +73,7 @@ const SLOTS: usize = 64;
 impl TreeStore {
     /// Makes a store of `blocks` blocks, from 1 to 65,536, with no files, no directories and no staged lists. It takes
     /// all the memory that the store ever keeps: 128 octets for each block, a head of the index for each block, and the
-    /// 64 slots, each with two octets for each 32 blocks. In time linear in the blocks.
+    /// 64 slots, each with two octets for each 32 blocks if there are more than 256. In time linear in the blocks.
     ///
     /// # Errors
     ///

@@ -1,4 +1,4 @@
 use Rattle.cfdp_tree.proofs.slots.Slot.near.Goals as goal
 
-pub returns-else-self-index-clause-place : goal.returns-else-self-index-clause-place
-returns-else-self-index-clause-place c = (λ arena placed. c.before-else-self-index.ensures.place arena placed.marked)
+pub returns-else-mark-self-clause-place : goal.returns-else-mark-self-clause-place
+returns-else-mark-self-clause-place c = (λ arena placed. c.before-mark.ensures.place arena placed.marked)
