@@ -56,8 +56,8 @@ impl Entity {
     ///
     /// # Errors
     ///
-    /// Want of memory. Cost: 128 octets for each block of the filestore, the heads of its index, 64 lists of marks with
-    /// 4 octets for each block together, and the room of 64 transactions.
+    /// Want of memory. Cost: 128 octets for each block of the filestore, the heads of its index, the room of 64
+    /// transactions, and with more than 256 blocks 64 lists of marks, together 4 octets for each block.
     pub fn new(alloc: Global, config: Config) -> Result<Entity, Memory>
         ensures { IfOk result (λ entity. entity ≡ start config) }
     {
