@@ -126,22 +126,22 @@ of_digits at (a ∷ b ∷ rest) (o ∷ os) len spelled small =
     ∙ ap (cons_byte (value_of a * 16 + value_of b)) ih
     ∙ ap (λ (v : ℕ). Ok (v ∷ os)) o-is
 
-module _ (word out : List ℕ) (n seen : ℕ) (even : length word % 2 ≡ 0) (half : n ≡ length word / 2) (len : length out ≡ n)
-    (pairs : ArePairs word out n (seen < 16)) where
-  pub word_of_digits : seen < 16 → decode_of word ≡ Ok out
+module _ (word out : List ℕ) (n : ℕ) (digits : Type 0) (even : length word % 2 ≡ 0) (half : n ≡ length word / 2) (len : length out ≡ n)
+    (pairs : ArePairs word out n digits) where
+  pub word_of_digits : digits → decode_of word ≡ Ok out
   word_of_digits few =
       decode_of-even word even
       ∙ of_digits 0 word out (omega arith) (λ k h. pairs.spelled few k (omega arith)) (λ k h. pairs.tested few k (omega arith))
 
-  pub word_decoded : seen < 16 → out ≡ octets_in (decode_of word)
+  pub word_decoded : digits → out ≡ octets_in (decode_of word)
   word_decoded few = sym (ap octets_in (word_of_digits few))
 
-  pub word_good : seen < 16 → IsOk (decode_of word)
+  pub word_good : digits → IsOk (decode_of word)
   word_good few = rw (word_of_digits few) refl
 
-  pub word_of_few : IsOk (decode_of word) → seen < 16
-  word_of_few ok =
-      let digits = (decode_of-ok word (octets_in (decode_of word)) (ok_octets (decode_of word) ok)).1 in
+  pub word_is_digits : IsOk (decode_of word) → digits
+  word_is_digits ok =
+      let all = (decode_of-ok word (octets_in (decode_of word)) (ok_octets (decode_of word) ok)).1 in
       pairs.good (λ k h.
       let c = get_or word k 0 in
-      is_digit (hex_digit_value c) (All-get_or (λ (x : ℕ). is_hex_digit x ≡ true) word k 0 (omega arith) digits) (digit_value-small c))
+      is_digit (hex_digit_value c) (All-get_or (λ (x : ℕ). is_hex_digit x ≡ true) word k 0 (omega arith) all) (digit_value-small c))

@@ -1,9 +1,9 @@
 -- Words decoded sixteen octets at once.
-use Rattle.std.proofs.Common.{◌≡◌, ◌∙◌, ℕ, zero, suc, ◌+◌, ◌-◌, ◌*◌, ◌/◌, ◌%◌, ◌<◌, ◌≤◌, Bool, true, ◌&&◌, ◌||◌, cond, eqb, leb, List, [], ◌∷◌, ◌++◌, length, map, take, drop, get_or, length-take, length-drop, replicate, Fits, w8, refl, sym, ap, ap₂, subst, arith, inl, inr}
+use Rattle.std.proofs.Common.{◌≡◌, ◌∙◌, ℕ, zero, suc, ◌+◌, ◌-◌, ◌*◌, ◌/◌, ◌%◌, ◌<◌, ◌≤◌, Bool, true, false, ◌&&◌, ◌||◌, cond, eqb, leb, List, [], ◌∷◌, ◌++◌, length, map, take, drop, get_or, length-take, length-drop, replicate, Fits, w8, refl, sym, ap, ap₂, subst, arith, inl, inr}
 use Rattle.std.specs.Int.Bits.{bit_or}
 use Rattle.std.specs.List.{range_with_len}
 use Rattle.std.specs.Simd.Lanes.{fold_l}
-use Rattle.std.proofs.lemmas.Bool.{cases_lt, and_parts}
+use Rattle.std.proofs.lemmas.Bool.{cases_lt, and_parts, false≢true}
 use Rattle.std.proofs.lemmas.List.{take_all, get_or-drop, get_or-map, get_or-take, get_or_past, length-map, get_or_append_left, get_or-append_right}
 use Rattle.std.proofs.lemmas.List.FromFn.{get_or-map-range_with_len}
 use Rattle.std.proofs.lemmas.Nat.{or_lt, le_or_l, le_or_r}
@@ -200,46 +200,78 @@ or_small [] ys a b = tt
 or_small (x ∷ xs) [] a b = tt
 or_small (x ∷ xs) (y ∷ ys) a b = (or_lt 4 x y a.0 b.0, or_small xs ys a.1 b.1)
 
--- ---- sixteen pairs more
+-- ---- more pairs
 
-module _ (word sub : List ℕ) (i : ℕ) (more : List ℕ) (next : ArePairs (drop (2 * i) word) sub 16 (AreSmall more)) where
+module _ (word sub : List ℕ) (i m : ℕ) (digits : Type 0) (next : ArePairs (drop (2 * i) word) sub m digits) where
   behind_at : (j k : ℕ) → 2 * i + j ≡ k → value_of (get_or (drop (2 * i) word) j 0) ≡ value_of (get_or word k 0)
   behind_at j k e = ap value_of (get_or-drop (2 * i) word j 0 ∙ ap (λ (n : ℕ). get_or word n 0) e)
 
-  next_spelled : AreSmall more → (k : ℕ) → i ≤ k → k < i + 16 → get_or sub (k - i) 0 ≡ octet_at word k
+  next_spelled : digits → (k : ℕ) → i ≤ k → k < i + m → get_or sub (k - i) 0 ≡ octet_at word k
   next_spelled few k from to =
       next.spelled few (k - i) (omega arith)
       ∙ ap (λ (x : ℕ). x * 16 + value_of (get_or (drop (2 * i) word) (2 * (k - i) + 1) 0)) (behind_at (2 * (k - i)) (2 * k) (omega arith))
       ∙ ap (λ (x : ℕ). value_of (get_or word (2 * k) 0) * 16 + x) (behind_at (2 * (k - i) + 1) (2 * k + 1) (omega arith))
 
+  next_good : ((k : ℕ) → k < 2 * (i + m) → value_of (get_or word k 0) < 16) → digits
+  next_good all =
+      let P : ℕ → Type 0 = λ n. n < 16 in
+      next.good (λ k h. subst P (sym (behind_at k (2 * i + k) refl)) (all (2 * i + k) (omega arith)))
+
   -- also where pairs from i on were decoded already
-  pub block_more : (room post seen : List ℕ) (n : ℕ) → ArePairs word room n (AreSmall seen) → i ≤ n → n ≤ i + 16 → i ≤ length room
-      → 16 ≤ length sub → length seen ≡ length more → ArePairs word (take i room ++ (sub ++ post)) (i + 16) (AreSmall (zip2 bit_or seen more))
-  block_more room post seen n pairs from to within long lanes =
+  pub pairs_more : (room post : List ℕ) (n : ℕ) (before whole : Type 0) → ArePairs word room n before → i ≤ n → n ≤ i + m → i ≤ length room
+      → m ≤ length sub → (whole → before × digits) → (before → digits → whole) → ArePairs word (take i room ++ (sub ++ post)) (i + m) whole
+  pairs_more room post n before whole pairs from to within long both join =
       let front : length (take i room) ≡ i = omega (arith, length-take i room) in
       let P : ℕ → Type 0 = λ n. n < 16 in
       record {
-        spelled = λ few k h.
-            let both = small_or seen more lanes few in
-            elim (cases_lt k i) [
-              | inl before ↦
-                  get_or_append_left (take i room) (sub ++ post) 0 k (omega (arith, front))
-                  ∙ get_or-take i room k 0 before
-                  ∙ pairs.spelled both.0 k (omega arith)
-              | inr after ↦
-                  get_or-append_right (take i room) (sub ++ post) i k 0 front after
-                  ∙ get_or_append_left sub post 0 (k - i) (omega (arith, long))
-                  ∙ next_spelled both.1 k after h
-            ];
-        tested = λ few k h.
-            let both = small_or seen more lanes few in
-            elim (cases_lt k (2 * i)) [
-              | inl before ↦ pairs.tested both.0 k (omega arith)
-              | inr after ↦ subst P (behind_at (k - 2 * i) k (omega arith)) (next.tested both.1 (k - 2 * i) (omega arith))
-            ];
-        good = λ all. or_small seen more (pairs.good (λ k h. all k (omega arith)))
-            (next.good (λ k h. subst P (sym (behind_at k (2 * i + k) refl)) (all (2 * i + k) (omega arith))));
+        spelled = λ few k h. elim (cases_lt k i) [
+          | inl earlier ↦
+              get_or_append_left (take i room) (sub ++ post) 0 k (omega (arith, front))
+              ∙ get_or-take i room k 0 earlier
+              ∙ pairs.spelled (both few).0 k (omega arith)
+          | inr after ↦
+              get_or-append_right (take i room) (sub ++ post) i k 0 front after
+              ∙ get_or_append_left sub post 0 (k - i) (omega (arith, long))
+              ∙ next_spelled (both few).1 k after h
+        ];
+        tested = λ few k h. elim (cases_lt k (2 * i)) [
+          | inl earlier ↦ pairs.tested (both few).0 k (omega arith)
+          | inr after ↦ subst P (behind_at (k - 2 * i) k (omega arith)) (next.tested (both few).1 (k - 2 * i) (omega arith))
+        ];
+        good = λ all. join (pairs.good (λ k h. all k (omega arith))) (next_good all);
       }
+
+  -- a piece that is no digits: no more of the word is looked at
+  pub piece_bad : (room : List ℕ) (n : ℕ) → i + m ≤ n → (digits → ⊥) → ArePairs word room n (false ≡ true)
+  piece_bad room n to bad = record {
+    spelled = λ e. absurd (false≢true e);
+    tested = λ e. absurd (false≢true e);
+    good = λ all. absurd (bad (next_good (λ k h. all k (omega arith))));
+  }
+
+-- sixteen pairs more
+pub block_more : (word sub : List ℕ) (i : ℕ) (more : List ℕ) → ArePairs (drop (2 * i) word) sub 16 (AreSmall more)
+    → (room post seen : List ℕ) (n : ℕ) → ArePairs word room n (AreSmall seen) → i ≤ n → n ≤ i + 16 → i ≤ length room
+    → 16 ≤ length sub → length seen ≡ length more → ArePairs word (take i room ++ (sub ++ post)) (i + 16) (AreSmall (zip2 bit_or seen more))
+block_more word sub i more next room post seen n pairs from to within long lanes =
+    pairs_more word sub i 16 (AreSmall more) next room post n (AreSmall seen) (AreSmall (zip2 bit_or seen more)) pairs from to within long
+    (small_or seen more lanes) (or_small seen more)
+
+-- a piece of the word, with all its pairs
+pub from_piece : (word sub : List ℕ) (i m n t : ℕ) (digits : Type 0) → n ≡ m → 2 * m ≤ t → ArePairs (take t (drop (2 * i) word)) sub n digits
+    → ArePairs (drop (2 * i) word) sub m digits
+from_piece word sub i m n t digits e long next =
+    let rest = drop (2 * i) word in
+    let at : (k : ℕ) → k < 2 * m → value_of (get_or (take t rest) k 0) ≡ value_of (get_or rest k 0) =
+    λ k h. ap value_of (get_or-take t rest k 0 (omega arith)) in
+    let P : ℕ → Type 0 = λ n. n < 16 in
+    record {
+      spelled = λ few k h.
+          next.spelled few k (omega arith)
+          ∙ ap₂ (λ (x y : ℕ). x * 16 + y) (at (2 * k) (omega arith)) (at (2 * k + 1) (omega arith));
+      tested = λ few k h. subst P (at k h) (next.tested few k (omega arith));
+      good = λ all. next.good (λ k h. subst P (sym (at k (omega arith))) (all k (omega arith)));
+    }
 
 -- a load of what lies from one place on
 pub from_there : (word sub : List ℕ) (i : ℕ) (digits : Type 0) → ArePairs (take (length word - 2 * i) (drop (2 * i) word)) sub 16 digits

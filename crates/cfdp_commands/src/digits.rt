@@ -1,5 +1,5 @@
 //! Words of hexadecimal digits, decoded without a branch on a digit: which digits come cannot be foreseen.
-ghost use Rattle.std.specs.Prelude.{◌≡◌, ◌*◌, ◌/◌, ◌<◌, ◌≤◌, ◌↔◌, length, IsOk, OnOk};
+ghost use Rattle.std.specs.Prelude.{◌≡◌, ◌*◌, ◌/◌, ◌<◌, ◌≤◌, ◌↔◌, true, length, IsOk, OnOk};
 ghost use Rattle.hex.specs.Hex.{decode_of};
 ghost use Rattle.cfdp_commands.specs.Digits.{AreOctets, ArePairs, AreSmall, AreValues, value_of};
 ghost use Rattle.cfdp_commands.specs.Hexadecimal.{octets_in};
@@ -118,7 +118,28 @@ fn decode_pairs(word: &[u8], room: &mut [u8]) -> u8
     }
 }
 
-/// Decodes a word into room for as many octets as it has pairs of digits.
+/// How many octets a piece of a word has. The last piece has fewer than twice as many.
+const PIECE: usize = 1024;
+
+/// Decodes pairs of octets by pieces, up to the first piece with an octet that is no digit. Returns whether each is a
+/// digit. A bad digit is found at the end of its piece of 2,048 octets at most.
+fn decode_pieces(word: &[u8], room: &mut [u8]) -> bool
+    requires { length word.now ≡ 2 * length room.old }
+    ensures { ArePairs word.now room.new (length room.old) (result ≡ true) }
+{
+    let mut start = 0;
+    'pieces: while room.len() - start >= 2 * PIECE {
+        let end = start + PIECE;
+        if decode_pairs(&word[2 * start..2 * end], &mut room[start..end]) >= 16 {
+            return false;
+        }
+        start = end;
+    }
+    decode_pairs(&word[2 * start..], &mut room[start..]) < 16
+}
+
+/// Decodes a word into room for as many octets as it has pairs of digits. A bad digit is found at the end of its piece
+/// of 2,048 octets at most: behind that nothing is decoded.
 pub(crate) fn decode_into(word: &[u8], room: &mut [u8]) -> Result<(), LineFault>
     requires { length room.old ≡ length word.now / 2 }
     ensures octets { OnOk result (room.new ≡ octets_in (decode_of word.now)) }
@@ -127,7 +148,7 @@ pub(crate) fn decode_into(word: &[u8], room: &mut [u8]) -> Result<(), LineFault>
     if word.len() % 2 != 0 {
         return Err(LineFault::Bad);
     }
-    if decode_pairs(word, room) < 16 {
+    if decode_pieces(word, room) {
         Ok(())
     } else {
         Err(LineFault::Bad)
