@@ -139,7 +139,7 @@ fn decode_pieces(word: &[u8], room: &mut [u8]) -> bool
 }
 
 /// Decodes a word into room for as many octets as it has pairs of digits. A bad digit is found at the end of its piece
-/// of 2,048 octets at most: behind that nothing is decoded.
+/// of 2,048 octets at most, and nothing is decoded after that piece.
 pub(crate) fn decode_into(word: &[u8], room: &mut [u8]) -> Result<(), LineFault>
     requires { length room.old ≡ length word.now / 2 }
     ensures octets { OnOk result (room.new ≡ octets_in (decode_of word.now)) }

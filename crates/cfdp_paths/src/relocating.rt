@@ -1,4 +1,4 @@
-//! Moves of what stands at and below a path, in entries in path order.
+//! Moves of the entries at and below a path, in entries in path order.
 
 ghost use Rattle.std.specs.Prelude.{◌≡◌, ◌+◌, ◌≤◌, false, IsTrue, IfOk, OnOk, OnErr, [], ◌++◌, length, take, drop, map, vec_len, vec_capacity};
 ghost use Rattle.std.specs.List.{list_all, between};
@@ -10,7 +10,7 @@ use crate::{Memory, Path};
 use std::alloc::Global;
 use std::collections::VecDeque;
 
-/// Moves what stands at a path and below it: each path p/r becomes q/r.
+/// Moves the entries at a path and below it: each path p/r becomes q/r.
 pub(crate) fn relocate<T: Drop>(
     entries: &mut Vec<(Path, T)>,
     from: &Path,
@@ -52,8 +52,8 @@ fn all_may_stay<T>(entries: &[(Path, T)], from: &Path, to: &Path) -> bool
     to.is_no_longer_than(from)
 }
 
-/// Moves the entry at the place, which is all that stands at and below the first path. Cost: one path at most, one
-/// search, and two shifts of the entries behind.
+/// Moves the entry at the place, which is the only one at or below the first path. Cost: one path at most, one
+/// search, and two shifts of the entries after it.
 fn relocate_entry<T: Drop>(
     entries: &mut Vec<(Path, T)>,
     place: usize,
@@ -133,7 +133,7 @@ fn rebase_all<T>(entries: &mut [(Path, T)], from: &Path, to: &Path)
     }
 }
 
-/// The new paths of what stands at and below the first path, in order.
+/// The new paths of the entries at and below the first path, in order.
 fn new_paths<T>(
     alloc: Global,
     tree: &[(Path, T)],
@@ -206,7 +206,7 @@ fn settle<T: Drop>(entries: &mut Vec<(Path, T)>, to: &Path, mut moved: Vec<(Path
 {
     let (start, end) = piece(entries, to);
     if start == end {
-        // Nothing stands there: they go in as one piece.
+        // No entry is there: they go in as one piece.
         let behind = entries.len() - start;
         entries.rotate_left(start);
         entries.append(&mut moved).unwrap();

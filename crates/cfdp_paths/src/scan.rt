@@ -1,4 +1,4 @@
-//! Searches for the octet that stands between names. Most names are short: a few octets are looked at all at once.
+//! Searches for the octet between names. Most names are short: a few octets are looked at all at once.
 
 ghost use Rattle.std.specs.Prelude.{◌≡◌, ◌+◌, ◌≤◌, ◌<◌, length};
 ghost use Rattle.memchr.specs.Find.{IsFirst, IsFirstByte, IsLast, IsLastByte, Passes};

@@ -14,7 +14,7 @@ use std::alloc::Global;
 /// How many blocks of a run there are from one mark to the next.
 pub(crate) const STRIDE: u32 = 32;
 
-/// A run in a filestore of at most this number of blocks gets no marks: to walk over it takes less than to make them.
+/// A filestore of at most this number of blocks keeps no marks: 64 lists of marks cost more to make than the rest of it.
 const MOST_UNMARKED: u32 = 256;
 
 /// The numbers of a run's first block and of each 32nd block after that one, as far as they are known.

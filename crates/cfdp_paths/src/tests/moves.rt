@@ -6,7 +6,7 @@ ghost use Rattle.std.specs.List.{list_any};
 use crate::{MOST_NAMES, Memory, Path, PathFault, PathMap};
 use std::alloc::Global;
 
-/// Paths, two of them, and the map of all once what stands at and below the one moved to the other.
+/// Paths, two of them, and the map of all after the entries at and below the one have moved to the other.
 struct Move {
     name: &'static str,
     paths: &'static [&'static [u8]],
@@ -93,7 +93,7 @@ fn is_too_deep(entries: &[(Path, usize)], from: &Path, to: &Path) -> bool
     entries.iter().any(|entry| entry.0.depth() + to.depth() > MOST_NAMES + from.depth())
 }
 
-/// Moves what stands at and below a path, where all of it has room there.
+/// Moves the entries at and below a path, where each has room there.
 fn relocate(map: &mut PathMap<usize>, from: &Path, to: &Path) -> Result<(), Memory> {
     if to.depth() > MOST_NAMES || is_too_deep(map.tree(from), from, to) {
         return Ok(());

@@ -18,7 +18,7 @@ fn with_separators(first: usize, second: usize) -> [u8; MOST] {
     octets
 }
 
-/// Separators at each two places, of which those behind the end leave one or none.
+/// Separators at each two indices. Those after the end of the octets leave one or none.
 #[test]
 fn like_memchr(rt: HostRuntime) {
     for first in 0..MOST {
