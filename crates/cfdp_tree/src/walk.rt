@@ -109,7 +109,7 @@ pub(crate) fn collect_nodes_up(
 /// at most, by at most 9 calls within one another.
 ///
 /// It chooses between two walks that find the same nodes, so its contract need not say what it tells.
-pub(crate) fn newest_is_behind(arena: &Arena, list: &Head, depth: usize) -> bool
+pub(crate) fn newest_comes_last(arena: &Arena, list: &Head, depth: usize) -> bool
     requires tree { IsTree (nodes_in arena.now) }
     requires lists { HasLists (nodes_in arena.now) }
     requires nodes { StandAt (nodes_in arena.now) depth (chain_of (nodes_in arena.now) list.now) }
@@ -119,7 +119,7 @@ pub(crate) fn newest_is_behind(arena: &Arena, list: &Head, depth: usize) -> bool
     }
     let newest = arena.bytes(list.first);
     if list.count == 1 {
-        return newest_is_behind(arena, &entries_in(newest), depth + 1);
+        return newest_comes_last(arena, &entries_in(newest), depth + 1);
     }
     let second = arena.bytes(next_entry_of(newest));
     name_in(newest) > name_in(second)

@@ -1,34 +1,22 @@
 use Rattle.std.proofs.Common.{rules, ◌≡◌, ◌-◌, Bor, Ordering, is_lt, sym, ap, ◌∙◌, subst}
 use Rattle.std.proofs.lemmas.Fn.{always_returns_same}
-use Rattle.std.proofs.lemmas.List.Sorted.{ranks_by, All-permutation, IsPermutation-map, IsPermutation-trans}
+use Rattle.std.proofs.lemmas.List.Sorted.{ranks_by, IsPermutation-trans}
 use Rattle.std.specs.Cmp.{IsTotalOrder, IsStrictWeakOrder}
 use Rattle.std.specs.Fn.{Called, ComparesAs}
-use Rattle.std.specs.Prelude.{All, List, Bool, IsPermutation, IsSorted, IsSortedBy, map}
+use Rattle.std.specs.Prelude.{List, Bool, IsPermutation, IsSorted, IsSortedBy, map}
 use denote.Param.Members.{Mut}
 use Rattle.cfdp_paths.specs.Paths.{path_cmp}
 use Rattle.cfdp_paths.proofs.Comparing.{path_cmp-total}
 use Rattle.cfdp_tree.specs.Nodes.{nodes_in}
-use Rattle.cfdp_tree.specs.Tree.{IsNode}
 use Rattle.cfdp_tree.specs.Walk.{chain_of, walks}
 use Rattle.cfdp_tree.specs.Survey.{with_path}
-use Rattle.cfdp_tree.proofs.SurveyLaws.{walks_nodes}
 use Rattle.cfdp_tree.proofs.survey.survey.Goals as goal
-
-pub with_paths-requires-clause-nodes : goal.with_paths-requires-clause-nodes
-with_paths-requires-clause-nodes c =
-    let nodes = nodes_in c.args.arena.now in let n = 9 - c.args.depth in let list = chain_of nodes c.args.list.now in
-    subst (All (IsNode nodes)) (sym c.deref.ensures.value)
-    (All-permutation (IsNode nodes) (walks nodes n list) c.in_ok-nodes.nodes.items c.in_ok-nodes.ensures
-    (walks_nodes nodes c.requires.tree c.requires.lists.0 c.requires.lists.1 n c.args.depth list c.requires.nodes))
 
 pub returns-clause-found : goal.returns-clause-found
 returns-clause-found c =
     let nodes = nodes_in c.args.arena.now in let all = walks nodes (9 - c.args.depth) (chain_of nodes c.args.list.now) in
-    let some = c.in_ok-nodes.nodes.items in let found = c.sort_unstable_by.new.self.items in
-    IsPermutation-trans (map (with_path nodes) all) (map (with_path nodes) some) found
-    (IsPermutation-map (with_path nodes) all some c.in_ok-nodes.ensures)
-    (subst (λ xs. IsPermutation xs found)
-    (c.in_ok-found.ensures ∙ ap (map (with_path nodes)) c.deref.ensures.value) c.sort_unstable_by.ensures.permutation)
+    IsPermutation-trans (map (with_path nodes) all) c.in_ok-found.found.items c.sort_unstable_by.new.self.items
+    c.in_ok-found.ensures c.sort_unstable_by.ensures.permutation
 
 -- a sort by a closure that compares keys
 sorted_by : {F X K : Type 0} {g : Mut F (Bor X × (Bor X × Unit {0})) Ordering} {f : F} (key : X → K) (cmp : K → K → Ordering) → IsTotalOrder cmp → (xs : List X)

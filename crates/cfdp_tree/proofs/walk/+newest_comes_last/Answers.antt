@@ -7,7 +7,7 @@ use Rattle.cfdp_tree.specs.Tree.{row_at}
 use Rattle.cfdp_tree.specs.Walk.{chain_of, entries_in, entries_of, StandsDeep, StandAt}
 use Rattle.cfdp_tree.proofs.TreeLaws.{node_live, node_octets}
 use Rattle.cfdp_tree.proofs.WalkLaws.{few_names, deep_first, entries_deep}
-use Rattle.cfdp_tree.proofs.walk.+newest_is_behind.Goals as goal
+use Rattle.cfdp_tree.proofs.walk.+newest_comes_last.Goals as goal
 
 newest : (nodes : Blocks) (depth : ℕ) (list : Head) → list.count ≢ 0 → StandAt nodes depth (chain_of nodes list) → StandsDeep nodes depth list.first
 newest nodes depth list some all = (deep_first nodes list.count (list.count - 1) list.first depth (omega arith) all).0
@@ -29,8 +29,8 @@ overflow_add-depth t c =
     let first = newest nodes c.args.depth c.args.list.now c.if-list-eq0.false c.requires.nodes in
     omega (arith, few_names nodes c.args.list.now.first, first.names)
 
-pub newest_is_behind-requires : goal.newest_is_behind-requires
-newest_is_behind-requires t c =
+pub newest_comes_last-requires : goal.newest_comes_last-requires
+newest_comes_last-requires t c =
     let nodes = nodes_in c.args.arena.now in let b = c.args.list.now.first in
     let first = newest nodes c.args.depth c.args.list.now c.if-list-eq0.false c.requires.nodes in
     let same = node_octets c.args.arena.now b first.node c.bytes-newest.result.now c.bytes-newest.ensures.octets in
