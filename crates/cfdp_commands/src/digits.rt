@@ -118,11 +118,11 @@ fn decode_pairs(word: &[u8], room: &mut [u8]) -> u8
     }
 }
 
-/// How many octets a piece of a word has. The last piece has fewer than twice as many.
+/// How many pairs of digits a piece of a word has. The last piece has fewer than twice as many.
 const PIECE: usize = 1024;
 
-/// Decodes pairs of octets by pieces, up to the first piece with an octet that is no digit. Returns whether each is a
-/// digit. A bad digit is found at the end of its piece of 2,048 octets at most.
+/// Decodes pairs of digits by pieces, up to the first piece with an octet that is no digit. Returns whether each octet
+/// is a digit. A bad one is found at the end of its piece, which has fewer than 2,048 pairs.
 fn decode_pieces(word: &[u8], room: &mut [u8]) -> bool
     requires { length word.now ≡ 2 * length room.old }
     ensures { ArePairs word.now room.new (length room.old) (result ≡ true) }
@@ -138,8 +138,8 @@ fn decode_pieces(word: &[u8], room: &mut [u8]) -> bool
     decode_pairs(&word[2 * start..], &mut room[start..]) < 16
 }
 
-/// Decodes a word into room for as many octets as it has pairs of digits. A bad digit is found at the end of its piece
-/// of 2,048 octets at most, and nothing is decoded after that piece.
+/// Decodes a word into room for as many octets as it has pairs of digits. A bad digit is found at the end of its piece,
+/// which has fewer than 2,048 pairs. Nothing is decoded after that piece.
 pub(crate) fn decode_into(word: &[u8], room: &mut [u8]) -> Result<(), LineFault>
     requires { length room.old ≡ length word.now / 2 }
     ensures octets { OnOk result (room.new ≡ octets_in (decode_of word.now)) }

@@ -107,8 +107,8 @@ impl<S: Filestore> Entity<S> {
         }
     }
 
-    /// Takes the octets of a PDU, and appends the line of what came of them. The octets of a File Data PDU are copied once,
-    /// into the filestore.
+    /// Takes the octets of a PDU, and appends the line of what came of them. The octets of a File Data PDU are copied
+    /// once, into the filestore.
     pub(crate) fn receive(
         &mut self,
         alloc: Global,

@@ -165,8 +165,8 @@ impl Stage {
         Ok(())
     }
 
-    /// The receiving entity begins here, where no event came before. Not inlined: the room of its locals is large, and the
-    /// lines after the first event are not to pay for it.
+    /// The receiving entity begins here, where no event came before. Not inlined: the room of its locals is large, and
+    /// the lines after the first event are not to pay for it.
     #[cold]
     #[inline(never)]
     fn create_entity(&mut self, alloc: Global) -> Result<(), AllocError>

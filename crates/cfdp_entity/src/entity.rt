@@ -56,8 +56,8 @@ impl Entity {
     ///
     /// # Errors
     ///
-    /// Want of memory. Cost: 128 octets for each block of the filestore, the heads of its index, the room of 64
-    /// transactions, and with more than 256 blocks 64 lists of marks, together 4 octets for each block.
+    /// [`Memory`] when out of memory. Cost: 128 octets for each block of the filestore, the heads of its index, the
+    /// room of 64 transactions, and with more than 256 blocks 64 lists of marks, together 4 octets for each block.
     pub fn new(alloc: Global, config: Config) -> Result<Entity, Memory>
         ensures { IfOk result (λ entity. entity ≡ start config) }
     {
@@ -177,8 +177,8 @@ impl Entity {
         Ok((transaction_of(&header), self.keep(&header, &piece)))
     }
 
-    /// The outcome of a transaction, and the octets that are to be sent of it once it is taken: nothing where there is no
-    /// outcome.
+    /// The outcome of a transaction, and the octets that are to be sent of it once it is taken: nothing where there is
+    /// no outcome.
     fn outcome_to_send(
         &self,
         alloc: Global,

@@ -66,8 +66,8 @@ impl Holders {
         Ok(())
     }
 
-    /// Takes the leases of a transaction away, and returns whether nobody else holds the path: then it is to be dropped. Takes
-    /// no memory. Cost: one pass over the holders.
+    /// Takes the leases of a transaction away, and returns whether nobody else holds the path: then it is to be
+    /// dropped. Takes no memory. Cost: one pass over the holders.
     fn remove(&mut self, transaction: TransactionId) -> bool
         ensures { unless_none (others transaction (holders_in self.old)) ≡ if result then None else Some (holders_in self.new) }
     {
@@ -159,8 +159,8 @@ impl LeasedPaths {
         self.remove_all(footprint.shared(), transaction);
     }
 
-    /// Adds the leases of a footprint, whose exclusive paths nobody holds. Where there is no memory for one, some of them
-    /// are there.
+    /// Adds the leases of a footprint, whose exclusive paths nobody holds. Where there is no memory for one, some of
+    /// them are there.
     fn add_footprint(
         &mut self,
         alloc: Global,
@@ -184,7 +184,8 @@ impl LeasedPaths {
         self.add_all(alloc, footprint.shared(), shared)
     }
 
-    /// Adds a holder to each of the paths, which nobody holds. Where there is no memory for one, those before it have it.
+    /// Adds a holder to each of the paths, which nobody holds. Where there is no memory for one, those before it have
+    /// it.
     fn add_all_new(&mut self, alloc: Global, paths: &[Path], holder: Holder) -> Result<(), Memory>
         requires { IsStrictlySortedBy path_cmp paths.now }
         ensures ok { (holders : Names → List Holder) → Holds self.old holders → AreFree (λ p. list_any (same_path p) paths.now) holders

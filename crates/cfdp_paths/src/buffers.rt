@@ -36,8 +36,8 @@ pub(crate) fn replace(octets: &mut [u8], old: u8, new: u8)
     }
 }
 
-/// Puts the octets `new` in place of the first `count` octets, of which there are as many or more. Takes no memory. Cost:
-/// one copy of the octets at most.
+/// Puts the octets `new` in place of the first `count` octets, of which there are as many or more. Takes no memory.
+/// Cost: one copy of the octets at most.
 pub(crate) fn replace_front(octets: &mut Vec<u8>, count: usize, new: &[u8])
     requires within { count ≤ length octets.old.items }
     requires short { length new.now ≤ count }
@@ -101,8 +101,8 @@ pub(crate) fn without_last(octets: &[u8], count: usize) -> &[u8]
     &octets[..end]
 }
 
-/// Whether the first names of the octets are exactly those of `front`. Cost: one comparison of the octets of `front`, and
-/// none where what comes after them is not a separator.
+/// Whether the first names of the octets are exactly those of `front`. Cost: one comparison of the octets of `front`,
+/// and none where what comes after them is not a separator.
 pub(crate) fn begins(octets: &[u8], front: &[u8]) -> bool
     ensures { result ≡ is_at_or_below (names_of octets.now) (names_of front.now) }
 {

@@ -18,7 +18,8 @@ pub(crate) fn find_fault(octets: &[u8]) -> Option<PathFault>
     }
 }
 
-/// How many names the octets spell, or their fault, if they spell no path. Takes no memory. Cost: one pass over the octets.
+/// How many names the octets spell, or their fault, if they spell no path. Takes no memory. Cost: one pass over the
+/// octets.
 pub(crate) fn count_names(octets: &[u8]) -> Result<usize, PathFault>
     ensures { MatchResult result (λ count. (fault_of octets.now ≡ None) × (count ≡ length (names_in octets.now)))
         (λ fault. fault_of octets.now ≡ Some fault) }

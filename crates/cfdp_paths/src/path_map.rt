@@ -61,8 +61,8 @@ impl<T: Drop> PathMap<T> {
     ///
     /// # Errors
     ///
-    /// [`Memory`] where there was none for the entry; the map is then as before. Where the path has a value already none is
-    /// taken. Cost: one search; the entries after a new one are shifted.
+    /// [`Memory`] where there was none for the entry; the map is then as before. Where the path has a value already
+    /// none is taken. Cost: one search; the entries after a new one are shifted.
     pub fn replace(&mut self, path: Path, value: T) -> Result<Option<T>, Memory>
         ensures old { IfOk result (λ old. old ≡ find path_cmp path self.old) }
         ensures ok { OnOk result (self.new ≡ put path_cmp path value self.old) }
@@ -78,7 +78,8 @@ impl<T: Drop> PathMap<T> {
         }
     }
 
-    /// Puts the value at the path, and returns the value that it had, if any. The path is copied only where it had none.
+    /// Puts the value at the path, and returns the value that it had, if any. The path is copied only where it had
+    /// none.
     ///
     /// # Errors
     ///

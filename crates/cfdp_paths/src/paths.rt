@@ -76,8 +76,8 @@ impl Path {
         Ok(Path { octets, depth })
     }
 
-    /// The path of `depth` names that are in the octets in order, with the octet 0 between each two of them. Needs names
-    /// that make a path: they are not looked at. [`Path::parse`] is for octets of which that is not known.
+    /// The path of `depth` names that are in the octets in order, with the octet 0 between each two of them. Needs
+    /// names that make a path: they are not looked at. [`Path::parse`] is for octets of which that is not known.
     ///
     /// # Errors
     ///
@@ -154,8 +154,9 @@ impl Path {
         self.is_at_or_below(other) && self.depth() == other.depth() + 1
     }
 
-    /// A number for the path, the same for the same path: what the hasher of std's maps makes of its octets. Its seed is
-    /// fixed, so whoever picks paths can make two of them with one number. Takes no memory. Cost: one pass over the octets.
+    /// A number for the path, the same for the same path: what the hasher of std's maps makes of its octets. Its seed
+    /// is fixed, so whoever picks paths can make two of them with one number. Takes no memory. Cost: one pass over the
+    /// octets.
     pub fn hash(&self) -> u64
         ensures { result ≡ hash_of self.now }
     {

@@ -98,8 +98,8 @@ fn relocate_entry_in_memory<T: Drop>(
     put_reserved(entries, path, value);
 }
 
-/// Moves the entries from `start` up to `end`, which are all that is at and below the first path, to the second path, which
-/// has no more octets: each path stays in the memory that it has.
+/// Moves the entries from `start` up to `end`, which are all that is at and below the first path, to the second path,
+/// which has no more octets: each path stays in the memory that it has.
 fn relocate_in_memory<T: Drop>(
     entries: &mut Vec<(Path, T)>,
     start: usize,

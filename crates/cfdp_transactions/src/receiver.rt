@@ -309,8 +309,8 @@ impl<S: Filestore> Core<S> {
         (reply, again)
     }
 
-    /// The outcome of a transaction is handed out, with which it is forgotten, as [`apply`](Core::apply) does with Take. The
-    /// outcome was made before, by [`outcome`](Core::outcome): no name of a request is copied once more.
+    /// The outcome of a transaction is handed out, with which it is forgotten, as [`apply`](Core::apply) does with
+    /// Take. The outcome was made before, by [`outcome`](Core::outcome): no name of a request is copied once more.
     ///
     /// Out of memory the reply is [`Reply::Memory`], the world is as before, and the outcome is dropped. Cost: a
     /// look-up, one allocation, the drop of what the table has of the transaction, and a move of the entries after it.

@@ -60,8 +60,8 @@ pub(crate) fn take<S: Filestore>(
     (Reply::Taken(outcome), Reply::Taken(again))
 }
 
-/// The same for an outcome that was made before: the transaction at a place is forgotten, and the outcome handed out. Where
-/// memory is refused nothing has changed. Cost: one allocation.
+/// The same for an outcome that was made before: the transaction at a place is forgotten, and the outcome handed out.
+/// Where memory is refused nothing has changed. Cost: one allocation.
 pub(crate) fn hand_out<S: Filestore>(
     alloc: Global,
     store: &S,

@@ -42,8 +42,8 @@ fn hash_of(directory: Option<BlockId>, name: &[u8]) -> u64
     hasher.finish()
 }
 
-/// The place of the head of a directory and a name. A product takes their number of 64 bits down to the number of heads,
-/// because a division is many times slower.
+/// The index of the head of a directory and a name: the high 64 bits of their hash times the number of heads. A
+/// division would be many times slower.
 #[inline(always)]
 pub(crate) fn place_of(heads: &[Head], directory: Option<BlockId>, name: &[u8]) -> usize
     requires some { 0 < length heads.now }

@@ -14,7 +14,8 @@ use std::alloc::Global;
 /// How many blocks of a run there are from one mark to the next.
 pub(crate) const STRIDE: u32 = 32;
 
-/// A filestore of at most this number of blocks keeps no marks: 64 lists of marks cost more to make than the rest of it.
+/// A filestore of at most this number of blocks keeps no marks: 64 lists of marks cost more to make than all
+/// else of it.
 const MOST_UNMARKED: u32 = 256;
 
 /// The numbers of a run's first block and of each 32nd block after that one, as far as they are known.
@@ -24,8 +25,8 @@ pub(crate) struct Marks {
 }
 
 impl Marks {
-    /// No marks yet, for a run that can grow to this number of blocks. It takes all the memory that they ever have. With
-    /// at most 256 blocks it takes none, and no block is ever marked.
+    /// No marks yet, for a run that can grow to this number of blocks. It takes all the memory that they ever have.
+    /// With at most 256 blocks it takes none, and no block is ever marked.
     ///
     /// # Errors
     ///

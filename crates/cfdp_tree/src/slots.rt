@@ -16,7 +16,8 @@ use cfdp_arena::Arena;
 use cfdp_paths::Memory;
 use std::alloc::Global;
 
-/// A staged list, the place of the block of it that was last written, and marks at each 32nd block of its run.
+/// A staged list, the place of the block of it that was last written, and marks at each 32nd block of its run; in a
+/// filestore of at most 256 blocks no marks.
 #[derive(Drop)]
 pub(crate) struct Slot {
     pub(crate) contents: Contents,
@@ -54,7 +55,8 @@ impl Slot {
     }
 
     /// Adds zeros at the end, up to the size, which is at most that of 65,536 blocks. Of the blocks that are taken it
-    /// marks each whose index is a multiple of 32. In time linear in these blocks.
+    /// marks each whose index is a multiple of 32, if the filestore has more than 256 blocks. In time linear in the
+    /// blocks that are taken.
     pub(crate) fn extend(&mut self, arena: &mut Arena, size: u32)
         requires filled { IsFilled arena.old self.old.contents }
         requires small { length arena.old ≤ 65536 }
@@ -82,8 +84,8 @@ impl Slot {
         self.grow(arena, size);
     }
 
-    /// Adds zeros at the end, up to the size, which is at most that of 65,536 blocks, and marks no block. In time linear
-    /// in the blocks that are taken.
+    /// Adds zeros at the end, up to the size, which is at most that of 65,536 blocks, and marks no block. In time
+    /// linear in the blocks that are taken.
     #[inline(always)]
     fn grow(&mut self, arena: &mut Arena, size: u32)
         requires filled { IsFilled arena.old self.old.contents }
@@ -107,8 +109,8 @@ impl Slot {
         }
     }
 
-    /// The place from which the search for an index begins: the last mark at or before it, or that of the last write, if
-    /// that is between the two. In constant time.
+    /// The place from which the search for an index begins: the last mark at or before it, or that of the last write,
+    /// if that is between the two. In constant time.
     fn near(&self, index: u32) -> Cursor
         ensures place { (arena : Blocks) → IsPlaced arena self.now → IsAt arena self.now.contents.run result }
         ensures before { result.index ≤ index }
@@ -122,8 +124,8 @@ impl Slot {
     }
 
     /// Puts octets in the place of those from the offset `at` on. In time linear in the octets. In a list that has all
-    /// its marks, which is one that only `extend` made longer, at most 31 steps lead to the offset; in a filestore of at
-    /// most 256 blocks, which has no marks, at most 255.
+    /// its marks, which is one that only `extend` made longer, at most 31 steps lead to the offset; in a filestore of
+    /// at most 256 blocks, which has no marks, at most 255.
     pub(crate) fn put(&mut self, arena: &mut Arena, at: u32, octets: &[u8])
         requires filled { IsFilled arena.old self.old.contents }
         requires placed { IsPlaced arena.old self.old }
@@ -142,8 +144,8 @@ impl Slot {
         self.place = self.contents.put(arena, from, at, octets);
     }
 
-    /// Fills the buffer with the octets from the offset `at` on. In time linear in the octets, and with as many steps to
-    /// the offset as `put`.
+    /// Fills the buffer with the octets from the offset `at` on. In time linear in the octets, and with as many steps
+    /// to the offset as `put`.
     pub(crate) fn get(&self, arena: &Arena, at: u32, buffer: &mut [u8])
         requires filled { IsFilled arena.now self.now.contents }
         requires placed { IsPlaced arena.now self.now }

@@ -9,8 +9,8 @@ use crate::header::{HEADER_OCTETS, next_of};
 use cfdp_arena::{Arena, Block};
 use cfdp_checksum::modular_checksum;
 
-/// The modular checksum of the octets. A payload has whole words of four, so that the sums of the blocks add up, and the
-/// zeros after the octets add nothing. Each block is summed whole, where it is. In time linear in the blocks.
+/// The modular checksum of the octets. A payload has whole words of four, so that the sums of the blocks add up, and
+/// the zeros after the octets add nothing. Each block is summed whole, where it is. In time linear in the blocks.
 pub(crate) fn checksum_of(arena: &Arena, contents: &Contents) -> u32
     requires { IsFilled arena.now contents.now }
     ensures { result ≡ checksum (contents_in arena.now contents.now) }

@@ -39,7 +39,7 @@ use std::marker::Model;
 /// `remove`, `unstage` and `install` over a file give back the blocks that are dropped as one, in constant time;
 /// `stage_extend` fills those that it takes with zeros. `read`, `read_staged`, `stage_put`, `append` and `replace` copy
 /// the octets that they are asked for by slices of a block; `append` and `replace` from block to block with no buffer.
-/// `read_staged` and `stage_put` find the offset in at most 32 steps from block to block, in whatever order octets
+/// `read_staged` and `stage_put` find the offset in at most 31 steps from block to block, in whatever order octets
 /// come. A store of at most 256 blocks keeps no marks: there it is at most 255 steps, from the last write, if that is
 /// before the offset. `read` begins at the file's first block. `deepest` and `standing` go through what is at and below
 /// the path, `listing` through everything with all octets, and `next_entry` through the entries of the directories on
