@@ -12,6 +12,8 @@ pub enum Fault {
     Memory,
     /// A script, a PDU or a configuration was refused that should not be.
     Refused,
+    /// A list got another verdict than the one that it was made for.
+    Verdict,
 }
 
 impl fmt::Display for Fault {
@@ -19,6 +21,7 @@ impl fmt::Display for Fault {
         f.write_str(match self {
             Fault::Memory => "out of memory",
             Fault::Refused => "refused",
+            Fault::Verdict => "a list got another verdict than the one that it was made for",
         })
     }
 }

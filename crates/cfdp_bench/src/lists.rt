@@ -8,6 +8,8 @@ use crate::random::Random;
 use crate::receiver::Receiver;
 use crate::tree::{SOURCE, Tree};
 use cfdp_status::Action;
+use cfdp_transactions::Reply;
+use cfdp_verifier::Refusal;
 use std::alloc::Global;
 
 /// How many blocks the filestore has.
@@ -20,6 +22,46 @@ const WHOLE: u32 = 7_864_320;
 const SENDER: u16 = 7;
 
 const HOLDER: u16 = 9;
+
+/// Why a list is refused.
+#[derive(Clone, Copy)]
+enum Reason {
+    TooManyRequests,
+    BadPath,
+    Conflict,
+    DestinationNotAllowed,
+    WouldFail,
+    TooLong,
+    NoRoom,
+}
+
+static REASONS: [Reason; 7] = [
+    Reason::TooManyRequests,
+    Reason::BadPath,
+    Reason::Conflict,
+    Reason::DestinationNotAllowed,
+    Reason::WouldFail,
+    Reason::TooLong,
+    Reason::NoRoom,
+];
+
+impl Reason {
+    /// Whether a reply refuses a list for this reason.
+    fn is_of(self, reply: &Reply) -> bool {
+        let Reply::Refused(refusal) = reply else {
+            return false;
+        };
+        match self {
+            Reason::TooManyRequests => matches!(refusal, Refusal::TooManyRequests),
+            Reason::BadPath => matches!(refusal, Refusal::BadPath(_)),
+            Reason::Conflict => matches!(refusal, Refusal::Conflict(_)),
+            Reason::DestinationNotAllowed => matches!(refusal, Refusal::DestinationNotAllowed),
+            Reason::WouldFail => matches!(refusal, Refusal::WouldFail(..)),
+            Reason::TooLong => matches!(refusal, Refusal::TooLong(_)),
+            Reason::NoRoom => matches!(refusal, Refusal::NoRoom(..)),
+        }
+    }
+}
 
 /// A filestore and what is live over it.
 #[derive(Clone, Copy)]
@@ -149,7 +191,7 @@ impl Lists {
         self.send()?;
         self.deliver_source()?;
         for number in 0..self.setting.live {
-            self.hold(number)?;
+            self.hold(number, self.setting.held)?;
         }
         Ok(())
     }
@@ -170,24 +212,29 @@ impl Lists {
         spell(&mut self.name, b"-", index, 2)
     }
 
-    /// A transaction is admitted, and stays live.
-    fn hold(&mut self, number: u32) -> Result<(), Fault> {
-        for index in 0..self.setting.held {
+    /// A transaction with `held` requests is admitted, and stays live.
+    fn hold(&mut self, number: u32, held: u32) -> Result<(), Fault> {
+        for index in 0..held {
             self.spell_held(number, index)?;
             self.list.one(Action::CreateFile, &self.name)?;
         }
-        self.receiver
-            .begin(Sender::new(HOLDER, number), 0, b"", &self.list)?;
+        let sender = Sender::new(HOLDER, number);
+        self.receiver.admit(sender, 0, b"", &self.list)?;
         self.list.clear();
         Ok(())
+    }
+
+    /// A live transaction is cancelled and taken.
+    fn drop_held(&mut self, number: u32) -> Result<(), Fault> {
+        let id = Sender::new(HOLDER, number).id();
+        self.receiver.cancel(id);
+        self.receiver.take(id)
     }
 
     /// The live transactions are cancelled and taken.
     fn release(&mut self) -> Result<(), Fault> {
         for number in 0..self.setting.live {
-            let id = Sender::new(HOLDER, number).id();
-            self.receiver.cancel(id);
-            self.receiver.take(id)?;
+            self.drop_held(number)?;
         }
         Ok(())
     }
@@ -196,51 +243,67 @@ impl Lists {
     fn round(&mut self, round: u32) -> Result<(), Fault> {
         let count = 8 + self.random.below(57);
         if round % 8 == 7 {
-            return self.refused(round / 8 % 7, count);
+            return self.refused(REASONS[(round / 8 % 7) as usize], count);
         }
         self.tree.mixed(&mut self.random, &mut self.list, count, self.setting.files)?;
         self.send()
     }
 
-    /// A list that is refused, for one of the seven reasons.
-    fn refused(&mut self, reason: u32, count: u32) -> Result<(), Fault> {
-        let mut size = 0;
+    /// A list that is refused for this reason. Where no transaction stays live, one is live during a conflict.
+    fn refused(&mut self, reason: Reason, count: u32) -> Result<(), Fault> {
+        let is_held = matches!(reason, Reason::Conflict) && self.setting.live == 0;
+        if is_held {
+            self.hold(0, 1)?;
+        }
         self.name.clear();
+        let size = self.write_refused(reason, count)?;
+        let sender = self.sender();
+        let reply = self.receiver.begin(sender, size, &self.name, &self.list)?;
+        if !reason.is_of(&reply) {
+            return Err(Fault::Verdict);
+        }
+        self.list.clear();
+        self.receiver.cancel(sender.id());
+        self.receiver.take(sender.id())?;
+        if is_held {
+            self.drop_held(0)?;
+        }
+        Ok(())
+    }
+
+    /// Writes a list that is refused for this reason, and the name of its file, if it has one. Returns the file's size.
+    fn write_refused(&mut self, reason: Reason, count: u32) -> Result<u32, Fault> {
         match reason {
-            0 => self.tree.creates(&mut self.list, 65)?,
-            1 => {
+            Reason::TooManyRequests => self.tree.creates(&mut self.list, 65)?,
+            Reason::BadPath => {
                 self.tree.creates(&mut self.list, count.saturating_sub(1))?;
                 self.list.one(Action::CreateFile, b"a//b")?;
             }
-            2 => {
+            Reason::Conflict => {
                 self.spell_held(0, 0)?;
                 self.tree.creates(&mut self.list, count.saturating_sub(1))?;
                 self.list.one(Action::DenyFile, &self.name)?;
                 self.name.clear();
             }
-            3 => {
-                size = 1_000;
+            Reason::DestinationNotAllowed => {
                 self.name.extend_from_slice(self.tree.directory(0)?)?;
                 self.tree.creates(&mut self.list, count.min(4))?;
+                return Ok(1_000);
             }
-            4 => {
+            Reason::WouldFail => {
                 self.tree.creates(&mut self.list, count.saturating_sub(1))?;
                 self.tree.delete_nothing(&mut self.list)?;
             }
-            5 => {
-                size = WHOLE;
+            Reason::TooLong => {
                 self.name.extend_from_slice(b"whole")?;
                 self.list.one(Action::DeleteFile, b"whole")?;
+                return Ok(WHOLE);
             }
-            _ => {
-                size = WHOLE;
+            Reason::NoRoom => {
                 self.name.extend_from_slice(b"whole")?;
+                return Ok(WHOLE);
             }
         }
-        let sender = self.sender();
-        self.receiver.begin(sender, size, &self.name, &self.list)?;
-        self.list.clear();
-        self.receiver.cancel(sender.id());
-        self.receiver.take(sender.id())
+        Ok(0)
     }
 }

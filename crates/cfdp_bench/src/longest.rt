@@ -112,7 +112,7 @@ impl Longest {
         self.send()?;
         let sender = self.sender();
         self.receiver
-            .begin(sender, size_of(&pieces), b"whole", &self.list)?;
+            .admit(sender, size_of(&pieces), b"whole", &self.list)?;
         for piece in pieces.iter().skip(1) {
             self.receiver.data(sender, &self.pool, *piece)?;
         }

@@ -40,27 +40,47 @@ impl Receiver {
         })
     }
 
-    /// The PDU that was written comes. Whether its transaction was admitted.
-    fn hear(&mut self) -> Result<bool, Fault> {
+    /// The PDU that was written comes. Returns the reply.
+    fn hear(&mut self) -> Result<Reply, Fault> {
         match self.entity.receive(self.alloc, &self.pdu) {
-            Ok((_, reply)) => {
+            Ok((id, reply)) => {
+                self.digest.add(id.source);
+                self.digest.add(id.number);
                 self.digest.add_reply(&reply);
-                Ok(matches!(reply, Reply::Admitted(..)))
+                Ok(reply)
             }
             Err(fault) => Err(Fault::from(fault)),
         }
     }
 
-    /// The Metadata PDU comes. Whether the transaction is admitted.
+    /// The Metadata PDU comes. Returns the reply.
     pub fn begin(
         &mut self,
         sender: Sender,
         size: u32,
         destination: &[u8],
         list: &List,
-    ) -> Result<bool, Fault> {
+    ) -> Result<Reply, Fault> {
         sender.metadata(&mut self.pdu, size, destination, list)?;
         self.hear()
+    }
+
+    /// The Metadata PDU comes of a transaction that is made to be admitted.
+    ///
+    /// # Errors
+    ///
+    /// [`Fault::Verdict`] if it is not admitted.
+    pub fn admit(
+        &mut self,
+        sender: Sender,
+        size: u32,
+        destination: &[u8],
+        list: &List,
+    ) -> Result<(), Fault> {
+        match self.begin(sender, size, destination, list)? {
+            Reply::Admitted(..) => Ok(()),
+            _ => Err(Fault::Verdict),
+        }
     }
 
     /// File data comes.
@@ -110,10 +130,9 @@ impl Receiver {
 
     /// A whole transaction: a list without a file.
     pub fn list(&mut self, sender: Sender, list: &List) -> Result<(), Fault> {
-        if self.begin(sender, 0, b"", list)? {
-            self.end(sender, 0, 0)?;
-            self.run();
-        }
+        self.admit(sender, 0, b"", list)?;
+        self.end(sender, 0, 0)?;
+        self.run();
         self.take(sender.id())
     }
 
@@ -127,13 +146,12 @@ impl Receiver {
         list: &List,
     ) -> Result<(), Fault> {
         let size = size_of(pieces);
-        if self.begin(sender, size, destination, list)? {
-            for piece in pieces {
-                self.data(sender, pool, *piece)?;
-            }
-            self.end(sender, pool.checksum(pieces), size)?;
-            self.run();
+        self.admit(sender, size, destination, list)?;
+        for piece in pieces {
+            self.data(sender, pool, *piece)?;
         }
+        self.end(sender, pool.checksum(pieces), size)?;
+        self.run();
         self.take(sender.id())
     }
 }

@@ -123,7 +123,7 @@ impl Tree {
         list.one(Action::RemoveDirectory, &self.first)
     }
 
-    /// Adds requests that are all successful, so that about `target` files are there after them.
+    /// Adds `count` requests that are all successful, so that about `target` files are there after them.
     pub fn mixed(
         &mut self,
         random: &mut Random,
@@ -150,7 +150,7 @@ impl Tree {
                     self.two(list, Action::AppendFile, last.wrapping_sub(1), last)?;
                 }
                 17 if self.count() > target => self.delete(list, Action::DenyFile)?,
-                18 => self.directory_for_a_while(list)?,
+                18 if list.count.saturating_add(2) <= count => self.directory_for_a_while(list)?,
                 19 => {
                     self.spell_spare()?;
                     list.one(Action::DenyDirectory, &self.first)?;
