@@ -5,66 +5,102 @@ use cfdp_status::{Action, Status};
 use std::alloc::Global;
 use std::process::Abort;
 
-/// A request for an action on one name.
-struct Asked {
+/// A request, in octets and in parts.
+struct RequestRow {
     name: &'static str,
     tlv: &'static [u8],
     action: Action,
     first: &'static [u8],
+    second: Option<&'static [u8]>,
 }
 
-static ASKED: [Asked; 3] = [
-    Asked {
+static REQUESTS: [RequestRow; 4] = [
+    RequestRow {
         name: "create file a",
         tlv: b"\x00\x03\x00\x01a",
         action: Action::CreateFile,
         first: b"a",
+        second: None,
     },
-    Asked {
+    RequestRow {
         name: "create file /a",
         tlv: b"\x00\x04\x00\x02/a",
         action: Action::CreateFile,
         first: b"/a",
+        second: None,
     },
-    Asked {
+    RequestRow {
         name: "delete file a",
         tlv: b"\x00\x03\x10\x01a",
         action: Action::DeleteFile,
         first: b"a",
+        second: None,
+    },
+    RequestRow {
+        name: "rename a to b",
+        tlv: b"\x00\x05\x20\x01a\x01b",
+        action: Action::RenameFile,
+        first: b"a",
+        second: Some(b"b"),
     },
 ];
 
-/// A response with a status, one name and no message.
-struct Told {
+/// A response without a message, in octets and in parts.
+struct ResponseRow {
     name: &'static str,
     tlv: &'static [u8],
     status: Status,
     first: &'static [u8],
+    second: Option<&'static [u8]>,
 }
 
-static TOLD: [Told; 3] = [
-    Told {
+static RESPONSES: [ResponseRow; 6] = [
+    ResponseRow {
         name: "file a was created",
         tlv: b"\x01\x04\x00\x01a\x00",
         status: Status::Successful(Action::CreateFile),
         first: b"a",
+        second: None,
     },
-    Told {
+    ResponseRow {
         name: "file /a was created",
         tlv: b"\x01\x05\x00\x02/a\x00",
         status: Status::Successful(Action::CreateFile),
         first: b"/a",
+        second: None,
     },
-    Told {
+    ResponseRow {
         name: "file a was deleted",
         tlv: b"\x01\x04\x10\x01a\x00",
         status: Status::Successful(Action::DeleteFile),
         first: b"a",
+        second: None,
+    },
+    ResponseRow {
+        name: "file a was not created",
+        tlv: b"\x01\x04\x0f\x01a\x00",
+        status: Status::NotPerformed(Action::CreateFile),
+        first: b"a",
+        second: None,
+    },
+    ResponseRow {
+        name: "file a was not renamed to b",
+        tlv: b"\x01\x06\x2f\x01a\x01b\x00",
+        status: Status::NotPerformed(Action::RenameFile),
+        first: b"a",
+        second: Some(b"b"),
+    },
+    ResponseRow {
+        name: "file a was not deleted",
+        tlv: b"\x01\x04\x1f\x01a\x00",
+        status: Status::NotPerformed(Action::DeleteFile),
+        first: b"a",
+        second: None,
     },
 ];
 
 /// The request is read as the row says, and written as it was.
-fn is_asked(rt: &impl Abort, alloc: Global, row: &Asked) -> Result<(), TlvFault> {
+fn is_request(rt: &impl Abort, alloc: Global, row: &RequestRow) -> Result<(), TlvFault> {
     let name = row.name;
     let field = read_tlv(row.tlv)?;
     assert!(rt;
@@ -74,7 +110,7 @@ fn is_asked(rt: &impl Abort, alloc: Global, row: &Asked) -> Result<(), TlvFault>
     let request = read_request(alloc, field.value)?;
     assert!(rt; request.action() == row.action, "action: {name}");
     assert!(rt;
-        request.first() == row.first && request.second().is_none(),
+        request.first() == row.first && request.second() == row.second,
         "names: {name}"
     );
     let mut out = Vec::new(alloc);
@@ -84,7 +120,7 @@ fn is_asked(rt: &impl Abort, alloc: Global, row: &Asked) -> Result<(), TlvFault>
 }
 
 /// The response is read as the row says, and written as it was.
-fn is_told(rt: &impl Abort, alloc: Global, row: &Told) -> Result<(), TlvFault> {
+fn is_response(rt: &impl Abort, alloc: Global, row: &ResponseRow) -> Result<(), TlvFault> {
     let name = row.name;
     let field = read_tlv(row.tlv)?;
     assert!(rt;
@@ -94,7 +130,7 @@ fn is_told(rt: &impl Abort, alloc: Global, row: &Told) -> Result<(), TlvFault> {
     let response = read_response(alloc, field.value)?;
     assert!(rt; response.status() == row.status, "status: {name}");
     assert!(rt;
-        response.first() == row.first && response.second().is_none(),
+        response.first() == row.first && response.second() == row.second,
         "names: {name}"
     );
     assert!(rt; response.message().is_empty(), "message: {name}");
@@ -106,11 +142,11 @@ fn is_told(rt: &impl Abort, alloc: Global, row: &Told) -> Result<(), TlvFault> {
 
 #[test]
 fn ample(rt: HostRuntime) -> Result<(), TlvFault> {
-    for row in &ASKED {
-        is_asked(&rt, rt.alloc(), row)?;
+    for row in &REQUESTS {
+        is_request(&rt, rt.alloc(), row)?;
     }
-    for row in &TOLD {
-        is_told(&rt, rt.alloc(), row)?;
+    for row in &RESPONSES {
+        is_response(&rt, rt.alloc(), row)?;
     }
     Ok(())
 }

@@ -129,6 +129,16 @@ fn checksum_of<S: Filestore>(store: &S, path: &Path) -> Option<u32> {
     }
 }
 
+/// The modular checksum of octets, one after another (CCSDS 727.0-B-5 §4.2.2): each is the most significant octet of its word,
+/// or 1, 2 or 3 octets after that.
+fn sum_of(octets: &[u8]) -> u32 {
+    let mut sum = 0_u32;
+    for (octet, shift) in octets.iter().zip([24, 16, 8, 0].into_iter().cycle()) {
+        sum = sum.wrapping_add(u32::from(*octet) << shift);
+    }
+    sum
+}
+
 /// Whether a file has its checksum.
 fn is_summed<S: Filestore>(alloc: Global, store: &S, row: &Stands<'_>) -> Result<bool, Memory> {
     let (octets, kind, _size, sum) = row;
@@ -154,4 +164,47 @@ fn each_store_sums_its_files(rt: HostRuntime) -> Result<(), Memory> {
     let alloc = rt.alloc();
     sum_all(&rt, alloc, &mut ListStore::new(alloc, BLOCKS)?)?;
     sum_all(&rt, alloc, &mut TreeStore::new(alloc, BLOCKS)?)
+}
+
+/// Lengths of files at the ends of words and of blocks.
+static LENGTHS: [usize; 12] = [0, 1, 2, 3, 4, 5, 119, 120, 121, 122, 240, 1_001];
+
+/// Octets of which no two neighbours are equal.
+fn octets_of(alloc: Global, length: usize) -> Result<Vec<u8>, Memory> {
+    let mut octets = Vec::with_capacity(alloc, length)?;
+    for index in 0..length {
+        octets.push((index % 251) as u8)?;
+    }
+    Ok(octets)
+}
+
+/// Writes a file into a store: its checksum is the sum over what was written.
+fn sum_written<S: Filestore>(
+    rt: &impl Abort,
+    alloc: Global,
+    store: &mut S,
+    octets: &[u8],
+) -> Result<(), Memory> {
+    let blocks = octets.len().div_ceil(120) as u32;
+    let free = BLOCKS.saturating_sub(blocks);
+    let steps = [
+        Step::Takes(Asked::Extend(0, octets.len() as u64), blocks, free),
+        Step::Puts(0, 0, octets),
+        Step::Takes(Asked::Install(0, b"sum"), 1, free.saturating_sub(1)),
+    ];
+    take(rt, alloc, store, &Protected::new(), "written", &steps)?;
+    let path = parsed(alloc, b"sum")?;
+    assert!(rt; checksum_of(store, &path) == Some(sum_of(octets)), "{} octets", octets.len());
+    Ok(())
+}
+
+#[test]
+fn each_store_sums_what_was_written(rt: HostRuntime) -> Result<(), Memory> {
+    let alloc = rt.alloc();
+    for length in &LENGTHS {
+        let octets = octets_of(alloc, *length)?;
+        sum_written(&rt, alloc, &mut ListStore::new(alloc, BLOCKS)?, &octets)?;
+        sum_written(&rt, alloc, &mut TreeStore::new(alloc, BLOCKS)?, &octets)?;
+    }
+    Ok(())
 }
