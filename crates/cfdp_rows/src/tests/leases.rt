@@ -1,5 +1,6 @@
 //! Worked leases and footprints, and grants for which there is no memory.
 
+mod one_hash;
 mod plain;
 
 use super::scene::{hold, path_of};
