@@ -3,7 +3,8 @@
 --     unwritten, holds_unwritten   a row was lent, and is as it was: of the map;  of both maps
 --     under_changed, other_changed      one path has another row: under its hash, or among the others
 --     under_written, under_removed      the path's own row under its hash has other holders, or is gone
---     under_is, under_there, other_is, other_there, other_none, free_none      what is found tells of the holders, and the other way round
+--     under_is, under_there, other_is, other_there, other_none, free_none      which holders a row that is found has, and which path has no row
+--     hash_here, hashes_kept       the rows are under the hashes of their paths
 --     other_apart, other_absent    when a path is not the one under its hash
 --     under_once                   a path under its hash is not among the others
 --     when-..                      a holder more, at one path and at a path more
@@ -35,7 +36,7 @@ use Rattle.cfdp_leases.specs.declared.leased_paths.Row.{Row}
 use Rattle.cfdp_leases.specs.declared.leased_paths.LeasedPaths.{LeasedPaths}
 use Rattle.cfdp_leases.specs.Footprint.{PathSet, Footprint, leased}
 use Rattle.cfdp_paths.specs.Hashes.{hash_of}
-use Rattle.cfdp_leases.specs.Holders.{AreFree, Holds, HoldsSome, IsOther, holders_in, others, own_row, row_of, under_hash, unless_none, when}
+use Rattle.cfdp_leases.specs.Holders.{AreFree, HasHash, Holds, HoldsSome, IsOther, holders_in, others, own_row, row_of, under_hash, unless_none, when}
 use Rattle.cfdp_leases.proofs.Apart.{or_both}
 use Rattle.cfdp_leases.proofs.Sets.{path_cmp_total, same_path-itself, Contains_from_stands, stands_from_Contains, stands}
 
@@ -101,8 +102,13 @@ own_apart : (r : Option Row) (k q : Path) → IsOf k r → same_path k q ≡ fal
 own_apart None k q of apart = refl
 own_apart (Some row) k q of apart = ap (λ b. cond b (Some row.holders) None) (ap (λ p. same_path p q) of ∙ apart)
 
+-- a path's row is under the path's hash
+hash_here : (r : Option Row) (k : Path) (h : ℕ) → hash_of k ≡ h → IsOf k r → HasHash h r
+hash_here None k h hash of = tt
+hash_here (Some row) k h hash of = ap hash_of of ∙ hash
+
 pub holds_same : (paths : LeasedPaths) (holders now : Path → List Holder) → ((p : Path) → holders p ≡ now p) → Holds paths holders → Holds paths now
-holds_same paths holders now same held = record { rows = λ p. held.rows p ∙ ap unless_none (same p); once = held.once }
+holds_same paths holders now same held = record { rows = λ p. held.rows p ∙ ap unless_none (same p); once = held.once; hashes = held.hashes }
 
 -- the row under the path's hash is another path's, or there is none
 module _ (paths : LeasedPaths) (k : Path) (h : ℕ) (hash : h ≡ hash_of k) where
@@ -158,10 +164,14 @@ unwritten f g h x update found q =
 abbrev HoldsAt : LeasedPaths → (Path → List Holder) → Path → Type 0
 HoldsAt paths holders p = (option_map holders_in (row_of paths p) ≡ unless_none (holders p)) × (IsSome (under_hash paths p) → get path_cmp paths.others p ≡ None)
 
-holds_each : (paths : LeasedPaths) (holders : Path → List Holder) → ((p : Path) → HoldsAt paths holders p) → Holds paths holders
-holds_each paths holders at = record { rows = λ p. (at p).0; once = λ p. (at p).1 }
+holds_each : (paths : LeasedPaths) (holders : Path → List Holder) → ((h : ℕ) → HasHash h (get nat_cmp paths.rows h)) → ((p : Path) → HoldsAt paths holders p) → Holds paths holders
+holds_each paths holders hashes at = record { rows = λ p. (at p).0; once = λ p. (at p).1; hashes = hashes }
 
 module _ (old new : LeasedPaths) (holders : Path → List Holder) (held : Holds old holders) where
+  -- the rows under hashes are the same
+  hashes_kept : ((h : ℕ) → get nat_cmp new.rows h ≡ get nat_cmp old.rows h) → (h : ℕ) → HasHash h (get nat_cmp new.rows h)
+  hashes_kept rows h = subst (HasHash h) (sym (rows h)) (held.hashes h)
+
   -- both maps have the same rows
   pub holds_kept : ((h : ℕ) → get nat_cmp new.rows h ≡ get nat_cmp old.rows h) → ((p : Path) → get path_cmp new.others p ≡ get path_cmp old.others p) → Holds new holders
   holds_kept rows others =
@@ -169,6 +179,7 @@ module _ (old new : LeasedPaths) (holders : Path → List Holder) (held : Holds 
       record {
         rows = λ p. (λ i. option_map holders_in (option_or (under p i) (others p i))) ∙ held.rows p;
         once = λ p some. others p ∙ held.once p (sym (ap is_some (under p)) ∙ some);
+        hashes = hashes_kept rows;
       }
 
   -- a row was lent, and is as it was
@@ -188,7 +199,7 @@ module _ (old new : LeasedPaths) (holders : Path → List Holder) (held : Holds 
         → ((p : Path) → get path_cmp new.others p ≡ get path_cmp old.others p) → IsOf k (get nat_cmp old.rows h) → IsOf k w → get path_cmp old.others k ≡ None
         → option_map holders_in (option_map (λ row. row.holders) w) ≡ unless_none (now k) → Holds new now
     under_changed h hash w rows others before after none row =
-        holds_each new now (λ q. elim (cases_Bool (same_path k q)) [
+        holds_each new now hashes (λ q. elim (cases_Bool (same_path k q)) [
           | inl here ↦ subst (HoldsAt new now) ((same_path-Decides k q).0 here) own
           | inr apart ↦ apart_same q apart (elsewhere q apart) (others q)
         ])
@@ -200,6 +211,15 @@ module _ (old new : LeasedPaths) (holders : Path → List Holder) (held : Holds 
             (ap (get nat_cmp new.rows) (sym hash) ∙ rows h ∙ ap (λ o. cond (is_eq o) w (get nat_cmp old.rows h)) (tied_itself nat_cmp_total h)) ∙ own_here w k after in
             let gone : get path_cmp new.others k ≡ None = others k ∙ none in
             ((λ i. option_map holders_in (option_or (under i) (gone i))) ∙ ap (option_map holders_in) (or_none (option_map (λ r. r.holders) w)) ∙ row, λ some. gone)
+
+        hashes : (q : ℕ) → HasHash q (get nat_cmp new.rows q)
+        hashes q =
+            elim (cases_Bool (is_eq (nat_cmp h q))) [
+              | inl tie ↦
+                  subst (HasHash q) (sym (rows q ∙ ap (λ b. cond b w (get nat_cmp old.rows q)) tie))
+                  (hash_here w k q (sym hash ∙ nat_cmp-IsAntisymmetric h q (equal (nat_cmp h q) tie)) after)
+              | inr differs ↦ subst (HasHash q) (sym (rows q ∙ ap (λ b. cond b w (get nat_cmp old.rows q)) differs)) (held.hashes q)
+            ]
 
         elsewhere : (q : Path) → same_path k q ≡ false → under_hash new q ≡ under_hash old q
         elsewhere q apart =
@@ -216,7 +236,7 @@ module _ (old new : LeasedPaths) (holders : Path → List Holder) (held : Holds 
         → ((p : Path) → get path_cmp new.others p ≡ cond (is_eq (path_cmp k p)) w (get path_cmp old.others p)) → IsOther old k
         → option_map holders_in w ≡ unless_none (now k) → Holds new now
     other_changed w rows others other row =
-        holds_each new now (λ q. elim (cases_Bool (same_path k q)) [
+        holds_each new now (hashes_kept rows) (λ q. elim (cases_Bool (same_path k q)) [
           | inl here ↦ subst (HoldsAt new now) ((same_path-Decides k q).0 here) own
           | inr apart ↦ apart_same q apart (under q) (others q ∙ ap (λ b. cond b w (get path_cmp old.others q)) apart)
         ])
@@ -257,7 +277,7 @@ when_either true false h apart = refl
 when_either false true h apart = refl
 when_either false false h apart = refl
 
--- a path that stands before another one in strict order is not that one
+-- a path that comes before another one in strict order is not that one
 before_apart : (xs : List Path) (i : ℕ) (x p : Path) → IsStrictlySortedBy path_cmp xs → i < length xs → x ≡ get_or xs i x → stands p (take i xs) → same_path p x ≡ false
 before_apart xs i x p sorted within read before =
     let found = Contains_from_stands p (take i xs) before in

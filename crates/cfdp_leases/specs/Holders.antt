@@ -7,10 +7,11 @@
 --     own_row row p             the holders that a row has, where it is the path's
 --     under_hash paths p        those that the row under the path's hash has, where it is the path's;  IsOther paths p: it is not
 --     row_of paths p            the holders of a path: of its own row, else by the map of the other paths
---     Holds paths holders       at each path there are these holders, and no row where there are none
+--     HasHash hash row          the row's path, if there is a row, has this hash
+--     Holds paths holders       the two maps have exactly these holders: each path's, and no row more
 --     AreFree at holders        nobody holds a path of the test;  AreOwn id at holders: nobody but the transaction does
 --     HoldsSome id at holders paths      these holders, and of the transaction whichever, where `at` is true
-use Rattle.std.specs.Prelude.{◌≡◌, Bool, true, false, not, if◌then◌else◌, List, [], ◌∷◌, ◌++◌, Option, Some, None, filter, flat_map, IsSome}
+use Rattle.std.specs.Prelude.{◌≡◌, ℕ, Bool, true, false, not, if◌then◌else◌, List, [], ◌∷◌, ◌++◌, Option, Some, None, filter, flat_map, IsSome}
 use Rattle.std.specs.Option.{option_map, option_or}
 use Rattle.std.specs.Ordering.{nat_cmp}
 use Rattle.std.specs.FinSet as set
@@ -65,11 +66,17 @@ IsOther paths p = under_hash paths p ≡ None
 abbrev pub row_of : LeasedPaths → Path → Option Holders
 row_of paths p = option_or (under_hash paths p) (get path_cmp paths.others p)
 
--- each path has the holders that the function says, and no row where it says none; and no path is both under its hash and
--- among the others
+-- a row under a hash has a path of that hash
+abbrev pub HasHash : ℕ → Option Row → Type 0
+HasHash hash None = Unit {0}
+HasHash hash (Some row) = hash_of row.path ≡ hash
+
+-- Each path has the holders that the function says, and no row if it says none. No path is both under its hash and among
+-- the others. Each row is under the hash of its path, so the first clause speaks of every row.
 pub record Holds (paths : LeasedPaths) (holders : Path → List Holder) : Type 0 where
   pub rows : (p : Path) → option_map holders_in (row_of paths p) ≡ unless_none (holders p)
   pub once : (p : Path) → IsSome (under_hash paths p) → get path_cmp paths.others p ≡ None
+  pub hashes : (hash : ℕ) → HasHash hash (get nat_cmp paths.rows hash)
 
 -- nobody holds a path at which the test is true
 abbrev pub AreFree : (Path → Bool) → (Path → List Holder) → Type 0
