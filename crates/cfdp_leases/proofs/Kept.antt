@@ -2,15 +2,18 @@
 --     grants-push, footprints-push      one live transaction more
 --     found_kept, elsewhere        the footprint of a transaction, and that those of others are under other keys
 --     grants-filter, footprints-filter      one live transaction less
+--     own_key                      a transaction has one key in the list
+--     others-push, others-filter   the slab has no other footprints, with one live transaction more, and with one less
 --     place-live, length-live, transaction-live      places in the list are places among the grants
 --     kept_same, kept_admitted, kept_released      what is kept, after each change
-use Rattle.std.proofs.Common.{◌≡◌, ◌≢◌, refl, sym, ◌∙◌, ap, subst, ℕ, Bool, false, cond, not, inl, inr, List, [], ◌∷◌, ◌++◌, length, arith, Option, Some, None, is_some}
+use Rattle.std.proofs.Common.{◌≡◌, ◌≢◌, refl, sym, ◌∙◌, ap, subst, ℕ, Bool, true, false, cond, not, ◌||◌, ◌==◌, inl, inr, List, [], ◌∷◌, ◌++◌, length, arith, Option, Some, None, is_some}
 use Rattle.std.specs.Prelude.{find, filter, slice_get, unwrap_or, IsSome}
 use Rattle.std.specs.FinSet as set
 use Rattle.std.specs.Option.{option_map}
-use Rattle.std.specs.List.{prefix_len, AllByRecursion}
-use Rattle.std.proofs.lemmas.Bool.{cases_Bool, true≢false}
+use Rattle.std.specs.List.{list_any, prefix_len, AllByRecursion}
+use Rattle.std.proofs.lemmas.Bool.{cases_Bool, eq-eqb, eqb-true, true≢false}
 use Rattle.std.proofs.lemmas.List.{map-append, append-nil}
+use Rattle.std.proofs.lemmas.List.Folds.{list_any-append}
 use Rattle.std.proofs.lemmas.Grind.{flat_map-append}
 use Rattle.std.proofs.lemmas.Option.{slice_get-map}
 use Rattle.cfdp_leases.specs.declared.leased_paths.LeasedPaths.{LeasedPaths}
@@ -20,11 +23,12 @@ use Rattle.cfdp_leases.specs.declared.leases.Live.{Live}
 use Rattle.cfdp_leases.specs.Footprint.{Footprint, HasAncestors, leased, of_lists}
 use Rattle.cfdp_leases.specs.Holders.{Holds, holders_at, holders_of}
 use Rattle.cfdp_leases.specs.Leases.{AreApart, first_conflict, holds, is_same, without}
-use Rattle.cfdp_leases.specs.Live.{AreKept, HaveFootprints, footprint_at, grants_of}
-use Rattle.cfdp_leases.proofs.Apart.{all_filter, apart_push, apart_filter}
+use Rattle.cfdp_leases.specs.Live.{AreKept, HasNoOthers, HaveFootprints, footprint_at, grants_of}
+use Rattle.cfdp_leases.proofs.Apart.{all_filter, apart_push, apart_filter, or_both}
 use Rattle.cfdp_leases.proofs.Held.{holds_same, left}
+use Rattle.cfdp_leases.proofs.Sets.{or_left, or_right}
 use Rattle.cfdp_leases.proofs.Views.{find-map, option_map-map}
-use Rattle.cfdp_leases.proofs.Admitted.{place_in, released}
+use Rattle.cfdp_leases.proofs.Admitted.{place_in, released, same_is}
 use Rattle.cfdp_leases.proofs.Places.{prefix_len-map}
 
 some_is : {X : Type 0} (a b : X) → Some a ≡ Some b → a ≡ b
@@ -125,6 +129,67 @@ footprints-filter s t key id (m ∷ live) kept update all =
           (ap is_some (update.others m.key (all.0 fails)) ∙ kept.0, all_filter (λ n. n.key ≢ m.key) (λ n. not (is_same n.transaction id)) live kept.1, rest)
     ]
 
+-- ---- no other footprints
+
+pub others-push : (s t : Slab Footprint) (new : Live) (fp : Footprint) (live : List Live) → HasNoOthers s live → Updates s t new.key (Some fp) → HasNoOthers t (live ++ new ∷ [])
+others-push s t new fp live only update key some =
+    list_any-append (λ l. l.key == key) live (new ∷ [])
+    ∙ elim (cases_Bool (new.key == key)) [
+      | inl here ↦ or_right (list_any (λ l. l.key == key) live) (new.key == key || false) (or_left (new.key == key) false here)
+      | inr apart ↦
+          let other : key ≢ new.key = λ same. true≢false (sym (eq-eqb new.key key (sym same)) ∙ apart) in
+          or_left (list_any (λ l. l.key == key) live) (new.key == key || false) (only key (ap is_some (sym (update.others key other)) ∙ some))
+    ]
+
+-- a transaction that is none of the live ones has no key
+no_key : (s : Slab Footprint) (id : TransactionId) (key : ℕ) (live : List Live) → holds (grants_of s live) id ≡ false
+    → AllByRecursion (λ m. is_same m.transaction id ≡ true → m.key ≡ key) live
+no_key s id key [] none = tt
+no_key s id key (m ∷ live) none =
+    let parts = or_both (is_same m.transaction id) (holds (grants_of s live) id) none in
+    ((λ same. absurd (true≢false (sym same ∙ parts.0))), no_key s id key live parts.1)
+
+pub own_key : (s : Slab Footprint) (id : TransactionId) (live : List Live) (l : Live) → AreApart (grants_of s live) → find (λ m. is_same m.transaction id) live ≡ Some l
+    → AllByRecursion (λ m. is_same m.transaction id ≡ true → m.key ≡ l.key) live
+own_key s id [] l apart found = tt
+own_key s id (m ∷ live) l apart found =
+    elim (cases_Bool (is_same m.transaction id)) [
+      | inl passes ↦
+          let this : m ≡ l = some_is m l (sym (ap (λ b. cond b (Some m) (find (λ n. is_same n.transaction id) live)) passes) ∙ found) in
+          ((λ _. ap (λ n. n.key) this), no_key s id l.key live (subst (λ i. holds (grants_of s live) i ≡ false) (same_is m.transaction id passes) apart.0.names))
+      | inr fails ↦
+          ((λ passes. absurd (true≢false (sym passes ∙ fails))), own_key s id live l apart.1 (sym (ap (λ b. cond b (Some m) (find (λ n. is_same n.transaction id) live)) fails) ∙ found))
+    ]
+
+-- another key stays in the list
+key_stays : (id : TransactionId) (gone key : ℕ) (live : List Live) → key ≢ gone → AllByRecursion (λ m. is_same m.transaction id ≡ true → m.key ≡ gone) live
+    → list_any (λ m. m.key == key) live ≡ true → list_any (λ m. m.key == key) (filter (λ m. not (is_same m.transaction id)) live) ≡ true
+key_stays id gone key [] other own there = there
+key_stays id gone key (m ∷ live) other own there =
+    let rest = filter (λ n. not (is_same n.transaction id)) live in
+    elim (cases_Bool (m.key == key)) [
+      | inl here ↦
+          let is : m.key ≡ key = eqb-true m.key key here in
+          elim (cases_Bool (is_same m.transaction id)) [
+            | inl passes ↦ absurd (other (sym is ∙ own.0 passes))
+            | inr fails ↦
+                ap (λ b. list_any (λ n. n.key == key) (cond (not b) (m ∷ rest) rest)) fails
+                ∙ or_left (m.key == key) (list_any (λ n. n.key == key) rest) here
+          ]
+      | inr apart ↦
+          let later = key_stays id gone key live other own.1 (sym (ap (λ b. b || list_any (λ n. n.key == key) live) apart) ∙ there) in
+          elim (not (is_same m.transaction id)) as (λ b. list_any (λ n. n.key == key) (cond b (m ∷ rest) rest) ≡ true) [
+            | true ↦ or_right (m.key == key) (list_any (λ n. n.key == key) rest) later
+            | false ↦ later
+          ]
+    ]
+
+pub others-filter : (s t : Slab Footprint) (key : ℕ) (id : TransactionId) (live : List Live) → HasNoOthers s live → Updates s t key None
+    → AllByRecursion (λ m. is_same m.transaction id ≡ true → m.key ≡ key) live → HasNoOthers t (filter (λ m. not (is_same m.transaction id)) live)
+others-filter s t gone id live only update own key some =
+    let other : key ≢ gone = λ same. true≢false (sym some ∙ ap (λ k. is_some (get t k)) same ∙ ap is_some update.changed) in
+    key_stays id gone key live other own (only key (ap is_some (sym (update.others key other)) ∙ some))
+
 -- ---- places among the live ones
 
 abbrev grant_of : Slab Footprint → Live → TransactionId × Footprint
@@ -159,6 +224,7 @@ kept_same s t live now before paths same lists kept rows =
     (let grants = grants-same s t live same in
     record {
       kept = footprints-same s t live same kept.kept;
+      no_others = λ key some. kept.no_others key (ap is_some (sym (same key)) ∙ some);
       rooted = subst (AllByRecursion (λ g. HasAncestors g.1)) grants kept.rooted;
       apart = subst AreApart grants kept.apart;
       rows = subst (λ gs. Holds paths (holders_at gs)) grants rows;
@@ -178,6 +244,7 @@ kept_admitted s t live new fp before paths kept none update ancestors free unhel
     let grants = sym (grants_admitted s t live new fp kept.kept none update) in
     record {
       kept = footprints-push s t new fp live kept.kept none update;
+      no_others = others-push s t new fp live kept.no_others update;
       rooted = subst (AllByRecursion (λ g. HasAncestors g.1)) grants (all_push (λ g. HasAncestors g.1) gs (new.transaction, fp) kept.rooted ancestors);
       apart = subst AreApart grants (apart_push gs (new.transaction, fp) kept.apart free unheld);
       rows = subst (λ ks. Holds paths (holders_at ks)) grants
@@ -224,6 +291,7 @@ kept_released s t live id l fp before paths kept found has update rows =
     let there = grant_there s live id l fp found has in
     record {
       kept = footprints-filter s t l.key id live kept.kept update apart_keys;
+      no_others = others-filter s t l.key id live kept.no_others update (own_key s id live l kept.apart found);
       rooted = subst (AllByRecursion (λ g. HasAncestors g.1)) grants (all_filter (λ g. HasAncestors g.1) (λ g. not (is_same g.0 id)) gs kept.rooted);
       apart = subst AreApart grants (apart_filter (λ g. not (is_same g.0 id)) gs kept.apart);
       rows = subst (λ ks. Holds paths (holders_at ks)) grants
