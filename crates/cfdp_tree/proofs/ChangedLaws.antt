@@ -105,7 +105,7 @@ module _ (arena later : Blocks) (heads after : Heads) (root end : Head) (slots :
       let s = get_or slots j d in
       let at : get_or staged j no_contents ≡ s.contents = mapped_at (λ (slot : Slot). slot.contents) slots j s no_contents within (get_or_default slots j d s within) in
       let stays = subst (λ (x : Contents). Stays arena later x.run) at (lists j) in
-      slot_stays arena later s stays (store.placed j d within)
+      slot_stays arena later s stays long (store.placed j d within)
 
   pub nodes_store : free_count later + blocks seen ≡ length later → IsStore later after end slots
   nodes_store counted = record {

@@ -247,7 +247,7 @@ module _ (arena : Blocks) (heads : Heads) (root : Head) (slots : List Slot) (sto
       get_or_append_left staged (map file_in nodes) no_contents j inside ∙ mapped_at (λ (slot : Slot). slot.contents) slots j s no_contents within (get_or_default slots j d s within) in
       let was_filled = subst (IsFilled arena) at (store.kept.stored.filled j) in
       let stays = runs s.contents.run was_filled.held in
-      slot_stays arena later s stays (store.placed j d within)
+      slot_stays arena later s stays long (store.placed j d within)
 
   placed_now : All (IsPlaced later) slots_now
   placed_now j d within = elim (cases_eq j i) [

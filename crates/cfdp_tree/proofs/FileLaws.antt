@@ -1,9 +1,9 @@
 -- The octets of one file change.
---     same_filled, same_contents, same_apart     octets that stand in the same blocks
---     all_maps          two maps over a list that are the same at each place
---     kind_there, file_there, held_here, file_filled, in_held     what stands at the path of a file, and its octets
+--     same_filled, same_contents, same_apart     octets that are in the same blocks
+--     all_maps          two maps over a list that are the same at each index
+--     kind_there, file_there, held_here, file_filled, in_held     what is at the path of a file, and its octets
 --     held_other        the octets of another node
---     told_written      the row that was written tells the octets
+--     told_written      the row that was written says which octets the file has
 --     written_seen, written_store      its block is written, and the slots may be others: what is seen, and it is a store
 --     file_store, file_changes         its octets are others, and then its block says so
 use Rattle.std.proofs.Common.{◌≡◌, ◌≢◌, ℕ, suc, ◌+◌, ◌<◌, Bool, true, false, cond, List, [], ◌∷◌, ◌++◌, length, map, set, get_or, Option, Some, None, refl, sym, ap, ◌∙◌, subst, inl, inr, arith}
@@ -47,7 +47,7 @@ use Rattle.cfdp_tree.proofs.SlotLaws.{told_same}
 use Rattle.cfdp_tree.proofs.FileRows.{file_kind, file_places, file_index, file_groups}
 use Rattle.cfdp_tree.proofs.FileRows as rows
 
--- octets that stand in the same blocks
+-- octets that are in the same blocks
 module _ (a b : Contents) (same : SameOctets a b) where
   same_is : 0 < b.run.count → a ≡ b
   same_is some = (λ k. record { run = record { first = same.first some k; last = same.last some k; count = same.count k }; size = same.size k })
@@ -141,7 +141,7 @@ module _ (arena : Blocks) (heads : Heads) (root : Head) (slots : List Slot) (sto
       shown_written : node_of later written ≡ File octets
       shown_written = ap (λ k. node_told later k (file_of written)) (file_kind nodes store.kept.tree b node kind_there written contents row name whole) ∙ ap File here
 
-      -- what stands at a path, and whether it is the file's
+      -- what is at a path, and whether it is the file's
       put : Bool → Option Node → Option Node
       put same else = cond same (Some (File octets)) else
 
@@ -310,7 +310,7 @@ module _ (arena : Blocks) (heads : Heads) (root : Head) (slots : List Slot) (sto
         let at : get_or held j no_contents ≡ s.contents = slot_at j inside ∙ mapped_at (λ (slot : Slot). slot.contents) slots j s no_contents within (get_or_default slots j d s within) in
         let stays = subst (λ (x : Contents). Stays arena later x.run) at
         (run_spared arena later held (length staged + b) in_held told store.kept.stored spares_held filled_told j (λ e. omega (arith, inside, e))).0 in
-        slot_stays arena later s stays (store.placed j d within)
+        slot_stays arena later s stays (long ∙ long_middle) (store.placed j d within)
 
     pub file_store : IsStore later heads root slots
     file_store = written_store later after written row_is name_is whole octets here node_stays nodes_is (long ∙ long_middle) slots now.filestore.staged lists_are refl

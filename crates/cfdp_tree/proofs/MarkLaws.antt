@@ -1,17 +1,18 @@
--- Marks in a run, and the place of a slot.
+-- Marks in a run, and the position of a slot.
 --     no_marks                  there are none yet
 --     marks_grown               the run has more blocks
---     place_small               the block of a place
---     tail_place                the last block's place
+--     place_small               the block at a position
+--     tail_place                the last block's position
+--     memory_stays              the marks of a filestore of as many blocks, in the memory that they had
 --     slot_starts, slot_stays   a slot that was given other contents, and one whose run stays
-use Rattle.std.proofs.Common.{◌≡◌, ℕ, ◌-◌, ◌*◌, ◌<◌, ◌≤◌, List, [], length, sym, ap, ◌∙◌, arith}
+use Rattle.std.proofs.Common.{◌≡◌, ℕ, ◌-◌, ◌*◌, ◌<◌, ◌≤◌, List, [], length, vec_capacity, sym, ap, ◌∙◌, arith}
 use Rattle.cfdp_arena.specs.Arena.{Blocks}
 use Rattle.cfdp_arena.proofs.Chains.{live_within}
 use Rattle.cfdp_tree.specs.declared.cursor.Cursor.{Cursor}
 use Rattle.cfdp_tree.specs.declared.runs.Run.{Run}
 use Rattle.cfdp_tree.specs.declared.slots.Slot.{Slot}
 use Rattle.cfdp_tree.specs.Runs.{nth, IsHeld, IsAt, Stays}
-use Rattle.cfdp_tree.specs.Marks.{IsMarked}
+use Rattle.cfdp_tree.specs.Marks.{IsMarked, most_marks}
 use Rattle.cfdp_tree.specs.Slots.{IsPlaced}
 use Rattle.cfdp_tree.proofs.HeldLaws.{held_part}
 
@@ -33,15 +34,20 @@ pub tail_place : (arena : Blocks) (run : Run) (cursor : Cursor) → IsHeld arena
 tail_place arena run cursor held some block index =
     (omega (arith, index), block ∙ held.last some ∙ ap (nth arena run.first) (sym index))
 
+pub memory_stays : (old new : Blocks) (was now : ℕ) → length new ≡ length old → now ≡ was → was ≡ most_marks (length old) → now ≡ most_marks (length new)
+memory_stays old new was now long same before = same ∙ before ∙ ap most_marks (sym long)
+
 pub slot_starts : (arena : Blocks) (slot : Slot) → slot.place.block ≡ slot.contents.run.first → slot.place.index ≡ 0
-    → slot.marks.numbers.items ≡ [] → IsPlaced arena slot
-slot_starts arena slot block index marks = record {
+    → slot.marks.numbers.items ≡ [] → vec_capacity slot.marks.numbers ≡ most_marks (length arena) → IsPlaced arena slot
+slot_starts arena slot block index marks memory = record {
   place = (omega (arith, index), block ∙ ap (nth arena slot.contents.run.first) (sym index));
   marked = no_marks arena slot.contents.run slot.marks.numbers.items marks;
+  memory = memory;
 }
 
-pub slot_stays : (old new : Blocks) (slot : Slot) → Stays old new slot.contents.run → IsPlaced old slot → IsPlaced new slot
-slot_stays old new slot stays was = record {
+pub slot_stays : (old new : Blocks) (slot : Slot) → Stays old new slot.contents.run → length new ≡ length old → IsPlaced old slot → IsPlaced new slot
+slot_stays old new slot stays long was = record {
   place = (was.place.0, was.place.1 ∙ sym (stays.places slot.place.index was.place.0));
   marked = (λ j known. (let mark = was.marked j known in (mark.0, mark.1 ∙ sym (stays.places (32 * j) (omega (arith, mark.0))))));
+  memory = was.memory ∙ ap most_marks (sym long);
 }

@@ -1,6 +1,6 @@
--- A store in which nothing stands.
+-- A store in which there is nothing.
 --     head_none, contents_none      what means nothing
---     filled_up                     a list that grows to so many of one thing
+--     filled_up                     a list that is filled up with one thing
 --     new_view, new_store           the store
 use Rattle.std.proofs.Common.{◌≡◌, ◌≢◌, ℕ, zero, suc, ◌-◌, ◌*◌, ◌<◌, ◌≤◌, true, List, [], ◌∷◌, ◌++◌, length, map, take, get_or, replicate, sum_by, Option, Some, None, refl, sym, ap, ◌∙◌, subst, inl, inr, arith}
 use Rattle.std.proofs.lemmas.List.{length-replicate, get_or-replicate, get_or_past, get_or-append_right, get_or_append_left}
@@ -24,6 +24,7 @@ use Rattle.cfdp_tree.specs.Index.{no_head, list_of, list_at, IsIndex}
 use Rattle.cfdp_tree.specs.Lists.{IsDouble}
 use Rattle.cfdp_tree.specs.Entries.{entry_after, entry_before, entries_at, IsPlace, IsMember, IsGrouped}
 use Rattle.cfdp_tree.specs.Kept.{no_contents, file_in, holdings, Shows, filestore_of, store_of, IsStored}
+use Rattle.cfdp_tree.specs.Marks.{most_marks}
 use Rattle.cfdp_tree.specs.Slots.{staged_in, IsPlaced, IsFresh, IsStore}
 use Rattle.cfdp_tree.proofs.ContentsLaws.{none_filled}
 use Rattle.cfdp_tree.proofs.MarkLaws.{slot_starts}
@@ -67,7 +68,7 @@ none_live zero = refl
 none_live (suc n) = none_live n
 
 module _ (n : ℕ) (some : 1 ≤ n) (few : n ≤ 65536) (heads : List Head) (root : Head) (head : Head) (heads_are : heads ≡ replicate n head) (head_is : head ≡ no_head) (root_is : root ≡ no_head)
-    (slots : List Slot) (many : length slots ≡ 64) (fresh : All IsFresh slots) where
+    (slots : List Slot) (many : length slots ≡ 64) (fresh : All (IsFresh n) slots) where
   abbrev arena : Blocks
   arena = all_free n
 
@@ -193,7 +194,7 @@ module _ (n : ℕ) (some : 1 ≤ n) (few : n ≤ 65536) (heads : List Head) (roo
   none_used = omega (arith, no_entries (finite.entries (finite.empty {X = Node} {R = path_cmp})) (sym (len-entries finite.empty) ∙ len-empty path_cmp Node), sum_by-replicate (λ (octets : List ℕ). blocks_of (length octets)) 64 [], no_blocks)
 
   placed : All (IsPlaced arena) slots
-  placed i d less = let slot = fresh i d less in slot_starts arena (get_or slots i d) slot.block slot.index slot.marks
+  placed i d less = let slot = fresh i d less in slot_starts arena (get_or slots i d) slot.block slot.index slot.marks (slot.memory ∙ ap most_marks (sym (length-replicate {A = Option (List ℕ)} n None)))
 
   pub new_store : IsStore arena heads root slots
   new_store = record {

@@ -1,6 +1,6 @@
 -- One slot changes.
 --     shows_later       other octets, but those that are shown are the same
---     set_maps          two maps over a list that differ at one place, which is set
+--     set_maps          two maps over a list that differ at one index, which is set
 --     slot_seen, slot_changes         the store that is seen then
 --     slot_store        it is a store
 use Rattle.std.proofs.Common.{◌≡◌, ◌≢◌, ℕ, zero, suc, ◌+◌, ◌<◌, List, [], ◌∷◌, ◌++◌, length, map, set, get_or, Option, Some, None, refl, sym, ap, ◌∙◌, subst, inl, inr, arith, length-set}
@@ -102,7 +102,7 @@ module _ (arena later : Blocks) (heads : Heads) (root : Head) (slots : List Slot
       let same = others (length staged + b) (λ e. omega (arith, there)) in
       told_same arena later (kind_told (row_of block).kind) (file_of block) (ap (contents_in later) (sym at) ∙ same ∙ ap (contents_in arena) at)
 
-  -- the same stands at each path
+  -- the same is at each path
   nodes_same : (filestore_of later (staged_in now)).nodes ≡ (filestore_of arena staged).nodes
   nodes_same =
       let tree = subst IsTree (sym nodes) store.kept.tree in
@@ -152,7 +152,7 @@ module _ (arena later : Blocks) (heads : Heads) (root : Head) (slots : List Slot
       get_or_append_left staged (map file_in (nodes_in arena)) no_contents j (omega (arith, length-map slots (λ (slot : Slot). slot.contents)))
       ∙ mapped_at (λ (slot : Slot). slot.contents) slots j s no_contents within (get_or_default slots j d s within) in
       let stays = subst (λ (x : Contents). Stays arena later x.run) at (spared_at j other) in
-      slot_stays arena later s stays (store.placed j d within)
+      slot_stays arena later s stays long (store.placed j d within)
 
   placed_now : All (IsPlaced later) now
   placed_now j d within = elim (cases_eq j i) [

@@ -1,4 +1,4 @@
-//! A node of the tree is made, written and given back.
+//! Makes a node of the tree, renames it and gives its block back.
 ghost use Rattle.std.specs.Prelude.{◌≡◌, ◌≢◌, ◌+◌, ◌<◌, ◌≤◌, Some, None, IfSome, length, unwrap_or};
 ghost use Rattle.cfdp_arena.specs.Arena.{octets_at, octets_of, free_count, with_block, without_block};
 ghost use Rattle.cfdp_tree.specs.Row.{plain_row};
@@ -6,7 +6,7 @@ ghost use Rattle.cfdp_tree.specs.Nodes.{nodes_in};
 ghost use Rattle.cfdp_tree.specs.Runs.{RunsStay};
 ghost use Rattle.cfdp_tree.specs.Tree.{IsNode, row_at, name_at, home};
 
-use crate::rows::{set_name, set_parent, set_size, write_node};
+use crate::rows::{set_name, set_parent, write_node};
 use crate::runs::take_block;
 use cfdp_actions::Kind;
 use cfdp_arena::{Arena, BlockId};
@@ -68,21 +68,6 @@ pub(crate) fn rename_node(
     let block = arena.bytes_mut(*node);
     set_parent(block, parent);
     set_name(block, name);
-}
-
-/// Says how many entries a directory has. In constant time.
-pub(crate) fn resize_node(arena: &mut Arena, node: &BlockId, size: u32)
-    requires node { IsNode (nodes_in arena.old) node.now }
-    ensures nodes { nodes_in arena.new
-        ≡ with_block (nodes_in arena.old) node.now (octets_of (nodes_in arena.new) node.now) }
-    ensures row { row_at (nodes_in arena.new) node.now ≡ record (row_at (nodes_in arena.old) node.now) { size = size } }
-    ensures name { name_at (nodes_in arena.new) node.now ≡ name_at (nodes_in arena.old) node.now }
-    ensures whole { length (octets_of (nodes_in arena.new) node.now) ≡ 128 }
-    ensures runs { RunsStay arena.old arena.new }
-    ensures free { free_count arena.new ≡ free_count arena.old }
-    ensures capacity { length arena.new ≡ length arena.old }
-{
-    set_size(arena.bytes_mut(*node), size);
 }
 
 /// Gives the block of a node back. In constant time.

@@ -1,5 +1,5 @@
-//! A staged list with the place of its last write and its marks.
-ghost use Rattle.std.specs.Prelude.{◌≡◌, ◌+◌, ◌<◌, ◌≤◌, [], IfOk, length, slice_range};
+//! A staged list with the position of its last write and its marks.
+ghost use Rattle.std.specs.Prelude.{◌≡◌, ◌+◌, ◌<◌, ◌≤◌, [], IfOk, length, slice_range, vec_capacity};
 ghost use Rattle.cfdp_arena.specs.Arena.{Blocks, free_count};
 ghost use Rattle.cfdp_actions.specs.Filestore.{blocks_of};
 ghost use Rattle.cfdp_actions.specs.Store.{extended, overwritten};
@@ -16,7 +16,7 @@ use cfdp_arena::Arena;
 use cfdp_paths::Memory;
 use std::alloc::Global;
 
-/// A staged list, the place of the block of it that was last written, and marks at each 32nd block of its run; in a
+/// A staged list, the position of its block that was last written, and marks at each 32nd block of its run; in a
 /// filestore of at most 256 blocks no marks.
 #[derive(Drop)]
 pub(crate) struct Slot {
@@ -26,13 +26,13 @@ pub(crate) struct Slot {
 }
 
 impl Slot {
-    /// An empty list, which can grow to this number of blocks. It takes all the memory that the slot ever has.
+    /// An empty list, which can grow to this number of blocks. Takes all the memory that the slot ever has.
     ///
     /// # Errors
     ///
     /// [`Memory`] when out of memory.
     pub(crate) fn new(alloc: Global, blocks: u32) -> Result<Slot, Memory>
-        ensures { IfOk result (λ slot. IsFresh slot) }
+        ensures { IfOk result (λ slot. IsFresh blocks slot) }
     {
         let contents = Contents::empty();
         Ok(Slot {
@@ -42,21 +42,22 @@ impl Slot {
         })
     }
 
-    /// Becomes a list of other contents, of whose blocks none is marked. In constant time.
+    /// Becomes a list of other contents, of whose blocks none is marked. The marks keep their memory. In constant time.
     pub(crate) fn hold(&mut self, contents: Contents)
         ensures contents { self.new.contents ≡ contents }
         ensures block { self.new.place.block ≡ contents.run.first }
         ensures index { self.new.place.index ≡ 0 }
         ensures marks { self.new.marks.numbers.items ≡ [] }
+        ensures memory { vec_capacity self.new.marks.numbers ≡ vec_capacity self.old.marks.numbers }
     {
         self.contents = contents;
         self.place = contents.run.start();
         self.marks.clear();
     }
 
-    /// Adds zeros at the end, up to the size, which is at most that of 65,536 blocks. Of the blocks that are taken it
-    /// marks each whose index is a multiple of 32, if the filestore has more than 256 blocks. In time linear in the
-    /// blocks that are taken.
+    /// Adds zeros at the end, up to the size, which is at most that of 65,536 blocks. Of the blocks that it takes it
+    /// marks each whose index is a multiple of 32, if the filestore has more than 256 blocks. Takes no memory but
+    /// blocks. In time linear in them.
     pub(crate) fn extend(&mut self, arena: &mut Arena, size: u32)
         requires filled { IsFilled arena.old self.old.contents }
         requires small { length arena.old ≤ 65536 }
@@ -109,8 +110,8 @@ impl Slot {
         }
     }
 
-    /// The place from which the search for an index begins: the last mark at or before it, or that of the last write,
-    /// if that is between the two. In constant time.
+    /// The position from which the search for an index begins: that of the last mark at or before it, or of the last
+    /// write, if that is between the two. In constant time.
     fn near(&self, index: u32) -> Cursor
         ensures place { (arena : Blocks) → IsPlaced arena self.now → IsAt arena self.now.contents.run result }
         ensures before { result.index ≤ index }
@@ -123,7 +124,7 @@ impl Slot {
         }
     }
 
-    /// Puts octets in the place of those from the offset `at` on. In time linear in the octets. In a list that has all
+    /// Overwrites the octets from the offset `at` on. In time linear in the octets. In a list that has all
     /// its marks, which is one that only `extend` made longer, at most 31 steps lead to the offset; in a filestore of
     /// at most 256 blocks, which has no marks, at most 255.
     pub(crate) fn put(&mut self, arena: &mut Arena, at: u32, octets: &[u8])

@@ -1,8 +1,8 @@
-//! Walks over what stands below a place.
+//! Walks over what is below a node.
 ghost use Rattle.std.specs.Prelude.{◌≡◌, ◌≤◌, ◌++◌, OnOk};
 ghost use Rattle.cfdp_tree.specs.Nodes.{nodes_in};
 ghost use Rattle.cfdp_tree.specs.Tree.{IsTree};
-ghost use Rattle.cfdp_tree.specs.Walk.{entries_in, chain_of, walks_at, walks_up_at, longest, StandAt, HasLists};
+ghost use Rattle.cfdp_tree.specs.Walk.{entries_in, chain_of, walks_at, walks_up_at, longest, is_newest_last_at, StandAt, HasLists};
 
 use crate::index::Head;
 use crate::rows::{first_of, kind_of, name_in, next_entry_of, size_of};
@@ -25,8 +25,8 @@ pub(crate) fn entries_in(block: &Block) -> Head
 }
 
 /// The number of names of the longest path among the nodes of a list, each of which has a path of `depth` names, and all
-/// that stands below them; 0 for an empty list. Takes no memory. In time linear in what stands there, by at most
-/// 9 calls within one another.
+/// that is below them; 0 for an empty list. Takes no memory. In time linear in the nodes, by at most 9 calls within one
+/// another.
 pub(crate) fn deepest_in(arena: &Arena, list: &Head, depth: usize) -> usize
     requires tree { IsTree (nodes_in arena.now) }
     requires lists { HasLists (nodes_in arena.now) }
@@ -105,14 +105,13 @@ pub(crate) fn collect_nodes_up(
 }
 
 /// Whether the newest node of a list, each of which has a path of `depth` names, comes after the second newest one in
-/// path order. Of a list of one node, the same of its entries; of an empty list, no. Takes no memory. Looks at 9 nodes
-/// at most, by at most 9 calls within one another.
-///
-/// It chooses between two walks that find the same nodes, so its contract need not say what it tells.
+/// path order. For a list of one node, the same of its entries; for an empty list, no. Takes no memory. Looks at 9
+/// nodes at most, by at most 9 calls within one another.
 pub(crate) fn newest_comes_last(arena: &Arena, list: &Head, depth: usize) -> bool
     requires tree { IsTree (nodes_in arena.now) }
     requires lists { HasLists (nodes_in arena.now) }
     requires nodes { StandAt (nodes_in arena.now) depth (chain_of (nodes_in arena.now) list.now) }
+    ensures { result ≡ is_newest_last_at (nodes_in arena.now) depth (chain_of (nodes_in arena.now) list.now) }
 {
     if list.count == 0 {
         return false;

@@ -76,7 +76,7 @@ loop-mark-preserved c =
     let at = tail_place later run c.tail-last.result g.filled.held some c.tail-last.ensures.block c.tail-last.ensures.index in
     record {
       filled = g.filled;
-      placed = record { place = g.placed.place; marked = c.add.ensures later run g.placed.marked at (omega (arith, some, c.tail-last.ensures.index)) };
+      placed = record { place = g.placed.place; marked = c.add.ensures.marked later run g.placed.marked at (omega (arith, some, c.tail-last.ensures.index)); memory = c.add.ensures.memory ∙ g.placed.memory };
       longer = omega (arith, inv.longer, inv.most, inv.reach, g.size, c.min.ensures);
       most = omega (arith, g.size, c.min.ensures);
       reach = omega (arith, g.size, c.min.ensures);

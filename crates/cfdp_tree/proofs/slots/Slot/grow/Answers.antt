@@ -1,5 +1,6 @@
 use Rattle.std.proofs.Common.{◌≤◌, ◌∙◌, sym, ap, arith}
 use Rattle.cfdp_actions.specs.Filestore.{blocks_of}
+use Rattle.cfdp_tree.specs.Marks.{most_marks}
 use Rattle.cfdp_tree.specs.Runs.{nth}
 use Rattle.cfdp_tree.proofs.Filling.{blocks_of-le}
 use Rattle.cfdp_tree.proofs.MarkLaws.{marks_grown}
@@ -14,6 +15,7 @@ returns-then-not-within-clause-placed c =
       place = (omega (arith, start.index), start.block ∙ ap (nth c.extend.new.arena after.run.first) (sym start.index));
       marked = marks_grown c.args.arena.now c.extend.new.arena was.contents.run after.run was.marks.numbers.items
           (omega (arith, c.requires.filled.blocks, c.extend.ensures.filled.blocks, size, more)) c.extend.ensures.places c.requires.placed.marked;
+      memory = c.requires.placed.memory ∙ ap most_marks (sym c.extend.ensures.capacity);
     }
 
 pub returns-else-not-within-clause-placed : goal.returns-else-not-within-clause-placed
@@ -25,4 +27,5 @@ returns-else-not-within-clause-placed c =
     record {
       place = (omega (arith, at.0, grown), at.1 ∙ sym (c.extend.ensures.places was.place.index c.if-not-within.false));
       marked = marks_grown c.args.arena.now c.extend.new.arena was.contents.run after.run was.marks.numbers.items grown c.extend.ensures.places c.requires.placed.marked;
+      memory = c.requires.placed.memory ∙ ap most_marks (sym c.extend.ensures.capacity);
     }

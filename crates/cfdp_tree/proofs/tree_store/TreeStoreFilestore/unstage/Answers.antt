@@ -1,15 +1,16 @@
-use Rattle.std.proofs.Common.{◌≡◌, ◌+◌, ℕ, [], get_or, sym, ap, ◌∙◌, subst, arith}
+use Rattle.std.proofs.Common.{◌≡◌, ◌+◌, ℕ, [], get_or, length, vec_capacity, sym, ap, ◌∙◌, subst, arith}
 use Rattle.cfdp_arena.specs.Arena.{Blocks}
 use Rattle.cfdp_actions.specs.Filestore.{blocks_of}
 use Rattle.cfdp_tree.specs.declared.contents.Contents.{Contents}
 use Rattle.cfdp_tree.specs.declared.runs.Run.{Run}
 use Rattle.cfdp_tree.specs.declared.slots.Slot.{Slot}
 use Rattle.cfdp_tree.specs.Runs.{Spares}
+use Rattle.cfdp_tree.specs.Marks.{most_marks}
 use Rattle.cfdp_tree.specs.Slots.{IsPlaced}
 use Rattle.cfdp_tree.proofs.Filling.{blocks_of-none}
 use Rattle.cfdp_tree.proofs.ContentsLaws.{none_filled, none_contents}
-use Rattle.cfdp_tree.proofs.MarkLaws.{slot_starts}
-use Rattle.cfdp_tree.proofs.SeenLaws.{slot_filled, staged_size}
+use Rattle.cfdp_tree.proofs.MarkLaws.{memory_stays, slot_starts}
+use Rattle.cfdp_tree.proofs.SeenLaws.{slot_filled, slot_placed, staged_size}
 use Rattle.cfdp_tree.proofs.SlotLaws.{slot_changes, slot_store}
 use Rattle.cfdp_tree.proofs.tree_store.TreeStoreFilestore.unstage.Goals as goal
 
@@ -17,7 +18,7 @@ use Rattle.cfdp_tree.proofs.tree_store.TreeStoreFilestore.unstage.Goals as goal
 spares_none : (old new : Blocks) (before after none : Run) → none.count ≡ 0 → Spares old new before after → Spares old new before none
 spares_none old new before after none empty spares other held apart = ((spares other held apart).0, (λ some. absurd (omega arith)))
 
--- an empty list in the place of one whose blocks were given back
+-- an empty list instead of one whose blocks were given back
 module _ (old new : Blocks) (slot after : Slot) (no_blocks : after.contents.run.count ≡ 0) (no_octets : after.contents.size ≡ 0) where
   no_room : (free was : ℕ) → free ≡ was + blocks_of slot.contents.size → free + blocks_of after.contents.size ≡ was + blocks_of slot.contents.size
   no_room free was freed = omega (arith, freed, blocks_of-none after.contents.size no_octets)
@@ -29,11 +30,11 @@ record IsEmptied (arena : Blocks) (after : Slot) : Type 0 where
   placed : IsPlaced arena after
 
 emptied : (none : Contents) (after : Slot) → none.run.count ≡ 0 → none.size ≡ 0 → after.contents ≡ none → after.place.block ≡ none.run.first → after.place.index ≡ 0 → after.marks.numbers.items ≡ []
-    → (arena : Blocks) → IsEmptied arena after
-emptied none after blocks size holds block index marks arena = record {
+    → (arena : Blocks) → vec_capacity after.marks.numbers ≡ most_marks (length arena) → IsEmptied arena after
+emptied none after blocks size holds block index marks arena memory = record {
   blocks = ap (λ (x : Contents). x.run.count) holds ∙ blocks;
   size = ap (λ (x : Contents). x.size) holds ∙ size;
-  placed = slot_starts arena after (block ∙ ap (λ (x : Contents). x.run.first) (sym holds)) index marks;
+  placed = slot_starts arena after (block ∙ ap (λ (x : Contents). x.run.first) (sym holds)) index marks memory;
 }
 
 pub release-requires : goal.release-requires
@@ -43,7 +44,10 @@ release-requires c = record {
 
 pub invariant_of-self : goal.invariant_of-self
 invariant_of-self c =
-    let arena = c.self.inside.arena in let later = c.release.new.arena in let slot = c.index.result.now in let after = c.hold.new.self in let gone = c.release.ensures in let none = emptied c.empty.result after c.empty.ensures.blocks c.empty.ensures.size c.hold.ensures.contents c.hold.ensures.block c.hold.ensures.index c.hold.ensures.marks later in
+    let arena = c.self.inside.arena in let later = c.release.new.arena in let slot = c.index.result.now in let after = c.hold.new.self in let gone = c.release.ensures in
+    let place = slot_placed _ _ _ _ c.self.invariant _ c.self.view_is c.from-index.result (omega (arith, c.from-index.ensures, c.requires)) c.index_mut.result.now c.index_mut.ensures.value in
+    let memory = memory_stays arena later _ _ gone.capacity c.hold.ensures.memory place.memory in
+    let none = emptied c.empty.result after c.empty.ensures.blocks c.empty.ensures.size c.hold.ensures.contents c.hold.ensures.block c.hold.ensures.index c.hold.ensures.marks later memory in
     slot_store arena later c.self.inside.heads.items c.self.inside.root c.self.inside.slots.items c.self.invariant c.from-index.result (omega (arith, c.from-index.ensures, c.requires)) slot c.index.ensures after
     gone.nodes gone.capacity (spares_none arena later slot.contents.run slot.contents.run after.contents.run none.blocks gone.spares)
     (none_filled later after.contents none.blocks none.size) none.placed (no_room arena later slot after none.blocks none.size _ _ gone.freed)
@@ -56,7 +60,10 @@ returns-clause-ticks c =
 
 pub returns-clause-dropped : goal.returns-clause-dropped
 returns-clause-dropped c =
-    let arena = c.self.inside.arena in let later = c.release.new.arena in let slot = c.index.result.now in let after = c.hold.new.self in let gone = c.release.ensures in let none = emptied c.empty.result after c.empty.ensures.blocks c.empty.ensures.size c.hold.ensures.contents c.hold.ensures.block c.hold.ensures.index c.hold.ensures.marks later in
+    let arena = c.self.inside.arena in let later = c.release.new.arena in let slot = c.index.result.now in let after = c.hold.new.self in let gone = c.release.ensures in
+    let place = slot_placed _ _ _ _ c.self.invariant _ c.self.view_is c.from-index.result (omega (arith, c.from-index.ensures, c.requires)) c.index_mut.result.now c.index_mut.ensures.value in
+    let memory = memory_stays arena later _ _ gone.capacity c.hold.ensures.memory place.memory in
+    let none = emptied c.empty.result after c.empty.ensures.blocks c.empty.ensures.size c.hold.ensures.contents c.hold.ensures.block c.hold.ensures.index c.hold.ensures.marks later memory in
     slot_changes arena later c.self.inside.heads.items c.self.inside.root c.self.inside.slots.items c.self.invariant c.from-index.result (omega (arith, c.from-index.ensures, c.requires)) slot c.index.ensures after
     gone.nodes gone.capacity (spares_none arena later slot.contents.run slot.contents.run after.contents.run none.blocks gone.spares)
     (none_filled later after.contents none.blocks none.size) none.placed (no_room arena later slot after none.blocks none.size _ _ gone.freed)
