@@ -1,25 +1,20 @@
--- The program's table, leases and quota after a transaction was admitted, and the table's answers to its Metadata.
-use Rattle.std.proofs.Common.{◌≡◌, ◌≢◌, ℕ, zero, suc, ◌+◌, ◌≤◌, ◌<◌, List, [], ◌∷◌, ◌++◌, length, refl, ap, sym, subst, ◌∙◌, arith}
-use Rattle.std.specs.Prelude.{◌&&◌, not, nat_le, nat_lt, Bool, true, false, if◌then◌else◌, Some, None, slice_get, remove, IsTrue, IsFalse}
-use Rattle.std.proofs.lemmas.Bool.{lt-leb, le-ltb}
+-- The program's table, leases and quota after a transaction was admitted, and the ruling on its Metadata.
+use Rattle.std.proofs.Common.{◌≡◌, ◌≢◌, ℕ, zero, suc, ◌+◌, ◌<◌, List, [], ◌∷◌, ◌++◌, length, refl, ap, sym, ◌∙◌, arith}
+use Rattle.std.specs.Prelude.{◌&&◌, not, Bool, true, false, if◌then◌else◌, Some, None, slice_get, remove, IsTrue, IsFalse}
 use mathlib.Core.Logic.{inl, inr}
 use Rattle.cfdp_pdus.specs.Values.{MetadataFields}
 use Rattle.cfdp_pdus.specs.declared.header.Header.{Header}
 use Rattle.cfdp_actions.specs.Actions.{Item}
-use Rattle.cfdp_actions.specs.Filestore.{Filestore}
 use Rattle.cfdp_actions.specs.Store.{Store}
-use Rattle.cfdp_paths.specs.Paths.{Path}
-use Rattle.cfdp_verifier.specs.declared.refusal.Refusal.{Refusal}
-use Rattle.cfdp_verifier.specs.Verdict.{Proposal, Verdict, Refuse, Grant, verdict}
-use Rattle.cfdp_transactions.specs.Events.{Reply}
+use Rattle.cfdp_verifier.specs.Verdict.{Verdict, verdict}
 use Rattle.cfdp_transactions.specs.World as worlds
 use Rattle.cfdp_quota.specs.Budget.{Budget, entry_at, reserving, spare}
 use Rattle.cfdp_status.specs.declared.transaction.TransactionId.{TransactionId}
 use Rattle.cfdp_leases.specs.Footprint.{footprint_of}
 use Rattle.cfdp_leases.specs.Leases.{Grants, is_same, holds}
-use Rattle.cfdp_transactions.specs.Entry.{Receiving, Refused, has_file, is_live, Entry, id_of, name_of, footprint, reserve}
+use Rattle.cfdp_transactions.specs.Entry.{Receiving, is_live, Entry, id_of, name_of, footprint, reserve}
 use Rattle.cfdp_transactions.specs.World.{World, reserves, leases_of, place_of, has_slot, slot_from, free_slot}
-use Rattle.cfdp_transactions.specs.Admission.{new_entry, refused_entry, with_new, proposal_of, judged, is_known_checksum, metadata_came}
+use Rattle.cfdp_transactions.specs.Admission.{new_entry, with_new, proposal_of}
 use Rattle.cfdp_transactions.specs.Sound.{IsVacant, Sound}
 use Rattle.cfdp_transactions.specs.Adding.{AddsEntry}
 use Rattle.cfdp_transactions.specs.Rows.{Row, entry_in, table_of, row_place, fresh_row}
@@ -27,7 +22,6 @@ use Rattle.cfdp_transactions.specs.Books.{FitsBudget, ArePiecesIn, IsBooked, wor
 use Rattle.cfdp_transactions.specs.declared.books.Books.{Books}
 use Rattle.cfdp_transactions.proofs.Accounts.{leases_added}
 use Rattle.cfdp_transactions.proofs.Budgets.{reserved_elsewhere}
-use Rattle.cfdp_transactions.proofs.Granted.{IsGranted, IsJust, verdict_just}
 use Rattle.cfdp_transactions.proofs.RowAdded.{reserves_added, world_added}
 use Rattle.cfdp_transactions.proofs.FreeSlots.{free_slot_is, free_vacant}
 use Rattle.cfdp_transactions.proofs.Places.{append_cases, append_each, get_append}
@@ -116,38 +110,16 @@ module _ (s : Store) (b : Books) (sound : Sound (world_of s b)) (booked : IsBook
           pieces = granted_pieces;
         }
 
--- the answers -----------------------------------------------------------------------------
+-- the ruling -------------------------------------------------------------------------------
 
-pub just_granted : (prefixes : List Path) (F : Filestore) (leases : Grants) (left : ℕ) (P : Proposal) (items : List Item) (blocks steps : ℕ) → Grant items blocks steps ≡ verdict prefixes F leases left P →
-    IsGranted prefixes F leases left P items blocks steps
-just_granted prefixes F leases left P items blocks steps e = subst (IsJust prefixes F leases left P) (sym e) (verdict_just prefixes F leases left P)
-
-pass_three : {A : Type 0} (a b c : Bool) (x y z w : A) → a ≡ false → b ≡ false → c ≡ false → (if a then x else if b then y else if c then z else w) ≡ w
-pass_three false false false x y z w d e f = refl
-pass_three true b c x y z w d e f = absurd cc
-pass_three false true c x y z w d e f = absurd cc
-pass_three false false true x y z w d e f = absurd cc
-
-pub judged_so : (s : Store) (b : Books) (booked : IsBooked s b) (h : Header) (m : MetadataFields) (v : Verdict) → length b.table < 64 → length m.requests ≤ 64 →
-    IsFalse (has_file m && not (is_known_checksum m.checksum_type)) → v ≡ verdict b.config.prefixes s.filestore b.leases (spare b.quota) (proposal_of b.config m) →
-    metadata_came (world_of s b) h m None ≡ judged (world_of s b) h m v
-judged_so s b booked h m v few short known is =
+-- the verdict by the books is that of the world
+pub verdict_in : (s : Store) (b : Books) → IsBooked s b → (m : MetadataFields) (v : Verdict) → v ≡ verdict b.config.prefixes s.filestore b.leases (spare b.quota) (proposal_of b.config m) →
+    v ≡ verdict b.config.prefixes s.filestore (leases_of (world_of s b).table) (worlds.spare (world_of s b)) (proposal_of b.config m)
+verdict_in s b booked m v is =
     let W = world_of s b in
     let left : spare b.quota ≡ worlds.spare W = omega (arith, booked.budget.not_granted) in
-    let entries : length (table_of s.filestore b.table) ≡ length b.table = length_in s.filestore b.table in
-    let not_full : nat_le 64 (length (table_of s.filestore b.table)) ≡ false = lt-leb 64 (length (table_of s.filestore b.table)) (omega (arith, few, entries)) in
-    let not_many : nat_lt 64 (length m.requests) ≡ false = le-ltb 64 (length m.requests) short in
-    let told : v ≡ verdict W.config.prefixes W.filestore (leases_of W.table) (worlds.spare W) (proposal_of W.config m) =
     is ∙ ap (λ (ls : Grants). verdict b.config.prefixes s.filestore ls (spare b.quota) (proposal_of b.config m)) booked.leases
-    ∙ ap (λ n. verdict b.config.prefixes s.filestore (leases_of W.table) n (proposal_of b.config m)) left in
-    pass_three _ _ _ _ _ _ _ not_full not_many known ∙ ap (judged W h m) (sym told)
-
-pub granted_so : (W V : World) (h : Header) (m : MetadataFields) (items : List Item) (blocks steps : ℕ) → AddsEntry W V (new_entry h m Receiving (free_slot W.table) items blocks steps) →
-    judged W h m (Grant items blocks steps) ≡ (V, Reply.Admitted blocks steps)
-granted_so W V h m items blocks steps added = ap (λ (U : World). (U, Reply.Admitted blocks steps)) (sym added)
-
-pub refused_so : (W V : World) (h : Header) (m : MetadataFields) (r : Refusal) → V ≡ with_new W (refused_entry h m Refused) → judged W h m (Refuse r) ≡ (V, Reply.Refused r)
-refused_so W V h m r added = ap (λ (U : World). (U, Reply.Refused r)) (sym added)
+    ∙ ap (λ n. verdict b.config.prefixes s.filestore (leases_of W.table) n (proposal_of b.config m)) left
 
 -- no file, or a checksum that is known
 pub file_known : (file known : Bool) → known ≡ true → IsFalse (file && not known)

@@ -7,7 +7,7 @@ ghost use Rattle.cfdp_quota.specs.Budget.{IsOpen, spare};
 ghost use Rattle.cfdp_transactions.specs.Entry.{Receiving, id_of, has_file, is_live};
 ghost use Rattle.cfdp_transactions.specs.World.{bound, free_slot};
 ghost use Rattle.cfdp_transactions.specs.Sound.{Sound};
-ghost use Rattle.cfdp_transactions.specs.Adding.{AddsEntry};
+ghost use Rattle.cfdp_transactions.specs.Adding.{AddsEntry, IsRuled};
 ghost use Rattle.cfdp_transactions.specs.Admission.{is_known_checksum, metadata_came, new_entry, proposal_of, refused_entry};
 ghost use Rattle.cfdp_verifier.specs.Answers.{answered, granted_items, HasFootprint};
 ghost use Rattle.cfdp_verifier.specs.Verdict.{verdict};
@@ -31,41 +31,72 @@ const MODULAR_CHECKSUM: u8 = 0;
 /// The null checksum, which is not looked at (§4.2.2).
 pub(crate) const NULL_CHECKSUM: u8 = 15;
 
-/// The Metadata of a transaction that is not in the table, while there is room for it and its list. It is moved into
-/// the table. Out of memory nothing has changed, and the Metadata is dropped. Cost: that of `verify`, and a pass over
-/// the slots.
-pub(crate) fn admit<S: Filestore>(
+/// What becomes of Metadata whose transaction may begin.
+#[derive(Drop)]
+pub(crate) enum Ruling {
+    /// It ends at once: it has a file, and a checksum type that this engine does not compute.
+    Unsupported,
+    /// The verdict on its list of requests and its file.
+    Judged(Verdict),
+}
+
+/// The ruling on Metadata, which is lent. The memory that the verdict needed is given back, but for what is granted.
+///
+/// # Errors
+///
+/// Out of memory. Cost: that of `verify`.
+pub(crate) fn judge<S: Filestore>(
+    alloc: Global,
+    store: &S,
+    books: &Books,
+    metadata: &Metadata,
+) -> Result<Ruling, Memory>
+    requires booked { IsBooked (S.state store.now) books.now }
+    ensures ruled { IfOk result (IsRuled (world_of (S.state store.now) books.now) metadata.now) }
+{
+    if names_file(metadata) && !is_known_checksum(metadata.checksum_type) {
+        return Ok(Ruling::Unsupported);
+    }
+    let verdict = judge_list(alloc, store, books, metadata)?;
+    Ok(Ruling::Judged(verdict))
+}
+
+/// Records the Metadata of a transaction that is not in the table, while there is room for it and its list, as its
+/// ruling says. It is moved into the table. Out of memory nothing has changed, and the Metadata is dropped. Cost: a
+/// pass over the slots.
+pub(crate) fn record<S: Filestore>(
     alloc: Global,
     store: &S,
     books: &mut Books,
     header: &Header,
     metadata: Metadata,
+    ruling: Ruling,
 ) -> Reply
     requires sound { Sound (world_of (S.state store.now) books.old) }
     requires booked { IsBooked (S.state store.now) books.old }
     requires absent { row_place (id_of header.now) books.old.table ≡ length books.old.table }
     requires few { length books.old.table < 64 }
     requires short { length metadata.requests ≤ 64 }
+    requires ruled { IsRuled (world_of (S.state store.now) books.old) metadata ruling }
     ensures answer { let W = world_of (S.state store.now) books.old in
         Carries W (world_of (S.state store.now) books.new) (metadata_came W header.now metadata None) result }
     ensures booked { IsBooked (S.state store.now) books.new }
 {
-    if names_file(&metadata) && !is_known_checksum(metadata.checksum_type) {
-        let phase = Phase::Ended(UNSUPPORTED_CHECKSUM_TYPE);
-        return match add_final(alloc, store, books, header, metadata, phase) {
-            Ok(()) => Reply::Faulted(UNSUPPORTED_CHECKSUM_TYPE),
-            Err(_) => Reply::Memory,
-        };
-    }
-    match judge(alloc, store, books, &metadata) {
-        Err(_) => Reply::Memory,
-        Ok(Verdict::Refuse(refusal)) => {
+    match ruling {
+        Ruling::Unsupported => {
+            let phase = Phase::Ended(UNSUPPORTED_CHECKSUM_TYPE);
+            match add_final(alloc, store, books, header, metadata, phase) {
+                Ok(()) => Reply::Faulted(UNSUPPORTED_CHECKSUM_TYPE),
+                Err(_) => Reply::Memory,
+            }
+        }
+        Ruling::Judged(Verdict::Refuse(refusal)) => {
             match add_final(alloc, store, books, header, metadata, Phase::Refused) {
                 Ok(()) => Reply::Refused(refusal),
                 Err(_) => Reply::Memory,
             }
         }
-        Ok(Verdict::Grant(grant)) => {
+        Ruling::Judged(Verdict::Grant(grant)) => {
             let (blocks, steps) = (grant.blocks, grant.steps);
             match add_granted(alloc, store, books, header, metadata, grant) {
                 Ok(()) => Reply::Admitted(blocks, steps),
@@ -104,7 +135,7 @@ pub(crate) fn bound_of(config: &Config, metadata: &Metadata) -> u64
 }
 
 /// The verdict on the list of requests and its file.
-fn judge<S: Filestore>(
+fn judge_list<S: Filestore>(
     alloc: Global,
     store: &S,
     books: &Books,

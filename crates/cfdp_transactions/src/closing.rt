@@ -1,4 +1,6 @@
-//! How a transaction ends, and how its outcome is handed out.
+//! How a live transaction changes its phase: it ends before it is done, it is done with nothing to perform, or it goes
+//! on. Two events do no more than that: a request to cancel it (CCSDS 727.0-B-5 §4.11), and the expiry of its check
+//! timer (§4.6.4). Its items are performed in `step`, and its outcome is handed out in `taking`.
 
 ghost use Rattle.std.specs.Prelude.{◌≡◌, ◌<◌, IsTrue, length};
 ghost use Rattle.cfdp_transactions.specs.Entry.{is_live};

@@ -1,16 +1,18 @@
 //! The core of a receiving entity.
 
-ghost use Rattle.std.specs.Prelude.{◌≡◌, ◌∷◌, [], Some, IfSome, IfNone, IfOk, IsOk, IsNone, IsTrue, IsFalse, map, slice_get};
+ghost use Rattle.std.specs.Prelude.{◌≡◌, ◌∷◌, [], Some, IfOk, IfErr, IsOk, IsNone, IsTrue, IsFalse, map, slice_get};
 ghost use Rattle.cfdp_actions.specs.Store.{empty_store};
 ghost use Rattle.cfdp_transactions.specs.Sound.{Sound};
 ghost use Rattle.cfdp_transactions.specs.World.{leases_of, next_outcome, next_runnable, spare, start};
 ghost use Rattle.cfdp_transactions.specs.Events.{Cancel, Check, DataCame, EofCame, MetadataCame, Step, Take};
 ghost use Rattle.cfdp_transactions.specs.Needs.{Follows, may_want_memory};
+ghost use Rattle.cfdp_transactions.specs.Adding.{IsRuled};
 ghost use Rattle.cfdp_transactions.specs.Books.{IsAnswered};
 ghost use Rattle.cfdp_transactions.specs.Entry.{gaps, name_of, progress, reach};
 ghost use Rattle.std.specs.Option.{option_copied, option_map};
 ghost use Rattle.cfdp_transactions.specs.Engine.{AsksForNone, begins, outcome_in, read_of};
 
+use crate::admission::Ruling;
 use crate::books::Books;
 use crate::copying::copy_metadata;
 use crate::event::transaction_of;
@@ -265,7 +267,13 @@ impl<S: Filestore> Core<S> {
         ensures steady { self.new.takes_no_memory ≡ self.old.takes_no_memory }
     {
         match event {
-            Event::Metadata(header, metadata) => self.metadata_came(header, metadata),
+            Event::Metadata(header, metadata) => match self.judge(header, metadata) {
+                Ok(ruling) => match copy_metadata(self.alloc, metadata) {
+                    Ok(copy) => self.record(header, copy, ruling),
+                    Err(_) => Reply::Memory,
+                },
+                Err(reply) => reply,
+            },
             Event::Data(header, data) => self.file_data(header, &data.piece()),
             Event::Eof(header, eof) => self.eof(header, *eof),
             Event::Step(id) => self.step(*id),
@@ -286,7 +294,10 @@ impl<S: Filestore> Core<S> {
         ensures steady { self.new.takes_no_memory ≡ self.old.takes_no_memory }
     {
         match event {
-            Event::Metadata(header, metadata) => self.metadata_given(&header, metadata),
+            Event::Metadata(header, metadata) => match self.judge(&header, &metadata) {
+                Ok(ruling) => self.record(&header, metadata, ruling),
+                Err(reply) => reply,
+            },
             other => self.apply(&other),
         }
     }
@@ -326,65 +337,54 @@ impl<S: Filestore> Core<S> {
         taking::hand_out(self.alloc, &self.store, &mut self.books, place, outcome)
     }
 
-    /// A Metadata PDU came (CCSDS 727.0-B-5 §5.2.5), which is lent: it is copied if it may begin a transaction, before
-    /// its list is verified.
-    fn metadata_came(&mut self, header: &Header, metadata: &Metadata) -> Reply
-        ensures follows { Follows self.old.world (MetadataCame header.now metadata.now) result self.new.world }
-        ensures lean { IsFalse (begins self.old.world header.now metadata.now) → IsAnswered result }
-        ensures steady { self.new.takes_no_memory ≡ self.old.takes_no_memory }
-    {
-        if let Some(reply) = self.turned_away(header, metadata) {
-            return reply;
-        }
-        match copy_metadata(self.alloc, metadata) {
-            Ok(copy) => self.begin(header, copy),
-            Err(_) => Reply::Memory,
-        }
-    }
-
-    /// A Metadata PDU came, which is given away: it is moved if it may begin a transaction, and dropped otherwise.
-    fn metadata_given(&mut self, header: &Header, metadata: Metadata) -> Reply
-        ensures follows { Follows self.old.world (MetadataCame header.now metadata) result self.new.world }
-        ensures lean { IsFalse (begins self.old.world header.now metadata) → IsAnswered result }
-        ensures steady { self.new.takes_no_memory ≡ self.old.takes_no_memory }
-    {
-        match self.turned_away(header, &metadata) {
-            Some(reply) => reply,
-            None => self.begin(header, metadata),
-        }
-    }
-
-    /// The reply to a Metadata PDU that begins no transaction: it is for another entity, its transaction is already
-    /// there, the table is full, or it has too many requests. `None` if it may begin one. Takes no memory. Cost: a
-    /// look-up.
-    fn turned_away(&self, header: &Header, metadata: &Metadata) -> Option<Reply>
-        ensures follows { IfSome result (λ reply. Follows self.now.world (MetadataCame header.now metadata.now) reply self.now.world) }
-        ensures answered { IfSome result IsAnswered }
-        ensures begins { IfNone result (IsTrue (begins self.now.world header.now metadata.now)) }
+    /// The ruling on a Metadata PDU that came (CCSDS 727.0-B-5 §5.2.5), which is lent.
+    ///
+    /// # Errors
+    ///
+    /// The reply, which changes nothing. It is for another entity, its transaction is already there, the table is full,
+    /// or it has too many requests: that takes no memory and costs a look-up. Or it may begin a transaction, and there
+    /// is no memory to judge it.
+    fn judge(&self, header: &Header, metadata: &Metadata) -> Result<Ruling, Reply>
+        ensures begins { IfOk result (λ ruling. IsTrue (begins self.now.world header.now metadata.now)) }
+        ensures ruled { IfOk result (IsRuled self.now.world metadata.now) }
+        ensures follows { IfErr result (λ reply. Follows self.now.world (MetadataCame header.now metadata.now) reply self.now.world) }
+        ensures lean { IsFalse (begins self.now.world header.now metadata.now) → IfErr result IsAnswered }
     {
         if header.destination != self.books.config.entity() {
-            return Some(Reply::NotForUs);
+            return Err(Reply::NotForUs);
         }
         if self.books.table.find(transaction_of(header)).is_some() {
-            return Some(Reply::Duplicate);
+            return Err(Reply::Duplicate);
         }
         if self.books.table.len() >= MOST_TRANSACTIONS {
-            return Some(Reply::TableFull);
+            return Err(Reply::TableFull);
         }
         if metadata.requests.len() > MOST_REQUESTS {
-            return Some(Reply::Refused(Refusal::TooManyRequests));
+            return Err(Reply::Refused(Refusal::TooManyRequests));
         }
-        None
+        match admission::judge(self.alloc, &self.store, &self.books, metadata) {
+            Ok(ruling) => Ok(ruling),
+            Err(_) => Err(Reply::Memory),
+        }
     }
 
-    /// Metadata that may begin a transaction. Out of memory the world is as before, and the Metadata is dropped.
-    fn begin(&mut self, header: &Header, metadata: Metadata) -> Reply
-        requires { IsTrue (begins self.old.world header.now metadata) }
+    /// Records Metadata as its ruling says: its transaction is in the table from now on. Out of memory the world is as
+    /// before, and the Metadata is dropped.
+    fn record(&mut self, header: &Header, metadata: Metadata, ruling: Ruling) -> Reply
+        requires begins { IsTrue (begins self.old.world header.now metadata) }
+        requires ruled { IsRuled self.old.world metadata ruling }
         ensures follows { Follows self.old.world (MetadataCame header.now metadata) result self.new.world }
         ensures steady { self.new.takes_no_memory ≡ self.old.takes_no_memory }
     {
         laws::follows_is_sound();
-        admission::admit(self.alloc, &self.store, &mut self.books, header, metadata)
+        admission::record(
+            self.alloc,
+            &self.store,
+            &mut self.books,
+            header,
+            metadata,
+            ruling,
+        )
     }
 
     /// A File Data PDU came (CCSDS 727.0-B-5 §5.3, copy file procedures at the receiving entity). Does what [`apply`](Core::apply)

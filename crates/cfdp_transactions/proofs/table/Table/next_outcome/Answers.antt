@@ -1,5 +1,5 @@
-use Rattle.std.proofs.Common.{◌≡◌, ◌∙◌, ◌+◌, Bool, true, false, ap, drop, sym, add-one}
-use Rattle.cfdp_transactions.specs.Entry.{Phase, is_live}
+use Rattle.std.proofs.Common.{◌≡◌, ◌∙◌, ◌+◌, true, false, ap, drop, sym, add-one}
+use Rattle.cfdp_transactions.specs.Entry.{is_live}
 use Rattle.cfdp_transactions.specs.Rows.{first_over}
 use Rattle.cfdp_transactions.proofs.RowWorld.{over_here, over_later, over_none}
 use Rattle.cfdp_transactions.proofs.table.Table.next_outcome.Goals as goal
