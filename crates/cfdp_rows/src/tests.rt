@@ -17,6 +17,7 @@ mod memory;
 mod moves;
 mod one_tree;
 mod order;
+mod peak;
 mod phases;
 mod protected;
 mod refused_views;
