@@ -1,5 +1,5 @@
 //! A run in the middle of its script.
-ghost use Rattle.std.specs.Prelude.{◌≡◌, ◌≢◌, ℕ, ◌+◌, ◌<◌, ◌≤◌, ◌^◌, true, List, [], ◌∷◌, ◌++◌, length, take, Option, Some, None, IfOk, OnOk, OnErr, Err};
+ghost use Rattle.std.specs.Prelude.{◌≡◌, ◌≢◌, ◌↔◌, ℕ, ◌+◌, ◌<◌, ◌≤◌, ◌^◌, true, List, [], ◌∷◌, ◌++◌, length, take, Option, Some, None, IfOk, OnOk, OnErr, Err};
 ghost use Rattle.std.specs.Io.KnownBytes.{Appends, Keeps};
 ghost use Rattle.cfdp_lines.specs.Answers.{Answers, Adds};
 ghost use Rattle.cfdp_lines.specs.Lines.{IsOneLine, line_limit};
@@ -40,7 +40,7 @@ pub(crate) struct Session<S> {
     ghost within: { length line.items ≤ line_limit },
 }
 
-/// Runs a line, and appends its text.
+/// Runs a line, and appends its text. A line that is bad or too long is answered so even where memory is refused.
 fn answer_line<S: Script>(
     script: &mut S,
     alloc: Global,
@@ -49,7 +49,7 @@ fn answer_line<S: Script>(
 ) -> Result<(), LineFault>
     ensures ok { OnOk result (Answers (line_answer S.answer) (S.state script.old) (S.state script.new)
         line.now text.old.items text.new.items) }
-    ensures bad { result ≡ Err Bad → line_answer S.answer (S.state script.old) line.now ≡ None }
+    ensures bad { (result ≡ Err Bad) ↔ (line_answer S.answer (S.state script.old) line.now ≡ None) }
     ensures kept { OnErr result (text.new.items ≡ text.old.items) }
 {
     if line.len() > LINE_LIMIT {
@@ -81,7 +81,7 @@ impl<S: Script> Session<S> {
 
     /// The fault of the line that is being read.
     fn fault(&self, fault: LineFault) -> RunFault
-        ensures bad { (n : ℕ) → result ≡ BadLine n → (n ≡ self.now.number) × (fault ≡ Bad) }
+        ensures bad { (n : ℕ) → (result ≡ BadLine n) ↔ ((n ≡ self.now.number) × (fault ≡ Bad)) }
         ensures never_reads { result ≢ Read }
         ensures never_writes { result ≢ Write }
     {
@@ -97,7 +97,7 @@ impl<S: Script> Session<S> {
         ensures number { self.new.number ≡ self.old.number }
         ensures ok { OnOk result (Answers (line_answer S.answer) (S.state self.old.script) (S.state self.new.script)
             self.old.line.items self.old.text.items self.new.text.items) }
-        ensures bad { result ≡ Err Bad → line_answer S.answer (S.state self.old.script) self.old.line.items ≡ None }
+        ensures bad { (result ≡ Err Bad) ↔ (line_answer S.answer (S.state self.old.script) self.old.line.items ≡ None) }
         ensures kept { OnErr result (self.new.text.items ≡ self.old.text.items) }
     {
         answer_line(&mut self.script, alloc, &self.line, &mut self.text)
@@ -110,7 +110,7 @@ impl<S: Script> Session<S> {
             line.now self.old.text.items self.new.text.items) }
         ensures line { self.new.line ≡ self.old.line }
         ensures number { OnOk result (self.new.number ≡ self.old.number + 1) }
-        ensures bad { result ≡ Err Bad → line_answer S.answer (S.state self.old.script) line.now ≡ None }
+        ensures bad { (result ≡ Err Bad) ↔ (line_answer S.answer (S.state self.old.script) line.now ≡ None) }
         ensures kept { OnErr result (self.new.text.items ≡ self.old.text.items) }
         ensures same { OnErr result (self.new.number ≡ self.old.number) }
     {
@@ -119,14 +119,14 @@ impl<S: Script> Session<S> {
         Ok(())
     }
 
-    /// Takes some octets of the line that is being read.
+    /// Takes some octets of the line that is being read. Too many are answered so even where memory is refused.
     fn gather(&mut self, part: &[u8]) -> Result<(), LineFault>
         requires { IsOneLine part.now }
         ensures script { self.new.script ≡ self.old.script }
         ensures number { self.new.number ≡ self.old.number }
         ensures text { self.new.text ≡ self.old.text }
         ensures ok { OnOk result (self.new.line.items ≡ self.old.line.items ++ part.now) }
-        ensures bad { result ≡ Err Bad → line_limit < length self.old.line.items + length part.now }
+        ensures bad { (result ≡ Err Bad) ↔ (line_limit < length self.old.line.items + length part.now) }
     {
         if part.len() > LINE_LIMIT - self.line.len() {
             return Err(LineFault::Bad);
@@ -141,7 +141,7 @@ impl<S: Script> Session<S> {
             self.old.line.items self.old.text.items self.new.text.items) }
         ensures line { OnOk result (self.new.line.items ≡ []) }
         ensures number { OnOk result (self.new.number ≡ self.old.number + 1) }
-        ensures bad { result ≡ Err Bad → line_answer S.answer (S.state self.old.script) self.old.line.items ≡ None }
+        ensures bad { (result ≡ Err Bad) ↔ (line_answer S.answer (S.state self.old.script) self.old.line.items ≡ None) }
         ensures kept { OnErr result (self.new.text.items ≡ self.old.text.items) }
         ensures same { OnErr result (self.new.number ≡ self.old.number) }
     {

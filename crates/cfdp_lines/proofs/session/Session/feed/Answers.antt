@@ -9,7 +9,7 @@ returns-in_err-flush-in-Err-clause-write g c = λ _.
 
 pub returns-in-Err-clause-bad : goal.returns-in-Err-clause-bad
 returns-in-Err-clause-bad g c = λ n e.
-    let bad = c.fault.ensures.bad n cc in
+    let bad = (c.fault.ensures.bad n).0 cc in
     let number : n ≡ c.lines.self.number = bad.0 ∙ c.flush.ensures.number ∙ c.in-Err.ensures.same in
     let stops = c.take.ensures.bad (c.in-Err.is ∙ ap Err bad.1) in
     rw number

@@ -23,7 +23,7 @@ returns-in-Ok-clause-write g c = λ e.
 pub returns-in-Err-clause-bad : goal.returns-in-Err-clause-bad
 returns-in-Err-clause-bad g c = λ n e.
     let few : 0 < length c.args.self.now.line.items = search rules in
-    let bad = c.fault.ensures.bad n cc in
+    let bad = (c.fault.ensures.bad n).0 cc in
     let number : n ≡ c.args.self.now.number = bad.0 ∙ c.run_line.ensures.number in
-    let none = c.run_line.ensures.bad (c.in-Err.is ∙ ap Err bad.1) in
+    let none = c.run_line.ensures.bad.0 (c.in-Err.is ∙ ap Err bad.1) in
     rw number (FinishesBad-last _ _ _ _ _ _ _ c.args.self.now.one_line few none (Keeps-same _))

@@ -15,14 +15,14 @@ returns-in_err-gather-clause-bad g c = λ e.
     let p = err_from_is_err_and c.from_residual.result c.from_residual.ensures.1 in
     let same : c.gather.result ≡ Err Bad = cc (p.1, p.2, c.in_err-gather.was) in
     let one_line = one_line-whole c.args.octets.now c.in_default.ensures in
-    StopsBad-overlong _ _ _ _ _ _ c.args.self.now.one_line one_line (c.gather.ensures.bad same)
+    StopsBad-overlong _ _ _ _ _ _ c.args.self.now.one_line one_line (c.gather.ensures.bad.0 same)
 
 pub returns-in_err-gather-2-clause-bad : goal.returns-in_err-gather-2-clause-bad
 returns-in_err-gather-2-clause-bad g c = λ e.
     let p = err_from_is_err_and c.from_residual-in_err-gather-2.result c.from_residual-in_err-gather-2.ensures.1 in
     let same : c.gather-2.result ≡ Err Bad = cc (p.1, p.2, c.in_err-gather-2.was) in
     let one_line = one_line-before c.args.octets.now c.in-Some.at (omega (arith, c.in-Some.ensures.0.high)) c.in-Some.ensures.0.before in
-    Stops-overlong _ _ _ _ _ _ c.in-Some.at c.args.self.now.one_line one_line (c.gather-2.ensures.bad same)
+    Stops-overlong _ _ _ _ _ _ c.in-Some.at c.args.self.now.one_line one_line (c.gather-2.ensures.bad.0 same)
 
 pub returns-in_err-end_line-clause-bad : goal.returns-in_err-end_line-clause-bad
 returns-in_err-end_line-clause-bad g c = λ e.
@@ -32,7 +32,7 @@ returns-in_err-end_line-clause-bad g c = λ e.
     let gathered : c.gather-2.new.self.line.items ≡ c.args.self.now.line.items ++ take c.in-Some.at c.args.octets.now = c.in_ok-gather-2.ensures.ok in
     let one_line : IsOneLine (c.args.self.now.line.items ++ take c.in-Some.at c.args.octets.now) = rw gathered at c.gather-2.new.self.one_line in
     Stops-line _ _ _ _ _ _ c.in-Some.at one_line c.in-Some.ensures.0.high newline
-    (rw (gathered, c.gather-2.ensures.script) at (c.end_line.ensures.bad same))
+    (rw (gathered, c.gather-2.ensures.script) at (c.end_line.ensures.bad.0 same))
 
 pub returns-clause-ok : goal.returns-clause-ok
 returns-clause-ok g c =
@@ -51,7 +51,7 @@ returns-in_err-run_whole-clause-bad g c = λ e.
     let none = nil_from_length c.args.self.now.line.items few in
     let newline : is_newline (get_or c.args.octets.now c.in-Some.at 0) ≡ true = c.in-Some.ensures.1 in
     let one_line = one_line-before c.args.octets.now c.in-Some.at (omega (arith, c.in-Some.ensures.0.high)) c.in-Some.ensures.0.before in
-    rw none (Stops-line _ _ _ _ [] _ c.in-Some.at one_line c.in-Some.ensures.0.high newline (c.run_whole.ensures.bad same))
+    rw none (Stops-line _ _ _ _ [] _ c.in-Some.at one_line c.in-Some.ensures.0.high newline (c.run_whole.ensures.bad.0 same))
 
 pub returns-then-is_empty-clause-ok : goal.returns-then-is_empty-clause-ok
 returns-then-is_empty-clause-ok g c =
