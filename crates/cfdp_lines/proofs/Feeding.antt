@@ -1,6 +1,6 @@
 -- A loop over the octets that a run is fed with: up to the next line end at once.
 use Rattle.std.proofs.Common.{◌≡◌, ℕ, ◌+◌, ◌<◌, ◌≤◌, ◌==◌, Bool, true, false, List, [], ◌∷◌, ◌++◌, Option, None, length, take, drop, get_or, refl, sym, ap, subst, ◌∙◌, append_assoc, arith, length-take}
-use Rattle.std.proofs.lemmas.List.{append-nil, take_more, take-append-drop, get_or-take}
+use Rattle.std.proofs.lemmas.List.{append-nil, drop_more, take_more, take-append-drop, get_or-take}
 use Rattle.std.proofs.lemmas.List.Elements.{All-from_get_or}
 use Rattle.std.specs.Io.KnownBytes.{Appends}
 use Rattle.cfdp_lines.specs.Answers.{Answers, Adds}
@@ -9,7 +9,7 @@ use Rattle.cfdp_lines.specs.Report.{line_answer}
 use Rattle.cfdp_lines.specs.Session.{Place, place, Moves, StopsBad, Breaks, Runs, RunsBad, RunsPart, RunsLost}
 use Rattle.cfdp_streams.specs.Streams.{Spills, LostWithin}
 use Rattle.cfdp_streams.proofs.Streaming.{Appends-none, Appends-more, Appends-more_or_lost}
-use Rattle.cfdp_lines.proofs.Moving.{Moves-none, Moves-then, Moves-then_stops, Moves-then_breaks, StopsBad-before, Breaks-none, Breaks-shorter, Moves-gather, Moves-newline, StopsBad-newline, StopsBad-overlong}
+use Rattle.cfdp_lines.proofs.Moving.{Moves-none, Moves-then, Moves-then_stops, Moves-then_breaks, StopsBad-before, StopsBad-good_line, Breaks-none, Breaks-shorter, Moves-gather, Moves-newline, StopsBad-newline, StopsBad-overlong}
 
 pub not_true : (b : Bool) → (b ≡ true → ⊥) → b ≡ false
 not_true true h = absurd (h refl)
@@ -76,6 +76,17 @@ module _ (State : Type 0) (answer : State → List ℕ → Option (State × List
       (StopsBad-newline State answer n state (line ++ take at octets) (get_or octets at 0) h e bad)) in
       subst (λ (s : List ℕ). StopsBad answer (place n state line) s [] n) (take-append-drop (at + 1) octets)
       (StopsBad-before State answer (place n state line) (take (at + 1) octets) (drop (at + 1) octets) [] n stops)
+
+  -- octets whose first line is not bad
+  pub Stops-good_line : (n : ℕ) (state : State) (octets : List ℕ) (at : ℕ)
+      → IsOneLine (take at octets) → at < length octets → is_newline (get_or octets at 0) ≡ true
+      → (line_answer answer state (take at octets) ≡ None → ⊥)
+      → StopsBad answer (place n state []) octets [] n → ⊥
+  Stops-good_line n state octets at h lt e good stops =
+      let cut : take at octets ++ get_or octets at 0 ∷ drop (at + 1) octets ≡ octets =
+      ap (λ (rest : List ℕ). take at octets ++ rest) (sym (drop_more octets at 0 lt)) ∙ take-append-drop at octets in
+      StopsBad-good_line State answer n state (take at octets) (drop (at + 1) octets) (get_or octets at 0) h e good
+      (subst (λ (s : List ℕ). StopsBad answer (place n state []) s [] n) (sym cut) stops)
 
   -- some of a piece was run; of its text some was written, and the rest is held back
   pub record Fed (from here : Place State) (piece rest held : List ℕ) (old new : Option (List ℕ)) : Type 0 where

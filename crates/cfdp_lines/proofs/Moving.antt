@@ -1,14 +1,14 @@
 -- How a run moves on, stops and breaks off.
-use Rattle.std.proofs.Common.{◌≡◌, ℕ, ◌+◌, ◌<◌, Bool, true, false, List, [], ◌∷◌, ◌++◌, Option, Some, None, length, refl, sym, ap, ◌∙◌, append_assoc, arith, length-append, rules}
+use Rattle.std.proofs.Common.{◌≡◌, ℕ, ◌+◌, ◌<◌, ◌≤◌, Bool, true, false, List, [], ◌∷◌, ◌++◌, Option, Some, None, length, refl, sym, ap, ◌∙◌, append_assoc, arith, length-append, rules}
 use Rattle.std.proofs.lemmas.List.{append-nil}
 use Rattle.std.proofs.lemmas.List.Elements.{All-append}
-use Rattle.cfdp_lines.specs.Lines.{is_newline, is_overlong, line_limit, lines_of, IsOneLine}
+use Rattle.cfdp_lines.specs.Lines.{is_newline, is_overlong, line_limit, lines_of, settled_lines, IsOneLine}
 use Rattle.cfdp_lines.specs.Report.{Report, report, and_then, wrote, stopped_at, finished, line_answer}
 use Rattle.cfdp_lines.specs.Session.{Place, place, lines_by, report_at, Moves, StopsBad, Breaks, Runs, RunsBad, Finishes, FinishesBad, FinishesLost}
 use Rattle.std.specs.Io.KnownBytes.{Appends, Keeps}
 use Rattle.cfdp_streams.specs.Streams.{LostWithin}
 use Rattle.cfdp_streams.proofs.Streaming.{Appends-none, Appends-more}
-use Rattle.cfdp_lines.proofs.LineLemmas.{lines_by-newline, lines_of-last, lines_by-begun}
+use Rattle.cfdp_lines.proofs.LineLemmas.{lines_by-newline, lines_of-last, lines_by-begun, settled_lines-none}
 
 wrote-wrote : (a b : List ℕ) (r : Report) → wrote a (wrote b r) ≡ wrote (a ++ b) r
 wrote-wrote a b r = simp append_assoc
@@ -128,6 +128,41 @@ module _ (State : Type 0) (answer : State → List ℕ → Option (State × List
             ap (λ (s : List ℕ). report answer n state (lines_by ends s)) (sym (append_assoc line octets rest))
             ∙ report-overlong answer n state (longer ++ begun.more) begun.others (lines_by ends (longer ++ rest)) begun.are over;
       }
+
+  -- a report from the line of a number on names no line before it
+  bad_line-later : (n m : ℕ) (state : State) (lines : List (List ℕ)) → (report answer n state lines).bad_line ≡ Some m → n ≤ m
+  bad_line-later n m state [] e = absurd cc
+  bad_line-later n m state (line ∷ lines) e =
+      let later : State → Report = λ after. report answer (n + 1) after lines in
+      elim (line_answer answer state line) as (λ o. (and_then n o later).bad_line ≡ Some m → n ≤ m) [
+        | None ↦ λ same. let is : n ≡ m = cc in omega (arith, is)
+        | Some answered ↦ λ same. let more = bad_line-later (n + 1) m answered.0 lines same in omega (arith, more)
+      ]
+      e
+
+  -- octets that end a line which is not bad show no bad line of its number
+  and_then-good : (n : ℕ) (o : Option (State × List ℕ)) (lines : List (List ℕ)) → (o ≡ None → ⊥)
+      → and_then n o (λ after. report answer (n + 1) after lines) ≡ wrote [] (stopped_at n) → ⊥
+  and_then-good n None lines good e = good refl
+  and_then-good n (Some answered) lines good e =
+      let more = bad_line-later (n + 1) n answered.0 lines (ap (λ (r : Report). r.bad_line) e) in absurd (omega (arith, more))
+
+  pub StopsBad-good_line : (n : ℕ) (state : State) (line rest : List ℕ) (octet : ℕ) → IsOneLine line → is_newline octet ≡ true
+      → (line_answer answer state line ≡ None → ⊥) → StopsBad answer (place n state []) (line ++ octet ∷ rest) [] n → ⊥
+  StopsBad-good_line n state line rest octet h e good stops =
+      and_then-good n (line_answer answer state line) (lines_of rest) good
+      (sym (line_ended true n state line rest octet h e)
+      ∙ ap (λ (s : List ℕ). report answer n state (lines_of s)) (sym (append-nil (line ++ octet ∷ rest)))
+      ∙ stops.stops true [])
+
+  -- octets of a line that is not too long show no bad line
+  pub StopsBad-open : (n : ℕ) (state : State) (octets : List ℕ) → IsOneLine octets → length octets ≤ line_limit
+      → StopsBad answer (place n state []) octets [] n → ⊥
+  StopsBad-open n state octets h short stops =
+      let none : settled_lines (octets ++ []) ≡ [] = ap settled_lines (append-nil octets) ∙ settled_lines-none octets h short in
+      let same : finished ≡ wrote [] (stopped_at n) = sym (ap (report answer n state) none) ∙ stops.stops false [] in
+      let lines : None ≡ Some n = ap (λ (r : Report). r.bad_line) same in
+      absurd cc
 
   pub report_at-last : (n : ℕ) (state : State) (line : List ℕ) → IsOneLine line → 0 < length line
       → report_at answer true (place n state line) [] ≡ and_then n (line_answer answer state line) (λ after. finished)

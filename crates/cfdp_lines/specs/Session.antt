@@ -6,6 +6,8 @@
 --   Moves      some octets took a run from one place to another and wrote what is theirs
 --   StopsBad   some octets ended a run at a bad line
 --   Breaks     a run broke off within some octets; what it wrote is a beginning of what they report
+--   Refuses    a run broke off at a line that was refused memory, and that these octets do not show to be bad, unless it
+--              began before them
 --
 -- and the same of a writer that tells its octets:
 --
@@ -49,6 +51,16 @@ pub record StopsBad {State : Type 0} (answer : State → List ℕ → Option (St
 pub record Breaks {State : Type 0} (answer : State → List ℕ → Option (State × List ℕ)) (from : Place State) (octets : List ℕ)
     (written : List ℕ) : Type 0 where
   pub begins : (rest : List ℕ) → Begins (report_at answer true from (octets ++ rest)).text written
+
+pub record Refuses {State : Type 0} (answer : State → List ℕ → Option (State × List ℕ)) (from : Place State) (octets : List ℕ)
+    : Type 0 where
+  pub done : List ℕ
+  pub rest : List ℕ
+  pub text : List ℕ
+  pub to : Place State
+  pub cut : octets ≡ done ++ rest
+  pub moves : Moves answer from to done text
+  pub good : to.line ≡ [] → StopsBad answer to rest [] to.number → ⊥
 
 pub record Runs {State : Type 0} (answer : State → List ℕ → Option (State × List ℕ)) (from to : Place State) (octets : List ℕ)
     (old new : Option (List ℕ)) : Type 0 where

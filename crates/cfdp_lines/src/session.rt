@@ -4,7 +4,7 @@ ghost use Rattle.std.specs.Io.KnownBytes.{Appends, Keeps};
 ghost use Rattle.cfdp_lines.specs.Answers.{Answers, Adds};
 ghost use Rattle.cfdp_lines.specs.Lines.{IsOneLine, line_limit};
 ghost use Rattle.cfdp_lines.specs.Report.{line_answer, wrote, finished, stopped_at};
-ghost use Rattle.cfdp_lines.specs.Session.{Runs, RunsBad, RunsPart, RunsLost, StopsBad, Finishes, FinishesBad, FinishesLost};
+ghost use Rattle.cfdp_lines.specs.Session.{Refuses, Runs, RunsBad, RunsPart, RunsLost, StopsBad, Finishes, FinishesBad, FinishesLost};
 ghost use Rattle.cfdp_streams.specs.Streams.{LostWithin, Spills};
 ghost use Rattle.cfdp_lines.specs.declared.faults.RunFault.TheVariants.{Read, Write, Memory, BadLine};
 ghost use Rattle.cfdp_lines.specs.declared.script.LineFault.TheVariants.{Bad};
@@ -82,6 +82,7 @@ impl<S: Script> Session<S> {
     /// The fault of the line that is being read.
     fn fault(&self, fault: LineFault) -> RunFault
         ensures bad { (n : ℕ) → (result ≡ BadLine n) ↔ ((n ≡ self.now.number) × (fault ≡ Bad)) }
+        ensures memory { (result ≡ Memory) ↔ (fault ≡ LineFault.Memory) }
         ensures never_reads { result ≢ Read }
         ensures never_writes { result ≢ Write }
     {
@@ -162,6 +163,9 @@ impl<S: Script> Session<S> {
         ensures ok { IfOk result (λ n. Adds S.answer (place_of S.state self.old) (place_of S.state self.new)
             (take n octets.now) self.old.text.items self.new.text.items) }
         ensures bad { result ≡ Err Bad → StopsBad S.answer (place_of S.state self.old) octets.now [] self.old.number }
+        // Of a line that came whole, or is too long already, a bad one is answered so even where memory is refused.
+        ensures refused { result ≡ Err LineFault.Memory → self.old.line.items ≡ []
+            → StopsBad S.answer (place_of S.state self.old) octets.now [] self.old.number → ⊥ }
         ensures kept { OnErr result (self.new.text.items ≡ self.old.text.items) }
         ensures same { OnErr result (self.new.number ≡ self.old.number) }
     {
@@ -230,6 +234,8 @@ impl<S: Script> Session<S> {
             octets.now n (W.contents writer.old) (W.contents writer.new) }
         ensures memory { result ≡ Err Memory → RunsPart S.answer (place_of S.state self.old)
             octets.now (W.contents writer.old) (W.contents writer.new) }
+        // Memory was refused to a line that is not bad, as far as it came whole.
+        ensures refused { result ≡ Err Memory → Refuses S.answer (place_of S.state self.old) octets.now }
         ensures write { result ≡ Err Write → RunsLost S.answer (place_of S.state self.old)
             octets.now (W.contents writer.old) (W.contents writer.new) }
         ensures well { result ≢ Err Write → W.failed writer.new ≡ W.failed writer.old }
@@ -263,6 +269,8 @@ impl<S: Script> Session<S> {
         ensures bad { (n : ℕ) → result ≡ Err (BadLine n) → FinishesBad S.answer (place_of S.state self.old)
             n (W.contents writer.old) (W.contents writer.new) }
         ensures memory { result ≡ Err Memory → Keeps (W.contents writer.old) (W.contents writer.new) }
+        ensures refused { result ≡ Err Memory
+            → line_answer S.answer (S.state self.old.script) self.old.line.items ≡ None → ⊥ }
         ensures write { result ≡ Err Write → FinishesLost S.answer (place_of S.state self.old)
             (W.contents writer.old) (W.contents writer.new) }
         ensures well { result ≢ Err Write → W.failed writer.new ≡ W.failed writer.old }

@@ -1,5 +1,6 @@
 use Rattle.std.proofs.Common.{◌≡◌, Err, rules, arith, ap, ◌∙◌, length-drop}
 use Rattle.std.proofs.lemmas.List.{take-append-drop}
+use Rattle.cfdp_lines.specs.Places.{place_of}
 use Rattle.cfdp_lines.proofs.Feeding.{Fed-adds, Fed-spills, Fed-stops, Fed-part, Fed-lost}
 use Rattle.cfdp_lines.proofs.session.Session.feed.Goals as goal
 
@@ -18,6 +19,20 @@ returns-in-Err-clause-bad g c = λ n e.
 pub returns-in-Err-clause-memory : goal.returns-in-Err-clause-memory
 returns-in-Err-clause-memory g c = λ _.
     Fed-part _ _ _ _ _ _ _ _ _ _ c.lines.invariant.0 (rw c.in-Err.ensures.kept at c.in_ok-flush-in-Err.ensures.ok)
+
+pub returns-in-Err-clause-refused : goal.returns-in-Err-clause-refused
+returns-in-Err-clause-refused g c = λ e.
+    let fed = c.lines.invariant.0 in
+    let was = c.fault.ensures.memory.0 cc in
+    record {
+      done = fed.done;
+      rest = c.lines.rest.now;
+      text = fed.text;
+      to = place_of g.S.Script.state c.lines.self;
+      cut = fed.cut;
+      moves = fed.moves;
+      good = c.take.ensures.refused (c.in-Err.is ∙ ap Err was);
+    }
 
 pub lines-preserved : goal.lines-preserved
 lines-preserved g c = (

@@ -1,10 +1,11 @@
-use Rattle.std.proofs.Common.{◌≡◌, true, Err, [], ◌++◌, length, take, get_or, arith, rules}
+use Rattle.std.proofs.Common.{◌≡◌, ◌≤◌, true, Err, [], ◌++◌, length, take, get_or, arith, inl, inr, rules}
+use Rattle.std.proofs.lemmas.Bool.{cases_lt}
 use Rattle.std.proofs.lemmas.List.{nil_from_length}
 use Rattle.std.proofs.lemmas.Result.{err_from_is_err_and}
-use Rattle.cfdp_lines.specs.declared.script.LineFault.TheVariants.{Bad}
-use Rattle.cfdp_lines.specs.Lines.{is_newline, IsOneLine}
-use Rattle.cfdp_lines.proofs.Feeding.{one_line-before, one_line-whole, Adds-line, Stops-overlong, Stops-line}
-use Rattle.cfdp_lines.proofs.Moving.{StopsBad-overlong}
+use Rattle.cfdp_lines.specs.declared.script.LineFault.TheVariants.{Bad, Memory}
+use Rattle.cfdp_lines.specs.Lines.{is_newline, line_limit, IsOneLine}
+use Rattle.cfdp_lines.proofs.Feeding.{one_line-before, one_line-whole, Adds-line, Stops-overlong, Stops-line, Stops-good_line}
+use Rattle.cfdp_lines.proofs.Moving.{StopsBad-overlong, StopsBad-open}
 use Rattle.cfdp_lines.proofs.session.Session.take.Goals as goal
 
 pub gather-requires-2 : goal.gather-requires-2
@@ -61,3 +62,23 @@ returns-then-is_empty-clause-ok g c =
     let one_line = one_line-before c.args.octets.now c.in-Some.at (omega (arith, c.in-Some.ensures.0.high)) c.in-Some.ensures.0.before in
     rw (c.in_ok-run_whole.ensures.number, c.in_ok-run_whole.ensures.line, none)
     (Adds-line _ _ _ _ _ [] _ _ _ c.in-Some.at one_line c.in-Some.ensures.0.high newline c.in_ok-run_whole.ensures.ok)
+
+pub returns-in_err-gather-clause-refused : goal.returns-in_err-gather-clause-refused
+returns-in_err-gather-clause-refused g c = λ e none stops.
+    let p = err_from_is_err_and c.from_residual.result c.from_residual.ensures.1 in
+    let same : c.gather.result ≡ Err Memory = cc (p.1, p.2, c.in_err-gather.was) in
+    let one_line = one_line-whole c.args.octets.now c.in_default.ensures in
+    let short : length c.args.octets.now ≤ line_limit = elim (cases_lt line_limit (length c.args.octets.now)) [
+      | inl long ↦ let bad = c.gather.ensures.bad.1 (omega (arith, long)) in absurd cc
+      | inr few ↦ few
+    ] in
+    StopsBad-open _ _ _ _ _ one_line short (rw none at stops)
+
+pub returns-in_err-run_whole-clause-refused : goal.returns-in_err-run_whole-clause-refused
+returns-in_err-run_whole-clause-refused g c = λ e none stops.
+    let p = err_from_is_err_and c.from_residual-in_err-run_whole.result c.from_residual-in_err-run_whole.ensures.1 in
+    let same : c.run_whole.result ≡ Err Memory = cc (p.1, p.2, c.in_err-run_whole.was) in
+    let newline : is_newline (get_or c.args.octets.now c.in-Some.at 0) ≡ true = c.in-Some.ensures.1 in
+    let one_line = one_line-before c.args.octets.now c.in-Some.at (omega (arith, c.in-Some.ensures.0.high)) c.in-Some.ensures.0.before in
+    Stops-good_line _ _ _ _ _ c.in-Some.at one_line c.in-Some.ensures.0.high newline
+    (λ bad. let was = c.run_whole.ensures.bad.1 bad in absurd cc) (rw none at stops)
