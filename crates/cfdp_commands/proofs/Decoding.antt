@@ -1,12 +1,13 @@
 -- A loop over the words of a line of hexadecimal: which are still to come.
-use Rattle.std.proofs.Common.{◌<◌, ◌≤◌, ◌==◌, true, false, length, get_or, arith, ◌≡◌, refl, sym, ◌∙◌, ap, ℕ, List, [], ◌∷◌, ◌++◌, Option, Some, None, Result, Ok, Err, Bor, append_assoc}
+use Rattle.std.proofs.Common.{◌+◌, ◌/◌, ◌<◌, ◌≤◌, ◌==◌, true, false, length, get_or, arith, ◌≡◌, refl, sym, ◌∙◌, ap, ℕ, List, [], ◌∷◌, ◌++◌, Option, Some, None, Result, Ok, Err, Bor, append_assoc, length-append}
 use Rattle.std.specs.Prelude.{IsOk, IsErr, OnOk}
 use Rattle.std.proofs.lemmas.Bool.{false≢true}
 use Rattle.std.proofs.lemmas.Iterator.{YieldsList}
-use Rattle.std.proofs.lemmas.List.{append-nil}
+use Rattle.std.proofs.lemmas.List.{append-nil, nil_from_length}
 use Rattle.std.proofs.lemmas.List.Elements.{All-from_get_or}
 use Rattle.std.proofs.lemmas.List.Splits.{slice_split_none}
-use Rattle.hex.specs.Hex.{decode_of}
+use Rattle.hex.specs.Hex.{decode_of, decode_pairs}
+use Rattle.hex.proofs.HexLemmas.{decode_of-ok}
 use Rattle.hex.specs.declared.error.FromHexError.{FromHexError}
 use Rattle.cfdp_commands.specs.Hexadecimal.{octets_before, octets_of_words, octets_in, hex_octets}
 use Rattle.std.specs.List.{slice_split}
@@ -32,6 +33,41 @@ octets_before-nothing (Some more) = refl
 pub ok_octets : (r : Result (List ℕ) FromHexError) → IsOk r → r ≡ Ok (octets_in r)
 ok_octets (Ok octets) e = refl
 ok_octets (Err fault) e = absurd (false≢true e)
+
+pub err_octets : (r : Result (List ℕ) FromHexError) → (IsOk r → ⊥) → IsErr r
+err_octets (Ok octets) h = absurd (h refl)
+err_octets (Err fault) h = refl
+
+-- an empty word spells nothing
+decode_of-nothing : decode_of [] ≡ Ok []
+unfolding decode_pairs
+decode_of-nothing = refl
+
+pub decode_of-empty : (word : List ℕ) → length word ≡ 0 → decode_of word ≡ Ok []
+decode_of-empty word e = ap decode_of (nil_from_length word e) ∙ decode_of-nothing
+
+before_nothing : (octets : List ℕ) (more : Option (List ℕ)) → octets_before (Ok octets) more ≡ Some [] → more ≡ Some []
+before_nothing octets None e = cc
+before_nothing [] (Some more) e = e
+before_nothing (octet ∷ octets) (Some more) e = absurd cc
+
+-- a word that is not empty spells an octet, if it spells any
+some_octet : (word : List ℕ) (r : Result (List ℕ) FromHexError) (more : Option (List ℕ)) → decode_of word ≡ r → 0 < length word
+    → octets_before r more ≡ Some [] → ⊥
+some_octet word (Ok []) (Some more) is few e =
+    let long = (decode_of-ok word [] is).2 in absurd (omega (arith, long))
+some_octet word (Ok (octet ∷ octets)) (Some more) is few e = absurd cc
+some_octet word (Ok octets) None is few e = absurd cc
+some_octet word (Err fault) more is few e = absurd cc
+
+longer : (so_far octets word : List ℕ) (r : Result (List ℕ) FromHexError) (more : Option (List ℕ)) → decode_of word ≡ r
+    → octets_before (Ok so_far) (octets_before r more) ≡ Some octets → length so_far + length word / 2 ≤ length octets
+longer so_far octets word (Ok decoded) (Some more) is e =
+    let long = (decode_of-ok word decoded is).2 in
+    let same : so_far ++ (decoded ++ more) ≡ octets = cc in
+    omega (arith, long, ap length (sym same), length-append so_far (decoded ++ more), length-append decoded more)
+longer so_far octets word (Ok decoded) None is e = absurd cc
+longer so_far octets word (Err fault) more is e = absurd cc
 
 octets_before-bad : (r : Result (List ℕ) FromHexError) (more : Option (List ℕ)) → IsErr r → octets_before r more ≡ None
 octets_before-bad (Ok octets) more e = absurd (false≢true e)
@@ -70,6 +106,22 @@ module _ {S : Type 0} {steps : S → Option (Bor (List ℕ)) → S → Type 0} w
             ∙ h.same;
       }
 
+  pub decode_some : (s t : S) (x : Bor (List ℕ)) (line octets : List ℕ) → ToDecode steps s line octets → steps s (Some x) t
+      → 0 < length x.now → hex_octets line ≡ Some [] → ⊥
+  decode_some s t x line octets h step few e =
+      let next = yields_next s t x h.words h.left step in
+      some_octet x.now (decode_of x.now) (octets_of_words next.0) refl few
+      (before_nothing octets (octets_before (decode_of x.now) (octets_of_words next.0))
+      (ap (λ words. octets_before (Ok octets) (octets_of_words words)) (sym next.1) ∙ h.same ∙ e))
+
+  -- what a line spells is as long as what was decoded, and the next word's octets
+  pub decode_longer : (s t : S) (x : Bor (List ℕ)) (line so_far octets : List ℕ) → ToDecode steps s line so_far → steps s (Some x) t
+      → hex_octets line ≡ Some octets → length so_far + length x.now / 2 ≤ length octets
+  decode_longer s t x line so_far octets h step e =
+      let next = yields_next s t x h.words h.left step in
+      longer so_far octets x.now (decode_of x.now) (octets_of_words next.0) refl
+      (ap (λ words. octets_before (Ok so_far) (octets_of_words words)) (sym next.1) ∙ h.same ∙ e)
+
   pub decode_bad : (s t : S) (x : Bor (List ℕ)) (line octets : List ℕ) → ToDecode steps s line octets → steps s (Some x) t
       → IsErr (decode_of x.now) → hex_octets line ≡ None
   decode_bad s t x line octets h step e =
@@ -101,6 +153,9 @@ module _ (line : List ℕ) (none : (k : ℕ) → 0 ≤ k → k < length line →
       → OnOk r (IsOk (decode_of line)) → OnOk r (hex_octets line ≡ Some octets)
   one_word-decoded (Ok done) octets same good = one_word-good good ∙ ap Some (sym same)
   one_word-decoded (Err fault) octets same good = same
+
+  pub one_word-some : 0 < length line → hex_octets line ≡ Some [] → ⊥
+  one_word-some few e = some_octet line (decode_of line) (Some []) refl few (sym one_word ∙ e)
 
   pub one_word-bad : IsErr (decode_of line) → hex_octets line ≡ None
   one_word-bad bad = one_word ∙ octets_before-bad (decode_of line) (Some []) bad

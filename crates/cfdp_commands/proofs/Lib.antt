@@ -3,6 +3,7 @@ pub mod Decoding
 pub mod Hearing
 pub mod Keeping
 pub mod Numbering
+pub mod PathLengths
 pub mod Pairs
 pub mod Preparing
 pub mod Reconciling
@@ -10,4 +11,5 @@ pub mod SameConfig
 pub mod Statuses
 pub mod Steps
 pub mod Vectors
+pub mod Verdicts
 pub mod Words

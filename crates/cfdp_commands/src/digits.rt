@@ -1,8 +1,10 @@
 //! Words of hexadecimal digits, decoded without a branch on a digit: which digits come cannot be foreseen.
-ghost use Rattle.std.specs.Prelude.{◌≡◌, ◌*◌, ◌/◌, ◌<◌, ◌≤◌, ◌↔◌, true, length, IsOk, OnOk};
-ghost use Rattle.hex.specs.Hex.{decode_of};
+ghost use Rattle.std.specs.Prelude.{◌≡◌, ◌*◌, ◌/◌, ◌<◌, ◌≤◌, ◌↔◌, true, length, Err, IsOk, IsTrue, OnErr, OnOk};
+ghost use Rattle.hex.specs.Hex.{decode_of, is_hex_digit};
+ghost use Rattle.std.specs.List.{list_all};
 ghost use Rattle.cfdp_commands.specs.Digits.{AreOctets, ArePairs, AreSmall, AreValues, value_of};
 ghost use Rattle.cfdp_commands.specs.Hexadecimal.{octets_in};
+ghost use Rattle.cfdp_lines.specs.declared.script.LineFault.TheVariants.{Bad};
 
 use cfdp_lines::LineFault;
 use std::simd::prelude::*;
@@ -144,6 +146,7 @@ pub(crate) fn decode_into(word: &[u8], room: &mut [u8]) -> Result<(), LineFault>
     requires { length room.old ≡ length word.now / 2 }
     ensures octets { OnOk result (room.new ≡ octets_in (decode_of word.now)) }
     ensures good { IsOk result ↔ IsOk (decode_of word.now) }
+    ensures only { OnErr result (result ≡ Err Bad) }
 {
     if word.len() % 2 != 0 {
         return Err(LineFault::Bad);
@@ -153,4 +156,25 @@ pub(crate) fn decode_into(word: &[u8], room: &mut [u8]) -> Result<(), LineFault>
     } else {
         Err(LineFault::Bad)
     }
+}
+
+/// Whether an octet is a digit, in either case.
+fn is_digit(octet: u8) -> bool
+    ensures { result ≡ is_hex_digit octet }
+{
+    value_of(octet) < 16
+}
+
+/// Whether each octet is a digit, in either case.
+fn are_digits(word: &[u8]) -> bool
+    ensures { result ≡ list_all is_hex_digit word.now }
+{
+    word.iter().all(|octet| is_digit(*octet))
+}
+
+/// Whether [`decode_into`] decodes a word. It takes no room. Cost: at most one look-up for each octet.
+pub(crate) fn is_decodable(word: &[u8]) -> bool
+    ensures { IsTrue result ↔ IsOk (decode_of word.now) }
+{
+    word.len() % 2 == 0 && are_digits(word)
 }

@@ -1,5 +1,5 @@
 //! The lines of the files of `links`: what each says to a worker.
-ghost use Rattle.std.specs.Prelude.{◌≡◌, ◌<◌, ◌≤◌, [], ◌∷◌, length, map, IfOk, IfErr, OnOk, Err, Ok, Some, None};
+ghost use Rattle.std.specs.Prelude.{◌≡◌, ◌↔◌, ◌<◌, ◌≤◌, [], ◌∷◌, length, map, IfOk, IfErr, OnOk, Err, Ok, Some, None};
 ghost use Rattle.cfdp_commands.specs.Commands.{id_by, local_event, numbers_of, words_of};
 ghost use Rattle.cfdp_commands.specs.Hexadecimal.{octets_of_words};
 ghost use Rattle.cfdp_commands.specs.Linked.{AddsLine, IsBadLine};
@@ -13,7 +13,7 @@ ghost use Rattle.cfdp_lines.specs.declared.script.LineFault.TheVariants.{Bad};
 
 use crate::commands::{Keyword, Local, id_in, is_end, keyword_of, next_word, numbers_of};
 use crate::stage::Stage;
-use crate::transfers::decode_words;
+use crate::transfers::{decode_words, protect_path};
 use cfdp_engine::Message;
 use cfdp_lines::{COMMENT, LINE_LIMIT, LineFault, LinkFault, NEWLINE};
 use memchr::memchr;
@@ -23,7 +23,7 @@ use std::sync::Arc;
 /// A line `config`: its words are five numbers.
 fn configure(stage: &mut Stage, line: &[u8]) -> Result<(), LineFault>
     ensures ok { OnOk result (prepared (configured (stage_of stage.old) (numbers_of (words_of line.now))) ≡ Some (stage_of stage.new, [])) }
-    ensures bad { result ≡ Err Bad → prepared (configured (stage_of stage.old) (numbers_of (words_of line.now))) ≡ None }
+    ensures bad { (result ≡ Err Bad) ↔ (prepared (configured (stage_of stage.old) (numbers_of (words_of line.now))) ≡ None) }
 {
     let Some(numbers) = numbers_of(line) else {
         return Err(LineFault::Bad);
@@ -34,20 +34,16 @@ fn configure(stage: &mut Stage, line: &[u8]) -> Result<(), LineFault>
 /// A line `protect`: its words are the octets of a path.
 fn protect(alloc: Global, stage: &mut Stage, line: &[u8]) -> Result<(), LineFault>
     ensures ok { OnOk result (prepared (protected (stage_of stage.old) (octets_of_words (words_of line.now))) ≡ Some (stage_of stage.new, [])) }
-    ensures bad { result ≡ Err Bad → prepared (protected (stage_of stage.old) (octets_of_words (words_of line.now))) ≡ None }
+    ensures bad { (result ≡ Err Bad) ↔ (prepared (protected (stage_of stage.old) (octets_of_words (words_of line.now))) ≡ None) }
 {
-    let mut octets = Vec::new(alloc);
-    if let Err(fault) = decode_words(line, &mut octets) {
-        return Err(fault);
-    }
-    stage.protect(alloc, &octets)
+    protect_path(alloc, stage, line)
 }
 
 /// A line `pdu`: its words are the octets that came.
 fn receive(alloc: Global, stage: &mut Stage, line: &[u8]) -> Result<Message, LineFault>
     ensures ok { IfOk result (λ message. pdu_said (stage_of stage.old) (octets_of_words (words_of line.now))
         ≡ Some (stage_of stage.new, said_of message ∷ [])) }
-    ensures bad { result ≡ Err Bad → pdu_said (stage_of stage.old) (octets_of_words (words_of line.now)) ≡ None }
+    ensures bad { (result ≡ Err Bad) ↔ (pdu_said (stage_of stage.old) (octets_of_words (words_of line.now)) ≡ None) }
 {
     let mut octets = Vec::new(alloc);
     if let Err(fault) = decode_words(line, &mut octets) {
@@ -64,7 +60,7 @@ fn receive(alloc: Global, stage: &mut Stage, line: &[u8]) -> Result<Message, Lin
 fn tell(alloc: Global, stage: &mut Stage, which: Local, line: &[u8]) -> Result<Message, LineFault>
     ensures ok { IfOk result (λ message. local_said (stage_of stage.old) (local_event which) (id_by (numbers_of (words_of line.now)))
         ≡ Some (stage_of stage.new, said_of message ∷ [])) }
-    ensures bad { result ≡ Err Bad → local_said (stage_of stage.old) (local_event which) (id_by (numbers_of (words_of line.now))) ≡ None }
+    ensures bad { (result ≡ Err Bad) ↔ (local_said (stage_of stage.old) (local_event which) (id_by (numbers_of (words_of line.now))) ≡ None) }
 {
     let Some(id) = id_in(line) else {
         return Err(LineFault::Bad);
@@ -80,7 +76,7 @@ fn tell(alloc: Global, stage: &mut Stage, which: Local, line: &[u8]) -> Result<M
 fn run(alloc: Global, stage: &mut Stage, line: &[u8]) -> Result<Message, LineFault>
     ensures ok { IfOk result (λ message. obeyed_by_link (stage_of stage.old) (Some RunAll) (words_of line.now)
         ≡ Some (stage_of stage.new, said_of message ∷ [])) }
-    ensures bad { result ≡ Err Bad → obeyed_by_link (stage_of stage.old) (Some RunAll) (words_of line.now) ≡ None }
+    ensures bad { (result ≡ Err Bad) ↔ (obeyed_by_link (stage_of stage.old) (Some RunAll) (words_of line.now) ≡ None) }
 {
     if !is_end(line) {
         return Err(LineFault::Bad);
@@ -98,7 +94,7 @@ fn obey(
 ) -> Result<Option<Message>, LineFault>
     ensures ok { IfOk result (λ message. obeyed_by_link (stage_of stage.old) (Some keyword) (words_of line.now)
         ≡ Some (stage_of stage.new, said_in message)) }
-    ensures bad { result ≡ Err Bad → obeyed_by_link (stage_of stage.old) (Some keyword) (words_of line.now) ≡ None }
+    ensures bad { (result ≡ Err Bad) ↔ (obeyed_by_link (stage_of stage.old) (Some keyword) (words_of line.now) ≡ None) }
 {
     match keyword {
         Keyword::Config => configure(stage, line).map(|()| None),
@@ -113,7 +109,7 @@ fn obey(
 /// What a line says that is neither too long nor a comment.
 fn read_words(alloc: Global, stage: &mut Stage, line: &[u8]) -> Result<Option<Message>, LineFault>
     ensures ok { IfOk result (λ message. link_answer (stage_of stage.old) line.now ≡ Some (stage_of stage.new, said_in message)) }
-    ensures bad { result ≡ Err Bad → link_answer (stage_of stage.old) line.now ≡ None }
+    ensures bad { (result ≡ Err Bad) ↔ (link_answer (stage_of stage.old) line.now ≡ None) }
 {
     let mut rest = line;
     let Some(word) = next_word(&mut rest) else {
@@ -128,7 +124,7 @@ fn read_words(alloc: Global, stage: &mut Stage, line: &[u8]) -> Result<Option<Me
 /// What a line says.
 fn read_line(alloc: Global, stage: &mut Stage, line: &[u8]) -> Result<Option<Message>, LineFault>
     ensures ok { IfOk result (λ message. line_answer link_answer (stage_of stage.old) line.now ≡ Some (stage_of stage.new, said_in message)) }
-    ensures bad { result ≡ Err Bad → line_answer link_answer (stage_of stage.old) line.now ≡ None }
+    ensures bad { (result ≡ Err Bad) ↔ (line_answer link_answer (stage_of stage.old) line.now ≡ None) }
 {
     if line.len() > LINE_LIMIT {
         return Err(LineFault::Bad);
@@ -160,7 +156,7 @@ fn add_line(
 ) -> Result<(), LineFault>
     ensures ok { OnOk result (AddsLine (stage_of stage.old) (stage_of stage.new) line.now
         (map said_of messages.old.items) (map said_of messages.new.items)) }
-    ensures bad { result ≡ Err Bad → line_answer link_answer (stage_of stage.old) line.now ≡ None }
+    ensures bad { (result ≡ Err Bad) ↔ (line_answer link_answer (stage_of stage.old) line.now ≡ None) }
 {
     match read_line(alloc, stage, line) {
         Ok(Some(message)) => {

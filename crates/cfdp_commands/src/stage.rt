@@ -1,5 +1,5 @@
 //! How far a script of `replay` is.
-ghost use Rattle.std.specs.Prelude.{◌≡◌, ◌≤◌, ◌^◌, ◌++◌, ℕ, List, [], ◌∷◌, None, Some, OnOk, OnErr, IfOk, IfSome, IsSome, Err};
+ghost use Rattle.std.specs.Prelude.{◌≡◌, ◌↔◌, ◌≤◌, ◌^◌, ◌++◌, ℕ, List, [], ◌∷◌, None, Some, OnOk, OnErr, IfOk, IfSome, IsSome, Err};
 ghost use Rattle.cfdp_transactions.specs.Config.{first_fault};
 ghost use Rattle.cfdp_transactions.specs.World.{start};
 ghost use Rattle.cfdp_transactions.specs.Writable.{IsReadable};
@@ -17,6 +17,9 @@ use cfdp_transactions::{Config, Core, Event};
 use cfdp_tree::TreeStore;
 use std::alloc::{AllocError, Global};
 use std::mem;
+
+/// How many paths may be protected at most.
+const MOST_PREFIXES: usize = 8;
 
 /// The default configuration, with these prefixes protected.
 fn default_config() -> Config
@@ -132,7 +135,7 @@ impl Stage {
     /// The configuration is given by its five numbers.
     pub(crate) fn configure(&mut self, numbers: &[u64]) -> Result<(), LineFault>
         ensures ok { OnOk result (configured (stage_of self.old) (Some numbers.now) ≡ Some (stage_of self.new, [])) }
-        ensures bad { result ≡ Err Bad → configured (stage_of self.old) (Some numbers.now) ≡ None }
+        ensures bad { (result ≡ Err Bad) ↔ (configured (stage_of self.old) (Some numbers.now) ≡ None) }
     {
         let Stage::Preparing(true, _, _) = self else {
             return Err(LineFault::Bad);
@@ -145,22 +148,26 @@ impl Stage {
         Ok(())
     }
 
-    /// A path is protected, by the octets that spell it.
+    /// A path is protected, by the octets that spell it. A line that is bad is answered so even where memory is refused: so
+    /// whether one more path may be protected is tested first.
     pub(crate) fn protect(&mut self, alloc: Global, octets: &[u8]) -> Result<(), LineFault>
         ensures ok { OnOk result (protected (stage_of self.old) (Some octets.now) ≡ Some (stage_of self.new, [])) }
-        ensures bad { result ≡ Err Bad → protected (stage_of self.old) (Some octets.now) ≡ None }
+        ensures bad { (result ≡ Err Bad) ↔ (protected (stage_of self.old) (Some octets.now) ≡ None) }
     {
         let Stage::Preparing(is_first, _, protected) = self else {
             return Err(LineFault::Bad);
         };
+        if protected.len() >= MOST_PREFIXES {
+            return Err(LineFault::Bad);
+        }
         let path = match Path::parse(alloc, octets) {
             Ok(path) => path,
             Err(PathFault::Memory) => return Err(LineFault::Memory),
             Err(_) => return Err(LineFault::Bad),
         };
-        if protected.add(path).is_err() {
-            return Err(LineFault::Bad);
-        }
+        let Ok(()) = protected.add(path) else {
+            unreachable!()
+        };
         *is_first = false;
         Ok(())
     }

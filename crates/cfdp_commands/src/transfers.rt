@@ -1,5 +1,5 @@
 //! The lines of `replay`: PDUs and local events, told to one receiving entity.
-ghost use Rattle.std.specs.Prelude.{◌≡◌, [], OnOk, Some, None, Err};
+ghost use Rattle.std.specs.Prelude.{◌≡◌, ◌≢◌, ◌↔◌, [], OnOk, Some, None, Err};
 ghost use Rattle.cfdp_commands.specs.Commands.{local_event, numbers_of, words_of};
 ghost use Rattle.cfdp_commands.specs.Hexadecimal.{octets_of_words};
 ghost use Rattle.cfdp_commands.specs.Replay.{at_first, configured, local, obeyed, pdu_told, protected, world_of};
@@ -10,7 +10,7 @@ ghost use Rattle.cfdp_lines.specs.declared.script.LineFault.TheVariants.{Bad};
 use crate::commands::{
     Keyword, Local, id_in, is_end, keyword_of, next_word, numbers_of, skip_spaces,
 };
-use crate::hexadecimal::decode_line;
+use crate::hexadecimal::{decode_line, decode_within};
 use crate::stage::Stage;
 use cfdp_lines::{LineFault, Script};
 use std::alloc::Global;
@@ -18,9 +18,26 @@ use std::alloc::Global;
 /// Puts the octets that the words of a line spell in the place of `octets`.
 pub(crate) fn decode_words(line: &[u8], octets: &mut Vec<u8>) -> Result<(), LineFault>
     ensures octets { OnOk result (octets_of_words (words_of line.now) ≡ Some octets.new.items) }
-    ensures bad { result ≡ Err Bad → octets_of_words (words_of line.now) ≡ None }
+    ensures bad { (result ≡ Err Bad) ↔ (octets_of_words (words_of line.now) ≡ None) }
+    ensures some { result ≡ Err LineFault.Memory → octets_of_words (words_of line.now) ≢ Some [] }
 {
     decode_line(skip_spaces(line), octets)
+}
+
+/// The most octets that spell a path: eight names of 96 octets, with a `/` before each.
+const LONGEST_PATH: usize = 8 * 97;
+
+/// Protects the path that the words of a line spell. Its octets take no memory, so that a bad line is answered so even
+/// where memory is refused: only a path that may be protected takes some.
+pub(crate) fn protect_path(alloc: Global, stage: &mut Stage, line: &[u8]) -> Result<(), LineFault>
+    ensures ok { OnOk result (protected (stage_of stage.old) (octets_of_words (words_of line.now)) ≡ Some (stage_of stage.new, [])) }
+    ensures bad { (result ≡ Err Bad) ↔ (protected (stage_of stage.old) (octets_of_words (words_of line.now)) ≡ None) }
+{
+    let mut room = [0u8; LONGEST_PATH];
+    let Some(len) = decode_within(line, &mut room) else {
+        return Err(LineFault::Bad);
+    };
+    stage.protect(alloc, &room[..len])
 }
 
 /// A script of `replay`, between two lines.
@@ -50,7 +67,7 @@ impl Transfers {
     /// A line `config`: its words are five numbers.
     fn configure(&mut self, line: &[u8]) -> Result<(), LineFault>
         ensures ok { OnOk result (configured (stage_of self.old.stage) (numbers_of (words_of line.now)) ≡ Some (stage_of self.new.stage, [])) }
-        ensures bad { result ≡ Err Bad → configured (stage_of self.old.stage) (numbers_of (words_of line.now)) ≡ None }
+        ensures bad { (result ≡ Err Bad) ↔ (configured (stage_of self.old.stage) (numbers_of (words_of line.now)) ≡ None) }
         ensures text { self.new.text ≡ self.old.text }
     {
         let Some(numbers) = numbers_of(line) else {
@@ -62,13 +79,10 @@ impl Transfers {
     /// A line `protect`: its words are the octets of a path.
     fn protect(&mut self, alloc: Global, line: &[u8]) -> Result<(), LineFault>
         ensures ok { OnOk result (protected (stage_of self.old.stage) (octets_of_words (words_of line.now)) ≡ Some (stage_of self.new.stage, [])) }
-        ensures bad { result ≡ Err Bad → protected (stage_of self.old.stage) (octets_of_words (words_of line.now)) ≡ None }
+        ensures bad { (result ≡ Err Bad) ↔ (protected (stage_of self.old.stage) (octets_of_words (words_of line.now)) ≡ None) }
         ensures text { self.new.text ≡ self.old.text }
     {
-        if let Err(fault) = decode_words(line, &mut self.octets) {
-            return Err(fault);
-        }
-        self.stage.protect(alloc, &self.octets)
+        protect_path(alloc, &mut self.stage, line)
     }
 
     /// A line `pdu`: its words are the octets that came.
@@ -76,7 +90,7 @@ impl Transfers {
         requires { self.old.text.items ≡ [] }
         ensures ok { OnOk result (pdu_told (world_of (stage_of self.old.stage)) (octets_of_words (words_of line.now))
             ≡ Some (stage_of self.new.stage, self.new.text.items)) }
-        ensures bad { result ≡ Err Bad → pdu_told (world_of (stage_of self.old.stage)) (octets_of_words (words_of line.now)) ≡ None }
+        ensures bad { (result ≡ Err Bad) ↔ (pdu_told (world_of (stage_of self.old.stage)) (octets_of_words (words_of line.now)) ≡ None) }
     {
         if let Err(fault) = decode_words(line, &mut self.octets) {
             return Err(fault);
@@ -92,7 +106,7 @@ impl Transfers {
         requires { self.old.text.items ≡ [] }
         ensures ok { OnOk result (local (stage_of self.old.stage) (local_event which) (words_of line.now)
             ≡ Some (stage_of self.new.stage, self.new.text.items)) }
-        ensures bad { result ≡ Err Bad → local (stage_of self.old.stage) (local_event which) (words_of line.now) ≡ None }
+        ensures bad { (result ≡ Err Bad) ↔ (local (stage_of self.old.stage) (local_event which) (words_of line.now) ≡ None) }
     {
         let Some(id) = id_in(line) else {
             return Err(LineFault::Bad);
@@ -105,7 +119,7 @@ impl Transfers {
         requires { self.old.text.items ≡ [] }
         ensures ok { OnOk result (obeyed (stage_of self.old.stage) (Some Run) (words_of line.now)
             ≡ Some (stage_of self.new.stage, self.new.text.items)) }
-        ensures bad { result ≡ Err Bad → obeyed (stage_of self.old.stage) (Some Run) (words_of line.now) ≡ None }
+        ensures bad { (result ≡ Err Bad) ↔ (obeyed (stage_of self.old.stage) (Some Run) (words_of line.now) ≡ None) }
     {
         if !is_end(line) {
             return Err(LineFault::Bad);
@@ -118,7 +132,7 @@ impl Transfers {
         requires { self.old.text.items ≡ [] }
         ensures ok { OnOk result (obeyed (stage_of self.old.stage) (Some ListAll) (words_of line.now)
             ≡ Some (stage_of self.new.stage, self.new.text.items)) }
-        ensures bad { result ≡ Err Bad → obeyed (stage_of self.old.stage) (Some ListAll) (words_of line.now) ≡ None }
+        ensures bad { (result ≡ Err Bad) ↔ (obeyed (stage_of self.old.stage) (Some ListAll) (words_of line.now) ≡ None) }
     {
         if !is_end(line) {
             return Err(LineFault::Bad);
@@ -131,7 +145,7 @@ impl Transfers {
         requires { self.old.text.items ≡ [] }
         ensures ok { OnOk result (obeyed (stage_of self.old.stage) (Some keyword) (words_of line.now)
             ≡ Some (stage_of self.new.stage, self.new.text.items)) }
-        ensures bad { result ≡ Err Bad → obeyed (stage_of self.old.stage) (Some keyword) (words_of line.now) ≡ None }
+        ensures bad { (result ≡ Err Bad) ↔ (obeyed (stage_of self.old.stage) (Some keyword) (words_of line.now) ≡ None) }
     {
         match keyword {
             Keyword::Config => self.configure(line),

@@ -10,3 +10,7 @@ returns-clause-octets c =
 pub returns-clause-bad : goal.returns-clause-bad
 returns-clause-bad c =
     rw (ap octets_of_words (sym c.skip_spaces.ensures.words) ∙ words_spell c.skip_spaces.result.now) c.decode_line.ensures.bad
+
+pub returns-clause-some : goal.returns-clause-some
+returns-clause-some c =
+    rw (ap octets_of_words (sym c.skip_spaces.ensures.words) ∙ words_spell c.skip_spaces.result.now) c.decode_line.ensures.some

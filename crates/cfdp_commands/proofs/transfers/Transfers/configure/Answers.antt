@@ -1,9 +1,11 @@
-use Rattle.std.proofs.Common.{rules}
+use Rattle.std.proofs.Common.{refl, rules}
 use Rattle.cfdp_commands.specs.Commands.{words_of}
 use Rattle.cfdp_commands.specs.Stages.{stage_of}
 use Rattle.cfdp_commands.proofs.Answering.{not_few, configured-none}
 use Rattle.cfdp_commands.proofs.transfers.Transfers.configure.Goals as goal
 
 pub returns-in_default-clause-bad : goal.returns-in_default-clause-bad
-returns-in_default-clause-bad c = λ e.
-    configured-none (stage_of c.args.self.now.stage) _ (not_few (words_of c.args.line.now) (c.numbers_of.ensures.none (search rules)))
+returns-in_default-clause-bad c = (
+  λ e. configured-none (stage_of c.args.self.now.stage) _ (not_few (words_of c.args.line.now) (c.numbers_of.ensures.none (search rules))),
+  λ none. refl,
+)

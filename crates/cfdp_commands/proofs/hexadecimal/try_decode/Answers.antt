@@ -1,5 +1,5 @@
-use Rattle.cfdp_commands.proofs.Decoding.{one_word-decoded, one_word-bad}
-use Rattle.cfdp_commands.proofs.hexadecimal.decode_line.Goals as goal
+use Rattle.cfdp_commands.proofs.Decoding.{one_word-decoded, one_word-bad, one_word-some}
+use Rattle.cfdp_commands.proofs.hexadecimal.try_decode.Goals as goal
 
 pub returns-in-None-clause-octets : goal.returns-in-None-clause-octets
 returns-in-None-clause-octets c =
@@ -8,3 +8,6 @@ returns-in-None-clause-octets c =
 
 pub returns-in-None-clause-bad : goal.returns-in-None-clause-bad
 returns-in-None-clause-bad c = λ e. one_word-bad c.args.line.now c.in-None.ensures (c.decode_word.ensures.bad e)
+
+pub returns-in-None-clause-some : goal.returns-in-None-clause-some
+returns-in-None-clause-some c = λ e. one_word-some c.args.line.now c.in-None.ensures (c.decode_word.ensures.some e)
