@@ -6,6 +6,7 @@ mod examples;
 mod failing;
 mod fakes;
 mod fault_scripts;
+mod hex_words;
 mod limits;
 mod link_gates;
 mod links;

@@ -1,10 +1,18 @@
 //! Reads and writes that fail in mid-stream, and std's streams that are interrupted.
-use super::fakes::{Call, Reader, Scripted, Stream};
+use super::fakes::{Call, Reader, Scripted, Stream, Writer};
+use super::links::link;
 use super::runs::{Kind, Ran, Run};
 use super::{REPLAY_REPORT, REPLAY_SCRIPT, REPORT, Row, SCRIPT, all_hold};
-use cfdp_sim::{Failed, FromRead, RunFault, ScriptIn, ScriptOut, ToWrite, plain, replay};
-use std::alloc::Global;
+use cfdp_commands::{Requests, Transfers};
+use cfdp_lines::{LineFault, Script};
+use cfdp_sim::{
+    Failed, FromRead, LinkFault, Open, RunFault, ScriptIn, ScriptOut, ToWrite, plain, replay,
+};
+use cfdp_tree::TreeStore;
+use std::alloc::{AllocError, Global};
 use std::process::Abort;
+use std::sync::Wait;
+use std::thread::Threads;
 
 /// A script of either kind, each line of which that is not empty is answered by a line.
 struct Example {
@@ -166,6 +174,115 @@ static REFUSED: [Example; 4] = [
 fn memory(rt: HostRuntime) {
     all_hold(&rt, rt.alloc(), &EXAMPLES);
     all_hold(&rt, rt.alloc(), &REFUSED);
+}
+
+/// A bad line, and what is bad of it.
+type Bad = (&'static str, &'static [u8]);
+
+/// Lines that are bad to `plain`. Each asks for memory, but for the first one.
+static BAD_REQUESTS: [Bad; 5] = [
+    ("an octet that is no digit, alone", b"z"),
+    ("an octet that is no digit", b"0003z00161"),
+    ("half a pair", b"000300016"),
+    ("a bad word before good ones", b"000 0300 0161"),
+    ("a bad word behind good ones", b"0003 0001 6"),
+];
+
+/// Lines that are bad to `replay`.
+static BAD_EVENTS: [Bad; 7] = [
+    ("an octet that is no digit", b"pdu 24z0"),
+    ("half a pair", b"pdu 240"),
+    ("a bad word behind good ones", b"pdu 24 00 0"),
+    ("no octets", b"pdu  "),
+    ("no transaction", b"step 1"),
+    ("no path", b"protect 612f2f62"),
+    ("no pair of a path", b"protect 61 6"),
+];
+
+/// Whether a line of a script is bad.
+fn is_bad<S: Script + Drop>(alloc: Global, script: S, line: &[u8]) -> bool {
+    let mut script = script;
+    let mut out = Vec::new(alloc);
+    script.line(alloc, line, &mut out) == Err(LineFault::Bad) && out.is_empty()
+}
+
+/// A bad line is told so, and never that memory was refused: to `plain` ..
+#[test]
+fn memory_of_bad_requests(rt: HostRuntime) -> Result<(), AllocError> {
+    for (name, line) in &BAD_REQUESTS {
+        let Ok(store) = TreeStore::new(rt.alloc(), 64) else {
+            return Err(AllocError);
+        };
+        let script = Requests::new(rt.alloc(), store);
+        assert!(rt; is_bad(rt.alloc(), script, line), "{name}");
+    }
+    Ok(())
+}
+
+/// .. to `replay` ..
+#[test]
+fn memory_of_bad_events(rt: HostRuntime) {
+    for (name, line) in &BAD_EVENTS {
+        assert!(rt; is_bad(rt.alloc(), Transfers::new(rt.alloc()), line), "{name}");
+    }
+}
+
+/// So many octets behind others.
+fn repeated(
+    alloc: Global,
+    before: &[u8],
+    octet: u8,
+    count: usize,
+) -> Result<Vec<u8>, AllocError> {
+    let mut octets = Vec::from_slice(alloc, before)?;
+    for _ in 0..count {
+        octets.push(octet)?;
+    }
+    Ok(octets)
+}
+
+/// .. also a path of 778 octets, two more than one may have ..
+#[test]
+fn memory_of_a_long_path(rt: HostRuntime) -> Result<(), AllocError> {
+    let line = repeated(rt.alloc(), b"protect ", b'6', 2 * 778)?;
+    assert!(rt; is_bad(rt.alloc(), Transfers::new(rt.alloc()), &line));
+    Ok(())
+}
+
+/// Whether the first line of a file is bad to `links`.
+fn is_bad_file<R: Abort + Threads + Wait + Sync>(
+    rt: &R,
+    alloc: Global,
+    file: Vec<u8>,
+) -> Result<bool, AllocError> {
+    let mut scripts = Vec::new(alloc);
+    scripts.push(file)?;
+    let mut writer = Writer::new(alloc, Stream::sound(100));
+    let end = link(rt, alloc, &scripts, &Open, &mut writer);
+    Ok(end == Err(LinkFault::BadLine(0, 1)) && writer.text.is_empty())
+}
+
+/// .. and to `links` ..
+#[test]
+fn memory_of_bad_files(rt: HostRuntime) -> Result<(), AllocError> {
+    for (name, line) in &BAD_EVENTS {
+        let file = Vec::from_slice(rt.alloc(), line)?;
+        let is_bad = is_bad_file(&rt, rt.alloc(), file)?;
+        assert!(rt; is_bad, "{name}");
+    }
+    Ok(())
+}
+
+/// .. also a line that is too long.
+#[test]
+fn memory_of_long_lines(rt: HostRuntime) -> Result<(), AllocError> {
+    for (name, octet) in &[("spaces", b' '), ("a comment", b'#')] {
+        let mut file = repeated(rt.alloc(), b"", *octet, 200_001)?;
+        file.extend_from_slice(b"\nrun\n")?;
+        let is_bad = is_bad_file(&rt, rt.alloc(), file)?;
+        assert!(rt; is_bad, "{name}");
+    }
+    Ok(())
 }
 
 /// What calls of std's stream answer, and what the first read and the first write over it then answer.

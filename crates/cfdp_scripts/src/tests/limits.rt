@@ -1,10 +1,13 @@
 //! The longest line, the longest input and the longest request.
 use super::fakes::{Stream, Writer};
+use super::links::link;
 use super::runs::{End, Kind, has_text};
 use super::{Row, all_hold};
-use cfdp_sim::{Failed, RunFault, ScriptIn, plain, replay};
+use cfdp_sim::{Failed, LinkFault, Open, RunFault, ScriptIn, plain, replay};
 use std::alloc::{AllocError, Global};
 use std::process::Abort;
+use std::sync::Wait;
+use std::thread::Threads;
 
 /// So many of the octet behind others and before others.
 fn repeated(
@@ -42,9 +45,15 @@ fn is_long_enough<R: Print>(
     Ok(has_text(rt, alloc, kind, &script, report, Ok(())))
 }
 
-/// Whether one more may not, in the second line.
-fn is_too_long<R: Print>(rt: &R, alloc: Global, kind: Kind, octet: u8) -> Result<bool, AllocError> {
-    let script = repeated(alloc, b"\n", octet, 200_001, b"")?;
+/// Whether one more may not, in the second line, before these octets.
+fn is_too_long<R: Print>(
+    rt: &R,
+    alloc: Global,
+    kind: Kind,
+    octet: u8,
+    behind: &[u8],
+) -> Result<bool, AllocError> {
+    let script = repeated(alloc, b"\n", octet, 200_001, behind)?;
     let end = Err(RunFault::BadLine(2));
     Ok(has_text(rt, alloc, kind, &script, "", end))
 }
@@ -53,7 +62,8 @@ impl Row for Line {
     fn holds<R: Abort + Print>(&self, rt: &R, alloc: Global) -> bool {
         for octet in [b' ', b'#'] {
             if is_long_enough(rt, alloc, self, octet) != Ok(true)
-                || is_too_long(rt, alloc, self.0, octet) != Ok(true)
+                || is_too_long(rt, alloc, self.0, octet, b"") != Ok(true)
+                || is_too_long(rt, alloc, self.0, octet, b"\n") != Ok(true)
             {
                 return false;
             }
@@ -85,11 +95,41 @@ fn lines(rt: HostRuntime) {
     all_hold(&rt, rt.alloc(), &LINES);
 }
 
-/// Short comment lines without end.
-#[derive(Drop)]
-struct Endless;
+/// What `links` ends with over a file whose second line has so many of the octet, before these.
+fn end_of_links<R: Abort + Threads + Wait + Sync>(
+    rt: &R,
+    alloc: Global,
+    octet: u8,
+    count: usize,
+    behind: &[u8],
+) -> Result<Result<(), LinkFault>, AllocError> {
+    let mut scripts = Vec::new(alloc);
+    scripts.push(repeated(alloc, b"\n", octet, count, behind)?)?;
+    let mut writer = Writer::new(alloc, Stream::sound(100));
+    Ok(link(rt, alloc, &scripts, &Open, &mut writer))
+}
 
-impl ScriptIn for Endless {
+/// The same in a file of `links`, whose lines are whole where they are read.
+#[test]
+fn lines_of_links(rt: HostRuntime) -> Result<(), AllocError> {
+    for octet in [b' ', b'#'] {
+        for behind in [b"".as_slice(), b"\n"] {
+            let longest = end_of_links(&rt, rt.alloc(), octet, 200_000, behind)?;
+            assert!(rt; longest == Ok(()));
+            let longer = end_of_links(&rt, rt.alloc(), octet, 200_001, behind)?;
+            assert!(rt; longer == Err(LinkFault::BadLine(0, 2)));
+        }
+    }
+    Ok(())
+}
+
+/// Comment lines of so many octets in all: as many as a read asks for, in one line.
+#[derive(Drop)]
+struct Comments {
+    left: usize,
+}
+
+impl ScriptIn for Comments {
     ghost use Rattle.std.specs.Prelude.{None, false};
 
     ghost remaining = { λ s. None };
@@ -97,14 +137,17 @@ impl ScriptIn for Endless {
     ghost failed = { λ s. false };
 
     fn read(&mut self, buffer: &mut [u8]) -> Result<usize, Failed> {
+        let count = buffer.len().min(self.left);
+        let line = &mut buffer[..count];
         // What an earlier call left there serves again.
-        if buffer.first() != Some(&b'\n') {
-            buffer.fill(b'#');
+        if line.first() != Some(&b'\n') {
+            line.fill(b'#');
         }
-        if let Some(first) = buffer.first_mut() {
+        if let Some(first) = line.first_mut() {
             *first = b'\n';
         }
-        Ok(buffer.len())
+        self.left = self.left.saturating_sub(count);
+        Ok(count)
     }
 
     fn has_failed(&self) -> bool {
@@ -112,25 +155,29 @@ impl ScriptIn for Endless {
     }
 }
 
-/// What a run of it ends with.
-fn end_of_endless(alloc: Global, kind: Kind, writer: &mut Writer) -> End {
+/// More octets than an input may have, by far.
+const TWICE: usize = 2 * 268_435_456;
+
+/// What a run of so many ends with.
+fn end_of_twice(alloc: Global, kind: Kind, writer: &mut Writer) -> End {
+    let mut comments = Comments { left: TWICE };
     match kind {
-        Kind::Plain => plain(alloc, &mut Endless, writer),
-        Kind::Replay => replay(alloc, &mut Endless, writer),
+        Kind::Plain => plain(alloc, &mut comments, writer),
+        Kind::Replay => replay(alloc, &mut comments, writer),
     }
 }
 
 /// Whether it is a read fault and nothing was written. A run to which memory was refused is made once more.
 fn is_bounded(alloc: Global, kind: Kind) -> bool {
     let mut writer = Writer::new(alloc, Stream::sound(1));
-    let mut end = end_of_endless(alloc, kind, &mut writer);
+    let mut end = end_of_twice(alloc, kind, &mut writer);
     if end == Err(RunFault::Memory) {
-        end = end_of_endless(alloc, kind, &mut writer);
+        end = end_of_twice(alloc, kind, &mut writer);
     }
     end == Err(RunFault::Read) && writer.text.is_empty()
 }
 
-/// An input has at most 268,435,456 octets: one that never ends is a read fault of `plain` ..
+/// An input has at most 268,435,456 octets: one of twice as many is a read fault of `plain` ..
 #[test]
 fn inputs(rt: HostRuntime) {
     assert!(rt; is_bounded(rt.alloc(), Kind::Plain));

@@ -236,7 +236,7 @@ fn are_linkable(scripts: &[Vec<u8>]) -> bool
 }
 
 /// Runs the scripts, which can be linked.
-fn link<R: Abort + Threads + Wait + Sync, G: Gate + Sync>(
+pub(super) fn link<R: Abort + Threads + Wait + Sync, G: Gate + Sync>(
     rt: &R,
     alloc: Global,
     scripts: &[Vec<u8>],
