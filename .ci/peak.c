@@ -1,8 +1,11 @@
-/* An allocator that counts the memory in use. At the end of the program it writes the most that there was, in octets, in a line on
-   standard error. It is loaded before the C library (LD_PRELOAD) into a program of one thread. */
+/* An allocator that counts the memory in use. At the end of the program it writes the most that there was, in octets, as a line
+   `peak N` on standard error. It is loaded before the C library (LD_PRELOAD) into a program whose processes have one thread each:
+   of a process that it starts, the most counts too. */
 #include <malloc.h>
 #include <stdio.h>
 #include <stdlib.h>
+#include <sys/mman.h>
+#include <unistd.h>
 
 extern void *__libc_malloc(size_t size);
 extern void *__libc_calloc(size_t count, size_t size);
@@ -10,12 +13,27 @@ extern void *__libc_realloc(void *block, size_t size);
 extern void *__libc_memalign(size_t align, size_t size);
 extern void __libc_free(void *block);
 
-static size_t in_use, most;
+static size_t in_use;
+static size_t *most;
+static pid_t first;
+
+__attribute__((constructor)) static void begin(void)
+{
+    void *page = mmap(NULL, sizeof *most, PROT_READ | PROT_WRITE, MAP_SHARED | MAP_ANONYMOUS, -1, 0);
+    if (page == MAP_FAILED) _exit(1);
+    most = page;
+    first = getpid();
+}
+
+__attribute__((destructor)) static void end(void)
+{
+    if (getpid() == first) dprintf(2, "peak %zu\n", *most);
+}
 
 static void *counted(void *block)
 {
     if (block) in_use += malloc_usable_size(block);
-    if (in_use > most) most = in_use;
+    if (most && in_use > *most) *most = in_use;
     return block;
 }
 
@@ -35,9 +53,4 @@ void free(void *block)
 {
     if (block) in_use -= malloc_usable_size(block);
     __libc_free(block);
-}
-
-__attribute__((destructor)) static void say(void)
-{
-    dprintf(2, "peak %zu\n", most);
 }
