@@ -1,5 +1,7 @@
-//! A long list that is refused by name, lent to a core and given to one. `.ci/refused` compares the most memory that each test
-//! has in use: a core that copied what is lent before it judged it would need more.
+//! A long list that is refused by name, lent to a core and given to one. `.ci/refused` compares the most memory that
+//! each test has in use: a core that copied what is lent before it judged it would need more.
+
+ghost use Rattle.std.specs.Prelude.{◌≡◌};
 
 use super::entity::header;
 use super::scene::read;
@@ -10,8 +12,6 @@ use cfdp_transactions::{Config, Core, Event, Reply};
 use cfdp_tree::TreeStore;
 use cfdp_verifier::Refusal;
 use std::alloc::{AllocError, Global};
-
-ghost use Rattle.std.specs.Prelude.{◌≡◌};
 
 /// The actions, as the octet that they have in a request.
 const CREATE_FILE: u8 = 0x00;

@@ -129,8 +129,8 @@ fn checksum_of<S: Filestore>(store: &S, path: &Path) -> Option<u32> {
     }
 }
 
-/// The modular checksum of octets, one after another (CCSDS 727.0-B-5 §4.2.2): each is the most significant octet of its word,
-/// or 1, 2 or 3 octets after that.
+/// The modular checksum of octets, one after another (CCSDS 727.0-B-5 §4.2.2): each is the most significant octet of its
+/// word, or 1, 2 or 3 octets after that.
 fn sum_of(octets: &[u8]) -> u32 {
     let mut sum = 0_u32;
     for (octet, shift) in octets.iter().zip([24, 16, 8, 0].into_iter().cycle()) {
@@ -194,7 +194,11 @@ fn sum_written<S: Filestore>(
     ];
     take(rt, alloc, store, &Protected::new(), "written", &steps)?;
     let path = parsed(alloc, b"sum")?;
-    assert!(rt; checksum_of(store, &path) == Some(sum_of(octets)), "{} octets", octets.len());
+    assert!(rt;
+        checksum_of(store, &path) == Some(sum_of(octets)),
+        "{} octets",
+        octets.len()
+    );
     Ok(())
 }
 
