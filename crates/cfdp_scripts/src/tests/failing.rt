@@ -185,14 +185,14 @@ static BAD_REQUESTS: [Bad; 5] = [
     ("an octet that is no digit", b"0003z00161"),
     ("half a pair", b"000300016"),
     ("a bad word before good ones", b"000 0300 0161"),
-    ("a bad word behind good ones", b"0003 0001 6"),
+    ("a bad word after good ones", b"0003 0001 6"),
 ];
 
 /// Lines that are bad to `replay`.
 static BAD_EVENTS: [Bad; 7] = [
     ("an octet that is no digit", b"pdu 24z0"),
     ("half a pair", b"pdu 240"),
-    ("a bad word behind good ones", b"pdu 24 00 0"),
+    ("a bad word after good ones", b"pdu 24 00 0"),
     ("no octets", b"pdu  "),
     ("no transaction", b"step 1"),
     ("no path", b"protect 612f2f62"),
@@ -206,7 +206,7 @@ fn is_bad<S: Script + Drop>(alloc: Global, script: S, line: &[u8]) -> bool {
     script.line(alloc, line, &mut out) == Err(LineFault::Bad) && out.is_empty()
 }
 
-/// A bad line is told so, and never that memory was refused: to `plain` ..
+/// A bad line is answered so, and never by a fault of memory: by `plain` ..
 #[test]
 fn memory_of_bad_requests(rt: HostRuntime) -> Result<(), AllocError> {
     for (name, line) in &BAD_REQUESTS {
@@ -219,21 +219,19 @@ fn memory_of_bad_requests(rt: HostRuntime) -> Result<(), AllocError> {
     Ok(())
 }
 
-/// .. to `replay` ..
+/// .. by `replay` ..
 #[test]
 fn memory_of_bad_events(rt: HostRuntime) {
     for (name, line) in &BAD_EVENTS {
-        assert!(rt; is_bad(rt.alloc(), Transfers::new(rt.alloc()), line), "{name}");
+        assert!(rt;
+            is_bad(rt.alloc(), Transfers::new(rt.alloc()), line),
+            "{name}"
+        );
     }
 }
 
-/// So many octets behind others.
-fn repeated(
-    alloc: Global,
-    before: &[u8],
-    octet: u8,
-    count: usize,
-) -> Result<Vec<u8>, AllocError> {
+/// Some octets, and so many of one octet after them.
+fn repeated(alloc: Global, before: &[u8], octet: u8, count: usize) -> Result<Vec<u8>, AllocError> {
     let mut octets = Vec::from_slice(alloc, before)?;
     for _ in 0..count {
         octets.push(octet)?;
@@ -262,7 +260,7 @@ fn is_bad_file<R: Abort + Threads + Wait + Sync>(
     Ok(end == Err(LinkFault::BadLine(0, 1)) && writer.text.is_empty())
 }
 
-/// .. and to `links` ..
+/// .. and by `links` ..
 #[test]
 fn memory_of_bad_files(rt: HostRuntime) -> Result<(), AllocError> {
     for (name, line) in &BAD_EVENTS {

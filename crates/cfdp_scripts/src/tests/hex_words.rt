@@ -1,5 +1,5 @@
-//! Words of hexadecimal of the lengths at which their decoder goes another way, in both cases of letters. What octets a word spells,
-//! and whether it spells any, is what the crate `hex` says.
+//! Words of hexadecimal of the lengths at which their decoder goes another way, in both cases of letters. What octets a
+//! word spells, and whether it spells any, is what the crate `hex` says.
 use super::runs::{Kind, has_text};
 use cfdp_sim::{RunFault, replay_text};
 use std::alloc::{AllocError, Global};
@@ -49,7 +49,7 @@ fn octet_at(index: usize) -> u8 {
     }
 }
 
-/// These octets, and others behind them up to a length.
+/// These octets, and others after them up to a length.
 fn octets_from(alloc: Global, head: &[u8], len: usize) -> Result<Vec<u8>, AllocError> {
     let mut octets = Vec::from_slice(alloc, head)?;
     for index in head.len()..len {
@@ -67,7 +67,7 @@ fn word_of(alloc: Global, octets: &[u8], is_upper: bool) -> Result<String, Alloc
     }
 }
 
-/// A create request of so many octets. Where these are more than a TLV of a name that may be in a path has, they go on behind it.
+/// A create request of so many octets. In a long one the TLV is short, and other octets come after it.
 fn request(alloc: Global, len: usize) -> Result<Vec<u8>, AllocError> {
     if len > 33 {
         return octets_from(alloc, &[0, 3, 0, 1, b'a'], len);
@@ -136,31 +136,30 @@ fn file_data(alloc: Global, len: usize) -> Result<Vec<u8>, AllocError> {
     octets_from(alloc, &head, len)
 }
 
-/// A file that comes in one word, and what `list` then tells of it.
+/// A file that comes in one word, and the line of `list` for it.
 fn transfer(alloc: Global, len: usize, is_upper: bool) -> Result<(String, String), AllocError> {
     let octets = file_data(alloc, len)?;
     let (_, file) = octets.split_at(octets.len().min(11));
     let word = word_of(alloc, &octets, is_upper)?;
     let size = file.len() as u32;
     let sum = checksum(file);
-    let script = format!(
-        in alloc;
-        "pdu 24000a00010a02 0740 {size:08x} 0173 0166\npdu {word}\npdu 24000a00010a02 0400 {sum:08x} {size:08x}\nstep 1 10\nlist\n"
-    )?;
-    let told = format!(in alloc; "\nfile f {size} {sum:08x}\n")?;
-    Ok((script, told))
+    let begin = format!(in alloc; "pdu 24000a00010a02 0740 {size:08x} 0173 0166\n")?;
+    let end = format!(in alloc; "pdu 24000a00010a02 0400 {sum:08x} {size:08x}\n")?;
+    let script = format!(in alloc; "{begin}pdu {word}\n{end}step 1 10\nlist\n")?;
+    let listed = format!(in alloc; "\nfile f {size} {sum:08x}\n")?;
+    Ok((script, listed))
 }
 
 /// Whether `replay` delivers a file of the octets that a word of this length spells.
 fn is_delivered(alloc: Global, len: usize, is_upper: bool) -> Result<bool, AllocError> {
-    let (script, told) = transfer(alloc, len, is_upper)?;
+    let (script, listed) = transfer(alloc, len, is_upper)?;
     match replay_text(alloc, script.as_bytes()) {
-        Ok(text) => Ok(text.as_slice().ends_with(told.as_bytes())),
+        Ok(text) => Ok(text.as_slice().ends_with(listed.as_bytes())),
         Err(_) => Ok(false),
     }
 }
 
-/// `replay` reads each word as `hex` does: the checksum, the size and the file are what they are to be.
+/// `replay` reads each word as `hex` does: the file has the size and the checksum that its octets have.
 #[test]
 fn files(rt: HostRuntime) -> Result<(), AllocError> {
     for (length, pairs) in &LENGTHS {
@@ -172,7 +171,7 @@ fn files(rt: HostRuntime) -> Result<(), AllocError> {
     Ok(())
 }
 
-/// Whether a digit is at an end or in the middle of a piece of 2,048 digits, or of the word; in a short word each one is.
+/// Whether a digit is at an end or in the middle of a piece of 2,048 digits, or of the word. In a short word each is.
 fn is_tried(index: usize, len: usize) -> bool {
     len <= 66
         || matches!(index % 2_048, 0 | 1 | 1_023 | 1_024 | 2_046 | 2_047)
