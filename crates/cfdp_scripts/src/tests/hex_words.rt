@@ -128,9 +128,9 @@ fn checksum(file: &[u8]) -> u32 {
     sum
 }
 
-/// A File Data PDU of so many octets: a header of 7, an offset of 4, and those of the file.
+/// A File Data PDU of this length: a header of 7 octets, an offset of 4, and the octets of the file.
 fn file_data(alloc: Global, len: usize) -> Result<Vec<u8>, AllocError> {
-    let field = len.saturating_sub(7) as u16;
+    let field = len.saturating_sub(7).min(65_535) as u16;
     let [high, low] = field.to_be_bytes();
     let head = [0x34, high, low, 0, 1, 10, 2, 0, 0, 0, 0];
     octets_from(alloc, &head, len)
@@ -141,7 +141,7 @@ fn transfer(alloc: Global, len: usize, is_upper: bool) -> Result<(String, String
     let octets = file_data(alloc, len)?;
     let (_, file) = octets.split_at(octets.len().min(11));
     let word = word_of(alloc, &octets, is_upper)?;
-    let size = file.len() as u32;
+    let size = file.len().min(65_535) as u32;
     let sum = checksum(file);
     let begin = format!(in alloc; "pdu 24000a00010a02 0740 {size:08x} 0173 0166\n")?;
     let end = format!(in alloc; "pdu 24000a00010a02 0400 {sum:08x} {size:08x}\n")?;
