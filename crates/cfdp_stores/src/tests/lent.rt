@@ -133,7 +133,8 @@ fn checksum_of<S: Filestore>(store: &S, path: &Path) -> Option<u32> {
 /// word, or 1, 2 or 3 octets after that.
 fn sum_of(octets: &[u8]) -> u32 {
     let mut sum = 0_u32;
-    for (octet, shift) in octets.iter().zip([24, 16, 8, 0].into_iter().cycle()) {
+    for (index, octet) in octets.iter().enumerate() {
+        let shift = 24 - 8 * (index % 4) as u32;
         sum = sum.wrapping_add(u32::from(*octet) << shift);
     }
     sum
