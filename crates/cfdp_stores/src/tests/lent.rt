@@ -186,7 +186,7 @@ fn sum_written<S: Filestore>(
     store: &mut S,
     octets: &[u8],
 ) -> Result<(), Memory> {
-    let blocks = octets.len().div_ceil(120) as u32;
+    let blocks = octets.len().div_ceil(120).min(64) as u32;
     let free = BLOCKS.saturating_sub(blocks);
     let steps = [
         Step::Takes(Asked::Extend(0, octets.len() as u64), blocks, free),
