@@ -73,6 +73,15 @@ enum Change {
     Ends(u64),
 }
 
+impl Change {
+    /// The number of its transaction.
+    fn number(self) -> u64 {
+        match self {
+            Deletes(number, _) | Reads(number, _) | Ends(number) => number,
+        }
+    }
+}
+
 /// A name, a change, and which transaction then conflicts with a delete of the first path, and with one of the second.
 type Row = (&'static str, Change, [Option<u64>; 2]);
 
@@ -150,17 +159,19 @@ fn lease(
     leases: &mut Leases,
     name: &str,
     number: u64,
-    footprints: [Footprint; 2],
+    footprint: Footprint,
+    again: Option<Footprint>,
     probes: &[Footprint; 2],
 ) {
     let before = conflicts(leases, probes);
-    let [footprint, again] = footprints;
     if hold(rt, leases, id(number), footprint).is_err() {
         assert!(rt; conflicts(leases, probes) == before, "refused: {name}");
-        assert!(rt;
-            hold(rt, leases, id(number), again).is_ok(),
-            "again: {name}"
-        );
+        if let Some(again) = again {
+            assert!(rt;
+                hold(rt, leases, id(number), again).is_ok(),
+                "again: {name}"
+            );
+        }
     }
     assert!(rt; leases.holds(id(number)), "{name}");
 }
@@ -173,12 +184,14 @@ fn go_through(
     again: Vec<Option<Footprint>>,
     probes: &[Footprint; 2],
 ) {
-    for ((name, change, expected), footprints) in ROWS.iter().zip(leased.into_iter().zip(again)) {
-        match (*change, footprints) {
-            (Deletes(number, _) | Reads(number, _), (Some(footprint), Some(again))) => {
-                lease(rt, leases, name, number, [footprint, again], probes);
-            }
-            (Deletes(number, _) | Reads(number, _) | Ends(number), _) => {
+    for ((name, change, expected), (leased, again)) in ROWS
+        .iter()
+        .zip(leased.into_iter().zip(again))
+    {
+        let number = change.number();
+        match leased {
+            Some(footprint) => lease(rt, leases, name, number, footprint, again, probes),
+            None => {
                 leases.release(id(number));
                 assert!(rt; !leases.holds(id(number)), "{name}");
             }
