@@ -32,6 +32,14 @@ impl Digest {
         }
     }
 
+    /// Adds a few of the octets, and how many they are: the first and the last one, and every 61st between them.
+    pub fn add_some(&mut self, octets: &[u8]) {
+        self.add(octets.len() as u64);
+        for octet in octets.iter().step_by(61).chain(octets.last()) {
+            self.add(u64::from(*octet));
+        }
+    }
+
     /// Adds lines, each without its first word, so that their order makes no difference.
     pub fn add_lines(&mut self, text: &[u8]) {
         let mut sum = 0_u64;

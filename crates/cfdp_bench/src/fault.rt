@@ -1,6 +1,7 @@
 //! Why a workload ends before its last event.
 use cfdp_entity::{NotHeard, NotTaken};
 use cfdp_lines::{LinkFault, RunFault};
+use cfdp_paths::PathFault;
 use cfdp_transactions::ConfigFault;
 use std::alloc::{AllocError, AllocFailed};
 use std::fmt;
@@ -14,6 +15,8 @@ pub enum Fault {
     Refused,
     /// A list got another verdict than the one that it was made for.
     Verdict,
+    /// A file that was delivered does not exist.
+    Missing,
 }
 
 impl fmt::Display for Fault {
@@ -22,6 +25,7 @@ impl fmt::Display for Fault {
             Fault::Memory => "out of memory",
             Fault::Refused => "refused",
             Fault::Verdict => "a list got another verdict than the one that it was made for",
+            Fault::Missing => "a file that was delivered does not exist",
         })
     }
 }
@@ -52,6 +56,12 @@ impl From<NotHeard> for Fault {
 
 impl From<NotTaken> for Fault {
     fn from(_fault: NotTaken) -> Fault {
+        Fault::Refused
+    }
+}
+
+impl From<PathFault> for Fault {
+    fn from(_fault: PathFault) -> Fault {
         Fault::Refused
     }
 }

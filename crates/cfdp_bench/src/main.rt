@@ -1,13 +1,15 @@
 //! `cfdp_bench WORKLOAD ROUNDS SEED`: a job of a user of this software, and a digest of all its results.
 //!
-//! The workloads are `bulk`, `lists`, `interleaved`, `awkward`, `links` and `longest`; `small` is a short run of each. Each makes
-//! its own input: another seed gives another input of the same kind and size. `bench/workloads.txt` lists the runs that are
-//! measured, and `bench/run` measures two checkouts by turns.
+//! The workloads are `bulk`, `lists`, `interleaved`, `awkward`, `links`, `longest` and `everyday`; `small` is a short
+//! run of each. Each makes its own input: another seed gives another input of the same kind and size.
+//! `bench/workloads.txt` lists the runs that are measured, and `bench/run` measures two checkouts by turns.
 #![tactic(auto)]
 
 mod awkward;
 mod bulk;
+mod deep;
 mod digest;
+mod everyday;
 mod fault;
 mod interleaved;
 mod links;
@@ -19,6 +21,7 @@ mod pool;
 mod random;
 mod receiver;
 mod script;
+mod sessions;
 mod tree;
 
 use fault::Fault;
@@ -66,6 +69,7 @@ fn run<R: AllocGlobal + Env + Print + Threads + Wait + Sync>(rt: &R) -> Result<b
         "awkward",
         "links",
         "longest",
+        "everyday",
     ] {
         if !run_one(rt, workload, rounds, SMALL, seed)? {
             return Ok(false);
@@ -90,6 +94,7 @@ fn run_one<R: AllocGlobal + Print + Threads + Wait + Sync>(
         "awkward" => awkward::run(alloc, rounds, scale, seed)?,
         "links" => links::run(rt, alloc, rounds, scale, seed)?,
         "longest" => longest::run(alloc, rounds, scale, seed)?,
+        "everyday" => everyday::run(alloc, rounds, scale, seed)?,
         _ => return Ok(false),
     };
     match println!(rt; "{workload} {digest}") {

@@ -5,12 +5,16 @@ use crate::pdus::{List, Sender};
 use crate::pool::{Piece, Pool};
 use cfdp_actions::Protected;
 use cfdp_entity::Entity;
+use cfdp_paths::{Names, Path};
 use cfdp_status::TransactionId;
 use cfdp_transactions::{Config, Reply};
 use std::alloc::Global;
 
 /// How many octets the longest Finished PDU has.
 const FINISHED: usize = 16_488;
+
+/// How many octets the longest path has: eight names of 96, with separators between them, and one octet more.
+const LONGEST_PATH: usize = 776;
 
 /// How many items a transaction has at most: its file and 64 requests.
 const MOST_ITEMS: u32 = 65;
@@ -126,6 +130,53 @@ impl Receiver {
             }
             Err(fault) => Err(Fault::from(fault)),
         }
+    }
+
+    /// All that is in the filestore is listed, one entry at a time.
+    pub fn list_all(&mut self) -> Result<(), Fault> {
+        let mut text = [0_u8; LONGEST_PATH];
+        let store = self.entity.core().store();
+        let mut next = store.next_entry(Names::none(), &mut text);
+        for _ in 0..65_536 {
+            let Some(entry) = next else {
+                break;
+            };
+            let octets = text.get(entry.start..).unwrap_or(&[]);
+            self.digest.add_octets(octets);
+            self.digest.add(entry.size);
+            self.digest.add(u64::from(entry.checksum));
+            let after = Path::parse(self.alloc, octets)?;
+            next = store.next_entry(after.names(), &mut text);
+        }
+        Ok(())
+    }
+
+    /// A file is looked up, and its octets are read in pieces of 1,000.
+    ///
+    /// # Errors
+    ///
+    /// [`Fault::Missing`] if there is no such file.
+    pub fn read_back(&mut self, name: &[u8]) -> Result<(), Fault> {
+        let mut piece = [0_u8; 1_000];
+        let path = Path::parse(self.alloc, name)?;
+        let store = self.entity.core().store();
+        let Some(found) = store.find(path.names()) else {
+            return Err(Fault::Missing);
+        };
+        self.digest.add(found.size);
+        self.digest.add(u64::from(found.checksum));
+        let mut at = 0_u64;
+        for _ in 0..7_865 {
+            let Some(count) = store.read_at(path.names(), at, &mut piece) else {
+                return Err(Fault::Missing);
+            };
+            if count == 0 {
+                break;
+            }
+            self.digest.add_some(piece.get(..count).unwrap_or(&[]));
+            at = at.saturating_add(count as u64);
+        }
+        Ok(())
     }
 
     /// A whole transaction: a list without a file.
