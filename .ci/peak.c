@@ -1,10 +1,11 @@
 /* An allocator that counts the memory in use. At the end of the program it writes the most that there was, in octets, as a line
-   `peak N` on standard error. It is loaded before the C library (LD_PRELOAD) into a program whose processes have one thread each:
-   of a process that it starts, the most counts too. */
+   `peak N` on standard error. It is loaded before the C library (LD_PRELOAD) into a program that allocates in one thread. If the
+   program starts a process, the most of that one counts too. */
 #include <malloc.h>
 #include <stdio.h>
 #include <stdlib.h>
 #include <sys/mman.h>
+#include <sys/syscall.h>
 #include <unistd.h>
 
 extern void *__libc_malloc(size_t size);
@@ -28,6 +29,14 @@ __attribute__((constructor)) static void begin(void)
 __attribute__((destructor)) static void end(void)
 {
     if (getpid() == first) dprintf(2, "peak %zu\n", *most);
+    first = 0;
+}
+
+/* A program with threads ends so, and runs no destructor. */
+void _exit(int status)
+{
+    end();
+    for (;;) syscall(SYS_exit_group, status);
 }
 
 static void *counted(void *block)
