@@ -1,0 +1,52 @@
+-- No two sessions have one name, and none that of a transaction that is closed.
+use Rattle.std.proofs.Common.{◌≡◌, inl, inr, Bool, true, false, List, [], ◌∷◌, ◌++◌, Option, Some, None, refl, sym, ap, subst, ◌∙◌}
+use Rattle.std.proofs.lemmas.Bool.{cases_Bool, or_cases}
+use Rattle.cfdp_status.specs.declared.transaction.TransactionId.{TransactionId}
+use Rattle.cfdp_leases.specs.Leases.{is_same}
+use Rattle.cfdp_sessions.specs.Sessions.{SessionFields, name_of, found, without, AreDistinct}
+use Rattle.cfdp_sessions.proofs.Names.{same_is, both_of, replaced_none, replaced_distinct, added_other, added_distinct, without_none, without_distinct, gone}
+use Rattle.cfdp_receiver.specs.State.{State, begin, Input, now_of, is_closed}
+use Rattle.cfdp_receiver.specs.Handing as Handing
+use Rattle.cfdp_receiver.specs.Turning as Turning
+use Rattle.cfdp_receiver.specs.Laws.{touched, ClosedIsOver}
+use Rattle.cfdp_receiver.proofs.Shapes.{Shape, Keeps, Puts, Adds, Closes, Forgets, shape, closed_in, taken_is}
+
+none_of_none : false ≡ true → ⊥
+none_of_none e = absurd cc
+
+-- what is true at all times
+pub record Apart (sessions : List SessionFields) (closed : List TransactionId) : Type 0 where
+  pub distinct : AreDistinct sessions
+  pub over : (id : TransactionId) → closed_in closed id ≡ true → found sessions id ≡ None
+
+apart_by : (R : State) (t : TransactionId) (p : Turning.Parts) → Shape R t p → Apart R.sessions R.closed.names → Apart p.sessions p.closed.names
+apart_by R t p (Keeps a e) apart = subst (λ (q : Turning.Parts). Apart q.sessions q.closed.names) (sym e) apart
+apart_by R t p (Puts s a name e) apart = subst (λ (q : Turning.Parts). Apart q.sessions q.closed.names) (sym e) (record {
+  distinct = replaced_distinct R.sessions s apart.distinct;
+  over = λ id closed. replaced_none R.sessions s id (apart.over id closed);
+})
+apart_by R t p (Adds s a name free new e) apart = subst (λ (q : Turning.Parts). Apart q.sessions q.closed.names) (sym e) (record {
+  distinct = added_distinct R.sessions s apart.distinct (ap (found R.sessions) name ∙ free);
+  over = λ id closed. elim (cases_Bool (is_same (name_of s) id)) [
+    | inl same ↦ absurd (both_of (is_closed R t) new (ap (is_closed R) (sym name ∙ same_is (name_of s) id same) ∙ closed))
+    | inr other ↦ added_other R.sessions s id other ∙ apart.over id closed
+  ];
+})
+apart_by R t p (Closes a was e) apart = subst (λ (q : Turning.Parts). Apart q.sessions q.closed.names) (sym e) (record {
+  distinct = without_distinct R.sessions t apart.distinct;
+  over = λ id closed. elim (or_cases (is_same t id) (closed_in R.closed.names id) (taken_is 256 (t ∷ R.closed.names) id closed)) [
+    | inl same ↦ ap (λ (n : TransactionId). found (without R.sessions t) n) (sym (same_is t id same)) ∙ gone R.sessions t apart.distinct
+    | inr before ↦ without_none R.sessions t id (apart.over id before)
+  ];
+})
+
+apart_by R t p (Forgets a e) apart =
+    subst (λ (q : Turning.Parts). Apart q.sessions q.closed.names) (sym e) (record { distinct = apart.distinct; over = λ id closed. absurd (none_of_none closed) })
+
+apart_all : (R : State) (inputs : List Input) → Apart R.sessions R.closed.names → Apart (Turning.after_all R inputs).sessions (Turning.after_all R inputs).closed.names
+apart_all R [] apart = apart
+apart_all R (i ∷ is) apart = apart_all (Turning.after R i) is (apart_by (Handing.later (now_of i) R) (touched R i) (Turning.parts R i) (shape R i) apart)
+
+pub closed_is_over : ClosedIsOver
+closed_is_over mib W inputs id closed =
+    (apart_all (begin mib W) inputs (record { distinct = tt; over = λ x h. refl })).over id closed

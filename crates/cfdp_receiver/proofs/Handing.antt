@@ -1,0 +1,118 @@
+-- What is handed to the core.
+use Rattle.std.proofs.Common.{◌≡◌, ◌≤◌, Bool, true, false, ◌||◌, if◌then◌else◌, List, [], ◌∷◌, ◌++◌, length, Option, Some, None, refl, sym, ◌∙◌, arith}
+use Rattle.cfdp_status.specs.declared.transaction.TransactionId.{TransactionId}
+use Rattle.cfdp_pdus.specs.Values.{MetadataFields}
+use Rattle.cfdp_pdus.specs.declared.header.Header.{Header}
+use Rattle.cfdp_transactions.specs.declared.event.Event.{Event}
+use Rattle.cfdp_transactions.specs.declared.event.Event.TheVariants.{Metadata as MetadataCame, Check}
+use Rattle.cfdp_transactions.specs.Entry.{id_of}
+use Rattle.cfdp_transactions.specs.World.{World, next_runnable}
+use Rattle.cfdp_transactions.specs.Next.{next, run}
+use Rattle.cfdp_sessions.specs.Sessions.{SessionFields, name_of, found, IsFound, replaced, without, AreDistinct}
+use Rattle.cfdp_sessions.specs.declared.session.Stage.{Stage}
+use Rattle.cfdp_sessions.specs.declared.session.Stage.TheVariants.{Held, Known, Over, Waiting}
+use Rattle.cfdp_receiver.specs.declared.mib.Handler.{Handler}
+use Rattle.cfdp_receiver.specs.declared.mib.Handler.TheVariants as handlers
+use Rattle.cfdp_receiver.specs.declared.mib.Mib.{Mib}
+use Rattle.cfdp_receiver.specs.State.{State, begin, AnswerFields, Input, MetadataPdu, DataPdu, EofPdu, AckPdu, PromptPdu, OtherPdu, Expire, Work, Finish, CancelAsked, ForgetAsked, now_of, session_of, is_closed, is_full, At, At_held, At_receiving, At_awaiting, At_executing, At_over, At_waiting, at_of, session_status, status_of}
+use Rattle.cfdp_receiver.specs.Due.{Due, Nothing_due, Stage_due, Alive_due, first_due, first_over}
+use Rattle.cfdp_receiver.specs.Handing.{later, metadata_in_stage, metadata_events, where_known, of_session, makes_checks, limit_events, due_events, step_of, take_of, events_of, handed}
+use Rattle.cfdp_receiver.specs.Turning.{after, all_handed}
+use Rattle.cfdp_transactions.specs.Headline.{NextIsSound, NextIsPromised, Promised, AtEach}
+use Rattle.cfdp_transactions.specs.Sound.{Sound}
+use Rattle.cfdp_receiver.specs.Laws.{HandsOn, HeadlineHolds, FewEvents, EntriesStay}
+
+run_append : (W : World) (xs ys : List Event) → run W (xs ++ ys) ≡ run (run W xs) ys
+run_append W [] ys = refl
+run_append W (x ∷ xs) ys = run_append (next W x).0 xs ys
+
+pub hands_on : HandsOn
+hands_on R [] = refl
+hands_on R (i ∷ is) = hands_on (after R i) is ∙ sym (run_append R.world (handed R i) (all_handed (after R i) is))
+
+at_each : NextIsSound → NextIsPromised → (W : World) (events : List Event) → Sound W → AtEach Sound Promised W events
+at_each sound promised W [] s = s
+at_each sound promised W (v ∷ vs) s = (s, promised W v s, at_each sound promised (next W v).0 vs (sound W v s))
+
+pub headline_holds : NextIsSound → NextIsPromised → HeadlineHolds
+headline_holds sound promised R inputs s = at_each sound promised R.world (all_handed R inputs) s
+
+-- two at most --------------------------------------------------------------------------
+
+abbrev Few : List Event → Type 0
+Few events = length events ≤ 2
+
+few_if : (b : Bool) (xs ys : List Event) → Few xs → Few ys → Few (if b then xs else ys)
+few_if true xs ys hx hy = hx
+few_if false xs ys hx hy = hy
+
+few_known : (stage : Stage) (events : List Event) → Few events → Few (where_known stage events)
+few_known (Held eof) events h = omega arith
+few_known Known events h = h
+few_known (Over ending) events h = omega arith
+few_known Waiting events h = omega arith
+
+few_session : (s : Option SessionFields) (events : List Event) → Few events → Few (of_session s events)
+few_session None events h = omega arith
+few_session (Some s) events h = few_known s.stage events h
+
+few_limit : (id : TransactionId) (checks : Bool) (how : Handler) → Few (limit_events id checks how)
+few_limit id checks handlers.Ignore = omega arith
+few_limit id true handlers.Cancel = omega arith
+few_limit id false handlers.Cancel = omega arith
+few_limit id checks handlers.Abandon = omega arith
+
+few_check : (b : Bool) (id : TransactionId) → Few (if b then Check id ∷ [] else [])
+few_check true id = omega arith
+few_check false id = omega arith
+
+few_new : (b : Bool) (h : Header) (m : MetadataFields) → Few (if b then [] else MetadataCame h m ∷ [])
+few_new true h m = omega arith
+few_new false h m = omega arith
+
+few_due : (R : State) (due : Due) → Few (due_events R due)
+few_due R Nothing_due = omega arith
+few_due R (Alive_due s) = omega arith
+few_due R (Stage_due s false) = few_known s.stage _ (few_check (makes_checks s.header.acknowledged (at_of R.world s)) (name_of s))
+few_due R (Stage_due s true) = few_known s.stage _ (few_limit _ _ _)
+
+few_step : (id : Option TransactionId) → Few (step_of id)
+few_step None = omega arith
+few_step (Some id) = omega arith
+
+few_take : (s : Option SessionFields) → Few (take_of s)
+few_take None = omega arith
+few_take (Some s) = few_known s.stage _ (omega arith)
+
+few_in_stage : (h : Header) (m : MetadataFields) (s : SessionFields) (stage : Stage) → Few (metadata_in_stage h m s stage)
+few_in_stage h m s (Held eof) = few_if h.acknowledged _ [] (omega arith) (omega arith)
+few_in_stage h m s Known = omega arith
+few_in_stage h m s (Over ending) = omega arith
+few_in_stage h m s Waiting = omega arith
+
+few_metadata : (R : State) (h : Header) (m : MetadataFields) (s : Option SessionFields) → Few (metadata_events R h m s)
+few_metadata R h m None = few_new (is_closed R (id_of h) || is_full R) h m
+few_metadata R h m (Some s) = few_in_stage h m s s.stage
+
+few : (R : State) (i : Input) → Few (events_of R i)
+few R (MetadataPdu now h m) = few_if _ _ [] (few_metadata R h m (session_of R (id_of h))) (omega arith)
+few R (DataPdu now h piece) = few_if _ _ [] (few_session (session_of R (id_of h)) _ (omega arith)) (omega arith)
+few R (EofPdu now h eof) = few_if _ _ [] (few_session (session_of R (id_of h)) _ (omega arith)) (omega arith)
+few R (AckPdu now h ack) = omega arith
+few R (PromptPdu now h prompt) = omega arith
+few R (OtherPdu now h) = omega arith
+few R (Expire now) = few_due R (first_due R R.sessions)
+few R (Work now) = few_step (next_runnable R.world.table)
+few R (Finish now) = few_take (first_over R.world R.sessions)
+few R (CancelAsked now id) = few_session (session_of R id) _ (omega arith)
+few R ForgetAsked = omega arith
+
+pub few_events : FewEvents
+few_events R i = few (later (now_of i) R) i
+
+-- the others in the core ---------------------------------------------------------------
+
+pub entries_stay : NextIsSound → NextIsPromised → EntriesStay
+entries_stay sound promised W [] id s all = refl
+entries_stay sound promised W (v ∷ vs) id s all =
+    entries_stay sound promised (next W v).0 vs id (sound W v s) all.1 ∙ (promised W v s).others id all.0

@@ -1,0 +1,5 @@
+pub mod Handing
+pub mod Sending
+pub mod Finishing
+pub mod Shapes
+pub mod Distinct

@@ -1,0 +1,226 @@
+-- What an answer has.
+use Rattle.std.proofs.Common.{◌≡◌, ◌⊎◌, inl, inr, ℕ, ◌+◌, ◌≤◌, Bool, true, false, not, ◌&&◌, ◌||◌, ◌==◌, if◌then◌else◌, List, [], ◌∷◌, ◌++◌, length, Option, Some, None, refl, sym, ap, subst, ◌∙◌, arith}
+use Rattle.std.proofs.lemmas.Bool.{cond_both, cond-true}
+use Rattle.std.specs.List.{list_any}
+use Rattle.cfdp_status.specs.declared.transaction.TransactionId.{TransactionId}
+use Rattle.cfdp_leases.specs.Leases.{is_same}
+use Rattle.cfdp_pdus.specs.Values.{MetadataFields, FileDataFields}
+use Rattle.cfdp_pdus.specs.declared.header.Header.{Header}
+use Rattle.cfdp_pdus.specs.declared.eof.Eof.{Eof}
+use Rattle.cfdp_directives.specs.declared.ack.Ack.{Ack}
+use Rattle.cfdp_directives.specs.declared.ack.TransactionStatus.{TransactionStatus}
+use Rattle.cfdp_directives.specs.declared.ack.TransactionStatus.TheVariants.{Active}
+use Rattle.cfdp_directives.specs.declared.prompt.Prompt.{Prompt}
+use Rattle.cfdp_directives.specs.declared.prompt.Prompt.TheVariants as prompts
+use Rattle.cfdp_sessions.specs.Sessions.{SessionFields, name_of, found, IsFound, replaced}
+use Rattle.cfdp_sessions.specs.declared.session.Stage.{Stage}
+use Rattle.cfdp_sessions.specs.declared.session.Stage.TheVariants.{Held, Known, Over, Waiting}
+use Rattle.cfdp_sessions.proofs.Names.{same_self, found_put, found_added}
+use Rattle.cfdp_transactions.specs.Entry.{id_of}
+use Rattle.cfdp_transactions.specs.declared.reply.Reply.{Reply}
+use Rattle.cfdp_transactions.specs.declared.outcome.Outcome.{Outcome}
+use Rattle.cfdp_transactions.specs.World.{World, entry_of}
+use Rattle.cfdp_transactions.specs.Next.{run, replies}
+use Rattle.cfdp_receiver.specs.declared.answer.Word.{Word}
+use Rattle.cfdp_receiver.specs.declared.answer.Word.TheVariants as words
+use Rattle.cfdp_receiver.specs.declared.mib.Handler.{Handler}
+use Rattle.cfdp_receiver.specs.declared.mib.Handler.TheVariants as handlers
+use Rattle.cfdp_receiver.specs.State.{State, AnswerFields, Input, MetadataPdu, DataPdu, EofPdu, AckPdu, PromptPdu, OtherPdu, Expire, Work, Finish, CancelAsked, ForgetAsked, now_of, session_of, is_closed, is_full, At, At_held, At_receiving, At_awaiting, At_executing, At_over, At_waiting, at_of, session_status, status_of}
+use Rattle.cfdp_receiver.specs.Due as Due
+use Rattle.cfdp_receiver.specs.Handing as Handing
+use Rattle.cfdp_receiver.specs.Turning as Turning
+use Rattle.cfdp_receiver.specs.Laws.{FewPdus, AcknowledgedOnce}
+
+abbrev Few : AnswerFields → Type 0
+Few a = (length a.acks ≤ 1) × (length a.keep_alives + length a.finished ≤ 1)
+
+abbrev FewIn : Turning.Parts → Type 0
+FewIn p = Few p.answer
+
+if_parts : (b : Bool) (p q : Turning.Parts) → FewIn p → FewIn q → FewIn (if b then p else q)
+if_parts true p q hp hq = hp
+if_parts false p q hp hq = hq
+
+if_answer : (b : Bool) (a c : AnswerFields) → Few a → Few c → Few (if b then a else c)
+if_answer true a c ha hc = ha
+if_answer false a c ha hc = hc
+
+none : (0 ≤ 1) × (0 ≤ 1)
+none = (omega arith, omega arith)
+
+one_ack : (h : Header) (condition : ℕ) (status : TransactionStatus) → length (Turning.acked h condition status) ≤ 1
+one_ack h condition status = cond_both h.acknowledged _ [] (λ (xs : List (Header × Ack)). length xs ≤ 1) (λ e. omega arith) (λ e. omega arith)
+
+few_metadata_stage : (R : State) (V : World) (rs : List Reply) (h : Header) (m : MetadataFields) (s : SessionFields) (stage : Stage) → FewIn (Turning.metadata_stage R V rs h m s stage)
+few_metadata_stage R V rs h m s (Held eof) = if_parts h.acknowledged _ _ none none
+few_metadata_stage R V rs h m s Known = none
+few_metadata_stage R V rs h m s (Over ending) = none
+few_metadata_stage R V rs h m s Waiting = none
+
+few_metadata : (R : State) (V : World) (rs : List Reply) (h : Header) (m : MetadataFields) (s : Option SessionFields) → FewIn (Turning.metadata_parts R V rs h m s)
+few_metadata R V rs h m None = if_parts (is_closed R (id_of h) || is_full R) _ _ none none
+few_metadata R V rs h m (Some s) = few_metadata_stage R V rs h m s s.stage
+
+few_data : (R : State) (V : World) (rs : List Reply) (h : Header) (piece : FileDataFields) (s : Option SessionFields) → FewIn (Turning.data_parts R V rs h piece s)
+few_data R V rs h piece None = none
+few_data R V rs h piece (Some s) = if_parts (Turning.is_known s.stage) _ _ none none
+
+few_eof_stage : (R : State) (V : World) (rs : List Reply) (h : Header) (eof : Eof) (s : SessionFields) (stage : Stage) → FewIn (Turning.eof_stage R V rs h eof s stage)
+few_eof_stage R V rs h eof s (Held kept) =
+    if_parts (eof.condition == 0) _ _ (one_ack h eof.condition Active, omega arith) (one_ack h eof.condition Active, omega arith)
+few_eof_stage R V rs h eof s Known = (one_ack h eof.condition Active, omega arith)
+few_eof_stage R V rs h eof s (Over ending) = (one_ack h eof.condition Active, omega arith)
+few_eof_stage R V rs h eof s Waiting = (one_ack h eof.condition Active, omega arith)
+
+few_eof : (R : State) (V : World) (rs : List Reply) (h : Header) (eof : Eof) (s : Option SessionFields) → FewIn (Turning.eof_parts R V rs h eof s)
+few_eof R V rs h eof None =
+    if_parts (is_closed R (id_of h) || not (eof.condition == 0) || not h.acknowledged) _ _
+    (one_ack h eof.condition (status_of R (id_of h)), omega arith)
+    (if_parts (is_full R) _ _ none (one_ack h eof.condition Active, omega arith))
+few_eof R V rs h eof (Some s) = few_eof_stage R V rs h eof s s.stage
+
+few_ack_stage : (R : State) (h : Header) (ack : Ack) (s : SessionFields) (stage : Stage) → FewIn (Turning.ack_stage R h ack s stage)
+few_ack_stage R h ack s (Held eof) = none
+few_ack_stage R h ack s Known = none
+few_ack_stage R h ack s (Over ending) = none
+few_ack_stage R h ack s Waiting = if_parts (ack.directive == 5) _ _ none none
+
+few_ack : (R : State) (h : Header) (ack : Ack) (s : Option SessionFields) → FewIn (Turning.ack_parts R h ack s)
+few_ack R h ack None = none
+few_ack R h ack (Some s) = few_ack_stage R h ack s s.stage
+
+few_prompted : (R : State) (h : Header) (s : SessionFields) (prompt : Prompt) → Few (Turning.prompted R h s prompt)
+few_prompted R h s prompts.Nak = none
+few_prompted R h s prompts.KeepAlive = (omega arith, omega arith)
+
+few_prompt : (R : State) (h : Header) (prompt : Prompt) (s : Option SessionFields) → FewIn (Turning.prompt_parts R h prompt s)
+few_prompt R h prompt None = none
+few_prompt R h prompt (Some s) = if_parts (s.header.acknowledged && Turning.takes_prompts (at_of R.world s)) _ _ (few_prompted R h s prompt) none
+
+few_repeats : (R : State) (V : World) (s : SessionFields) (at : At) → Few (Turning.repeats R V s at)
+few_repeats R V s At_waiting = (omega arith, omega arith)
+few_repeats R V s At_held = if_answer s.header.acknowledged _ _ none none
+few_repeats R V s At_receiving = if_answer s.header.acknowledged _ _ none none
+few_repeats R V s (At_awaiting made) = if_answer s.header.acknowledged _ _ none none
+few_repeats R V s At_executing = if_answer s.header.acknowledged _ _ none none
+few_repeats R V s At_over = if_answer s.header.acknowledged _ _ none none
+
+few_gives_up : (R : State) (s : SessionFields) (condition : ℕ) (how : Handler) (at : At) → FewIn (Turning.gives_up R s condition how at)
+few_gives_up R s condition handlers.Ignore at = none
+few_gives_up R s condition handlers.Cancel At_waiting = none
+few_gives_up R s condition handlers.Cancel At_held = none
+few_gives_up R s condition handlers.Cancel At_receiving = none
+few_gives_up R s condition handlers.Cancel (At_awaiting made) = none
+few_gives_up R s condition handlers.Cancel At_executing = none
+few_gives_up R s condition handlers.Cancel At_over = none
+few_gives_up R s condition handlers.Abandon At_waiting = none
+few_gives_up R s condition handlers.Abandon At_held = none
+few_gives_up R s condition handlers.Abandon At_receiving = none
+few_gives_up R s condition handlers.Abandon (At_awaiting made) = none
+few_gives_up R s condition handlers.Abandon At_executing = none
+few_gives_up R s condition handlers.Abandon At_over = none
+
+few_due : (R : State) (V : World) (due : Due.Due) → FewIn (Turning.due_parts R V due)
+few_due R V Due.Nothing_due = none
+few_due R V (Due.Alive_due s) = (omega arith, omega arith)
+few_due R V (Due.Stage_due s false) = few_repeats R V s (at_of R.world s)
+few_due R V (Due.Stage_due s true) = few_gives_up R s _ _ _
+
+few_session : (R : State) (s : SessionFields) (o : Outcome) → FewIn (Turning.finish_session R s o)
+few_session R s o =
+    if_parts s.is_abandoned _ _ none (
+    if_parts (not o.send) _ _ none (
+    if_parts (not s.header.acknowledged) _ _ (omega arith, omega arith) (omega arith, omega arith)
+    )
+    )
+
+few_finish : (R : State) (s : Option SessionFields) → FewIn (Turning.finish_parts R s)
+few_finish R None = none
+few_finish R (Some s) = few_session R s (Turning.outcome_for s (entry_of R.world (name_of s)))
+
+few_cancel_stage : (R : State) (rs : List Reply) (s : SessionFields) (stage : Stage) → FewIn (Turning.cancel_stage R rs s stage)
+few_cancel_stage R rs s (Held eof) = none
+few_cancel_stage R rs s Known = none
+few_cancel_stage R rs s (Over ending) = none
+few_cancel_stage R rs s Waiting = none
+
+few_cancel : (R : State) (rs : List Reply) (id : TransactionId) (s : Option SessionFields) → FewIn (Turning.cancel_parts R rs id s)
+few_cancel R rs id None = none
+few_cancel R rs id (Some s) = few_cancel_stage R rs s s.stage
+
+few_of : (R : State) (V : World) (rs : List Reply) (i : Input) → FewIn (Turning.parts_of R V rs i)
+few_of R V rs (MetadataPdu now h m) = if_parts (Handing.is_ours R h) _ _ (few_metadata R V rs h m (session_of R (id_of h))) none
+few_of R V rs (DataPdu now h piece) = if_parts (Handing.is_ours R h) _ _ (few_data R V rs h piece (session_of R (id_of h))) none
+few_of R V rs (EofPdu now h eof) = if_parts (Handing.is_ours R h) _ _ (few_eof R V rs h eof (session_of R (id_of h))) none
+few_of R V rs (AckPdu now h ack) = if_parts (Handing.is_ours R h) _ _ (few_ack R h ack (session_of R (id_of h))) none
+few_of R V rs (PromptPdu now h prompt) = if_parts (Handing.is_ours R h) _ _ (few_prompt R h prompt (session_of R (id_of h))) none
+few_of R V rs (OtherPdu now h) = if_parts (Handing.is_ours R h) _ _ none none
+few_of R V rs (Expire now) = few_due R V (Due.first_due R R.sessions)
+few_of R V rs (Work now) = none
+few_of R V rs (Finish now) = few_finish R (Due.first_over R.world R.sessions)
+few_of R V rs (CancelAsked now id) = few_cancel R rs id (session_of R id)
+few_of R V rs ForgetAsked = none
+
+pub few_pdus : FewPdus
+few_pdus R i = few_of (Handing.later (now_of i) R) (run R.world (Handing.handed R i)) (replies R.world (Handing.handed R i)) i
+
+-- acknowledged once --------------------------------------------------------------------
+
+-- the status that the parts lead to
+abbrev status_in : Turning.Parts → TransactionId → TransactionStatus
+status_in p id = session_status (found p.sessions id) (list_any (λ name. is_same name id) p.closed.names) p.closed.forgot
+
+abbrev Acked : State → Header → Eof → Turning.Parts → Type 0
+Acked R h eof p = (p.answer.acks ≡ Turning.acked h eof.condition (status_in p (id_of h))) ⊎ ((p.answer.acks ≡ []) × (is_full R ≡ true))
+
+-- what is active is said to be
+acked_active : (R : State) (h : Header) (eof : Eof) (p : Turning.Parts) → p.answer.acks ≡ Turning.acked h eof.condition Active → IsFound p.sessions (id_of h) → Acked R h eof p
+acked_active R h eof p acks f =
+    inl (acks ∙ ap (λ (o : Option SessionFields). Turning.acked h eof.condition (session_status o (list_any (λ name. is_same name (id_of h)) p.closed.names) p.closed.forgot)) (sym f.1))
+
+pub heard_name : (R : State) (V : World) (s : SessionFields) → name_of (Turning.heard R V s) ≡ name_of s
+heard_name R V s = cond_both (Turning.is_news R.world V s) _ s (λ (t : SessionFields). name_of t ≡ name_of s) (λ e. refl) (λ e. refl)
+
+acked_if : (R : State) (h : Header) (eof : Eof) (b : Bool) (p q : Turning.Parts) → Acked R h eof p → Acked R h eof q → Acked R h eof (if b then p else q)
+acked_if R h eof true p q hp hq = hp
+acked_if R h eof false p q hp hq = hq
+
+acked_keeps : (R : State) (h : Header) (eof : Eof) (s : SessionFields) (word : Word) → found R.sessions (id_of h) ≡ Some s →
+    Acked R h eof (Turning.keeps R (Turning.acks_only h eof Active word))
+acked_keeps R h eof s word e = acked_active R h eof (Turning.keeps R (Turning.acks_only h eof Active word)) refl (s, e)
+
+acked_stage : (R : State) (V : World) (rs : List Reply) (h : Header) (eof : Eof) (s : SessionFields) (stage : Stage) → found R.sessions (id_of h) ≡ Some s →
+    Acked R h eof (Turning.eof_stage R V rs h eof s stage)
+acked_stage R V rs h eof s (Held kept) e =
+    let over = Turning.ended_by h eof s in
+    let said = Turning.acks_only h eof Active words.Faulted in
+    acked_if R h eof (eof.condition == 0) (Turning.keeps R (Turning.acks_only h eof Active words.Duplicate)) (Turning.puts R over said)
+    (acked_keeps R h eof s words.Duplicate e)
+    (acked_active R h eof (Turning.puts R over said) refl (found_put R.sessions over s (id_of h) e refl))
+acked_stage R V rs h eof s Known e =
+    acked_active R h eof (Turning.eof_stage R V rs h eof s Known) refl (found_put R.sessions (Turning.heard R V s) s (id_of h) e (heard_name R V s))
+acked_stage R V rs h eof s (Over ending) e = acked_keeps R h eof s words.Idle e
+acked_stage R V rs h eof s Waiting e = acked_keeps R h eof s words.Idle e
+
+acked_full : (R : State) (h : Header) (eof : Eof) (p q : Turning.Parts) → p.answer.acks ≡ [] → Acked R h eof q → Acked R h eof (if is_full R then p else q)
+acked_full R h eof p q none hq = cond_both (is_full R) p q (Acked R h eof) (λ full. inr (none, full)) (λ free. hq)
+
+acked_eof : (R : State) (V : World) (rs : List Reply) (h : Header) (eof : Eof) (s : Option SessionFields) → session_of R (id_of h) ≡ s → Acked R h eof (Turning.eof_parts R V rs h eof s)
+acked_eof R V rs h eof None e =
+    let new = Turning.begun R h (Held eof) in
+    let full = Turning.keeps R (Turning.said_of h words.TableFull) in
+    let holds = Turning.holds R h eof in
+    acked_if R h eof (is_closed R (id_of h) || not (eof.condition == 0) || not h.acknowledged)
+    (Turning.keeps R (Turning.acks_only h eof (status_of R (id_of h)) (Turning.absent R (id_of h)))) (if is_full R then full else holds) (inl refl) (
+    acked_full R h eof full holds refl (acked_active R h eof holds refl (found_added R.sessions new (id_of h) (same_self (id_of h))))
+    )
+acked_eof R V rs h eof (Some s) e = acked_stage R V rs h eof s s.stage e
+
+pub acknowledged_once : AcknowledgedOnce
+acknowledged_once R now h eof mode ours =
+    let L = Handing.later now R in
+    let i = EofPdu now h eof in
+    let V = run R.world (Handing.handed R i) in
+    let rs = replies R.world (Handing.handed R i) in
+    subst (Acked L h eof) (sym (cond-true (Handing.is_ours L h) (Turning.eof_parts L V rs h eof (session_of L (id_of h))) (Turning.keeps L (Turning.quiet (Turning.foreign h))) ours))
+    (acked_eof L V rs h eof (session_of L (id_of h)) refl)

@@ -1,0 +1,128 @@
+-- What is true of the receiver, whatever comes.
+--     HandsOn, HeadlineHolds    its world is the core's own, of the events that were handed on
+--     FewEvents, FewPdus        how many events an input hands on at most;  how many PDUs an answer has at most
+--     AcknowledgedOnce          an EOF PDU that is taken is acknowledged once
+--     touched R i               the transaction that an input is about
+--     OthersStay                the sessions of all others stay
+--     UnrecognizedIsTrue        this is said of no transaction that ever had a session
+--     HadSession R inputs id    it had a session after some of the inputs
+--     TerminatedIsTrue          this is said only of a transaction that had one
+--     ClosedIsOver              a transaction that is closed and remembered has no session
+--     Sent, FinishedOnly        when a Finished PDU is sent, and which
+--     EntriesStay               events of others leave a transaction's entry in the core as it is
+--     NoneAgain                 a Metadata PDU of a transaction that is closed and remembered is not handed on
+use Rattle.std.specs.Prelude.{◌≡◌, ◌≢◌, ◌⊎◌, ℕ, ◌+◌, ◌≤◌, true, false, List, [], ◌∷◌, ◌++◌, length, Option, Some, None}
+use Rattle.std.specs.List.{AllByRecursion}
+use Rattle.cfdp_status.specs.declared.transaction.TransactionId.{TransactionId}
+use Rattle.cfdp_leases.specs.Leases.{is_same}
+use Rattle.cfdp_directives.specs.declared.ack.TransactionStatus.TheVariants.{Terminated, Unrecognized}
+use Rattle.cfdp_pdus.specs.Values.{MetadataFields}
+use Rattle.cfdp_pdus.specs.declared.header.Header.{Header}
+use Rattle.cfdp_pdus.specs.declared.eof.Eof.{Eof}
+use Rattle.cfdp_sessions.specs.Sessions.{SessionFields, name_of}
+use Rattle.cfdp_sessions.specs.declared.session.Stage.TheVariants.{Waiting}
+use Rattle.cfdp_transactions.specs.Entry.{id_of}
+use Rattle.cfdp_transactions.specs.declared.event.Event.{Event}
+use Rattle.cfdp_transactions.specs.Events.{about}
+use Rattle.cfdp_transactions.specs.World.{World, entry_of}
+use Rattle.cfdp_transactions.specs.Next.{run}
+use Rattle.cfdp_transactions.specs.Sound.{Sound}
+use Rattle.cfdp_transactions.specs.Headline.{Promised, AtEach}
+use Rattle.cfdp_transactions.specs.Writable.{finished_octets}
+use Rattle.cfdp_receiver.specs.declared.mib.Mib.{Mib}
+use Rattle.cfdp_receiver.specs.State.{State, begin, Input, MetadataPdu, DataPdu, EofPdu, AckPdu, PromptPdu, OtherPdu, Expire, Work, Finish, CancelAsked, ForgetAsked, now_of, status_of, session_of, is_closed, is_full}
+use Rattle.cfdp_receiver.specs.Due.{Due, Nothing_due, Stage_due, Alive_due, first_due, first_over}
+use Rattle.cfdp_receiver.specs.Handing.{is_ours, later, handed}
+use Rattle.cfdp_receiver.specs.Turning.{outcome_for, parts, after, after_all, all_handed, acked}
+
+abbrev pub HandsOn : Type 0
+HandsOn = (R : State) (inputs : List Input) → (after_all R inputs).world ≡ run R.world (all_handed R inputs)
+
+abbrev pub HeadlineHolds : Type 0
+HeadlineHolds = (R : State) (inputs : List Input) → Sound R.world → AtEach Sound Promised R.world (all_handed R inputs)
+
+abbrev pub FewEvents : Type 0
+FewEvents = (R : State) (i : Input) → length (handed R i) ≤ 2
+
+abbrev pub FewPdus : Type 0
+FewPdus = (R : State) (i : Input) → (length (parts R i).answer.acks ≤ 1) × (length (parts R i).answer.keep_alives + length (parts R i).answer.finished ≤ 1)
+
+-- or it begins a transaction for which there is no room, and is not taken
+abbrev pub AcknowledgedOnce : Type 0
+AcknowledgedOnce =
+    (R : State) (now : ℕ) (h : Header) (eof : Eof) → h.acknowledged ≡ true → is_ours R h ≡ true →
+    ((parts R (EofPdu now h eof)).answer.acks ≡ acked h eof.condition (status_of (after R (EofPdu now h eof)) (id_of h)))
+    ⊎ (((parts R (EofPdu now h eof)).answer.acks ≡ []) × (is_full R ≡ true))
+
+-- of an input that is about no transaction; then the name does not matter
+abbrev pub nobody : TransactionId
+nobody = record { source = 0; number = 0 }
+
+abbrev pub due_name : Due → TransactionId
+due_name Nothing_due = nobody
+due_name (Stage_due s limit) = name_of s
+due_name (Alive_due s) = name_of s
+
+abbrev pub session_name : Option SessionFields → TransactionId
+session_name None = nobody
+session_name (Some s) = name_of s
+
+abbrev pub touched_in : State → Input → TransactionId
+touched_in R (MetadataPdu now h m) = id_of h
+touched_in R (DataPdu now h piece) = id_of h
+touched_in R (EofPdu now h eof) = id_of h
+touched_in R (AckPdu now h ack) = id_of h
+touched_in R (PromptPdu now h prompt) = id_of h
+touched_in R (OtherPdu now h) = id_of h
+touched_in R (Expire now) = due_name (first_due R R.sessions)
+touched_in R (Work now) = nobody
+touched_in R (Finish now) = session_name (first_over R.world R.sessions)
+touched_in R (CancelAsked now id) = id
+touched_in R ForgetAsked = nobody
+
+abbrev pub touched : State → Input → TransactionId
+touched R i = touched_in (later (now_of i) R) i
+
+abbrev pub OthersStay : Type 0
+OthersStay = (R : State) (i : Input) (id : TransactionId) → is_same (touched R i) id ≡ false → session_of (after R i) id ≡ session_of R id
+
+abbrev pub UnrecognizedIsTrue : Type 0
+UnrecognizedIsTrue =
+    (R : State) (s : SessionFields) (id : TransactionId) (inputs : List Input) → session_of R id ≡ Some s → status_of (after_all R inputs) id ≢ Unrecognized
+
+abbrev pub NoneAgain : Type 0
+NoneAgain =
+    (R : State) (now : ℕ) (h : Header) (m : MetadataFields) → session_of R (id_of h) ≡ None → is_closed R (id_of h) ≡ true → handed R (MetadataPdu now h m) ≡ []
+
+pub record HadSession (R : State) (inputs : List Input) (id : TransactionId) : Type 0 where
+  pub front : List Input
+  pub back : List Input
+  pub parts : inputs ≡ front ++ back
+  pub session : SessionFields
+  pub found : session_of (after_all R front) id ≡ Some session
+
+abbrev pub TerminatedIsTrue : Type 0
+TerminatedIsTrue =
+    (mib : Mib) (W : World) (inputs : List Input) (id : TransactionId) →
+    status_of (after_all (begin mib W) inputs) id ≡ Terminated → HadSession (begin mib W) inputs id
+
+abbrev pub ClosedIsOver : Type 0
+ClosedIsOver =
+    (mib : Mib) (W : World) (inputs : List Input) (id : TransactionId) →
+    is_closed (after_all (begin mib W) inputs) id ≡ true → session_of (after_all (begin mib W) inputs) id ≡ None
+
+-- of a state that is as late as the input: none; or the outcome of the first session that is over; or what was sent before, of the session
+-- whose acknowledgement timer expired below its limit
+pub data Sent (R : State) (i : Input) (sent : List (List ℕ)) : Type 0 where
+  None_sent : (e : sent ≡ []) → Sent R i sent
+  First_sent : (now : ℕ) → (s : SessionFields) → (is : i ≡ Finish now) → (over : first_over R.world R.sessions ≡ Some s) →
+      (e : sent ≡ finished_octets (outcome_for s (entry_of R.world (name_of s))) ∷ []) → Sent R i sent
+  Sent_again : (now : ℕ) → (s : SessionFields) → (is : i ≡ Expire now) → (due : first_due R R.sessions ≡ Stage_due s false) →
+      (waits : s.stage ≡ Waiting) → (e : sent ≡ s.finished ∷ []) → Sent R i sent
+
+abbrev pub FinishedOnly : Type 0
+FinishedOnly = (R : State) (i : Input) → Sent (later (now_of i) R) i (parts R i).answer.finished
+
+abbrev pub EntriesStay : Type 0
+EntriesStay =
+    (W : World) (events : List Event) (id : TransactionId) → Sound W → AllByRecursion (λ v. id ≢ about v) events → entry_of (run W events) id ≡ entry_of W id

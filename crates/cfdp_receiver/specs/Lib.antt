@@ -1,0 +1,5 @@
+pub mod State
+pub mod Due
+pub mod Handing
+pub mod Turning
+pub mod Laws

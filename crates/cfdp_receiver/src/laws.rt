@@ -1,0 +1,69 @@
+//! What is true of the receiver, whatever comes. These functions do nothing: their contracts are the laws.
+
+ghost use Rattle.cfdp_receiver.specs.Laws.{HandsOn, HeadlineHolds, FewEvents, FewPdus, AcknowledgedOnce, OthersStay, UnrecognizedIsTrue, TerminatedIsTrue, ClosedIsOver, FinishedOnly, NoneAgain, EntriesStay};
+
+/// The world of a receiver is the core's own run of the events that its inputs handed on.
+pub fn hands_on()
+    ensures { HandsOn }
+{}
+
+/// What is promised of the core over every list of events holds of the receiver over every list of inputs.
+pub fn headline_holds()
+    ensures { HeadlineHolds }
+{
+    cfdp_transactions::laws::next_is_sound();
+    cfdp_transactions::laws::next_is_promised();
+}
+
+/// An input hands on two events at most.
+pub fn few_events()
+    ensures { FewEvents }
+{}
+
+/// An answer has one ACK PDU at most, and one Keep Alive or Finished PDU at most.
+pub fn few_pdus()
+    ensures { FewPdus }
+{}
+
+/// An EOF PDU in acknowledged mode is acknowledged once, with its condition code and the status of its transaction after it.
+pub fn acknowledged_once()
+    ensures { AcknowledgedOnce }
+{}
+
+/// The sessions of all transactions but the one that an input is about stay as they are.
+pub fn others_stay()
+    ensures { OthersStay }
+{}
+
+/// An ACK PDU says 'unrecognized' of no transaction that ever had a session here.
+pub fn unrecognized_is_true()
+    ensures { UnrecognizedIsTrue }
+{}
+
+/// A Metadata PDU of a transaction that is closed and remembered is not handed to the core: its requests are not performed again.
+pub fn none_again()
+    ensures { NoneAgain }
+{}
+
+/// An ACK PDU says 'terminated' only of a transaction that had a session here.
+pub fn terminated_is_true()
+    ensures { TerminatedIsTrue }
+{}
+
+/// A transaction that is closed and remembered has no session.
+pub fn closed_is_over()
+    ensures { ClosedIsOver }
+{}
+
+/// A Finished PDU is sent when an outcome is taken, and again when its timer expires below the limit, and at no other input.
+pub fn finished_only()
+    ensures { FinishedOnly }
+{}
+
+/// Events of other transactions leave a transaction's entry in the core as it is.
+pub fn entries_stay()
+    ensures { EntriesStay }
+{
+    cfdp_transactions::laws::next_is_sound();
+    cfdp_transactions::laws::next_is_promised();
+}

@@ -1,0 +1,63 @@
+//! What is left to the management of a receiving entity.
+
+/// What is done at a fault (CCSDS 727.0-B-5, the fault handling procedures).
+#[derive(Clone, Copy, Debug, PartialEq, Eq)]
+pub enum Handler {
+    /// The transaction is cancelled, with the condition code of the fault.
+    Cancel,
+    /// The user is told, and the transaction goes on.
+    Ignore,
+    /// The transaction is abandoned: nothing more is sent.
+    Abandon,
+}
+
+/// When lost segments are asked for (CCSDS 727.0-B-5, the lost segment procedures).
+#[derive(Clone, Copy, Debug, PartialEq, Eq)]
+pub enum NakMode {
+    /// After the EOF PDU.
+    Deferred,
+    /// When a gap begins, and after the EOF PDU.
+    Immediate,
+}
+
+/// A timer after which a PDU is sent again.
+#[derive(Clone, Copy, Debug, PartialEq, Eq)]
+pub struct Retries {
+    /// How long it runs, 1 to 2^32 - 1 ticks.
+    pub interval: u32,
+    /// The expiry that is a fault, counted from 1: 1 to 1,000.
+    pub limit: u32,
+    /// What is done then.
+    pub at_limit: Handler,
+}
+
+/// A timer after which something is looked after.
+#[derive(Clone, Copy, Debug, PartialEq, Eq)]
+pub struct Watch {
+    /// How long it runs, 1 to 2^32 - 1 ticks.
+    pub interval: u32,
+    /// What is done at the fault.
+    pub at_limit: Handler,
+}
+
+/// What the management of a receiving entity sets (the management information base of CCSDS 727.0-B-5, chapter 8). Times are in ticks of the
+/// caller's clock.
+#[derive(Clone, Copy, Debug, PartialEq, Eq)]
+pub struct Mib {
+    /// A Finished PDU is sent again after this time without its acknowledgement. At the limit: condition code 1.
+    pub ack: Retries,
+    /// What is missing after the EOF PDU is asked for again after this time without a new octet. At the limit: condition code 7.
+    pub nak: Retries,
+    /// The time between checks in unacknowledged mode. The limit is that of the core's configuration: condition code 10.
+    pub check: Watch,
+    /// Before the EOF PDU: this time without a PDU of the transaction is condition code 8.
+    pub inactivity: Watch,
+    /// Before the EOF PDU, in acknowledged mode: the time between Keep Alive PDUs, 1 to 2^32 - 1 ticks. `None`: none is sent.
+    pub keep_alive: Option<u32>,
+    /// When lost segments are asked for.
+    pub nak_mode: NakMode,
+    /// PDUs that are sent have a CRC.
+    pub has_crc: bool,
+    /// How many octets a NAK PDU has at most, 72 to 65,535, its CRC included.
+    pub longest_nak: u16,
+}

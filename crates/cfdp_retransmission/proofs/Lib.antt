@@ -1,0 +1,4 @@
+pub mod Waiting
+pub mod Sequences
+pub mod Arriving
+pub mod Losing

@@ -1,0 +1,5 @@
+pub mod Timers
+pub mod Finishing
+pub mod Naks
+pub mod Coming
+pub mod Rounds

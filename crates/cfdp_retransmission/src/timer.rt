@@ -1,0 +1,75 @@
+//! A timer that counts how often it expired.
+
+ghost use Rattle.std.specs.Prelude.{◌≡◌, ◌<◌, ◌+◌, ◌^◌};
+ghost use Rattle.cfdp_retransmission.specs.Timers.{after, expiry, restarted};
+
+/// A timer: the moment from which it runs, and how often it expired in a row. Moments and intervals are in ticks of the caller's clock.
+#[derive(Clone, Copy, Debug, PartialEq, Eq)]
+pub struct Timer {
+    /// The moment from which it runs.
+    pub since: u64,
+    /// How often it expired since something new came.
+    pub count: u32,
+}
+
+/// Whether a timer has expired at a moment.
+#[derive(Clone, Copy, Debug, PartialEq, Eq)]
+pub enum Expiry {
+    /// It has not.
+    NotDue,
+    /// It has, and the limit is not reached.
+    Again,
+    /// It has, and this expiry reaches the limit.
+    Limit,
+}
+
+impl Timer {
+    /// A timer that begins now.
+    pub fn start(now: u64) -> Timer
+        ensures { result ≡ restarted now }
+    {
+        Timer {
+            since: now,
+            count: 0,
+        }
+    }
+
+    /// Whether it has expired at the moment `now`: `interval` ticks after it began or later. The expiry with the number `limit` in a row
+    /// reaches the limit. A moment before the timer began is no fault: it is not due then. In constant time.
+    pub fn expiry(&self, interval: u64, limit: u32, now: u64) -> Expiry
+        requires { self.now.count + 1 < 2 ^ 32 }
+        ensures { result ≡ expiry interval limit now self.now }
+    {
+        let is_due = match now.checked_sub(self.since) {
+            Some(elapsed) => elapsed >= interval,
+            None => false,
+        };
+        if !is_due {
+            return Expiry::NotDue;
+        }
+        if limit <= self.count + 1 {
+            Expiry::Limit
+        } else {
+            Expiry::Again
+        }
+    }
+
+    /// Serves the timer at the moment `now`, and returns whether it had expired. Then it begins anew, with one expiry more in its count, or
+    /// with none where the limit was reached. Otherwise it stays as it is. In constant time.
+    pub fn serve(&mut self, interval: u64, limit: u32, now: u64) -> Expiry
+        requires { self.old.count + 1 < 2 ^ 32 }
+        ensures expiry { result ≡ expiry interval limit now self.old }
+        ensures timer { self.new ≡ after interval limit now self.old }
+    {
+        let expiry = self.expiry(interval, limit, now);
+        match expiry {
+            Expiry::NotDue => {}
+            Expiry::Again => {
+                self.since = now;
+                self.count += 1;
+            }
+            Expiry::Limit => *self = Timer::start(now),
+        }
+        expiry
+    }
+}

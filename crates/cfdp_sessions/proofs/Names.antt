@@ -1,0 +1,233 @@
+-- Sessions by their names.
+use Rattle.std.specs.Prelude.{⊤}
+use Rattle.std.proofs.Common.{◌≡◌, ◌⊎◌, inl, inr, ℕ, Bool, true, false, ◌==◌, if◌then◌else◌, List, [], ◌∷◌, ◌++◌, Option, Some, None, refl, sym, ap, subst, ◌∙◌}
+use Rattle.std.proofs.lemmas.Bool.{cond-true, cond-false, cases_Bool, and_from, and_parts, eq-eqb, eqb-true}
+use Rattle.cfdp_status.specs.declared.transaction.TransactionId.{TransactionId}
+use Rattle.cfdp_leases.specs.Leases.{is_same}
+use Rattle.cfdp_sessions.specs.Sessions.{SessionFields, name_of, found, IsFound, replaced, without, AreDistinct}
+
+pub same_self : (a : TransactionId) → is_same a a ≡ true
+same_self a = and_from _ _ (eq-eqb a.source a.source refl) (eq-eqb a.number a.number refl)
+
+pub same_is : (a b : TransactionId) → is_same a b ≡ true → a ≡ b
+same_is a b h =
+    let both = and_parts (a.source == b.source) (a.number == b.number) h in
+    ap (λ (x : ℕ). record { source = x; number = a.number }) (eqb-true a.source b.source both.0)
+    ∙ ap (λ (x : ℕ). record { source = b.source; number = x }) (eqb-true a.number b.number both.1)
+
+pub both_of : (b : Bool) → b ≡ false → b ≡ true → ⊥
+both_of true e h = absurd cc
+both_of false e h = absurd cc
+
+-- two names differ either way round
+turned_about : (a b : TransactionId) → is_same a b ≡ false → is_same b a ≡ false
+turned_about a b h = elim (cases_Bool (is_same b a)) [
+  | inl same ↦ absurd (both_of (is_same a b) h (ap (λ (n : TransactionId). is_same n b) (sym (same_is b a same)) ∙ same_self b))
+  | inr other ↦ other
+]
+
+-- ---- a session that is found
+
+-- the session itself, where there is one
+abbrev of_some : SessionFields → Option SessionFields → SessionFields
+of_some s None = s
+of_some s (Some t) = t
+
+found_if : (b : Bool) (s t : SessionFields) (later : Option SessionFields) → (if b then Some s else later) ≡ Some t → ((b ≡ true) × (s ≡ t)) ⊎ ((b ≡ false) × (later ≡ Some t))
+found_if true s t later e = inl (refl, ap (λ (o : Option SessionFields). of_some s o) e)
+found_if false s t later e = inr (refl, e)
+
+pub found_first : (x : SessionFields) (xs : List SessionFields) (id : TransactionId) → is_same (name_of x) id ≡ true → IsFound (x ∷ xs) id
+found_first x xs id h = (x, cond-true (is_same (name_of x) id) (Some x) (found xs id) h)
+
+pub found_later : (x : SessionFields) (xs : List SessionFields) (id : TransactionId) → is_same (name_of x) id ≡ false → IsFound xs id → IsFound (x ∷ xs) id
+found_later x xs id h f = (f.0, cond-false (is_same (name_of x) id) (Some x) (found xs id) h ∙ f.1)
+
+pub found_either : (x : SessionFields) (xs : List SessionFields) (id : TransactionId) → IsFound xs id → IsFound (x ∷ xs) id
+found_either x xs id f = elim (cases_Bool (is_same (name_of x) id)) [ inl h ↦ found_first x xs id h | inr h ↦ found_later x xs id h f ]
+
+pub found_put : (ss : List SessionFields) (new s : SessionFields) (id : TransactionId) → found ss id ≡ Some s → name_of new ≡ name_of s → IsFound (replaced ss new) id
+found_put [] new s id e same = absurd cc
+found_put (x ∷ xs) new s id e same =
+    let seen = found_if (is_same (name_of x) id) x s (found xs id) e in
+    elim (cases_Bool (is_same (name_of x) (name_of new))) [
+      | inl here ↦
+          subst (λ (ys : List SessionFields). IsFound ys id) (sym (cond-true (is_same (name_of x) (name_of new)) (new ∷ xs) (x ∷ replaced xs new) here)) (
+          elim seen [
+            | inl h ↦ found_first new xs id (ap (λ (n : TransactionId). is_same n id) (same ∙ ap name_of (sym h.1)) ∙ h.0)
+            | inr h ↦ found_either new xs id (s, h.1)
+          ]
+          )
+      | inr there ↦
+          subst (λ (ys : List SessionFields). IsFound ys id) (sym (cond-false (is_same (name_of x) (name_of new)) (new ∷ xs) (x ∷ replaced xs new) there)) (
+          elim seen [
+            | inl h ↦ found_first x (replaced xs new) id h.0
+            | inr h ↦ found_later x (replaced xs new) id h.0 (found_put xs new s id h.1 same)
+          ]
+          )
+    ]
+
+pub found_added : (ss : List SessionFields) (new : SessionFields) (id : TransactionId) → is_same (name_of new) id ≡ true → IsFound (ss ++ new ∷ []) id
+found_added [] new id h = found_first new [] id h
+found_added (x ∷ xs) new id h = found_either x (xs ++ new ∷ []) id (found_added xs new id h)
+
+first_is : (b : Bool) (x s : SessionFields) (later : Option SessionFields) → b ≡ true → (if b then Some x else later) ≡ Some s → x ≡ s
+first_is true x s later h e = ap (of_some x) e
+first_is false x s later h e = absurd cc
+
+later_is : (b : Bool) (x s : SessionFields) (later : Option SessionFields) → b ≡ false → (if b then Some x else later) ≡ Some s → later ≡ Some s
+later_is true x s later h e = absurd cc
+later_is false x s later h e = e
+
+pub no_some : (t : SessionFields) → None ≡ Some t → ⊥
+no_some t e = absurd cc
+
+no_session : (id : TransactionId) → IsFound [] id → ⊥
+no_session id f = no_some f.0 f.1
+
+first_or_later : (x : SessionFields) (xs : List SessionFields) (id : TransactionId) → IsFound (x ∷ xs) id → (is_same (name_of x) id ≡ true) ⊎ IsFound xs id
+first_or_later x xs id f = elim (cases_Bool (is_same (name_of x) id)) [
+  | inl h ↦ inl h
+  | inr h ↦ inr (f.0, later_is (is_same (name_of x) id) x f.0 (found xs id) h f.1)
+]
+
+-- a session that was found has the name
+pub found_name : (ss : List SessionFields) (id : TransactionId) (s : SessionFields) → found ss id ≡ Some s → name_of s ≡ id
+found_name [] id s e = absurd cc
+found_name (x ∷ xs) id s e = elim (cases_Bool (is_same (name_of x) id)) [
+  | inl h ↦ ap name_of (sym (first_is (is_same (name_of x) id) x s (found xs id) h e)) ∙ same_is (name_of x) id h
+  | inr h ↦ found_name xs id s (later_is (is_same (name_of x) id) x s (found xs id) h e)
+]
+
+pub found_replaced : (ss : List SessionFields) (new : SessionFields) (id : TransactionId) → IsFound ss id → IsFound (replaced ss new) id
+found_replaced [] new id f = absurd (no_session id f)
+found_replaced (x ∷ xs) new id f =
+    let seen : (is_same (name_of x) id ≡ true) ⊎ IsFound xs id = first_or_later x xs id f in
+    elim (cases_Bool (is_same (name_of x) (name_of new))) [
+      | inl here ↦
+          subst (λ (ys : List SessionFields). IsFound ys id) (sym (cond-true (is_same (name_of x) (name_of new)) (new ∷ xs) (x ∷ replaced xs new) here)) (
+          elim seen [
+            | inl h ↦ found_first new xs id (ap (λ (n : TransactionId). is_same n id) (sym (same_is (name_of x) (name_of new) here)) ∙ h)
+            | inr later ↦ found_either new xs id later
+          ]
+          )
+      | inr there ↦
+          subst (λ (ys : List SessionFields). IsFound ys id) (sym (cond-false (is_same (name_of x) (name_of new)) (new ∷ xs) (x ∷ replaced xs new) there)) (
+          elim seen [
+            | inl h ↦ found_first x (replaced xs new) id h
+            | inr later ↦ found_either x (replaced xs new) id (found_replaced xs new id later)
+          ]
+          )
+    ]
+
+pub found_more : (ss : List SessionFields) (new : SessionFields) (id : TransactionId) → IsFound ss id → IsFound (ss ++ new ∷ []) id
+found_more [] new id f = absurd (no_session id f)
+found_more (x ∷ xs) new id f = elim (first_or_later x xs id f) [
+  | inl h ↦ found_first x (xs ++ new ∷ []) id h
+  | inr later ↦ found_either x (xs ++ new ∷ []) id (found_more xs new id later)
+]
+
+-- ---- the sessions of other names
+
+pub replaced_other : (ss : List SessionFields) (new : SessionFields) (id : TransactionId) → is_same (name_of new) id ≡ false → found (replaced ss new) id ≡ found ss id
+replaced_other [] new id h = refl
+replaced_other (x ∷ xs) new id h = elim (cases_Bool (is_same (name_of x) (name_of new))) [
+  | inl here ↦
+      let other : is_same (name_of x) id ≡ false = ap (λ (n : TransactionId). is_same n id) (same_is (name_of x) (name_of new) here) ∙ h in
+      ap (λ (ys : List SessionFields). found ys id) (cond-true (is_same (name_of x) (name_of new)) (new ∷ xs) (x ∷ replaced xs new) here)
+      ∙ cond-false (is_same (name_of new) id) (Some new) (found xs id) h
+      ∙ sym (cond-false (is_same (name_of x) id) (Some x) (found xs id) other)
+  | inr there ↦
+      ap (λ (ys : List SessionFields). found ys id) (cond-false (is_same (name_of x) (name_of new)) (new ∷ xs) (x ∷ replaced xs new) there)
+      ∙ ap (λ (o : Option SessionFields). if is_same (name_of x) id then Some x else o) (replaced_other xs new id h)
+]
+
+pub without_other : (ss : List SessionFields) (t id : TransactionId) → is_same t id ≡ false → found (without ss t) id ≡ found ss id
+without_other [] t id h = refl
+without_other (x ∷ xs) t id h = elim (cases_Bool (is_same (name_of x) t)) [
+  | inl here ↦
+      let other : is_same (name_of x) id ≡ false = ap (λ (n : TransactionId). is_same n id) (same_is (name_of x) t here) ∙ h in
+      ap (λ (ys : List SessionFields). found ys id) (cond-true (is_same (name_of x) t) xs (x ∷ without xs t) here)
+      ∙ sym (cond-false (is_same (name_of x) id) (Some x) (found xs id) other)
+  | inr there ↦
+      ap (λ (ys : List SessionFields). found ys id) (cond-false (is_same (name_of x) t) xs (x ∷ without xs t) there)
+      ∙ ap (λ (o : Option SessionFields). if is_same (name_of x) id then Some x else o) (without_other xs t id h)
+]
+
+pub added_other : (ss : List SessionFields) (new : SessionFields) (id : TransactionId) → is_same (name_of new) id ≡ false → found (ss ++ new ∷ []) id ≡ found ss id
+added_other [] new id h = cond-false (is_same (name_of new) id) (Some new) None h
+added_other (x ∷ xs) new id h = ap (λ (o : Option SessionFields). if is_same (name_of x) id then Some x else o) (added_other xs new id h)
+
+-- ---- no two of one name
+
+-- nothing is found: it is not the first, nor in the rest
+none_first : (b : Bool) (x : SessionFields) (later : Option SessionFields) → (if b then Some x else later) ≡ None → (b ≡ false) × (later ≡ None)
+none_first true x later e = absurd cc
+none_first false x later e = (refl, e)
+
+none_of : (x : SessionFields) (xs : List SessionFields) (id : TransactionId) → is_same (name_of x) id ≡ false → found xs id ≡ None → found (x ∷ xs) id ≡ None
+none_of x xs id h e = cond-false (is_same (name_of x) id) (Some x) (found xs id) h ∙ e
+
+named : (a b id : TransactionId) → a ≡ b → is_same b id ≡ false → is_same a id ≡ false
+named a b id e h = ap (λ (n : TransactionId). is_same n id) e ∙ h
+
+pub replaced_none : (ss : List SessionFields) (new : SessionFields) (id : TransactionId) → found ss id ≡ None → found (replaced ss new) id ≡ None
+replaced_none [] new id e = refl
+replaced_none (x ∷ xs) new id e =
+    let parts = none_first (is_same (name_of x) id) x (found xs id) e in
+    elim (cases_Bool (is_same (name_of x) (name_of new))) [
+      | inl here ↦
+          ap (λ (ys : List SessionFields). found ys id) (cond-true (is_same (name_of x) (name_of new)) (new ∷ xs) (x ∷ replaced xs new) here)
+          ∙ none_of new xs id (named (name_of new) (name_of x) id (sym (same_is (name_of x) (name_of new) here)) parts.0) parts.1
+      | inr there ↦
+          ap (λ (ys : List SessionFields). found ys id) (cond-false (is_same (name_of x) (name_of new)) (new ∷ xs) (x ∷ replaced xs new) there)
+          ∙ none_of x (replaced xs new) id parts.0 (replaced_none xs new id parts.1)
+    ]
+
+pub replaced_distinct : (ss : List SessionFields) (new : SessionFields) → AreDistinct ss → AreDistinct (replaced ss new)
+replaced_distinct [] new d = tt
+replaced_distinct (x ∷ xs) new d = elim (cases_Bool (is_same (name_of x) (name_of new))) [
+  | inl here ↦
+      subst AreDistinct (sym (cond-true (is_same (name_of x) (name_of new)) (new ∷ xs) (x ∷ replaced xs new) here))
+      (ap (found xs) (sym (same_is (name_of x) (name_of new) here)) ∙ d.0, d.1)
+  | inr there ↦
+      subst AreDistinct (sym (cond-false (is_same (name_of x) (name_of new)) (new ∷ xs) (x ∷ replaced xs new) there))
+      (replaced_none xs new (name_of x) d.0, replaced_distinct xs new d.1)
+]
+
+pub added_distinct : (ss : List SessionFields) (new : SessionFields) → AreDistinct ss → found ss (name_of new) ≡ None → AreDistinct (ss ++ new ∷ [])
+added_distinct [] new d free = (refl, tt)
+added_distinct (x ∷ xs) new d free =
+    let parts = none_first (is_same (name_of x) (name_of new)) x (found xs (name_of new)) free in
+    (added_other xs new (name_of x) (turned_about (name_of x) (name_of new) parts.0) ∙ d.0, added_distinct xs new d.1 parts.1)
+
+pub without_none : (ss : List SessionFields) (t id : TransactionId) → found ss id ≡ None → found (without ss t) id ≡ None
+without_none [] t id e = refl
+without_none (x ∷ xs) t id e =
+    let parts = none_first (is_same (name_of x) id) x (found xs id) e in
+    elim (cases_Bool (is_same (name_of x) t)) [
+      | inl here ↦ ap (λ (ys : List SessionFields). found ys id) (cond-true (is_same (name_of x) t) xs (x ∷ without xs t) here) ∙ parts.1
+      | inr there ↦
+          ap (λ (ys : List SessionFields). found ys id) (cond-false (is_same (name_of x) t) xs (x ∷ without xs t) there)
+          ∙ none_of x (without xs t) id parts.0 (without_none xs t id parts.1)
+    ]
+
+pub without_distinct : (ss : List SessionFields) (t : TransactionId) → AreDistinct ss → AreDistinct (without ss t)
+without_distinct [] t d = tt
+without_distinct (x ∷ xs) t d = elim (cases_Bool (is_same (name_of x) t)) [
+  | inl here ↦ subst AreDistinct (sym (cond-true (is_same (name_of x) t) xs (x ∷ without xs t) here)) d.1
+  | inr there ↦
+      subst AreDistinct (sym (cond-false (is_same (name_of x) t) xs (x ∷ without xs t) there)) (without_none xs t (name_of x) d.0, without_distinct xs t d.1)
+]
+
+-- what was closed has no session any more
+pub gone : (ss : List SessionFields) (t : TransactionId) → AreDistinct ss → found (without ss t) t ≡ None
+gone [] t d = refl
+gone (x ∷ xs) t d = elim (cases_Bool (is_same (name_of x) t)) [
+  | inl here ↦
+      ap (λ (ys : List SessionFields). found ys t) (cond-true (is_same (name_of x) t) xs (x ∷ without xs t) here)
+      ∙ ap (found xs) (sym (same_is (name_of x) t here)) ∙ d.0
+  | inr there ↦
+      ap (λ (ys : List SessionFields). found ys t) (cond-false (is_same (name_of x) t) xs (x ∷ without xs t) there)
+      ∙ none_of x (without xs t) t there (gone xs t d.1)
+]

@@ -1,0 +1,13 @@
+//! What a receiving entity keeps of each transaction beside its core, which knows nothing of PDUs that are sent and of time: the header
+//! that its PDUs repeat, how far the transaction is, its timer, and its Finished PDU until that is acknowledged.
+#![tactic(auto)]
+
+mod closed;
+mod session;
+mod sessions;
+#[cfg(test)]
+mod tests;
+
+pub use closed::{Closed, MOST_CLOSED};
+pub use session::{Ending, Session, Stage};
+pub use sessions::{MOST_SESSIONS, Sessions};

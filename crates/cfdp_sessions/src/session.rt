@@ -1,0 +1,70 @@
+//! What is kept of one transaction.
+
+ghost use Rattle.std.specs.Prelude.{◌≡◌};
+ghost use Rattle.cfdp_sessions.specs.Sessions.{name_of};
+
+use cfdp_pdus::{Eof, Header};
+use cfdp_retransmission::Timer;
+use cfdp_status::TransactionId;
+use cfdp_transactions::transaction_of;
+use std::marker::Model;
+
+/// How a transaction ended that is not in the core: it has no requests, and nothing of its file is kept.
+#[derive(Clone, Copy, Debug, PartialEq, Eq)]
+pub struct Ending {
+    /// The condition code, 0 to 15 (CCSDS 727.0-B-5 §5.2.2).
+    pub condition: u8,
+    /// Its Finished PDU is to be sent.
+    pub is_sent: bool,
+    /// The entity at fault, by its ID.
+    pub at_fault: u64,
+}
+
+/// How far a transaction is, beside the core.
+#[derive(Clone, Copy, Debug, PartialEq, Eq)]
+pub enum Stage {
+    /// Its EOF PDU came, and its Metadata PDU did not.
+    Held(Eof),
+    /// It is in the core's table, which says how far it is.
+    Known,
+    /// It is over, and is not in the core's table.
+    Over(Ending),
+    /// Its Finished PDU was sent, and is not acknowledged yet.
+    Waiting,
+}
+
+/// What is kept of one transaction. Contracts see it without where its octets are.
+#[derive(Debug, Drop)]
+pub struct Session {
+    /// The header of the PDU that began it; that of its Metadata PDU once that came.
+    pub header: Header,
+    /// How far it is.
+    pub stage: Stage,
+    /// The timer of its stage.
+    pub timer: Timer,
+    /// When the last Keep Alive PDU was sent, or when it began.
+    pub alive_at: u64,
+    /// The condition code for which this entity cancelled it.
+    pub cause: Option<u8>,
+    /// It was abandoned: its outcome is for nobody.
+    pub is_abandoned: bool,
+    /// The octets of its Finished PDU, once that was sent. Empty before.
+    pub finished: Vec<u8>,
+}
+
+impl Model for Session {
+    ghost use Rattle.cfdp_sessions.specs.Sessions.{SessionFields};
+
+    ghost Value = { SessionFields };
+
+    ghost view = { λ s. record { header = s.header; stage = s.stage; timer = s.timer; alive_at = s.alive_at; cause = s.cause; is_abandoned = s.is_abandoned; finished = s.finished.items } };
+}
+
+impl Session {
+    /// The name of its transaction: source entity ID and transaction sequence number (CCSDS 727.0-B-5 §5.1).
+    pub fn name(&self) -> TransactionId
+        ensures { result ≡ name_of self.now }
+    {
+        transaction_of(&self.header)
+    }
+}

@@ -1,0 +1,132 @@
+//! A table that is filled, emptied and filled again, and the names at its limits.
+
+ghost use Rattle.std.specs.Prelude.{◌<◌};
+
+use crate::{MOST_SESSIONS, Session, Sessions, Stage};
+use cfdp_pdus::Header;
+use cfdp_retransmission::Timer;
+use cfdp_status::TransactionId;
+use std::alloc::Global;
+
+/// A transaction from entity `source`.
+fn id(source: u64, number: u64) -> TransactionId {
+    TransactionId { source, number }
+}
+
+/// The session of a transaction; `alive_at` tells one of a name from another of the same name.
+fn session(alloc: Global, source: u64, number: u64, alive_at: u64) -> Session {
+    Session {
+        header: Header {
+            toward_sender: false,
+            acknowledged: true,
+            large: false,
+            id_len: 8,
+            number_len: 8,
+            source,
+            number,
+            destination: 2,
+        },
+        stage: Stage::Known,
+        timer: Timer::start(0),
+        alive_at,
+        cause: None,
+        is_abandoned: false,
+        finished: Vec::new(alloc),
+    }
+}
+
+/// Adds a session where there is room.
+fn add(sessions: &mut Sessions, session: Session) {
+    if sessions.len() < MOST_SESSIONS {
+        sessions.add(session);
+    }
+}
+
+/// 64 sessions of one source, numbered from 0.
+fn full(alloc: Global) -> Option<Sessions> {
+    let mut sessions = Sessions::new(alloc).ok()?;
+    for number in 0..64u64 {
+        add(&mut sessions, session(alloc, 1, number, number));
+    }
+    Some(sessions)
+}
+
+/// Whether the sessions have these numbers, in order.
+fn has_numbers(sessions: &Sessions, numbers: &[u64]) -> bool {
+    sessions.len() == numbers.len()
+        && sessions
+            .as_slice()
+            .iter()
+            .zip(numbers)
+            .all(|(session, number)| session.header.number == *number)
+}
+
+#[test]
+fn fills_and_empties(rt: HostRuntime) {
+    let mut sessions = full(rt.alloc()).unwrap();
+    assert!(rt; sessions.is_full(), "64 sessions");
+    for number in 0..64u64 {
+        let found = sessions.get(id(1, number));
+        assert!(rt;
+            found.is_some_and(|s| s.alive_at == number),
+            "number {number}"
+        );
+    }
+    for number in 0..60u64 {
+        sessions.close(id(1, number));
+        assert!(rt; !sessions.is_full(), "less than 64 after {number}");
+        assert!(rt; sessions.get(id(1, number)).is_none(), "closed: {number}");
+    }
+    assert!(rt;
+        has_numbers(&sessions, &[60, 61, 62, 63]),
+        "the others, in order"
+    );
+    add(&mut sessions, session(rt.alloc(), 1, 0, 7));
+    assert!(rt;
+        has_numbers(&sessions, &[60, 61, 62, 63, 0]),
+        "one more, after the others"
+    );
+}
+
+#[test]
+fn names_at_their_limits(rt: HostRuntime) {
+    let alloc = rt.alloc();
+    let mut sessions = Sessions::new(alloc).unwrap();
+    for (source, number) in [(0, 0), (0, u64::MAX), (u64::MAX, 0), (u64::MAX, u64::MAX)] {
+        assert!(rt;
+            sessions.get(id(source, number)).is_none(),
+            "{source}/{number}: before"
+        );
+        add(&mut sessions, session(alloc, source, number, 1));
+        assert!(rt;
+            sessions.get(id(source, number)).is_some(),
+            "{source}/{number}: after"
+        );
+    }
+    assert!(rt; sessions.len() == 4);
+}
+
+#[test]
+fn one_is_replaced(rt: HostRuntime) {
+    let alloc = rt.alloc();
+    let mut sessions = Sessions::new(alloc).unwrap();
+    for number in 0..3u64 {
+        add(&mut sessions, session(alloc, 1, number, 0));
+    }
+    sessions.put(session(alloc, 1, 1, 9));
+    sessions.put(session(alloc, 2, 1, 9));
+    assert!(rt;
+        has_numbers(&sessions, &[0, 1, 2]),
+        "the same names, in order"
+    );
+    for (number, alive_at) in [(0, 0), (1, 9), (2, 0)] {
+        let found = sessions.get(id(1, number));
+        assert!(rt;
+            found.is_some_and(|s| s.alive_at == alive_at),
+            "number {number}"
+        );
+    }
+    assert!(rt; sessions.get(id(2, 1)).is_none(), "none was added");
+    sessions.close(id(2, 1));
+    assert!(rt; sessions.len() == 3, "none was closed");
+}
