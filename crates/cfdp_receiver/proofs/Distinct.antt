@@ -39,7 +39,6 @@ apart_by R t p (Closes a was e) apart = subst (λ (q : Turning.Parts). Apart q.s
     | inr before ↦ without_none R.sessions t id (apart.over id before)
   ];
 })
-
 apart_by R t p (Forgets a e) apart =
     subst (λ (q : Turning.Parts). Apart q.sessions q.closed.names) (sym e) (record { distinct = apart.distinct; over = λ id closed. absurd (none_of_none closed) })
 

@@ -3,3 +3,5 @@ pub mod Sending
 pub mod Finishing
 pub mod Shapes
 pub mod Distinct
+pub mod RowWords
+pub mod Rows

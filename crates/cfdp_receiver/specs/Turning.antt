@@ -6,7 +6,8 @@
 --     asks mib V s              the NAK sequence for a session, in the world V
 --     parts_of R V replies i    by the input: R is as late as it, V the world after what was handed on, and these were the replies
 --     turn R i                  the state after an input, and its answer;  after R i, parts R i
---     after_all, all_handed     the state after several inputs;  all events that they hand to the core
+--     after_all, all_answers    the state after several inputs;  the answers to them
+--     all_handed                all events that they hand to the core
 use Rattle.std.specs.Prelude.{ℕ, ◌+◌, ◌-◌, ◌/◌, max, min, Bool, true, false, not, ◌&&◌, ◌||◌, ◌==◌, if◌then◌else◌, nat_le, List, [], ◌∷◌, ◌++◌, map, length, Option, Some, None}
 use Rattle.std.specs.List.{filter}
 use Rattle.cfdp_status.specs.declared.transaction.TransactionId.{TransactionId}
@@ -440,6 +441,10 @@ turn R i = (after R i, (parts R i).answer)
 abbrev pub after_all : State → List Input → State
 after_all R [] = R
 after_all R (i ∷ is) = after_all (after R i) is
+
+abbrev pub all_answers : State → List Input → List AnswerFields
+all_answers R [] = []
+all_answers R (i ∷ is) = (parts R i).answer ∷ all_answers (after R i) is
 
 abbrev pub all_handed : State → List Input → List Event
 all_handed R [] = []
