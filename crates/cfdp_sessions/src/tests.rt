@@ -2,7 +2,7 @@
 
 ghost use Rattle.std.specs.Prelude.{◌<◌};
 
-use crate::{MOST_SESSIONS, Session, Sessions, Stage};
+use crate::{Closed, MOST_SESSIONS, Session, Sessions, Stage};
 use cfdp_pdus::Header;
 use cfdp_retransmission::Timer;
 use cfdp_status::TransactionId;
@@ -129,4 +129,35 @@ fn one_is_replaced(rt: HostRuntime) {
     assert!(rt; sessions.get(id(2, 1)).is_none(), "none was added");
     sessions.close(id(2, 1));
     assert!(rt; sessions.len() == 3, "none was closed");
+}
+
+/// 256 closed transactions of one source, numbered from 0.
+fn closed(alloc: Global) -> Option<Closed> {
+    let mut closed = Closed::new(alloc).ok()?;
+    for number in 0..256u64 {
+        closed.add(id(1, number));
+    }
+    Some(closed)
+}
+
+#[test]
+fn fills_and_forgets(rt: HostRuntime) {
+    let mut closed = closed(rt.alloc()).unwrap();
+    assert!(rt; !closed.has_forgotten(), "256 names");
+    for number in 0..256u64 {
+        assert!(rt; closed.remembers(id(1, number)), "number {number}");
+    }
+    assert!(rt; !closed.remembers(id(2, 0)), "another source");
+    closed.add(id(1, 256));
+    assert!(rt; closed.has_forgotten(), "257 names");
+    assert!(rt; !closed.remembers(id(1, 0)), "the oldest is dropped");
+    assert!(rt;
+        closed.remembers(id(1, 1)) && closed.remembers(id(1, 256)),
+        "the others stay"
+    );
+    closed.clear();
+    assert!(rt;
+        !closed.remembers(id(1, 256)) && closed.has_forgotten(),
+        "cleared"
+    );
 }
