@@ -8,7 +8,7 @@ use Rattle.cfdp_sessions.proofs.Names.{same_is, both_of, replaced_none, replaced
 use Rattle.cfdp_receiver.specs.State.{State, begin, Input, now_of, is_closed}
 use Rattle.cfdp_receiver.specs.Handing as Handing
 use Rattle.cfdp_receiver.specs.Turning as Turning
-use Rattle.cfdp_receiver.specs.Laws.{touched, ClosedIsOver}
+use Rattle.cfdp_receiver.specs.Laws.{touched, ClosedIsOver, AreApart}
 use Rattle.cfdp_receiver.proofs.Shapes.{Shape, Keeps, Puts, Adds, Closes, Forgets, shape, closed_in, taken_is}
 
 none_of_none : false ≡ true → ⊥
@@ -42,6 +42,14 @@ apart_by R t p (Closes a was e) apart = subst (λ (q : Turning.Parts). Apart q.s
 apart_by R t p (Forgets a e) apart =
     subst (λ (q : Turning.Parts). Apart q.sessions q.closed.names) (sym e) (record { distinct = apart.distinct; over = λ id closed. absurd (none_of_none closed) })
 
+distinct_by : (R : State) (t : TransactionId) (p : Turning.Parts) → Shape R t p → AreDistinct R.sessions → AreDistinct p.sessions
+distinct_by R t p (Keeps a e) d = subst (λ (q : Turning.Parts). AreDistinct q.sessions) (sym e) d
+distinct_by R t p (Puts s a name e) d = subst (λ (q : Turning.Parts). AreDistinct q.sessions) (sym e) (replaced_distinct R.sessions s d)
+distinct_by R t p (Adds s a name free new e) d =
+    subst (λ (q : Turning.Parts). AreDistinct q.sessions) (sym e) (added_distinct R.sessions s d (ap (found R.sessions) name ∙ free))
+distinct_by R t p (Closes a was e) d = subst (λ (q : Turning.Parts). AreDistinct q.sessions) (sym e) (without_distinct R.sessions t d)
+distinct_by R t p (Forgets a e) d = subst (λ (q : Turning.Parts). AreDistinct q.sessions) (sym e) d
+
 apart_all : (R : State) (inputs : List Input) → Apart R.sessions R.closed.names → Apart (Turning.after_all R inputs).sessions (Turning.after_all R inputs).closed.names
 apart_all R [] apart = apart
 apart_all R (i ∷ is) apart = apart_all (Turning.after R i) is (apart_by (Handing.later (now_of i) R) (touched R i) (Turning.parts R i) (shape R i) apart)
@@ -49,3 +57,10 @@ apart_all R (i ∷ is) apart = apart_all (Turning.after R i) is (apart_by (Handi
 pub closed_is_over : ClosedIsOver
 closed_is_over mib W inputs id closed =
     (apart_all (begin mib W) inputs (record { distinct = tt; over = λ x h. refl })).over id closed
+
+pub are_apart : AreApart
+are_apart mib W inputs = (apart_all (begin mib W) inputs (record { distinct = tt; over = λ x h. refl })).distinct
+
+-- one turn keeps names apart
+pub distinct_after : (R : State) (i : Input) → AreDistinct R.sessions → AreDistinct (Turning.after R i).sessions
+distinct_after R i d = distinct_by (Handing.later (now_of i) R) (touched R i) (Turning.parts R i) (shape R i) d

@@ -5,3 +5,4 @@ pub mod Shapes
 pub mod Distinct
 pub mod RowWords
 pub mod Rows
+pub mod Limits

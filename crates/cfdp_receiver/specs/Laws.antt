@@ -9,9 +9,12 @@
 --     TerminatedIsTrue          this is said only of a transaction that had one
 --     ClosedIsOver              a transaction that is closed and remembered has no session
 --     Sent, FinishedOnly        when a Finished PDU is sent, and which
+--     AreApart                  no two sessions have one name
+--     sent_while R inputs id    how often its Finished PDU is sent, as long as it waits for the acknowledgement
+--     SentAtMost                at most as often as the limit says
 --     EntriesStay               events of others leave a transaction's entry in the core as it is
 --     NoneAgain                 a Metadata PDU of a transaction that is closed and remembered is not handed on
-use Rattle.std.specs.Prelude.{◌≡◌, ◌≢◌, ◌⊎◌, ℕ, ◌+◌, ◌≤◌, true, false, List, [], ◌∷◌, ◌++◌, length, Option, Some, None}
+use Rattle.std.specs.Prelude.{◌≡◌, ◌≢◌, ◌⊎◌, ℕ, ◌+◌, ◌≤◌, ◌<◌, Bool, true, false, if◌then◌else◌, List, [], ◌∷◌, ◌++◌, length, Option, Some, None}
 use Rattle.std.specs.List.{AllByRecursion}
 use Rattle.cfdp_status.specs.declared.transaction.TransactionId.{TransactionId}
 use Rattle.cfdp_leases.specs.Leases.{is_same}
@@ -19,7 +22,8 @@ use Rattle.cfdp_directives.specs.declared.ack.TransactionStatus.TheVariants.{Ter
 use Rattle.cfdp_pdus.specs.Values.{MetadataFields}
 use Rattle.cfdp_pdus.specs.declared.header.Header.{Header}
 use Rattle.cfdp_pdus.specs.declared.eof.Eof.{Eof}
-use Rattle.cfdp_sessions.specs.Sessions.{SessionFields, name_of}
+use Rattle.cfdp_sessions.specs.Sessions.{SessionFields, name_of, AreDistinct}
+use Rattle.cfdp_sessions.specs.declared.session.Stage.{Stage}
 use Rattle.cfdp_sessions.specs.declared.session.Stage.TheVariants.{Waiting}
 use Rattle.cfdp_transactions.specs.Entry.{id_of}
 use Rattle.cfdp_transactions.specs.declared.event.Event.{Event}
@@ -29,6 +33,7 @@ use Rattle.cfdp_transactions.specs.Next.{run}
 use Rattle.cfdp_transactions.specs.Sound.{Sound}
 use Rattle.cfdp_transactions.specs.Headline.{Promised, AtEach}
 use Rattle.cfdp_transactions.specs.Writable.{finished_octets}
+use Rattle.cfdp_receiver.specs.declared.mib.Handler.TheVariants.{Ignore}
 use Rattle.cfdp_receiver.specs.declared.mib.Mib.{Mib}
 use Rattle.cfdp_receiver.specs.State.{State, begin, Input, MetadataPdu, DataPdu, EofPdu, AckPdu, PromptPdu, OtherPdu, Expire, Work, Finish, CancelAsked, ForgetAsked, now_of, status_of, session_of, is_closed, is_full}
 use Rattle.cfdp_receiver.specs.Due.{Due, Nothing_due, Stage_due, Alive_due, first_due, first_over}
@@ -122,6 +127,30 @@ pub data Sent (R : State) (i : Input) (sent : List (List ℕ)) : Type 0 where
 
 abbrev pub FinishedOnly : Type 0
 FinishedOnly = (R : State) (i : Input) → Sent (later (now_of i) R) i (parts R i).answer.finished
+
+abbrev pub AreApart : Type 0
+AreApart = (mib : Mib) (W : World) (inputs : List Input) → AreDistinct (after_all (begin mib W) inputs).sessions
+
+abbrev pub is_waiting : Stage → Bool
+is_waiting Waiting = true
+is_waiting stage = false
+
+abbrev pub waits_in : Option SessionFields → Bool
+waits_in None = false
+waits_in (Some s) = is_waiting s.stage
+
+abbrev pub sent_for : State → Input → TransactionId → ℕ
+sent_for R i id = if is_same (touched R i) id then length (parts R i).answer.finished else 0
+
+abbrev pub sent_while : State → List Input → TransactionId → ℕ
+sent_while R [] id = 0
+sent_while R (i ∷ is) id = if waits_in (session_of R id) then sent_for R i id + sent_while (after R i) is id else 0
+
+-- a session begins to wait, with a count of 0, when its Finished PDU is sent first
+abbrev pub SentAtMost : Type 0
+SentAtMost =
+    (R : State) (inputs : List Input) (id : TransactionId) (s : SessionFields) → AreDistinct R.sessions → session_of R id ≡ Some s → s.stage ≡ Waiting →
+    R.mib.ack.at_limit ≢ Ignore → s.timer.count < R.mib.ack.limit → 1 + s.timer.count + sent_while R inputs id ≤ R.mib.ack.limit
 
 abbrev pub EntriesStay : Type 0
 EntriesStay =

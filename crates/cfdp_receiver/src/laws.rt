@@ -1,6 +1,6 @@
 //! What is true of the receiver, whatever comes. These functions do nothing: their contracts are the laws.
 
-ghost use Rattle.cfdp_receiver.specs.Laws.{HandsOn, HeadlineHolds, FewEvents, FewPdus, AcknowledgedOnce, OthersStay, UnrecognizedIsTrue, TerminatedIsTrue, ClosedIsOver, FinishedOnly, NoneAgain, EntriesStay};
+ghost use Rattle.cfdp_receiver.specs.Laws.{HandsOn, HeadlineHolds, FewEvents, FewPdus, AcknowledgedOnce, OthersStay, UnrecognizedIsTrue, TerminatedIsTrue, ClosedIsOver, FinishedOnly, NoneAgain, AreApart, SentAtMost, EntriesStay};
 
 /// The world of a receiver is the core's own run of the events that its inputs handed on.
 pub fn hands_on()
@@ -67,3 +67,13 @@ pub fn entries_stay()
     cfdp_transactions::laws::next_is_sound();
     cfdp_transactions::laws::next_is_promised();
 }
+
+/// No two sessions have one name.
+pub fn are_apart()
+    ensures { AreApart }
+{}
+
+/// The Finished PDU of a transaction is sent at most as often as the ACK limit says, the first time included, unless the limit is ignored.
+pub fn sent_at_most()
+    ensures { SentAtMost }
+{}

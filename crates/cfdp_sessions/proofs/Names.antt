@@ -231,3 +231,39 @@ gone (x ∷ xs) t d = elim (cases_Bool (is_same (name_of x) t)) [
       ap (λ (ys : List SessionFields). found ys t) (cond-false (is_same (name_of x) t) xs (x ∷ without xs t) there)
       ∙ none_of x (without xs t) t there (gone xs t d.1)
 ]
+
+-- ---- members
+
+abbrev pub IsMember : SessionFields → List SessionFields → Type 0
+IsMember t [] = ⊥
+IsMember t (s ∷ ss) = (s ≡ t) ⊎ IsMember t ss
+
+-- of sessions with names of their own, a member is found by its name
+pub member_found : (ss : List SessionFields) (t : SessionFields) → AreDistinct ss → IsMember t ss → found ss (name_of t) ≡ Some t
+member_found [] t d m = elim m [ ]
+member_found (x ∷ xs) t d (inl e) = cond-true (is_same (name_of x) (name_of t)) (Some x) (found xs (name_of t)) (ap (is_same (name_of x)) (ap name_of (sym e)) ∙ same_self (name_of x)) ∙ ap Some e
+member_found (x ∷ xs) t d (inr m) =
+    let later = member_found xs t d.1 m in
+    elim (cases_Bool (is_same (name_of x) (name_of t))) [
+      | inl same ↦ absurd (no_some t (sym d.0 ∙ ap (found xs) (same_is (name_of x) (name_of t) same) ∙ later))
+      | inr other ↦ cond-false (is_same (name_of x) (name_of t)) (Some x) (found xs (name_of t)) other ∙ later
+    ]
+
+-- the one that replaced another is found
+pub replaced_self : (ss : List SessionFields) (new : SessionFields) (id : TransactionId) → IsFound ss id → name_of new ≡ id → found (replaced ss new) id ≡ Some new
+replaced_self [] new id f e = absurd (no_session id f)
+replaced_self (x ∷ xs) new id f e =
+    let new_is : is_same (name_of new) id ≡ true = ap (λ (n : TransactionId). is_same n id) e ∙ same_self id in
+    elim (cases_Bool (is_same (name_of x) (name_of new))) [
+      | inl here ↦
+          ap (λ (ys : List SessionFields). found ys id) (cond-true (is_same (name_of x) (name_of new)) (new ∷ xs) (x ∷ replaced xs new) here)
+          ∙ cond-true (is_same (name_of new) id) (Some new) (found xs id) new_is
+      | inr there ↦
+          let other : is_same (name_of x) id ≡ false = ap (is_same (name_of x)) (sym e) ∙ there in
+          ap (λ (ys : List SessionFields). found ys id) (cond-false (is_same (name_of x) (name_of new)) (new ∷ xs) (x ∷ replaced xs new) there)
+          ∙ cond-false (is_same (name_of x) id) (Some x) (found (replaced xs new) id) other
+          ∙ elim (first_or_later x xs id f) [
+            | inl same ↦ absurd (both_of (is_same (name_of x) id) other same)
+            | inr later ↦ replaced_self xs new id later e
+          ]
+    ]
