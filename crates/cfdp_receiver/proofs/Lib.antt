@@ -6,3 +6,4 @@ pub mod Distinct
 pub mod RowWords
 pub mod Rows
 pub mod Limits
+pub mod Asking

@@ -9,23 +9,29 @@
 --     TerminatedIsTrue          this is said only of a transaction that had one
 --     ClosedIsOver              a transaction that is closed and remembered has no session
 --     Sent, FinishedOnly        when a Finished PDU is sent, and which
+--     Asked, NaksAsk            what the NAK PDUs of an answer ask for
+--     ExactlyMissing            each missing offset once, and no other
+--     FewNakPdus                how many NAK PDUs they are at most
 --     AreApart                  no two sessions have one name
 --     sent_while R inputs id    how often its Finished PDU is sent, as long as it waits for the acknowledgement
 --     SentAtMost                at most as often as the limit says
 --     EntriesStay               events of others leave a transaction's entry in the core as it is
 --     NoneAgain                 a Metadata PDU of a transaction that is closed and remembered is not handed on
-use Rattle.std.specs.Prelude.{◌≡◌, ◌≢◌, ◌⊎◌, ℕ, ◌+◌, ◌≤◌, ◌<◌, Bool, true, false, if◌then◌else◌, List, [], ◌∷◌, ◌++◌, length, Option, Some, None}
-use Rattle.std.specs.List.{AllByRecursion}
+use Rattle.std.specs.Prelude.{◌≡◌, ◌≢◌, ◌⊎◌, ℕ, ◌+◌, ◌*◌, ◌≤◌, ◌<◌, Bool, true, false, if◌then◌else◌, List, [], ◌∷◌, ◌++◌, length, Option, Some, None}
+use Rattle.std.specs.List.{AllByRecursion, flat_map}
 use Rattle.cfdp_status.specs.declared.transaction.TransactionId.{TransactionId}
 use Rattle.cfdp_leases.specs.Leases.{is_same}
 use Rattle.cfdp_directives.specs.declared.ack.TransactionStatus.TheVariants.{Terminated, Unrecognized}
+use Rattle.cfdp_directives.specs.Reading.{NakFields}
+use Rattle.cfdp_retransmission.specs.Coming.{covers}
 use Rattle.cfdp_pdus.specs.Values.{MetadataFields}
 use Rattle.cfdp_pdus.specs.declared.header.Header.{Header}
 use Rattle.cfdp_pdus.specs.declared.eof.Eof.{Eof}
 use Rattle.cfdp_sessions.specs.Sessions.{SessionFields, name_of, AreDistinct}
 use Rattle.cfdp_sessions.specs.declared.session.Stage.{Stage}
-use Rattle.cfdp_sessions.specs.declared.session.Stage.TheVariants.{Waiting}
-use Rattle.cfdp_transactions.specs.Entry.{id_of}
+use Rattle.cfdp_sessions.specs.declared.session.Stage.TheVariants.{Held, Known, Waiting}
+use Rattle.cfdp_transactions.specs.Entry.{Entry, id_of, reach}
+use Rattle.cfdp_transactions.specs.ReceivedLaws.{octet_at}
 use Rattle.cfdp_transactions.specs.declared.event.Event.{Event}
 use Rattle.cfdp_transactions.specs.Events.{about}
 use Rattle.cfdp_transactions.specs.World.{World, entry_of}
@@ -38,7 +44,7 @@ use Rattle.cfdp_receiver.specs.declared.mib.Mib.{Mib}
 use Rattle.cfdp_receiver.specs.State.{State, begin, Input, MetadataPdu, DataPdu, EofPdu, AckPdu, PromptPdu, OtherPdu, Expire, Work, Finish, CancelAsked, ForgetAsked, now_of, status_of, session_of, is_closed, is_full}
 use Rattle.cfdp_receiver.specs.Due.{Due, Nothing_due, Stage_due, Alive_due, first_due, first_over}
 use Rattle.cfdp_receiver.specs.Handing.{is_ours, later, handed}
-use Rattle.cfdp_receiver.specs.Turning.{outcome_for, parts, after, after_all, all_handed, acked}
+use Rattle.cfdp_receiver.specs.Turning.{outcome_for, most_requests, sequence, all_of, gaps_after, parts, after, after_all, all_handed, acked}
 
 abbrev pub HandsOn : Type 0
 HandsOn = (R : State) (inputs : List Input) → (after_all R inputs).world ≡ run R.world (all_handed R inputs)
@@ -127,6 +133,32 @@ pub data Sent (R : State) (i : Input) (sent : List (List ℕ)) : Type 0 where
 
 abbrev pub FinishedOnly : Type 0
 FinishedOnly = (R : State) (i : Input) → Sent (later (now_of i) R) i (parts R i).answer.finished
+
+-- none; or of a held session the Metadata PDU and the whole file; or of one that the core knows the gaps from an offset on, before the input
+-- or after it
+pub data Asked (R : State) (V : World) (sent : List NakFields) : Type 0 where
+  Asks_none : (e : sent ≡ []) → Asked R V sent
+  Asks_all : (s : SessionFields) → (eof : Eof) → (low : ℕ) → (held : s.stage ≡ Held eof) → (e : sent ≡ sequence R.mib s.header low eof.size (all_of eof.size)) → Asked R V sent
+  Asks_gaps : (s : SessionFields) → (W : World) → (entry : Entry) → (low : ℕ) → (when : (W ≡ R.world) ⊎ (W ≡ V)) → (known : s.stage ≡ Known) →
+      (here : entry_of W (name_of s) ≡ Some entry) → (e : sent ≡ sequence R.mib s.header low (reach entry) (gaps_after low entry)) → Asked R V sent
+
+abbrev pub NaksAsk : Type 0
+NaksAsk = (R : State) (i : Input) → Asked (later (now_of i) R) (run R.world (handed R i)) (parts R i).answer.naks
+
+abbrev pub requests_of : List NakFields → List (ℕ × ℕ)
+requests_of naks = flat_map (λ nak. nak.requests) naks
+
+-- of a sequence from offset 0 on
+abbrev pub ExactlyMissing : Type 0
+ExactlyMissing =
+    (mib : Mib) (h : Header) (entry : Entry) (i : ℕ) → 1 ≤ most_requests mib →
+    (i < reach entry → octet_at entry.received i ≡ None → covers i (requests_of (sequence mib h 0 (reach entry) (gaps_after 0 entry))) ≡ 1)
+    × ((i < reach entry → octet_at entry.received i ≡ None → ⊥) → covers i (requests_of (sequence mib h 0 (reach entry) (gaps_after 0 entry))) ≡ 0)
+
+abbrev pub FewNakPdus : Type 0
+FewNakPdus =
+    (mib : Mib) (h : Header) (low high : ℕ) (requests : List (ℕ × ℕ)) → 1 ≤ most_requests mib →
+    most_requests mib * length (sequence mib h low high requests) < 1 + most_requests mib + length requests
 
 abbrev pub AreApart : Type 0
 AreApart = (mib : Mib) (W : World) (inputs : List Input) → AreDistinct (after_all (begin mib W) inputs).sessions

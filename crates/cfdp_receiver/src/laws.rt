@@ -1,6 +1,6 @@
 //! What is true of the receiver, whatever comes. These functions do nothing: their contracts are the laws.
 
-ghost use Rattle.cfdp_receiver.specs.Laws.{HandsOn, HeadlineHolds, FewEvents, FewPdus, AcknowledgedOnce, OthersStay, UnrecognizedIsTrue, TerminatedIsTrue, ClosedIsOver, FinishedOnly, NoneAgain, AreApart, SentAtMost, EntriesStay};
+ghost use Rattle.cfdp_receiver.specs.Laws.{HandsOn, HeadlineHolds, FewEvents, FewPdus, AcknowledgedOnce, OthersStay, UnrecognizedIsTrue, TerminatedIsTrue, ClosedIsOver, FinishedOnly, NoneAgain, NaksAsk, ExactlyMissing, FewNakPdus, AreApart, SentAtMost, EntriesStay};
 
 /// The world of a receiver is the core's own run of the events that its inputs handed on.
 pub fn hands_on()
@@ -76,4 +76,19 @@ pub fn are_apart()
 /// The Finished PDU of a transaction is sent at most as often as the ACK limit says, the first time included, unless the limit is ignored.
 pub fn sent_at_most()
     ensures { SentAtMost }
+{}
+
+/// The NAK PDUs of an answer are a sequence for one session: of a held one for its Metadata PDU and the whole file, of another for its gaps.
+pub fn naks_ask()
+    ensures { NaksAsk }
+{}
+
+/// A sequence for the gaps of a transaction has each offset that is missing in exactly one request, and no other offset.
+pub fn exactly_missing()
+    ensures { ExactlyMissing }
+{}
+
+/// A NAK sequence has no more PDUs than its requests need.
+pub fn few_nak_pdus()
+    ensures { FewNakPdus }
 {}

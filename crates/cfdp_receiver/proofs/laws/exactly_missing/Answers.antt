@@ -1,0 +1,5 @@
+use Rattle.cfdp_receiver.proofs.Asking.{exactly_missing as proved}
+use Rattle.cfdp_receiver.proofs.laws.exactly_missing.Goals as goal
+
+pub returns : goal.returns
+returns c = proved

@@ -1,0 +1,5 @@
+use Rattle.cfdp_receiver.proofs.Asking.{naks_ask as proved}
+use Rattle.cfdp_receiver.proofs.laws.naks_ask.Goals as goal
+
+pub returns : goal.returns
+returns c = proved
