@@ -1,8 +1,8 @@
 -- What the NAK PDUs of an answer ask for.
-use Rattle.std.specs.Prelude.{if◌then◌else◌, nat_le}
+use Rattle.std.specs.Prelude.{if◌then◌else◌, nat_le, IsTrue}
 use Rattle.std.specs.List.{filter, flat_map}
 use Rattle.std.proofs.Common.{◌≡◌, ◌⊎◌, inl, inr, ℕ, ◌+◌, ◌*◌, ◌<◌, ◌≤◌, Bool, true, false, not, ◌&&◌, ◌||◌, ◌==◌, List, [], ◌∷◌, ◌++◌, map, length, Option, Some, None, refl, sym, ap, subst, ◌∙◌, arith}
-use Rattle.std.proofs.lemmas.Bool.{cond-true, le-leb}
+use Rattle.std.proofs.lemmas.Bool.{cond-true, cond_both, le-leb}
 use Rattle.cfdp_status.specs.declared.transaction.TransactionId.{TransactionId}
 use Rattle.cfdp_pdus.specs.Values.{MetadataFields, FileDataFields}
 use Rattle.cfdp_pdus.specs.declared.header.Header.{Header}
@@ -18,14 +18,15 @@ use Rattle.cfdp_retransmission.proofs.Sequences.{asks_for_all, few_naks}
 use Rattle.cfdp_sessions.specs.Sessions.{SessionFields, name_of}
 use Rattle.cfdp_sessions.specs.declared.session.Stage.{Stage}
 use Rattle.cfdp_sessions.specs.declared.session.Stage.TheVariants.{Held, Known, Over, Waiting}
-use Rattle.cfdp_transactions.specs.Entry.{Entry, id_of, gaps, gaps_in, reach, reach_in, awaited}
-use Rattle.cfdp_transactions.specs.Received.{Received, gaps_below}
+use Rattle.cfdp_transactions.specs.Entry.{Entry, id_of, is_live, gaps, gaps_in, reach, reach_in, awaited}
+use Rattle.cfdp_transactions.specs.Received.{Received, gaps_below, pieces}
 use Rattle.cfdp_transactions.specs.ReceivedLaws.{octet_at}
+use Rattle.cfdp_transactions.proofs.OctetsAndGaps.{few_gaps}
 use Rattle.cfdp_transactions.specs.declared.phase.Phase.{Phase}
 use Rattle.cfdp_transactions.specs.declared.phase.Phase.TheVariants.{Receiving, Awaiting, Executing, Refused, Done, Ended}
 use Rattle.cfdp_transactions.specs.declared.outcome.Outcome.{Outcome}
 use Rattle.cfdp_transactions.specs.declared.reply.Reply.{Reply}
-use Rattle.cfdp_transactions.specs.World.{World, entry_of}
+use Rattle.cfdp_transactions.specs.World.{World, entry_of, index_of}
 use Rattle.cfdp_transactions.specs.Next.{run, replies}
 use Rattle.cfdp_receiver.specs.declared.mib.Handler.{Handler}
 use Rattle.cfdp_receiver.specs.declared.mib.Handler.TheVariants as handlers
@@ -34,7 +35,7 @@ use Rattle.cfdp_receiver.specs.State.{State, AnswerFields, Input, MetadataPdu, D
 use Rattle.cfdp_receiver.specs.Due as Due
 use Rattle.cfdp_receiver.specs.Handing as Handing
 use Rattle.cfdp_receiver.specs.Turning as Turning
-use Rattle.cfdp_receiver.specs.Laws.{Asked, Asks_none, Asks_all, Asks_gaps, NaksAsk, requests_of, ExactlyMissing, FewNakPdus}
+use Rattle.cfdp_receiver.specs.Laws.{Asked, Asks_none, Asks_all, Asks_gaps, NaksAsk, requests_of, ExactlyMissing, FewNakPdus, FewRequests}
 
 -- ---- by the stage
 
@@ -240,3 +241,23 @@ pub few_nak_pdus : FewNakPdus
 few_nak_pdus mib h low high requests some =
     let most = Turning.most_requests mib in
     subst (λ (n : ℕ). most * n < 1 + most + length requests) (sym (map_len h (naks most low high requests))) (few_naks most low high requests some)
+
+-- ---- few requests
+
+fewer : (low : ℕ) (xs : List Range) → length (filter (λ (g : Range). nat_le low g.0) xs) ≤ length xs
+fewer low [] = omega arith
+fewer low (x ∷ xs) =
+    let rest = filter (λ (g : Range). nat_le low g.0) xs in
+    cond_both (nat_le low x.0) (x ∷ rest) rest (λ (ys : List Range). length ys ≤ length (x ∷ xs)) (λ e. omega (arith, fewer low xs)) (λ e. omega (arith, fewer low xs))
+
+few_in : (W : World) (entry : Entry) (phase : Phase) → (IsTrue (is_live phase) → pieces entry.received ≤ 32) → length (gaps_in phase entry) ≤ 33
+few_in W entry Receiving h = omega (arith, few_gaps (length entry.received) entry.received, h refl)
+few_in W entry (Awaiting checks) h = omega (arith, few_gaps (awaited entry.eof) entry.received, h refl)
+few_in W entry (Executing next) h = omega arith
+few_in W entry Refused h = omega arith
+few_in W entry Done h = omega arith
+few_in W entry (Ended condition) h = omega arith
+
+pub few_requests : FewRequests
+few_requests W id entry low sound here =
+    omega (arith, fewer low (gaps entry), few_in W entry entry.phase (λ live. (sound.live (index_of W id) entry here live).pieces))

@@ -165,6 +165,38 @@ nothing_comes : all_answers (R1 mib) (EofPdu 1 (header 5) E ∷ Expire 10 ∷ Ex
 unfolding blocks_of weighed_from finished_field
 nothing_comes = refl
 
+-- an EOF PDU that comes first
+abbrev held_eof : AnswerFields
+held_eof = record (says 5 words.Held) {
+  acks = ack 5 0 Active ∷ [];
+  naks = nak 5 0 15 ((0, 0) ∷ (0, 15) ∷ []) ∷ [];
+  indications = tells.EofRecv (id 5) ∷ [];
+}
+
+-- an octet that was missing begins the timer and its count anew; one that was there does not
+progress_counts : all_answers (R1 mib) (EofPdu 1 (header 5) E ∷ Expire 11 ∷ data_at 12 0 4 ∷ Expire 21 ∷ Expire 22 ∷ data_at 23 0 4 ∷ Expire 32 ∷ Expire 42 ∷ []) ≡
+    record (replies 5 Reply.Waiting) { acks = ack 5 0 Active ∷ []; naks = nak 5 0 15 ((0, 15) ∷ []) ∷ []; indications = tells.EofRecv (id 5) ∷ [] }
+    ∷ asked
+    ∷ stored 0 4
+    ∷ nothing
+    ∷ record asked { naks = nak 5 0 15 ((4, 15) ∷ []) ∷ [] }
+    ∷ stored 0 4
+    ∷ record asked { naks = nak 5 0 15 ((4, 15) ∷ []) ∷ [] }
+    ∷ says 5 words.Faulted
+    ∷ []
+unfolding blocks_of weighed_from
+progress_counts = refl
+
+-- of two sessions that are due the one that began first is served first, once; then the other; then none
+two_due : all_answers (R0 mib) (EofPdu 0 (header 5) E ∷ EofPdu 0 (header 6) E ∷ Expire 10 ∷ Expire 10 ∷ Expire 10 ∷ []) ≡
+    held_eof
+    ∷ record (says 6 words.Held) { acks = ack 6 0 Active ∷ []; naks = nak 6 0 15 ((0, 0) ∷ (0, 15) ∷ []) ∷ []; indications = tells.EofRecv (id 6) ∷ [] }
+    ∷ record (says 5 words.Expired) { naks = nak 5 0 15 ((0, 0) ∷ (0, 15) ∷ []) ∷ [] }
+    ∷ record (says 6 words.Expired) { naks = nak 6 0 15 ((0, 0) ∷ (0, 15) ∷ []) ∷ [] }
+    ∷ nothing
+    ∷ []
+two_due = refl
+
 -- Keep Alive, and then inactivity
 kept_alive : all_answers (R1 (record mib { keep_alive = Some 20 })) (data_at 1 0 8 ∷ Expire 20 ∷ Expire 101 ∷ Finish 101 ∷ []) ≡
     stored 0 8
@@ -206,13 +238,6 @@ unfolding blocks_of weighed_from finished_field
 unacknowledged = refl
 
 -- ---- the EOF PDU comes first
-
-abbrev held_eof : AnswerFields
-held_eof = record (says 5 words.Held) {
-  acks = ack 5 0 Active ∷ [];
-  naks = nak 5 0 15 ((0, 0) ∷ (0, 15) ∷ []) ∷ [];
-  indications = tells.EofRecv (id 5) ∷ [];
-}
 
 held : all_answers (R0 mib) (EofPdu 0 (header 5) E ∷ data_at 0 0 15 ∷ EofPdu 0 (header 5) E ∷ MetadataPdu 0 (header_un 5) M ∷ []) ≡
     held_eof ∷ says 5 words.Idle ∷ record (says 5 words.Duplicate) { acks = ack 5 0 Active ∷ [] } ∷ says 5 words.Idle ∷ []

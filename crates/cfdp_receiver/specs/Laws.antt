@@ -11,7 +11,7 @@
 --     Sent, FinishedOnly        when a Finished PDU is sent, and which
 --     Asked, NaksAsk            what the NAK PDUs of an answer ask for
 --     ExactlyMissing            each missing offset once, and no other
---     FewNakPdus                how many NAK PDUs they are at most
+--     FewNakPdus, FewRequests   how many NAK PDUs they are at most;  how many requests
 --     AreApart                  no two sessions have one name
 --     sent_while R inputs id    how often its Finished PDU is sent, as long as it waits for the acknowledgement
 --     SentAtMost                at most as often as the limit says
@@ -159,6 +159,9 @@ abbrev pub FewNakPdus : Type 0
 FewNakPdus =
     (mib : Mib) (h : Header) (low high : ℕ) (requests : List (ℕ × ℕ)) → 1 ≤ most_requests mib →
     most_requests mib * length (sequence mib h low high requests) < 1 + most_requests mib + length requests
+
+abbrev pub FewRequests : Type 0
+FewRequests = (W : World) (id : TransactionId) (entry : Entry) (low : ℕ) → Sound W → entry_of W id ≡ Some entry → length (gaps_after low entry) ≤ 33
 
 abbrev pub AreApart : Type 0
 AreApart = (mib : Mib) (W : World) (inputs : List Input) → AreDistinct (after_all (begin mib W) inputs).sessions

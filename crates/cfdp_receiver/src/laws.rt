@@ -1,6 +1,6 @@
 //! What is true of the receiver, whatever comes. These functions do nothing: their contracts are the laws.
 
-ghost use Rattle.cfdp_receiver.specs.Laws.{HandsOn, HeadlineHolds, FewEvents, FewPdus, AcknowledgedOnce, OthersStay, UnrecognizedIsTrue, TerminatedIsTrue, ClosedIsOver, FinishedOnly, NoneAgain, NaksAsk, ExactlyMissing, FewNakPdus, AreApart, SentAtMost, EntriesStay};
+ghost use Rattle.cfdp_receiver.specs.Laws.{HandsOn, HeadlineHolds, FewEvents, FewPdus, AcknowledgedOnce, OthersStay, UnrecognizedIsTrue, TerminatedIsTrue, ClosedIsOver, FinishedOnly, NoneAgain, NaksAsk, ExactlyMissing, FewNakPdus, FewRequests, AreApart, SentAtMost, EntriesStay};
 
 /// The world of a receiver is the core's own run of the events that its inputs handed on.
 pub fn hands_on()
@@ -91,4 +91,9 @@ pub fn exactly_missing()
 /// A NAK sequence has no more PDUs than its requests need.
 pub fn few_nak_pdus()
     ensures { FewNakPdus }
+{}
+
+/// A sequence for the gaps of a transaction has 33 requests at most.
+pub fn few_requests()
+    ensures { FewRequests }
 {}
