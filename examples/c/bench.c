@@ -1,101 +1,795 @@
-/* How fast the engine is: File Data PDUs of 1,000 octets into a file of 7,000,000, and lists of 32 filestore requests, without text.
- *   cc -std=c99 -O2 examples/c/bench.c crates/cfdp_c/out/libcfdp_c.a KIT/c/liblibc_c.a */
+/* How long the engine takes: workloads by name, each of a size.
+ *   cc -std=c99 -O2 examples/c/bench.c crates/cfdp_c/out/libcfdp_c.a KIT/c/liblibc_c.a -o bench
+ *   ./bench                          each workload, of its usual size
+ *   ./bench least                    each workload, of its least size
+ *   ./bench NAME SIZE [scattered]    one workload
+ * A line for each: its name and size, how many calls were timed, a digest of the answers, and the processor time. The digest is the
+ * same for every correct engine. The answers are also compared with those that the standard asks for: if one differs, the program ends
+ * with status 1.
+ *
+ * Only the function `measured` is timed, and callgrind can count its instructions alone:
+ *   valgrind --tool=callgrind --collect-atstart=no --toggle-collect=measured ./bench NAME SIZE
+ *
+ * `scattered`: before the workload 60 files arrive that take their blocks in turn, and are cancelled. Blocks that are taken one after
+ * the other are then 60 blocks apart in memory. */
+#define _POSIX_C_SOURCE 199309L
 #include "../../include/cfdp.h"
+#include <inttypes.h>
+#include <stdbool.h>
 #include <stdio.h>
 #include <stdlib.h>
 #include <string.h>
 #include <time.h>
 
-enum { PIECE = 1000, PIECES = 7000, REQUESTS = 32, LISTS = 2000 };
+enum {
+    BLOCKS = 65536,     /* of the filestore, but where a workload says otherwise */
+    PAYLOAD = 120,      /* octets of a file in a block */
+    PIECE = 1000,       /* octets of a file in a PDU, and in one reading */
+    MOST_PIECES = 7800,
+    SMALL_PIECE = 10,   /* octets of a file in a small PDU */
+    SMALL_PIECES = PAYLOAD / SMALL_PIECE,
+    HEADER = 7,         /* octets of the header of a PDU */
+    LIST = 64,          /* requests of a list */
+    OTHERS = 60,        /* files that take their blocks in turn */
+    LIVE = 63,          /* other transactions, each with a list */
+    BESIDE = 32,        /* requests of the list that is admitted beside them */
+    LOOK_UPS = 1000
+};
+
+/* The sequence numbers of transactions: of the file, of a list, and of the first of the others. */
+enum { FILE_NUMBER = 1, LIST_NUMBER = 2, FIRST_OTHER = 3 };
+
+enum action { CREATE_FILE = 0x00, DELETE_FILE = 0x10, RENAME = 0x20, CREATE_DIRECTORY = 0x50 };
+
+/* In which order pieces are sent or read, and entries are made. */
+enum arrangement { RISING, FALLING, SWAPPED, RANDOM };
+
+/* A File Data PDU. */
+struct piece {
+    uint8_t octets[HEADER + 4 + PIECE];
+};
+
+/* What cfdp_look_up or cfdp_next answered, with the first octets of the path. */
+struct seen {
+    struct cfdp_entry entry;
+    uint32_t length;
+    uint8_t octets[8];
+};
 
 static struct cfdp_engine engine = CFDP_ENGINE_EMPTY;
+static const struct cfdp_path image = {.length = 5, .octets = "image"};
+static const char *running;
+static enum arrangement arrangement;
+static bool scattered;
+static uint64_t digest, random_state;
 static uint8_t pdu[4096];
 static size_t length;
+static struct piece pieces[MOST_PIECES];
+static uint8_t copy[MOST_PIECES * PIECE];
+static uint32_t order[BLOCKS];
+static struct seen seen[BLOCKS];
+
+static void fail(const char *why) {
+    fprintf(stderr, "bench: %s: %s\n", running, why);
+    exit(1);
+}
+
+static void note(uint64_t number) { digest = (digest ^ number) * 0x100000001b3u; }
+
+static void note_reply(const struct cfdp_reply *reply) {
+    note(reply->kind | (uint64_t)reply->status << 8 | (uint64_t)reply->condition << 16);
+    note(reply->blocks | (uint64_t)reply->steps << 32);
+}
+
+/* A number below a bound (xorshift64). */
+static uint32_t below(uint32_t bound) {
+    random_state ^= random_state << 13;
+    random_state ^= random_state >> 7;
+    random_state ^= random_state << 17;
+    return (uint32_t)(random_state >> 33) % bound;
+}
+
+/* The numbers below `count`, in the order of the workload. */
+static void arrange(uint32_t count) {
+    random_state = 0x9e3779b97f4a7c15u;
+    for (uint32_t i = 0; i < count; i++) {
+        uint32_t neighbour = (i ^ 1) < count ? i ^ 1 : i;
+        order[i] = arrangement == FALLING ? count - 1 - i : arrangement == SWAPPED ? neighbour : i;
+    }
+    if (arrangement != RANDOM) return;
+    for (uint32_t i = count; i > 1; i--) {
+        uint32_t other = below(i), last = order[i - 1];
+        order[i - 1] = order[other];
+        order[other] = last;
+    }
+}
+
+/* ---- PDUs and events */
 
 static void put(const void *octets, size_t count) {
     memcpy(pdu + length, octets, count);
     length += count;
 }
 
+static void put_octet(uint32_t octet) { pdu[length++] = (uint8_t)octet; }
+
 static void put_number(uint32_t number) {
-    put((const uint8_t[]){(uint8_t)(number >> 24), (uint8_t)(number >> 16), (uint8_t)(number >> 8), (uint8_t)number}, 4);
+    for (int shift = 24; shift >= 0; shift -= 8) put_octet(number >> shift);
 }
 
-/* The header of a PDU of transaction 1/1 for entity 2; its data field length comes at the end. */
-static void begin(uint8_t first) {
+static void put_name(const char *name) {
+    put_octet((uint32_t)strlen(name));
+    put(name, strlen(name));
+}
+
+/* The header of a PDU of entity 1 for entity 2; the length of its data field comes at the end. */
+static void begin(uint32_t first, uint32_t number) {
     length = 0;
-    put((const uint8_t[]){first, 0, 0, 0x00, 1, 1, 2}, 7);
+    put_octet(first);
+    put("\0\0\0\1", 4);
+    put_octet(number);
+    put_octet(2);
 }
 
-static struct cfdp_reply receive(uint32_t wanted) {
-    struct cfdp_reply reply = {0};
-    pdu[1] = (uint8_t)((length - 7) >> 8);
-    pdu[2] = (uint8_t)(length - 7);
-    if (cfdp_receive(&engine, pdu, length, &reply) != CFDP_DONE || reply.kind != wanted) {
-        printf("reply %u, and not %u\n", (unsigned)reply.kind, (unsigned)wanted);
-        exit(1);
-    }
-    return reply;
+static void end(void) {
+    pdu[1] = (uint8_t)((length - HEADER) >> 8);
+    pdu[2] = (uint8_t)(length - HEADER);
 }
 
-static double now(void) { return (double)clock() / CLOCKS_PER_SEC; }
-
-static void files(void) {
-    begin(0x24);
+/* A Metadata PDU, to which requests may be added. With a name of no octets it brings no file. */
+static void make_metadata(uint32_t number, uint32_t size, const char *name) {
+    begin(0x24, number);
     put("\x07\x40", 2);
-    put_number(PIECE * PIECES);
-    put("\x05image\x05image", 12);
-    receive(CFDP_ADMITTED);
-    double start = now();
-    for (uint32_t i = 0; i < PIECES; i++) {
-        begin(0x34);
-        put_number(i * PIECE);
-        memset(pdu + length, (int)i, PIECE);
-        length += PIECE;
+    put_number(size);
+    put_name(name);
+    put_name(name);
+    end();
+}
+
+/* Adds a filestore request. Only a rename has a second name. */
+static void add_request(enum action action, const char *first, const char *second) {
+    put_octet(0x00);
+    size_t at = length;
+    put_octet(0);
+    put_octet(action);
+    put_name(first);
+    if (second) put_name(second);
+    pdu[at] = (uint8_t)(length - at - 1);
+    end();
+}
+
+static uint8_t octet_of(uint32_t at) { return (uint8_t)((at * 2654435761u) >> 24); }
+
+/* A File Data PDU with so many octets of a file, from the offset `at` on. */
+static void make_data(uint32_t number, uint32_t at, uint32_t count) {
+    begin(0x34, number);
+    put_number(at);
+    for (uint32_t i = 0; i < count; i++) put_octet(octet_of(at + i));
+    end();
+}
+
+static void make_eof(uint32_t number, uint32_t checksum, uint32_t size) {
+    begin(0x24, number);
+    put("\x04\x00", 2);
+    put_number(checksum);
+    put_number(size);
+    end();
+}
+
+static void receive_octets(const uint8_t *octets, size_t count, uint32_t wanted) {
+    struct cfdp_reply reply = {0};
+    if (cfdp_receive(&engine, octets, count, &reply) != CFDP_DONE || reply.kind != wanted) fail("another reply to a PDU");
+    note_reply(&reply);
+}
+
+static void receive(uint32_t wanted) { receive_octets(pdu, length, wanted); }
+
+static void step(uint32_t number, uint32_t wanted) {
+    struct cfdp_reply reply = {0};
+    if (cfdp_step(&engine, 1, number, &reply) != CFDP_DONE || reply.kind != wanted) fail("another reply to a step");
+    note_reply(&reply);
+}
+
+static void cancel(uint32_t number) {
+    struct cfdp_reply reply = {0};
+    if (cfdp_cancel(&engine, 1, number, &reply) != CFDP_DONE || reply.kind != CFDP_CANCELLED) fail("not cancelled");
+    note_reply(&reply);
+}
+
+static void take(uint32_t number, uint32_t condition) {
+    static uint8_t out[16488];
+    struct cfdp_reply reply = {0};
+    size_t count = 0;
+    if (cfdp_take(&engine, 1, number, out, sizeof out, &count, &reply) != CFDP_DONE || reply.kind != CFDP_TAKEN) fail("no outcome");
+    if (reply.condition != condition) fail("another condition");
+    note_reply(&reply);
+    note(count);
+}
+
+/* The Metadata PDU of a list came: its EOF PDU comes, its requests are performed, and the outcome is taken. */
+static void perform(uint32_t requests) {
+    make_eof(LIST_NUMBER, 0, 0);
+    receive(CFDP_COMPLETE);
+    while (requests-- > 0) step(LIST_NUMBER, CFDP_PERFORMED);
+    take(LIST_NUMBER, 0);
+}
+
+/* ---- the engine */
+
+/* Files arrive that take their blocks in turn, and are cancelled. */
+static void scatter(uint32_t blocks) {
+    uint32_t each = blocks / OTHERS - 2;
+    for (uint32_t i = 0; i < OTHERS; i++) {
+        make_metadata(FIRST_OTHER + i, each * PAYLOAD, (char[]){(char)('A' + i), 0});
+        receive(CFDP_ADMITTED);
+    }
+    for (uint32_t i = 0; i < OTHERS * each; i++) {
+        make_data(FIRST_OTHER + i % OTHERS, i / OTHERS * PAYLOAD, PAYLOAD);
         receive(CFDP_STORED);
     }
-    double seconds = now() - start;
-    printf("File Data PDUs: %.0f events a second, %.0f octets a second\n", PIECES / seconds, (double)PIECE * PIECES / seconds);
-}
-
-/* A list of 32 requests of one action, from its Metadata PDU to its outcome: 35 events. */
-static void list(uint8_t action) {
-    begin(0x24);
-    put("\x07\x40\0\0\0\0\0", 8);
-    for (int i = 0; i < REQUESTS; i++) {
-        char name[4];
-        snprintf(name, sizeof name, "f%02d", i);
-        put((const uint8_t[]){0x00, 5, action, 3}, 4);
-        put(name, 3);
+    for (uint32_t i = 0; i < OTHERS; i++) {
+        cancel(FIRST_OTHER + i);
+        take(FIRST_OTHER + i, 15);
     }
-    receive(CFDP_ADMITTED);
-    begin(0x24);
-    put("\x04\0\0\0\0\0\0\0\0\0", 10);
-    receive(CFDP_COMPLETE);
-    struct cfdp_reply reply;
-    for (int i = 0; i < REQUESTS; i++) cfdp_step(&engine, 1, 1, &reply);
-    uint8_t out[1024];
-    size_t count = 0;
-    if (cfdp_take(&engine, 1, 1, out, sizeof out, &count, &reply) != CFDP_DONE || reply.condition != 0) exit(1);
 }
 
-static void lists(void) {
-    double start = now();
-    for (int i = 0; i < LISTS; i++) list(i % 2 ? 0x10 : 0x00); /* create file, delete file */
-    double seconds = now() - start;
-    printf("lists of %d requests: %.0f a second, %.0f events a second\n", REQUESTS, LISTS / seconds, LISTS * (REQUESTS + 3.0) / seconds);
-}
-
-int main(void) {
-    static const struct cfdp_config config = {.entity = 2, .cap = 7864320, .blocks = 65536, .checks = 2};
+static void make_engine(uint32_t blocks) {
     static const struct cfdp_path none;
-    if (cfdp_new(&engine, &config, &none, 0) != CFDP_DONE) return 1;
-    files();
-    struct cfdp_reply reply;
-    uint8_t out[64];
-    size_t count;
-    cfdp_cancel(&engine, 1, 1, &reply);
-    if (cfdp_take(&engine, 1, 1, out, sizeof out, &count, &reply) != CFDP_DONE) return 1;
-    lists();
-    return cfdp_free(&engine) != CFDP_DONE;
+    const struct cfdp_config config = {.entity = 2, .cap = 7864320, .blocks = blocks, .checks = 2};
+    if (cfdp_new(&engine, &config, &none, 0) != CFDP_DONE) fail("no engine");
+    if (scattered) scatter(blocks);
+}
+
+/* ---- a file, whose size is in pieces */
+
+/* The modular checksum of the file's octets (4.2.2). */
+static uint32_t checksum_of(uint32_t octets) {
+    uint32_t sum = 0;
+    for (uint32_t at = 0; at < octets; at++) sum += (uint32_t)octet_of(at) << (8 * (3 - at % 4));
+    return sum;
+}
+
+static void make_pieces(uint32_t count) {
+    for (uint32_t i = 0; i < count; i++) {
+        make_data(FILE_NUMBER, i * PIECE, PIECE);
+        memcpy(pieces[i].octets, pdu, sizeof pieces[i].octets);
+    }
+}
+
+/* The file's Metadata PDU came. */
+static void announce(uint32_t count) {
+    make_engine(BLOCKS);
+    arrange(count);
+    make_pieces(count);
+    make_metadata(FILE_NUMBER, count * PIECE, "image");
+    receive(CFDP_ADMITTED);
+}
+
+static void send_piece(uint32_t index) { receive_octets(pieces[index].octets, sizeof pieces[index].octets, CFDP_STORED); }
+
+static void make_file_eof(uint32_t octets) { make_eof(FILE_NUMBER, checksum_of(octets), octets); }
+
+/* All its pieces came, and the EOF PDU is made. */
+static void arrive(uint32_t count) {
+    announce(count);
+    for (uint32_t i = 0; i < count; i++) send_piece(i);
+    make_file_eof(count * PIECE);
+}
+
+/* The EOF PDU came too. */
+static void complete(uint32_t count) {
+    arrive(count);
+    receive(CFDP_COMPLETE);
+}
+
+/* The file is installed, and the outcome is taken. */
+static void deliver(uint32_t count) {
+    complete(count);
+    step(FILE_NUMBER, CFDP_INSTALLED);
+    take(FILE_NUMBER, 0);
+}
+
+/* A list that deletes the file is complete. */
+static void condemn(uint32_t count) {
+    deliver(count);
+    make_metadata(LIST_NUMBER, 0, "");
+    add_request(DELETE_FILE, "image", NULL);
+    receive(CFDP_ADMITTED);
+    make_eof(LIST_NUMBER, 0, 0);
+    receive(CFDP_COMPLETE);
+}
+
+static uint32_t send_all(uint32_t count) {
+    for (uint32_t i = 0; i < count; i++) send_piece(order[i]);
+    return count;
+}
+
+static uint32_t send_last(uint32_t count) {
+    send_piece(count - 1);
+    return 1;
+}
+
+/* The EOF PDU that was made comes. */
+static uint32_t receive_eof(uint32_t size) {
+    (void)size;
+    receive(CFDP_COMPLETE);
+    return 1;
+}
+
+static uint32_t install(uint32_t size) {
+    (void)size;
+    step(FILE_NUMBER, CFDP_INSTALLED);
+    return 1;
+}
+
+static uint32_t cancel_file(uint32_t size) {
+    (void)size;
+    cancel(FILE_NUMBER);
+    return 1;
+}
+
+/* The octets of the file from an offset up to another one. */
+static void read_file(size_t start, size_t stop) {
+    size_t count = 0;
+    if (cfdp_read(&engine, &image, start, copy + start, stop - start, &count) != CFDP_DONE || count != stop - start)
+        fail("another number of octets");
+}
+
+static void read_piece(uint32_t index) { read_file((size_t)index * PIECE, ((size_t)index + 1) * PIECE); }
+
+static uint32_t read_all(uint32_t count) {
+    for (uint32_t i = 0; i < count; i++) read_piece(order[i]);
+    return count;
+}
+
+static uint32_t read_last(uint32_t count) {
+    read_piece(count - 1);
+    return 1;
+}
+
+static uint32_t look_up(uint32_t size) {
+    (void)size;
+    if (cfdp_look_up(&engine, &image, &seen[0].entry) != CFDP_DONE) fail("no file");
+    return 1;
+}
+
+/* All entries of the filestore, one after the other. */
+static uint32_t go_through(uint32_t size) {
+    struct cfdp_path path = {0};
+    uint32_t found = 0;
+    while (found < BLOCKS && cfdp_next(&engine, &path, &seen[found].entry) == CFDP_DONE) {
+        seen[found].length = path.length;
+        memcpy(seen[found].octets, path.octets, sizeof seen[found].octets);
+        found++;
+    }
+    (void)size;
+    return found + 1;
+}
+
+static void check_octets(uint32_t start, uint32_t stop) {
+    for (uint32_t at = start; at < stop; at++) {
+        if (copy[at] != octet_of(at)) fail("another octet");
+        note(copy[at]);
+    }
+}
+
+static void check_all(uint32_t count) { check_octets(0, count * PIECE); }
+
+static void check_last(uint32_t count) { check_octets((count - 1) * PIECE, count * PIECE); }
+
+/* The file is the one that was sent: its entry was seen, and it is read. */
+static void check_entry(uint32_t count) {
+    const struct cfdp_entry *entry = &seen[0].entry;
+    if (entry->kind != CFDP_FILE || entry->size != (uint64_t)count * PIECE) fail("another file");
+    if (entry->checksum != checksum_of(count * PIECE)) fail("another checksum");
+    note(entry->checksum);
+    read_file(0, (size_t)count * PIECE);
+    check_all(count);
+}
+
+static void check_next_entry(uint32_t count) {
+    if (seen[0].length != image.length || memcmp(seen[0].octets, image.octets, image.length) != 0) fail("another path");
+    check_entry(count);
+}
+
+static void check_file(uint32_t count) {
+    take(FILE_NUMBER, 0);
+    look_up(count);
+    check_entry(count);
+}
+
+/* The EOF PDU came: the file is installed, and is the one that was sent. */
+static void check_complete(uint32_t count) {
+    step(FILE_NUMBER, CFDP_INSTALLED);
+    check_file(count);
+}
+
+/* All pieces came. */
+static void check_pieces(uint32_t count) {
+    make_file_eof(count * PIECE);
+    receive(CFDP_COMPLETE);
+    check_complete(count);
+}
+
+/* The last piece came alone. Now the others come. */
+static void check_gap(uint32_t count) {
+    uint64_t progress = 0;
+    if (cfdp_progress(&engine, 1, FILE_NUMBER, &progress) != CFDP_DONE) fail("no progress");
+    if (progress != (uint64_t)count * PIECE) fail("another progress");
+    for (uint32_t i = 0; i + 1 < count; i++) send_piece(i);
+    check_pieces(count);
+}
+
+/* So many blocks are in use. */
+static void check_blocks(uint32_t used) {
+    struct cfdp_blocks blocks;
+    if (cfdp_blocks(&engine, &blocks) != CFDP_DONE || blocks.free != BLOCKS - used) fail("another number of free blocks");
+    note(used);
+}
+
+static void check_no_file(uint32_t size) {
+    (void)size;
+    if (cfdp_look_up(&engine, &image, &seen[0].entry) != CFDP_NOTHING) fail("a file");
+    check_blocks(0);
+}
+
+/* ---- a file, whose size is in pairs of blocks */
+
+/* All blocks of the file came but for the last one, and its PDUs are made. */
+static void announce_pairs(uint32_t pairs) {
+    uint32_t last = (2 * pairs - 1) * PAYLOAD;
+    make_engine(BLOCKS);
+    make_metadata(FILE_NUMBER, last + PAYLOAD, "image");
+    receive(CFDP_ADMITTED);
+    for (uint32_t at = 0; at < last; at += PAYLOAD) {
+        make_data(FILE_NUMBER, at, PAYLOAD);
+        receive(CFDP_STORED);
+    }
+    for (uint32_t i = 0; i < SMALL_PIECES; i++) {
+        make_data(FILE_NUMBER, last + i * SMALL_PIECE, SMALL_PIECE);
+        memcpy(pieces[i].octets, pdu, length);
+    }
+}
+
+static uint32_t send_small(uint32_t pairs) {
+    (void)pairs;
+    for (uint32_t i = 0; i < SMALL_PIECES; i++) receive_octets(pieces[i].octets, HEADER + 4 + SMALL_PIECE, CFDP_STORED);
+    return SMALL_PIECES;
+}
+
+static void check_pairs(uint32_t pairs) {
+    make_file_eof(2 * pairs * PAYLOAD);
+    receive(CFDP_COMPLETE);
+}
+
+/* ---- a directory, whose size is in entries: files of no octets */
+
+/* The path of an entry: a directory of one letter, and a number of six digits. So the order of paths is that of the numbers. */
+static void spell(char path[9], char directory, uint32_t number) {
+    path[0] = directory;
+    path[1] = '/';
+    for (int i = 0; i < 6; i++) path[2 + i] = "0123456789abcdef"[number >> (20 - 4 * i) & 15];
+    path[8] = 0;
+}
+
+/* The Metadata PDU of a list with one request for each of the numbers in `order` from `start` up to, and without, `stop`. */
+static void make_list(enum action action, char directory, uint32_t start, uint32_t stop) {
+    make_metadata(LIST_NUMBER, 0, "");
+    for (uint32_t i = start; i < stop; i++) {
+        char path[9];
+        spell(path, directory, order[i]);
+        add_request(action, path, NULL);
+    }
+}
+
+/* A new directory with an entry for each of these numbers. */
+static void fill(char directory, uint32_t start, uint32_t stop) {
+    make_metadata(LIST_NUMBER, 0, "");
+    add_request(CREATE_DIRECTORY, (char[]){directory, 0}, NULL);
+    receive(CFDP_ADMITTED);
+    perform(1);
+    for (uint32_t i = start; i < stop; i += LIST) {
+        uint32_t last = stop - i < LIST ? stop : i + LIST;
+        make_list(CREATE_FILE, directory, i, last);
+        receive(CFDP_ADMITTED);
+        perform(last - i);
+    }
+}
+
+static void make_directory(uint32_t count) {
+    make_engine(BLOCKS);
+    arrange(count);
+    fill('d', 0, count);
+}
+
+/* A directory, and a list that makes 64 more entries of it. */
+static void prepare_create(uint32_t count) {
+    make_engine(BLOCKS);
+    arrange(count + LIST);
+    fill('d', 0, count);
+    make_list(CREATE_FILE, 'd', count, count + LIST);
+}
+
+/* Where the numbers begin that are deleted. */
+static uint32_t middle_of(uint32_t count) { return (count - LIST) / 2; }
+
+static void prepare_delete(uint32_t count) {
+    make_directory(count);
+    make_list(DELETE_FILE, 'd', middle_of(count), middle_of(count) + LIST);
+}
+
+/* A directory, and a list that moves all 64 entries of another one into it. */
+static void prepare_rename(uint32_t count) {
+    make_engine(BLOCKS);
+    arrange(count + LIST);
+    fill('d', 0, count);
+    fill('e', count, count + LIST);
+    make_metadata(LIST_NUMBER, 0, "");
+    for (uint32_t i = count; i < count + LIST; i++) {
+        char from[9], to[9];
+        spell(from, 'e', order[i]);
+        spell(to, 'd', order[i]);
+        add_request(RENAME, from, to);
+    }
+}
+
+/* A directory, and a list that renames it. */
+static void prepare_move(uint32_t count) {
+    make_directory(count);
+    make_metadata(LIST_NUMBER, 0, "");
+    add_request(RENAME, "d", "e");
+}
+
+/* A directory, and a list that renames it there and back 32 times. */
+static void prepare_moves(uint32_t count) {
+    make_directory(count);
+    make_metadata(LIST_NUMBER, 0, "");
+    for (int i = 0; i < LIST; i += 2) {
+        add_request(RENAME, "d", "e");
+        add_request(RENAME, "e", "d");
+    }
+}
+
+/* The list that renames the directory is complete. */
+static void prepare_move_step(uint32_t count) {
+    prepare_move(count);
+    receive(CFDP_ADMITTED);
+    make_eof(LIST_NUMBER, 0, 0);
+    receive(CFDP_COMPLETE);
+}
+
+/* The list that was made arrives, and is admitted. */
+static uint32_t admit(uint32_t size) {
+    (void)size;
+    receive(CFDP_ADMITTED);
+    return 1;
+}
+
+/* It is performed too. */
+static uint32_t run_list(uint32_t size) {
+    (void)size;
+    receive(CFDP_ADMITTED);
+    perform(LIST);
+    return LIST + 3;
+}
+
+static uint32_t step_list(uint32_t size) {
+    (void)size;
+    step(LIST_NUMBER, CFDP_PERFORMED);
+    return 1;
+}
+
+/* These numbers are entries of a directory, or none is. */
+static void check_entries(char directory, uint32_t start, uint32_t stop, uint32_t wanted) {
+    struct cfdp_path path = {.length = 8};
+    struct cfdp_entry entry = {.kind = CFDP_FILE};
+    for (uint32_t i = start; i < stop; i++) {
+        char spelled[9];
+        spell(spelled, directory, order[i]);
+        memcpy(path.octets, spelled, path.length);
+        if (cfdp_look_up(&engine, &path, &entry) != wanted || entry.kind != CFDP_FILE || entry.size != 0) fail("another entry");
+        note(order[i]);
+    }
+}
+
+static void check_created(uint32_t count) {
+    check_entries('d', 0, count + LIST, CFDP_DONE);
+    check_blocks(count + LIST + 1);
+}
+
+static void check_deleted(uint32_t count) {
+    check_entries('d', 0, middle_of(count), CFDP_DONE);
+    check_entries('d', middle_of(count), middle_of(count) + LIST, CFDP_NOTHING);
+    check_entries('d', middle_of(count) + LIST, count, CFDP_DONE);
+    check_blocks(count - LIST + 1);
+}
+
+static void check_renamed(uint32_t count) {
+    check_entries('d', 0, count + LIST, CFDP_DONE);
+    check_blocks(count + LIST + 2);
+}
+
+static void check_moved(uint32_t count) {
+    take(LIST_NUMBER, 0);
+    check_entries('d', 0, count, CFDP_NOTHING);
+    check_entries('e', 0, count, CFDP_DONE);
+    check_blocks(count + 1);
+}
+
+static void check_move(uint32_t count) {
+    make_eof(LIST_NUMBER, 0, 0);
+    receive(CFDP_COMPLETE);
+    step(LIST_NUMBER, CFDP_PERFORMED);
+    check_moved(count);
+}
+
+static void check_moves(uint32_t count) {
+    perform(LIST);
+    check_entries('d', 0, count, CFDP_DONE);
+    check_blocks(count + 1);
+}
+
+/* The directory was seen first, and then its entries in the order of their numbers. */
+static void check_seen(uint32_t count) {
+    if (seen[0].entry.kind != CFDP_DIRECTORY || seen[0].length != 1 || seen[0].octets[0] != 'd') fail("another directory");
+    for (uint32_t number = 0; number < count; number++) {
+        const struct seen *next = &seen[number + 1];
+        char path[9];
+        spell(path, 'd', number);
+        if (next->entry.kind != CFDP_FILE || next->length != 8 || memcmp(next->octets, path, 8) != 0) fail("another entry");
+        note(number);
+    }
+    check_blocks(count + 1);
+}
+
+/* ---- other workloads */
+
+/* A filestore of this number of blocks. Half of them are entries of a directory. */
+static void make_store(uint32_t blocks) {
+    make_engine(blocks);
+    arrange(blocks / 2);
+    fill('d', 0, blocks / 2);
+    arrange(blocks / 2);
+}
+
+static uint32_t look_up_many(uint32_t blocks) {
+    for (uint32_t left = LOOK_UPS; left > 0;) {
+        uint32_t some = left < blocks / 2 ? left : blocks / 2;
+        check_entries('d', 0, some, CFDP_DONE);
+        left -= some;
+    }
+    return LOOK_UPS;
+}
+
+/* Other transactions with lists of `requests` requests together, and a list. */
+static void prepare_beside(uint32_t requests) {
+    make_directory(0);
+    for (uint32_t i = 0; i <= LIVE; i++) {
+        bool is_last = i == LIVE;
+        make_metadata(is_last ? LIST_NUMBER : FIRST_OTHER + i, 0, "");
+        for (uint32_t request = 0; request < (is_last ? BESIDE : requests / LIVE); request++) {
+            char path[9];
+            spell(path, 'd', LIST * i + request);
+            add_request(CREATE_FILE, path, NULL);
+        }
+        if (!is_last) receive(CFDP_ADMITTED);
+    }
+}
+
+static void prepare_lists(uint32_t count) {
+    (void)count;
+    make_directory(0);
+    arrange(BESIDE);
+}
+
+/* Lists that create files and delete them by turns. */
+static uint32_t run_lists(uint32_t count) {
+    for (uint32_t i = 0; i < count; i++) {
+        make_list(i % 2 ? DELETE_FILE : CREATE_FILE, 'd', 0, BESIDE);
+        receive(CFDP_ADMITTED);
+        perform(BESIDE);
+    }
+    return count * (BESIDE + 3);
+}
+
+static void check_nothing(uint32_t size) { (void)size; }
+
+/* ---- the workloads */
+
+struct workload {
+    const char *name;
+    uint32_t least, usual, most; /* sizes */
+    enum arrangement arrangement;
+    void (*prepare)(uint32_t size);
+    uint32_t (*work)(uint32_t size); /* the number of calls that it made */
+    void (*check)(uint32_t size);
+};
+
+static const struct workload workloads[] = {
+    /* the size: pieces of a file */
+    {"data-in-order", 30, 7800, MOST_PIECES, RISING, announce, send_all, check_pieces},
+    {"data-reverse", 30, 7800, MOST_PIECES, FALLING, announce, send_all, check_pieces},
+    {"data-swapped", 30, 7800, MOST_PIECES, SWAPPED, announce, send_all, check_pieces},
+    {"gap", 30, 7800, MOST_PIECES, RISING, announce, send_last, check_gap},
+    {"eof", 30, 7800, MOST_PIECES, RISING, arrive, receive_eof, check_complete},
+    {"install", 30, 7800, MOST_PIECES, RISING, complete, install, check_file},
+    {"cancel", 30, 7800, MOST_PIECES, RISING, arrive, cancel_file, check_no_file},
+    {"delete", 30, 7800, MOST_PIECES, RISING, condemn, step_list, check_no_file},
+    {"look-up", 30, 7800, MOST_PIECES, RISING, deliver, look_up, check_entry},
+    {"next-file", 30, 7800, MOST_PIECES, RISING, deliver, go_through, check_next_entry},
+    {"read-last", 30, 7800, MOST_PIECES, RISING, deliver, read_last, check_last},
+    {"read-in-order", 30, 7800, MOST_PIECES, RISING, deliver, read_all, check_all},
+    {"read-backwards", 30, 7800, MOST_PIECES, FALLING, deliver, read_all, check_all},
+    {"read-random", 30, 7800, MOST_PIECES, RANDOM, deliver, read_all, check_all},
+    /* the size: pairs of blocks of a file, whose last block comes in PDUs of 10 octets */
+    {"data-small", 1, 16, 30000, RISING, announce_pairs, send_small, check_pairs},
+    /* the size: entries of a directory */
+    {"next", 70, 3000, 65000, RANDOM, make_directory, go_through, check_seen},
+    {"create-rising", 70, 30000, 65000, RISING, prepare_create, run_list, check_created},
+    {"create-falling", 70, 30000, 65000, FALLING, prepare_create, run_list, check_created},
+    {"create-random", 70, 30000, 65000, RANDOM, prepare_create, run_list, check_created},
+    {"delete-rising", 70, 30000, 65000, RISING, prepare_delete, run_list, check_deleted},
+    {"delete-falling", 70, 30000, 65000, FALLING, prepare_delete, run_list, check_deleted},
+    {"delete-random", 70, 30000, 65000, RANDOM, prepare_delete, run_list, check_deleted},
+    {"rename-rising", 70, 30000, 65000, RISING, prepare_rename, run_list, check_renamed},
+    {"rename-falling", 70, 30000, 65000, FALLING, prepare_rename, run_list, check_renamed},
+    {"rename-random", 70, 30000, 65000, RANDOM, prepare_rename, run_list, check_renamed},
+    {"move-admitted", 70, 30000, 65000, RANDOM, prepare_move, admit, check_move},
+    {"moves-admitted", 70, 30000, 65000, RANDOM, prepare_moves, admit, check_moves},
+    {"move-step", 70, 30000, 65000, RANDOM, prepare_move_step, step_list, check_moved},
+    /* the size: blocks of the filestore */
+    {"look-ups", 256, 65536, 65536, RANDOM, make_store, look_up_many, check_nothing},
+    /* the size: requests of 63 other transactions together */
+    {"admitted-beside", LIVE, LIVE * LIST, LIVE * LIST, RISING, prepare_beside, admit, check_nothing},
+    /* the size: lists */
+    {"lists", 20, 2000, 100000, RISING, prepare_lists, run_lists, check_nothing},
+};
+
+/* All that is timed and counted. */
+__attribute__((noinline)) uint32_t measured(const struct workload *workload, uint32_t size) {
+    uint32_t calls = workload->work(size);
+    note(calls);
+    return calls;
+}
+
+/* Seconds of processor time. */
+static double now(void) {
+    struct timespec time;
+    clock_gettime(CLOCK_PROCESS_CPUTIME_ID, &time);
+    return (double)time.tv_sec + (double)time.tv_nsec / 1e9;
+}
+
+static void run(const struct workload *workload, uint32_t size) {
+    running = workload->name;
+    arrangement = workload->arrangement;
+    digest = 0xcbf29ce484222325u;
+    workload->prepare(size);
+    double start = now();
+    uint32_t calls = measured(workload, size);
+    double seconds = now() - start;
+    workload->check(size);
+    if (cfdp_free(&engine) != CFDP_DONE) fail("not freed");
+    printf("%s %" PRIu32 "%s: %" PRIu32 " calls, ", running, size, scattered ? " scattered" : "", calls);
+    printf("digest %016" PRIx64 ", %.9f s\n", digest, seconds);
+    fflush(stdout);
+}
+
+int main(int count, char **words) {
+    bool least = count == 2 && strcmp(words[1], "least") == 0;
+    scattered = count == 4 && strcmp(words[3], "scattered") == 0;
+    bool one = count == 3 || scattered;
+    unsigned long size = one ? strtoul(words[2], NULL, 10) : 0;
+    int ran = 0;
+    for (size_t i = 0; i < sizeof workloads / sizeof *workloads; i++) {
+        const struct workload *workload = &workloads[i];
+        if (count == 1 || least) {
+            run(workload, least ? workload->least : workload->usual);
+            ran++;
+        } else if (one && strcmp(words[1], workload->name) == 0 && size >= workload->least && size <= workload->most) {
+            run(workload, (uint32_t)size);
+            ran++;
+        }
+    }
+    if (ran == 0) fprintf(stderr, "usage: bench [least | NAME SIZE [scattered]]\n");
+    return ran == 0 ? 2 : 0;
 }
