@@ -7,3 +7,4 @@ pub mod RowWords
 pub mod Rows
 pub mod Limits
 pub mod Asking
+pub mod Serving

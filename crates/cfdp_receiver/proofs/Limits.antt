@@ -62,21 +62,21 @@ due_by_alive Limit alive x later t e = absurd cc
 due_by_alive NotDue true x later t e = inl (ap (due_session x) e, refl)
 due_by_alive NotDue false x later t e = inr e
 
-stage_due : (R : State) (ss : List SessionFields) (t : SessionFields) (b : Bool) → Dues.first_due R ss ≡ Dues.Stage_due t b → IsMember t ss × (Dues.expiry_of R t ≡ expiry_told b)
+pub stage_due : (R : State) (ss : List SessionFields) (t : SessionFields) (b : Bool) → Dues.first_due R ss ≡ Dues.Stage_due t b → IsMember t ss × (Dues.expiry_of R t ≡ expiry_told b)
 stage_due R [] t b e = absurd cc
 stage_due R (x ∷ xs) t b e = elim (due_by_stage (Dues.expiry_of R x) (Dues.is_alive_due R x) x (Dues.first_due R xs) t b e) [
   | inl here ↦ (inl here.0, ap (Dues.expiry_of R) (sym here.0) ∙ here.1)
   | inr there ↦ let rest = stage_due R xs t b there in (inr rest.0, rest.1)
 ]
 
-alive_due : (R : State) (ss : List SessionFields) (t : SessionFields) → Dues.first_due R ss ≡ Dues.Alive_due t → IsMember t ss × (Dues.is_alive_due R t ≡ true)
+pub alive_due : (R : State) (ss : List SessionFields) (t : SessionFields) → Dues.first_due R ss ≡ Dues.Alive_due t → IsMember t ss × (Dues.is_alive_due R t ≡ true)
 alive_due R [] t e = absurd cc
 alive_due R (x ∷ xs) t e = elim (due_by_alive (Dues.expiry_of R x) (Dues.is_alive_due R x) x (Dues.first_due R xs) t e) [
   | inl here ↦ (inl here.0, ap (Dues.is_alive_due R) (sym here.0) ∙ here.1)
   | inr there ↦ let rest = alive_due R xs t there in (inr rest.0, rest.1)
 ]
 
-abbrev of_some : SessionFields → Option SessionFields → SessionFields
+abbrev pub of_some : SessionFields → Option SessionFields → SessionFields
 of_some s None = s
 of_some s (Some t) = t
 
@@ -150,7 +150,7 @@ waits_ack R h ack s (OverStage ending) d e name w = absurd cc
 waits_ack R h ack s Waiting d e name w =
     waits_if R (id_of h) s _ (Turning.closes R (name_of s) (Turning.said_of h _)) (Turning.keeps R (Turning.said_of h _)) (closes_it R (id_of h) s _ d name refl) (Same e refl)
 
-at_waiting : (W : World) (s : SessionFields) → s.stage ≡ Waiting → at_of W s ≡ At_waiting
+pub at_waiting : (W : World) (s : SessionFields) → s.stage ≡ Waiting → at_of W s ≡ At_waiting
 at_waiting W s w = ap (λ (stage : Stage). at_stage stage (entry_of W (name_of s))) w
 
 not_both : (b : Bool) → b ≡ true → b ≡ false → ⊥
@@ -220,7 +220,7 @@ waits_limit R V id s d name w ne =
     )
 
 -- a member of that name is the session
-is_it : (R : State) (id : TransactionId) (s t : SessionFields) → AreDistinct R.sessions → found R.sessions id ≡ Some s → IsMember t R.sessions → is_same (name_of t) id ≡ true → s ≡ t
+pub is_it : (R : State) (id : TransactionId) (s t : SessionFields) → AreDistinct R.sessions → found R.sessions id ≡ Some s → IsMember t R.sessions → is_same (name_of t) id ≡ true → s ≡ t
 is_it R id s t d e member same =
     ap (of_some s) (sym e ∙ ap (found R.sessions) (sym (same_is (name_of t) id same)) ∙ member_found R.sessions t d member)
 

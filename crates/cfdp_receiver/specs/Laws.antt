@@ -12,18 +12,23 @@
 --     Asked, NaksAsk            what the NAK PDUs of an answer ask for
 --     ExactlyMissing            each missing offset once, and no other
 --     FewNakPdus, FewRequests   how many NAK PDUs they are at most;  how many requests
+--     due_of, timers_due        how many timers are due, of a session and of several
+--     IsSet mib                 each interval is at least one tick
+--     ServedOnce                at one moment each timer that is due is served once
 --     AreApart                  no two sessions have one name
 --     sent_while R inputs id    how often its Finished PDU is sent, as long as it waits for the acknowledgement
 --     SentAtMost                at most as often as the limit says
 --     EntriesStay               events of others leave a transaction's entry in the core as it is
 --     NoneAgain                 a Metadata PDU of a transaction that is closed and remembered is not handed on
-use Rattle.std.specs.Prelude.{◌≡◌, ◌≢◌, ◌⊎◌, ℕ, ◌+◌, ◌*◌, ◌≤◌, ◌<◌, Bool, true, false, if◌then◌else◌, List, [], ◌∷◌, ◌++◌, length, Option, Some, None}
+use Rattle.std.specs.Prelude.{◌≡◌, ◌≢◌, ◌⊎◌, ℕ, ◌+◌, ◌-◌, ◌*◌, ◌≤◌, ◌<◌, Bool, true, false, if◌then◌else◌, List, [], ◌∷◌, ◌++◌, length, Option, Some, None}
 use Rattle.std.specs.List.{AllByRecursion, flat_map}
 use Rattle.cfdp_status.specs.declared.transaction.TransactionId.{TransactionId}
 use Rattle.cfdp_leases.specs.Leases.{is_same}
 use Rattle.cfdp_directives.specs.declared.ack.TransactionStatus.TheVariants.{Terminated, Unrecognized}
 use Rattle.cfdp_directives.specs.Reading.{NakFields}
-use Rattle.cfdp_retransmission.specs.Coming.{covers}
+use Rattle.cfdp_retransmission.specs.Coming.{covers, one_if}
+use Rattle.cfdp_retransmission.specs.declared.timer.Expiry.{Expiry}
+use Rattle.cfdp_retransmission.specs.declared.timer.Expiry.TheVariants.{NotDue, Again, Limit}
 use Rattle.cfdp_pdus.specs.Values.{MetadataFields}
 use Rattle.cfdp_pdus.specs.declared.header.Header.{Header}
 use Rattle.cfdp_pdus.specs.declared.eof.Eof.{Eof}
@@ -42,7 +47,7 @@ use Rattle.cfdp_transactions.specs.Writable.{finished_octets}
 use Rattle.cfdp_receiver.specs.declared.mib.Handler.TheVariants.{Ignore}
 use Rattle.cfdp_receiver.specs.declared.mib.Mib.{Mib}
 use Rattle.cfdp_receiver.specs.State.{State, begin, Input, MetadataPdu, DataPdu, EofPdu, AckPdu, PromptPdu, OtherPdu, Expire, Work, Finish, CancelAsked, ForgetAsked, now_of, status_of, session_of, is_closed, is_full}
-use Rattle.cfdp_receiver.specs.Due.{Due, Nothing_due, Stage_due, Alive_due, first_due, first_over}
+use Rattle.cfdp_receiver.specs.Due.{Due, Nothing_due, Stage_due, Alive_due, expiry_of, is_alive_due, first_due, first_over}
 use Rattle.cfdp_receiver.specs.Handing.{is_ours, later, handed}
 use Rattle.cfdp_receiver.specs.Turning.{outcome_for, most_requests, sequence, all_of, gaps_after, parts, after, after_all, all_handed, acked}
 
@@ -162,6 +167,32 @@ FewNakPdus =
 
 abbrev pub FewRequests : Type 0
 FewRequests = (W : World) (id : TransactionId) (entry : Entry) (low : ℕ) → Sound W → entry_of W id ≡ Some entry → length (gaps_after low entry) ≤ 33
+
+abbrev pub is_due : Expiry → ℕ
+is_due NotDue = 0
+is_due Again = 1
+is_due Limit = 1
+
+-- that of its stage, and Keep Alive
+abbrev pub due_of : State → SessionFields → ℕ
+due_of R s = is_due (expiry_of R s) + one_if (is_alive_due R s)
+
+abbrev pub timers_due : State → List SessionFields → ℕ
+timers_due R [] = 0
+timers_due R (s ∷ ss) = due_of R s + timers_due R ss
+
+pub record IsSet (mib : Mib) : Type 0 where
+  pub ack : 1 ≤ mib.ack.interval
+  pub nak : 1 ≤ mib.nak.interval
+  pub check : 1 ≤ mib.check.interval
+  pub inactivity : 1 ≤ mib.inactivity.interval
+  pub keep_alive : (interval : ℕ) → mib.keep_alive ≡ Some interval → 1 ≤ interval
+
+-- after as many expiries as timers were due, none is due
+abbrev pub ServedOnce : Type 0
+ServedOnce =
+    (R : State) (now : ℕ) → IsSet R.mib → Sound R.world → AreDistinct R.sessions →
+    timers_due (after R (Expire now)) (after R (Expire now)).sessions ≤ timers_due (later now R) R.sessions - 1
 
 abbrev pub AreApart : Type 0
 AreApart = (mib : Mib) (W : World) (inputs : List Input) → AreDistinct (after_all (begin mib W) inputs).sessions

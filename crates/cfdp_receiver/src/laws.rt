@@ -1,6 +1,6 @@
 //! What is true of the receiver, whatever comes. These functions do nothing: their contracts are the laws.
 
-ghost use Rattle.cfdp_receiver.specs.Laws.{HandsOn, HeadlineHolds, FewEvents, FewPdus, AcknowledgedOnce, OthersStay, UnrecognizedIsTrue, TerminatedIsTrue, ClosedIsOver, FinishedOnly, NoneAgain, NaksAsk, ExactlyMissing, FewNakPdus, FewRequests, AreApart, SentAtMost, EntriesStay};
+ghost use Rattle.cfdp_receiver.specs.Laws.{HandsOn, HeadlineHolds, FewEvents, FewPdus, AcknowledgedOnce, OthersStay, UnrecognizedIsTrue, TerminatedIsTrue, ClosedIsOver, FinishedOnly, NoneAgain, NaksAsk, ExactlyMissing, FewNakPdus, FewRequests, ServedOnce, AreApart, SentAtMost, EntriesStay};
 
 /// The world of a receiver is the core's own run of the events that its inputs handed on.
 pub fn hands_on()
@@ -97,3 +97,11 @@ pub fn few_nak_pdus()
 pub fn few_requests()
     ensures { FewRequests }
 {}
+
+/// At one moment each timer that is due is served once: from one expiry to the next, fewer are due.
+pub fn served_once()
+    ensures { ServedOnce }
+{
+    cfdp_transactions::laws::next_is_sound();
+    cfdp_transactions::laws::next_is_promised();
+}
