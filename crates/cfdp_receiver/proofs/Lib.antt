@@ -8,3 +8,4 @@ pub mod Rows
 pub mod Limits
 pub mod Asking
 pub mod Serving
+pub mod Knowing

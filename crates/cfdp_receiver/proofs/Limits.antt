@@ -84,7 +84,7 @@ over_by : (b : Bool) (x : SessionFields) (later : Option SessionFields) (t : Ses
 over_by true x later t e = inl (ap (of_some x) e, refl)
 over_by false x later t e = inr e
 
-first_over_is : (W : World) (ss : List SessionFields) (t : SessionFields) → Dues.first_over W ss ≡ Some t → IsMember t ss × (Dues.is_over (at_of W t) ≡ true)
+pub first_over_is : (W : World) (ss : List SessionFields) (t : SessionFields) → Dues.first_over W ss ≡ Some t → IsMember t ss × (Dues.is_over (at_of W t) ≡ true)
 first_over_is W [] t e = absurd cc
 first_over_is W (x ∷ xs) t e = elim (over_by (Dues.is_over (at_of W x)) x (Dues.first_over W xs) t e) [
   | inl here ↦ (inl here.0, ap (λ (y : SessionFields). Dues.is_over (at_of W y)) (sym here.0) ∙ here.1)

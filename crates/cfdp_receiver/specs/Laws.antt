@@ -15,12 +15,13 @@
 --     due_of, timers_due        how many timers are due, of a session and of several
 --     IsSet mib                 each interval is at least one tick
 --     ServedOnce                at one moment each timer that is due is served once
+--     KnownIsEntry              a session is known exactly where the core has an entry of its name
 --     AreApart                  no two sessions have one name
 --     sent_while R inputs id    how often its Finished PDU is sent, as long as it waits for the acknowledgement
 --     SentAtMost                at most as often as the limit says
 --     EntriesStay               events of others leave a transaction's entry in the core as it is
 --     NoneAgain                 a Metadata PDU of a transaction that is closed and remembered is not handed on
-use Rattle.std.specs.Prelude.{◌≡◌, ◌≢◌, ◌⊎◌, ℕ, ◌+◌, ◌-◌, ◌*◌, ◌≤◌, ◌<◌, Bool, true, false, if◌then◌else◌, List, [], ◌∷◌, ◌++◌, length, Option, Some, None}
+use Rattle.std.specs.Prelude.{◌≡◌, ◌≢◌, ◌⊎◌, ℕ, ◌+◌, ◌-◌, ◌*◌, ◌≤◌, ◌<◌, Bool, true, false, if◌then◌else◌, List, [], ◌∷◌, ◌++◌, length, Option, Some, None, is_some}
 use Rattle.std.specs.List.{AllByRecursion, flat_map}
 use Rattle.cfdp_status.specs.declared.transaction.TransactionId.{TransactionId}
 use Rattle.cfdp_leases.specs.Leases.{is_same}
@@ -193,6 +194,20 @@ abbrev pub ServedOnce : Type 0
 ServedOnce =
     (R : State) (now : ℕ) → IsSet R.mib → Sound R.world → AreDistinct R.sessions →
     timers_due (after R (Expire now)) (after R (Expire now)).sessions ≤ timers_due (later now R) R.sessions - 1
+
+abbrev pub is_known : Stage → Bool
+is_known Known = true
+is_known stage = false
+
+abbrev pub knows : Option SessionFields → Bool
+knows None = false
+knows (Some s) = is_known s.stage
+
+abbrev pub AreKnown : State → Type 0
+AreKnown R = (id : TransactionId) → is_some (entry_of R.world id) ≡ knows (session_of R id)
+
+abbrev pub KnownIsEntry : Type 0
+KnownIsEntry = (mib : Mib) (W : World) (inputs : List Input) → Sound W → W.table ≡ [] → AreKnown (after_all (begin mib W) inputs)
 
 abbrev pub AreApart : Type 0
 AreApart = (mib : Mib) (W : World) (inputs : List Input) → AreDistinct (after_all (begin mib W) inputs).sessions

@@ -1,6 +1,6 @@
 //! What is true of the receiver, whatever comes. These functions do nothing: their contracts are the laws.
 
-ghost use Rattle.cfdp_receiver.specs.Laws.{HandsOn, HeadlineHolds, FewEvents, FewPdus, AcknowledgedOnce, OthersStay, UnrecognizedIsTrue, TerminatedIsTrue, ClosedIsOver, FinishedOnly, NoneAgain, NaksAsk, ExactlyMissing, FewNakPdus, FewRequests, ServedOnce, AreApart, SentAtMost, EntriesStay};
+ghost use Rattle.cfdp_receiver.specs.Laws.{HandsOn, HeadlineHolds, FewEvents, FewPdus, AcknowledgedOnce, OthersStay, UnrecognizedIsTrue, TerminatedIsTrue, ClosedIsOver, FinishedOnly, NoneAgain, NaksAsk, ExactlyMissing, FewNakPdus, FewRequests, ServedOnce, KnownIsEntry, AreApart, SentAtMost, EntriesStay};
 
 /// The world of a receiver is the core's own run of the events that its inputs handed on.
 pub fn hands_on()
@@ -104,4 +104,21 @@ pub fn served_once()
 {
     cfdp_transactions::laws::next_is_sound();
     cfdp_transactions::laws::next_is_promised();
+}
+
+/// Over an entity that begins without transactions, a session is known exactly where the core has an entry of its name.
+pub fn known_is_entry()
+    ensures { KnownIsEntry }
+{
+    cfdp_transactions::laws::next_is_sound();
+    cfdp_transactions::laws::next_is_promised();
+    cfdp_leases::laws::own_footprint();
+    cfdp_leases::laws::isolation();
+    cfdp_leases::laws::stays_rooted();
+    cfdp_states::laws::growth();
+    cfdp_states::laws::longer_file();
+    cfdp_states::laws::foreign_change_with();
+    cfdp_states::laws::own_step();
+    cfdp_states::laws::enough_room();
+    cfdp_states::laws::any_slot_with();
 }

@@ -1,0 +1,636 @@
+-- A session is known exactly where the core has an entry of its name.
+use Rattle.std.specs.Prelude.{if◌then◌else◌, slice_get, slice_set, remove, is_some, ◌==◌, IsTrue}
+use Rattle.std.proofs.Common.{◌≡◌, ◌≢◌, ◌⊎◌, inl, inr, ℕ, zero, suc, ◌+◌, ◌≤◌, Bool, true, false, not, ◌&&◌, ◌||◌, List, [], ◌∷◌, ◌++◌, length, Option, Some, None, refl, sym, ap, subst, ◌∙◌, arith}
+use Rattle.std.specs.List.{AllByRecursion}
+use Rattle.std.proofs.lemmas.Bool.{cond_both, cond-true, cond-false, cases_Bool}
+use Rattle.cfdp_status.specs.declared.transaction.TransactionId.{TransactionId}
+use Rattle.cfdp_leases.specs.Leases.{is_same}
+use Rattle.cfdp_pdus.specs.Values.{MetadataFields, FileDataFields}
+use Rattle.cfdp_pdus.specs.declared.eof.Eof.{Eof}
+use Rattle.cfdp_directives.specs.declared.ack.Ack.{Ack}
+use Rattle.cfdp_directives.specs.declared.ack.TransactionStatus.TheVariants.{Active}
+use Rattle.cfdp_directives.specs.declared.prompt.Prompt.{Prompt}
+use Rattle.cfdp_pdus.specs.declared.header.Header.{Header}
+use Rattle.cfdp_transactions.specs.Admission.{metadata_came}
+use Rattle.cfdp_transactions.specs.Delivery.{data_came, eof_came, checked}
+use Rattle.cfdp_transactions.specs.Ending.{cancelled, taken_out}
+use Rattle.cfdp_transactions.specs.Execution.{stepped}
+use Rattle.cfdp_transactions.specs.Entry.{Entry, is_live, is_executing, id_of}
+use Rattle.cfdp_transactions.specs.Entry as Entries
+use Rattle.cfdp_transactions.specs.declared.event.Event.{Event}
+use Rattle.cfdp_transactions.specs.declared.event.Event.TheVariants.{Metadata as MetadataCame, Data as DataCame, Eof as EofCame, Step, Cancel, Check, Take}
+use Rattle.cfdp_transactions.specs.declared.outcome.Outcome.{Outcome}
+use Rattle.cfdp_transactions.specs.declared.phase.Phase.{Phase}
+use Rattle.cfdp_transactions.specs.declared.phase.Phase.TheVariants.{Receiving, Awaiting, Executing, Refused, Done, Ended}
+use Rattle.cfdp_transactions.specs.declared.reply.Reply.{Reply}
+use Rattle.cfdp_transactions.specs.Events.{about}
+use Rattle.cfdp_transactions.specs.LowerLaws.{LowerLaws}
+use Rattle.cfdp_transactions.specs.Next.{for_us, next, run, replies}
+use Rattle.cfdp_transactions.specs.Sound.{EachTwo, Each, Sound}
+use Rattle.cfdp_transactions.specs.World.{World, place_of, entry_of, index_of, next_runnable}
+use Rattle.cfdp_transactions.proofs.Change.{Moves}
+use Rattle.cfdp_transactions.proofs.EachEvent.{cancelled_moves, check_moves, eof_moves, step_moves_in, data_moves}
+use Rattle.cfdp_transactions.proofs.Finding.{found_name as entry_name}
+use Rattle.cfdp_transactions.proofs.Lookups.{set_own, differs}
+use Rattle.cfdp_retransmission.specs.Timers.{restarted, passed}
+use Rattle.cfdp_retransmission.specs.declared.timer.Expiry.TheVariants.{Again}
+use Rattle.cfdp_sessions.specs.Sessions.{SessionFields, name_of, found, replaced, without, AreDistinct}
+use Rattle.cfdp_sessions.specs.declared.session.Stage.{Stage}
+use Rattle.cfdp_sessions.specs.declared.session.Stage.TheVariants.{Held, Known, Over as OverStage, Waiting}
+use Rattle.cfdp_sessions.proofs.Names.{same_is, same_self, both_of, found_name, gone, member_found, replaced_self}
+use Rattle.cfdp_receiver.specs.declared.answer.Became.TheVariants as became
+use Rattle.cfdp_receiver.specs.declared.answer.Word.TheVariants as words
+use Rattle.cfdp_receiver.specs.declared.mib.Handler.{Handler}
+use Rattle.cfdp_receiver.specs.declared.mib.Handler.TheVariants as handlers
+use Rattle.cfdp_receiver.specs.State.{State, begin, AnswerFields, Input, MetadataPdu, DataPdu, EofPdu, AckPdu, PromptPdu, OtherPdu, Expire, Work, Finish, CancelAsked, ForgetAsked, now_of, session_of, status_of, is_closed, is_full, At, At_held, At_receiving, At_awaiting, At_executing, At_over, At_waiting, at_phase, at_entry, at_stage, at_of}
+use Rattle.cfdp_receiver.specs.Due as Dues
+use Rattle.cfdp_receiver.specs.Handing as Handing
+use Rattle.cfdp_receiver.specs.Turning as Turning
+use Rattle.cfdp_receiver.specs.Laws.{nobody, due_name, session_name, touched_in, touched, is_known, knows, AreKnown, KnownIsEntry}
+use Rattle.cfdp_receiver.proofs.Distinct.{distinct_after}
+use Rattle.cfdp_receiver.proofs.Handing.{entries_stay}
+use Rattle.cfdp_receiver.proofs.Shapes.{others_stay}
+use Rattle.cfdp_receiver.proofs.Limits.{stage_due, alive_due, first_over_is}
+use Rattle.cfdp_receiver.proofs.Sending.{heard_name}
+use Rattle.cfdp_transactions.specs.Headline.{NextIsSound, NextIsPromised}
+
+-- ---- an entry stays, but for Take
+
+abbrev is_there : World → TransactionId → Bool
+is_there W id = is_some (entry_of W id)
+
+there : (W : World) (id : TransactionId) (e : Entry) → entry_of W id ≡ Some e → is_there W id ≡ true
+there W id e here = ap is_some here
+
+moved : (performing : Bool) (W V : World) (id : TransactionId) (e : Entry) → entry_of W id ≡ Some e → Moves performing (index_of W id) e W V → is_there V id ≡ true
+moved performing W V id e here moves =
+    let now = moves.0 in
+    let name : Entries.name_of now ≡ id = ap id_of moves.1.carried.header ∙ entry_name W.table id e here in
+    ap is_some (ap (λ (t : List Entry). slice_get t (place_of id t)) moves.1.table ∙ set_own W.table id e now name here)
+
+ours_there : (W : World) (h : Header) (id : TransactionId) (a : World × Reply) → is_there W id ≡ true → is_there a.0 id ≡ true → is_there (for_us W h a).0 id ≡ true
+ours_there W h id a before now = cond_both (h.destination == W.config.entity) a _ (λ (b : World × Reply). is_there b.0 id ≡ true) (λ _. now) (λ _. before)
+
+abbrev is_take : Event → Bool
+is_take (Take id) = true
+is_take event = false
+
+-- by what the entry is
+by_entry : (o : Option Entry) → is_some o ≡ true → (e : Entry) × (o ≡ Some e)
+by_entry None h = absurd cc
+by_entry (Some e) h = (e, refl)
+
+stays_there : LowerLaws → (W : World) (v : Event) → Sound W → is_take v ≡ false → is_there W (about v) ≡ true → is_there (next W v).0 (about v) ≡ true
+stays_there laws W (MetadataCame h m) s kept h0 =
+    let e = by_entry (entry_of W (id_of h)) h0 in
+    ours_there W h (id_of h) (metadata_came W h m (entry_of W (id_of h))) h0 (ap (λ (o : Option Entry). is_there (metadata_came W h m o).0 (id_of h)) e.1 ∙ h0)
+stays_there laws W (DataCame h piece) s kept h0 =
+    let e = by_entry (entry_of W (id_of h)) h0 in
+    let k = index_of W (id_of h) in
+    ours_there W h (id_of h) (data_came W k piece (entry_of W (id_of h))) h0
+    (ap (λ (o : Option Entry). is_there (data_came W k piece o).0 (id_of h)) e.1 ∙ moved false W _ (id_of h) e.0 e.1 (data_moves laws W k e.0 s e.1 piece))
+stays_there laws W (EofCame h eof) s kept h0 =
+    let e = by_entry (entry_of W (id_of h)) h0 in
+    let k = index_of W (id_of h) in
+    ours_there W h (id_of h) (eof_came W k eof (entry_of W (id_of h))) h0
+    (ap (λ (o : Option Entry). is_there (eof_came W k eof o).0 (id_of h)) e.1 ∙ moved false W _ (id_of h) e.0 e.1 (eof_moves laws W k e.0 s e.1 eof))
+stays_there laws W (Step id) s kept h0 =
+    let e = by_entry (entry_of W id) h0 in
+    let k = index_of W id in
+    ap (λ (o : Option Entry). is_there (stepped W k o).0 id) e.1 ∙ moved (is_executing e.0.phase) W _ id e.0 e.1 (step_moves_in laws W k e.0 s e.1 e.0.phase refl)
+stays_there laws W (Cancel id) s kept h0 =
+    let e = by_entry (entry_of W id) h0 in
+    let k = index_of W id in
+    ap (λ (o : Option Entry). is_there (cancelled W k o).0 id) e.1 ∙ moved false W _ id e.0 e.1 (cancelled_moves laws W k e.0 s e.1)
+stays_there laws W (Check id) s kept h0 =
+    let e = by_entry (entry_of W id) h0 in
+    let k = index_of W id in
+    ap (λ (o : Option Entry). is_there (checked W k o).0 id) e.1 ∙ moved false W _ id e.0 e.1 (check_moves laws W k e.0 s e.1 e.0.phase refl)
+stays_there laws W (Take id) s kept h0 = absurd cc
+
+-- ---- Take of an entry that is over removes it
+
+not_there : (t : List Entry) (id : TransactionId) → Each (λ e. Entries.name_of e ≢ id) t → slice_get t (place_of id t) ≡ None
+not_there [] id others = refl
+not_there (d ∷ t) id others =
+    ap (λ (b : Bool). slice_get (d ∷ t) (if b then 0 else suc (place_of id t))) (differs (Entries.name_of d) id (others 0 d refl))
+    ∙ not_there t id (λ k e at. others (suc k) e at)
+
+removed_by : (d : Entry) (t : List Entry) (id : TransactionId) → EachTwo (λ a b. Entries.name_of a ≢ Entries.name_of b) (d ∷ t) → (same : Bool) → is_same (Entries.name_of d) id ≡ same →
+    is_some (slice_get (d ∷ t) (if same then 0 else suc (place_of id t))) ≡ true →
+    (is_some (slice_get t (place_of id t)) ≡ true → slice_get (remove t (place_of id t)) (place_of id (remove t (place_of id t))) ≡ None) →
+    slice_get (remove (d ∷ t) (if same then 0 else suc (place_of id t))) (place_of id (remove (d ∷ t) (if same then 0 else suc (place_of id t)))) ≡ None
+removed_by d t id names true is here later =
+    not_there t id (λ k e at q. names 0 (suc k) d e refl at (λ z. absurd cc) (same_is (Entries.name_of d) id is ∙ sym q))
+removed_by d t id names false is here later =
+    ap (λ (b : Bool). slice_get (d ∷ remove t (place_of id t)) (if b then 0 else suc (place_of id (remove t (place_of id t))))) is ∙ later here
+
+less_one : (j k : ℕ) → suc j ≡ suc k → j ≡ k
+less_one j k e = omega (arith, e)
+
+removed : (t : List Entry) (id : TransactionId) → EachTwo (λ d e. Entries.name_of d ≢ Entries.name_of e) t → is_some (slice_get t (place_of id t)) ≡ true →
+    slice_get (remove t (place_of id t)) (place_of id (remove t (place_of id t))) ≡ None
+removed [] id names here = absurd cc
+removed (d ∷ t) id names here =
+    removed_by d t id names (is_same (Entries.name_of d) id) refl here
+    (λ later. removed t id (λ j k a b at bt ne. names (suc j) (suc k) a b at bt (λ e. ne (less_one j k e))) later)
+
+taken_gone : (W : World) (id : TransactionId) (e : Entry) → Sound W → entry_of W id ≡ Some e → is_live e.phase ≡ false → entry_of (next W (Take id)).0 id ≡ None
+taken_gone W id e s here over =
+    let k = index_of W id in
+    ap (λ (o : Option Entry). entry_of (taken_out W k o).0 id) here
+    ∙ ap (λ (a : World × Reply). entry_of a.0 id) (cond-false (is_live e.phase) (W, _) (record W { table = remove W.table k }, _) over)
+    ∙ removed W.table id s.names (ap is_some here)
+
+-- ---- what is known, after one input
+
+-- the events that are handed on, and what becomes of the sessions
+abbrev Fits : State → TransactionId → List Event → (World → List Reply → Turning.Parts) → Type 0
+Fits R id es p = is_there (run R.world es) id ≡ knows (found (p (run R.world es) (replies R.world es)).sessions id)
+
+fits_if : (R : State) (id : TransactionId) (b : Bool) (es fs : List Event) (p q : World → List Reply → Turning.Parts) → Fits R id es p → Fits R id fs q →
+    Fits R id (if b then es else fs) (λ V rs. if b then p V rs else q V rs)
+fits_if R id true es fs p q hp hq = hp
+fits_if R id false es fs p q hp hq = hq
+
+-- of a session of this name
+abbrev Knows : State → TransactionId → Option SessionFields → Type 0
+Knows R id o = (session_of R id ≡ o) × (is_there R.world id ≡ knows o)
+
+-- nothing is handed on, and the session stays
+fits_keeps : (R : State) (id : TransactionId) (o : Option SessionFields) (a : AnswerFields) → Knows R id o → Fits R id [] (λ V rs. Turning.keeps R a)
+fits_keeps R id o a k = k.1 ∙ ap knows (sym k.0)
+
+-- the session changes, and is known exactly where the entry is there
+fits_put : (R : State) (id : TransactionId) (s : SessionFields) (es : List Event) (new : World → List Reply → SessionFields) (a : World → List Reply → AnswerFields) → session_of R id ≡ Some s →
+    ((V : World) (rs : List Reply) → name_of (new V rs) ≡ id) → is_there (run R.world es) id ≡ is_known (new (run R.world es) (replies R.world es)).stage →
+    Fits R id es (λ V rs. Turning.puts R (new V rs) (a V rs))
+fits_put R id s es new a here name is =
+    let V = run R.world es in
+    let rs = replies R.world es in
+    is ∙ ap knows (sym (replaced_self R.sessions (new V rs) id (s, here) (name V rs)))
+
+fits_close : (R : State) (id : TransactionId) (s : SessionFields) (es : List Event) (a : World → List Reply → AnswerFields) → AreDistinct R.sessions → name_of s ≡ id → is_there (run R.world es) id ≡ false →
+    Fits R id es (λ V rs. Turning.closes R (name_of s) (a V rs))
+fits_close R id s es a d name is = is ∙ ap knows (sym (ap (λ (n : TransactionId). found (without R.sessions n) id) name ∙ gone R.sessions id d))
+
+-- an event of a session that is known leaves its entry there
+known_stays : LowerLaws → (R : State) (s : SessionFields) (stage : Stage) (v : Event) → Sound R.world → s.stage ≡ stage → is_take v ≡ false → about v ≡ name_of s → is_there R.world (name_of s) ≡ is_known s.stage →
+    is_there (run R.world (Handing.where_known stage (v ∷ []))) (name_of s) ≡ is_known s.stage
+known_stays laws R s Known v sound is kept of before =
+    let known : is_known s.stage ≡ true = ap is_known is in
+    subst (λ (n : TransactionId). is_there (next R.world v).0 n ≡ true) of
+    (stays_there laws R.world v sound kept (ap (is_there R.world) of ∙ before ∙ known)) ∙ sym known
+known_stays laws R s (Held eof) v sound is kept of before = before
+known_stays laws R s (OverStage ending) v sound is kept of before = before
+known_stays laws R s Waiting v sound is kept of before = before
+
+none_stays : (R : State) (s : SessionFields) (stage : Stage) → is_there R.world (name_of s) ≡ is_known s.stage → is_there (run R.world (Handing.where_known stage [])) (name_of s) ≡ is_known s.stage
+none_stays R s (Held eof) before = before
+none_stays R s Known before = before
+none_stays R s (OverStage ending) before = before
+none_stays R s Waiting before = before
+
+heard_stage : (R : State) (V : World) (s : SessionFields) → (Turning.heard R V s).stage ≡ s.stage
+heard_stage R V s = cond_both (Turning.is_news R.world V s) (record s { timer = restarted R.now }) s (λ (t : SessionFields). t.stage ≡ s.stage) (λ e. refl) (λ e. refl)
+
+-- a stage that is known where there is an entry
+stage_in_is : (o : Option Entry) (sent : Bool) (fault : ℕ) → is_some o ≡ is_known (Turning.stage_in o sent fault)
+stage_in_is None sent fault = refl
+stage_in_is (Some e) sent fault = refl
+
+some_none : (x : SessionFields) → Some x ≡ None → ⊥
+some_none x e = absurd cc
+
+added_by : (x : SessionFields) (xs : List SessionFields) (new : SessionFields) (id : TransactionId) (same : Bool) → is_same (name_of x) id ≡ same →
+    (if is_same (name_of x) id then Some x else found xs id) ≡ None → (found xs id ≡ None → found (xs ++ new ∷ []) id ≡ Some new) →
+    (if is_same (name_of x) id then Some x else found (xs ++ new ∷ []) id) ≡ Some new
+added_by x xs new id true is none later = absurd (some_none x (sym (cond-true (is_same (name_of x) id) (Some x) (found xs id) is) ∙ none))
+added_by x xs new id false is none later =
+    cond-false (is_same (name_of x) id) (Some x) (found (xs ++ new ∷ []) id) is ∙ later (sym (cond-false (is_same (name_of x) id) (Some x) (found xs id) is) ∙ none)
+
+added_found : (ss : List SessionFields) (new : SessionFields) (id : TransactionId) → name_of new ≡ id → found ss id ≡ None → found (ss ++ new ∷ []) id ≡ Some new
+added_found [] new id name none = cond-true (is_same (name_of new) id) (Some new) None (ap (λ (n : TransactionId). is_same n id) name ∙ same_self id)
+added_found (x ∷ xs) new id name none = added_by x xs new id (is_same (name_of x) id) refl none (added_found xs new id name)
+
+fits_add : (R : State) (id : TransactionId) (es : List Event) (new : World → List Reply → SessionFields) (a : World → List Reply → AnswerFields) → session_of R id ≡ None →
+    ((V : World) (rs : List Reply) → name_of (new V rs) ≡ id) → is_there (run R.world es) id ≡ is_known (new (run R.world es) (replies R.world es)).stage →
+    Fits R id es (λ V rs. Turning.adds R (new V rs) (a V rs))
+fits_add R id es new a none name is =
+    let V = run R.world es in
+    let rs = replies R.world es in
+    is ∙ ap knows (sym (added_found R.sessions (new V rs) id (name V rs) none))
+
+-- ---- PDUs
+
+-- what is answered does not matter
+abbrev silent : AnswerFields
+silent = Turning.quiet became.Nothing
+
+fits_ours : (R : State) (h : Header) (o : Option SessionFields) (es : List Event) (p : World → List Reply → Turning.Parts) → Knows R (id_of h) o → Fits R (id_of h) es p →
+    Fits R (id_of h) (if Handing.is_ours R h then es else []) (λ V rs. Turning.where_ours R h (p V rs))
+fits_ours R h o es p k f =
+    fits_if R (id_of h) (Handing.is_ours R h) es [] p (λ V rs. Turning.keeps R (Turning.quiet (Turning.foreign h))) f (fits_keeps R (id_of h) o (Turning.quiet (Turning.foreign h)) k)
+
+fits_metadata_stage : LowerLaws → (R : State) (h : Header) (m : MetadataFields) (s : SessionFields) (stage : Stage) → Sound R.world → Knows R (id_of h) (Some s) → s.stage ≡ stage →
+    Fits R (id_of h) (Handing.metadata_in_stage h m s stage) (λ V rs. Turning.metadata_stage R V rs h m s stage)
+fits_metadata_stage laws R h m s (Held eof) sound k is =
+    fits_if R (id_of h) h.acknowledged (MetadataCame h m ∷ EofCame s.header eof ∷ []) [] (λ V rs. Turning.joins R V rs h m) (λ V rs. Turning.keeps R (Turning.said s words.Idle))
+    (fits_put R (id_of h) s (MetadataCame h m ∷ EofCame s.header eof ∷ []) (λ V rs. Turning.begun R h (Turning.stage_in (entry_of V (id_of h)) true h.destination)) (λ V rs. (Turning.joins R V rs h m).answer) k.0 (λ V rs. refl)
+    (stage_in_is (entry_of (run R.world (MetadataCame h m ∷ EofCame s.header eof ∷ [])) (id_of h)) true h.destination))
+    (fits_keeps R (id_of h) (Some s) (Turning.said s words.Idle) k)
+fits_metadata_stage laws R h m s Known sound k is =
+    let name = found_name R.sessions (id_of h) s k.0 in
+    let known : is_known s.stage ≡ true = ap is_known is in
+    let before : is_there R.world (id_of h) ≡ true = k.1 ∙ known in
+    fits_put R (id_of h) s (MetadataCame h m ∷ []) (λ V rs. Turning.heard R V s) (λ V rs. Turning.quiet (Turning.replied (id_of h) rs)) k.0 (λ V rs. heard_name R V s ∙ name)
+    (stays_there laws R.world (MetadataCame h m) sound refl before ∙ sym known ∙ ap is_known (sym (heard_stage R (run R.world (MetadataCame h m ∷ [])) s)))
+fits_metadata_stage laws R h m s (OverStage ending) sound k is = fits_keeps R (id_of h) (Some s) (Turning.said s words.Duplicate) k
+fits_metadata_stage laws R h m s Waiting sound k is = fits_keeps R (id_of h) (Some s) (Turning.said s words.Duplicate) k
+
+fits_metadata : LowerLaws → (R : State) (h : Header) (m : MetadataFields) (o : Option SessionFields) → Sound R.world → Knows R (id_of h) o →
+    Fits R (id_of h) (Handing.metadata_events R h m o) (λ V rs. Turning.metadata_parts R V rs h m o)
+fits_metadata laws R h m None sound k =
+    let away = Turning.said_of h (Turning.turned_away R h) in
+    fits_if R (id_of h) (is_closed R (id_of h) || is_full R) [] (MetadataCame h m ∷ []) (λ V rs. Turning.keeps R away) (λ V rs. Turning.begins R V rs h m)
+    (fits_keeps R (id_of h) None away k)
+    (fits_add R (id_of h) (MetadataCame h m ∷ []) (λ V rs. Turning.begun R h (Turning.stage_in (entry_of V (id_of h)) (h.acknowledged || m.closure) h.destination)) (λ V rs. (Turning.begins R V rs h m).answer) k.0 (λ V rs. refl)
+    (stage_in_is (entry_of (run R.world (MetadataCame h m ∷ [])) (id_of h)) (h.acknowledged || m.closure) h.destination))
+fits_metadata laws R h m (Some s) sound k = fits_metadata_stage laws R h m s s.stage sound k refl
+
+-- an event that a known session hears
+fits_heard : LowerLaws → (R : State) (id : TransactionId) (s : SessionFields) (v : Event) (a : World → List Reply → AnswerFields) → Sound R.world → Knows R id (Some s) → s.stage ≡ Known → is_take v ≡ false → about v ≡ id →
+    Fits R id (v ∷ []) (λ V rs. Turning.puts R (Turning.heard R V s) (a V rs))
+fits_heard laws R id s v a sound k is kept of =
+    let name = found_name R.sessions id s k.0 in
+    let known : is_known s.stage ≡ true = ap is_known is in
+    let now : is_there (next R.world v).0 id ≡ true =
+    subst (λ (n : TransactionId). is_there (next R.world v).0 n ≡ true) of (stays_there laws R.world v sound kept (ap (is_there R.world) of ∙ k.1 ∙ known)) in
+    fits_put R id s (v ∷ []) (λ V rs. Turning.heard R V s) a k.0 (λ V rs. heard_name R V s ∙ name)
+    (now ∙ sym known ∙ ap is_known (sym (heard_stage R (run R.world (v ∷ [])) s)))
+
+fits_data_stage : LowerLaws → (R : State) (h : Header) (piece : FileDataFields) (s : SessionFields) (stage : Stage) → Sound R.world → Knows R (id_of h) (Some s) → s.stage ≡ stage →
+    Fits R (id_of h) (Handing.where_known stage (DataCame h piece ∷ [])) (λ V rs. if Turning.is_known stage then Turning.takes_data R V rs h piece s else Turning.keeps R (Turning.said s words.Idle))
+fits_data_stage laws R h piece s (Held eof) sound k is = fits_keeps R (id_of h) (Some s) (Turning.said s words.Idle) k
+fits_data_stage laws R h piece s Known sound k is = fits_heard laws R (id_of h) s (DataCame h piece) (λ V rs. (Turning.takes_data R V rs h piece s).answer) sound k is refl refl
+fits_data_stage laws R h piece s (OverStage ending) sound k is = fits_keeps R (id_of h) (Some s) (Turning.said s words.Idle) k
+fits_data_stage laws R h piece s Waiting sound k is = fits_keeps R (id_of h) (Some s) (Turning.said s words.Idle) k
+
+fits_data : LowerLaws → (R : State) (h : Header) (piece : FileDataFields) (o : Option SessionFields) → Sound R.world → Knows R (id_of h) o →
+    Fits R (id_of h) (Handing.of_session o (DataCame h piece ∷ [])) (λ V rs. Turning.data_parts R V rs h piece o)
+fits_data laws R h piece None sound k = fits_keeps R (id_of h) None silent k
+fits_data laws R h piece (Some s) sound k = fits_data_stage laws R h piece s s.stage sound k refl
+
+fits_none_if : (R : State) (id : TransactionId) (b : Bool) (p q : Turning.Parts) → Fits R id [] (λ V rs. p) → Fits R id [] (λ V rs. q) → Fits R id [] (λ V rs. if b then p else q)
+fits_none_if R id true p q hp hq = hp
+fits_none_if R id false p q hp hq = hq
+
+fits_over : (R : State) (id : TransactionId) (s new : SessionFields) (a : AnswerFields) → Knows R id (Some s) → name_of new ≡ id → is_known s.stage ≡ is_known new.stage → Fits R id [] (λ V rs. Turning.puts R new a)
+fits_over R id s new a k name same = fits_put R id s [] (λ V rs. new) (λ V rs. a) k.0 (λ V rs. name) (k.1 ∙ same)
+
+fits_eof_stage : LowerLaws → (R : State) (h : Header) (eof : Eof) (s : SessionFields) (stage : Stage) → Sound R.world → Knows R (id_of h) (Some s) → s.stage ≡ stage →
+    Fits R (id_of h) (Handing.where_known stage (EofCame h eof ∷ [])) (λ V rs. Turning.eof_stage R V rs h eof s stage)
+fits_eof_stage laws R h eof s (Held kept) sound k is =
+    fits_none_if R (id_of h) (eof.condition == 0) (Turning.keeps R (Turning.acks_only h eof Active words.Duplicate)) (Turning.puts R (Turning.ended_by h eof s) (Turning.acks_only h eof Active words.Faulted))
+    (fits_keeps R (id_of h) (Some s) silent k)
+    (fits_over R (id_of h) s (Turning.ended_by h eof s) silent k (found_name R.sessions (id_of h) s k.0) (ap is_known is))
+fits_eof_stage laws R h eof s Known sound k is = fits_heard laws R (id_of h) s (EofCame h eof) (λ V rs. (Turning.eof_stage R V rs h eof s Known).answer) sound k is refl refl
+fits_eof_stage laws R h eof s (OverStage ending) sound k is = fits_keeps R (id_of h) (Some s) silent k
+fits_eof_stage laws R h eof s Waiting sound k is = fits_keeps R (id_of h) (Some s) silent k
+
+fits_eof : LowerLaws → (R : State) (h : Header) (eof : Eof) (o : Option SessionFields) → Sound R.world → Knows R (id_of h) o →
+    Fits R (id_of h) (Handing.of_session o (EofCame h eof ∷ [])) (λ V rs. Turning.eof_parts R V rs h eof o)
+fits_eof laws R h eof None sound k =
+    let kept = Turning.keeps R (Turning.acks_only h eof (status_of R (id_of h)) (Turning.absent R (id_of h))) in
+    let full = Turning.keeps R (Turning.said_of h words.TableFull) in
+    let holds = Turning.holds R h eof in
+    fits_none_if R (id_of h) (is_closed R (id_of h) || not (eof.condition == 0) || not h.acknowledged) kept (if is_full R then full else holds)
+    (fits_keeps R (id_of h) None silent k)
+    (fits_none_if R (id_of h) (is_full R) full holds (fits_keeps R (id_of h) None silent k)
+    (fits_add R (id_of h) [] (λ V rs. Turning.begun R h (Held eof)) (λ V rs. holds.answer) k.0 (λ V rs. refl) k.1))
+fits_eof laws R h eof (Some s) sound k = fits_eof_stage laws R h eof s s.stage sound k refl
+
+fits_ack_stage : (R : State) (h : Header) (ack : Ack) (s : SessionFields) (stage : Stage) → AreDistinct R.sessions → Knows R (id_of h) (Some s) → s.stage ≡ stage → Fits R (id_of h) [] (λ V rs. Turning.ack_stage R h ack s stage)
+fits_ack_stage R h ack s (Held eof) d k is = fits_keeps R (id_of h) (Some s) silent k
+fits_ack_stage R h ack s Known d k is = fits_keeps R (id_of h) (Some s) silent k
+fits_ack_stage R h ack s (OverStage ending) d k is = fits_keeps R (id_of h) (Some s) silent k
+fits_ack_stage R h ack s Waiting d k is =
+    fits_none_if R (id_of h) (ack.directive == 5) (Turning.closes R (name_of s) (Turning.said_of h words.Acknowledged)) (Turning.keeps R (Turning.said_of h words.Idle))
+    (fits_close R (id_of h) s [] (λ V rs. Turning.said_of h words.Acknowledged) d (found_name R.sessions (id_of h) s k.0) (k.1 ∙ ap is_known is))
+    (fits_keeps R (id_of h) (Some s) silent k)
+
+fits_ack : (R : State) (h : Header) (ack : Ack) (o : Option SessionFields) → AreDistinct R.sessions → Knows R (id_of h) o → Fits R (id_of h) [] (λ V rs. Turning.ack_parts R h ack o)
+fits_ack R h ack None d k = fits_keeps R (id_of h) None silent k
+fits_ack R h ack (Some s) d k = fits_ack_stage R h ack s s.stage d k refl
+
+roused_is : (R : State) (s : SessionFields) → (name_of (Turning.roused R s) ≡ name_of s) × (is_known s.stage ≡ is_known (Turning.roused R s).stage)
+roused_is R s =
+    cond_both (Dues.is_receiving_at (at_of R.world s)) (record s { timer = restarted R.now }) s (λ (t : SessionFields). (name_of t ≡ name_of s) × (is_known s.stage ≡ is_known t.stage)) (λ e. (refl, refl)) (λ e. (refl, refl))
+
+fits_prompt : (R : State) (h : Header) (prompt : Prompt) (o : Option SessionFields) → Knows R (id_of h) o → Fits R (id_of h) [] (λ V rs. Turning.prompt_parts R h prompt o)
+fits_prompt R h prompt None k = fits_keeps R (id_of h) None silent k
+fits_prompt R h prompt (Some s) k =
+    fits_none_if R (id_of h) (s.header.acknowledged && Turning.takes_prompts (at_of R.world s)) (Turning.puts R (Turning.roused R s) (Turning.prompted R h s prompt)) (Turning.keeps R (Turning.said_of h words.Idle))
+    (fits_over R (id_of h) s (Turning.roused R s) (Turning.prompted R h s prompt) k ((roused_is R s).0 ∙ found_name R.sessions (id_of h) s k.0) (roused_is R s).1)
+    (fits_keeps R (id_of h) (Some s) silent k)
+
+fits_cancel_stage : LowerLaws → (R : State) (id : TransactionId) (s : SessionFields) (stage : Stage) → Sound R.world → Knows R id (Some s) → s.stage ≡ stage →
+    Fits R id (Handing.where_known stage (Cancel id ∷ [])) (λ V rs. Turning.cancel_stage R rs s stage)
+fits_cancel_stage laws R id s (Held eof) sound k is = fits_over R id s (Turning.over_here R s 15) silent k (found_name R.sessions id s k.0) (ap is_known is)
+fits_cancel_stage laws R id s Known sound k is =
+    let known : is_known s.stage ≡ true = ap is_known is in
+    stays_there laws R.world (Cancel id) sound refl (k.1 ∙ known) ∙ sym known ∙ ap knows (sym k.0)
+fits_cancel_stage laws R id s (OverStage ending) sound k is = fits_keeps R id (Some s) silent k
+fits_cancel_stage laws R id s Waiting sound k is = fits_keeps R id (Some s) silent k
+
+fits_cancel : LowerLaws → (R : State) (id : TransactionId) (o : Option SessionFields) → Sound R.world → Knows R id o →
+    Fits R id (Handing.of_session o (Cancel id ∷ [])) (λ V rs. Turning.cancel_parts R rs id o)
+fits_cancel laws R id None sound k = fits_keeps R id None silent k
+fits_cancel laws R id (Some s) sound k = fits_cancel_stage laws R id s s.stage sound k refl
+
+-- ---- timers
+
+check_stays : LowerLaws → (R : State) (s : SessionFields) (b : Bool) → Sound R.world → is_there R.world (name_of s) ≡ is_known s.stage →
+    is_there (run R.world (Handing.where_known s.stage (if b then Check (name_of s) ∷ [] else []))) (name_of s) ≡ is_known s.stage
+check_stays laws R s true sound before = known_stays laws R s s.stage (Check (name_of s)) sound refl refl refl before
+check_stays laws R s false sound before = none_stays R s s.stage before
+
+limit_stays : LowerLaws → (R : State) (s : SessionFields) (checks : Bool) (how : Handler) → Sound R.world → is_there R.world (name_of s) ≡ is_known s.stage →
+    is_there (run R.world (Handing.where_known s.stage (Handing.limit_events (name_of s) checks how))) (name_of s) ≡ is_known s.stage
+limit_stays laws R s checks handlers.Ignore sound before = none_stays R s s.stage before
+limit_stays laws R s true handlers.Cancel sound before = known_stays laws R s s.stage (Check (name_of s)) sound refl refl refl before
+limit_stays laws R s false handlers.Cancel sound before = known_stays laws R s s.stage (Cancel (name_of s)) sound refl refl refl before
+limit_stays laws R s true handlers.Abandon sound before = known_stays laws R s s.stage (Cancel (name_of s)) sound refl refl refl before
+limit_stays laws R s false handlers.Abandon sound before = known_stays laws R s s.stage (Cancel (name_of s)) sound refl refl refl before
+
+never_held : (phase : Phase) → at_phase phase ≡ At_held → ⊥
+never_held Receiving e = absurd cc
+never_held (Awaiting made) e = absurd cc
+never_held (Executing n) e = absurd cc
+never_held Refused e = absurd cc
+never_held Done e = absurd cc
+never_held (Ended condition) e = absurd cc
+
+never_waits : (phase : Phase) → at_phase phase ≡ At_waiting → ⊥
+never_waits Receiving e = absurd cc
+never_waits (Awaiting made) e = absurd cc
+never_waits (Executing n) e = absurd cc
+never_waits Refused e = absurd cc
+never_waits Done e = absurd cc
+never_waits (Ended condition) e = absurd cc
+
+-- by how far it is: a session that is held or waits is not known
+at_held : (stage : Stage) (o : Option Entry) → at_stage stage o ≡ At_held → is_known stage ≡ false
+at_held (Held eof) o e = refl
+at_held Known None e = absurd cc
+at_held Known (Some entry) e = absurd (never_held entry.phase e)
+at_held (OverStage ending) o e = refl
+at_held Waiting o e = refl
+
+at_waits : (stage : Stage) (o : Option Entry) → at_stage stage o ≡ At_waiting → is_known stage ≡ false
+at_waits (Held eof) o e = refl
+at_waits Known None e = absurd cc
+at_waits Known (Some entry) e = absurd (never_waits entry.phase e)
+at_waits (OverStage ending) o e = refl
+at_waits Waiting o e = refl
+
+-- what becomes of a session at a limit, where its entry stayed
+gives_by : (R : State) (s : SessionFields) (condition : ℕ) (how : Handler) (at : At) (es : List Event) → AreDistinct R.sessions → Knows R (name_of s) (Some s) → at_of R.world s ≡ at →
+    is_there (run R.world es) (name_of s) ≡ is_known s.stage → Fits R (name_of s) es (λ V rs. Turning.gives_up R s condition how at)
+gives_by R s condition handlers.Ignore at es d k is now = fits_put R (name_of s) s es (λ V rs. record s { timer = restarted R.now }) (λ V rs. silent) k.0 (λ V rs. refl) now
+gives_by R s condition handlers.Cancel At_waiting es d k is now = fits_close R (name_of s) s es (λ V rs. silent) d refl (now ∙ at_waits s.stage (entry_of R.world (name_of s)) is)
+gives_by R s condition handlers.Cancel At_held es d k is now =
+    fits_put R (name_of s) s es (λ V rs. Turning.over_here R s condition) (λ V rs. silent) k.0 (λ V rs. refl) (now ∙ at_held s.stage (entry_of R.world (name_of s)) is)
+gives_by R s condition handlers.Cancel At_receiving es d k is now = fits_put R (name_of s) s es (λ V rs. record s { cause = Some condition }) (λ V rs. silent) k.0 (λ V rs. refl) now
+gives_by R s condition handlers.Cancel (At_awaiting made) es d k is now = fits_put R (name_of s) s es (λ V rs. record s { cause = Some condition }) (λ V rs. silent) k.0 (λ V rs. refl) now
+gives_by R s condition handlers.Cancel At_executing es d k is now = fits_put R (name_of s) s es (λ V rs. record s { cause = Some condition }) (λ V rs. silent) k.0 (λ V rs. refl) now
+gives_by R s condition handlers.Cancel At_over es d k is now = fits_put R (name_of s) s es (λ V rs. record s { cause = Some condition }) (λ V rs. silent) k.0 (λ V rs. refl) now
+gives_by R s condition handlers.Abandon At_waiting es d k is now = fits_close R (name_of s) s es (λ V rs. silent) d refl (now ∙ at_waits s.stage (entry_of R.world (name_of s)) is)
+gives_by R s condition handlers.Abandon At_held es d k is now = fits_close R (name_of s) s es (λ V rs. silent) d refl (now ∙ at_held s.stage (entry_of R.world (name_of s)) is)
+gives_by R s condition handlers.Abandon At_receiving es d k is now = fits_put R (name_of s) s es (λ V rs. record s { is_abandoned = true }) (λ V rs. silent) k.0 (λ V rs. refl) now
+gives_by R s condition handlers.Abandon (At_awaiting made) es d k is now = fits_put R (name_of s) s es (λ V rs. record s { is_abandoned = true }) (λ V rs. silent) k.0 (λ V rs. refl) now
+gives_by R s condition handlers.Abandon At_executing es d k is now = fits_put R (name_of s) s es (λ V rs. record s { is_abandoned = true }) (λ V rs. silent) k.0 (λ V rs. refl) now
+gives_by R s condition handlers.Abandon At_over es d k is now = fits_put R (name_of s) s es (λ V rs. record s { is_abandoned = true }) (λ V rs. silent) k.0 (λ V rs. refl) now
+
+fits_gives_up : LowerLaws → (R : State) (s : SessionFields) (condition : ℕ) (checks : Bool) (how : Handler) (at : At) → Sound R.world → AreDistinct R.sessions → Knows R (name_of s) (Some s) → at_of R.world s ≡ at →
+    Fits R (name_of s) (Handing.where_known s.stage (Handing.limit_events (name_of s) checks how)) (λ V rs. Turning.gives_up R s condition how at)
+fits_gives_up laws R s condition checks how at sound d k is =
+    let es = Handing.where_known s.stage (Handing.limit_events (name_of s) checks how) in
+    gives_by R s condition how at es d k is (limit_stays laws R s checks how sound k.1)
+
+fits_due : LowerLaws → (R : State) (due : Dues.Due) → Sound R.world → AreDistinct R.sessions → Dues.first_due R R.sessions ≡ due → Knows R (due_name due) (session_of R (due_name due)) →
+    Fits R (due_name due) (Handing.due_events R due) (λ V rs. Turning.due_parts R V due)
+fits_due laws R Dues.Nothing_due sound d is k = fits_keeps R nobody (session_of R nobody) silent k
+fits_due laws R (Dues.Alive_due s) sound d is k =
+    let here = member_found R.sessions s d (alive_due R R.sessions s is).0 in
+    fits_over R (name_of s) s (record s { alive_at = R.now }) silent (here, k.1 ∙ ap knows here) refl refl
+fits_due laws R (Dues.Stage_due s false) sound d is k =
+    let here = member_found R.sessions s d (stage_due R R.sessions s false is).0 in
+    fits_put R (name_of s) s (Handing.due_events R (Dues.Stage_due s false)) (λ V rs. record s { timer = passed R.now s.timer Again }) (λ V rs. silent) here (λ V rs. refl)
+    (check_stays laws R s (Handing.makes_checks s.header.acknowledged (at_of R.world s)) sound (k.1 ∙ ap knows here))
+fits_due laws R (Dues.Stage_due s true) sound d is k =
+    let here = member_found R.sessions s d (stage_due R R.sessions s true is).0 in
+    fits_gives_up laws R s (Dues.fault_at s.header.acknowledged (at_of R.world s)) (Handing.makes_checks s.header.acknowledged (at_of R.world s)) (Dues.handler_at R.mib s.header.acknowledged (at_of R.world s)) (at_of R.world s)
+    sound d (here, k.1 ∙ ap knows here) refl
+
+-- ---- outcomes
+
+-- what is over has no entry once it was taken
+phase_over : (phase : Phase) → Dues.is_over (at_phase phase) ≡ true → is_live phase ≡ false
+phase_over Receiving e = absurd cc
+phase_over (Awaiting made) e = absurd cc
+phase_over (Executing n) e = absurd cc
+phase_over Refused e = refl
+phase_over Done e = refl
+phase_over (Ended condition) e = refl
+
+taken_there : (R : State) (s : SessionFields) (o : Option Entry) → Sound R.world → entry_of R.world (name_of s) ≡ o → Dues.is_over (at_entry o) ≡ true →
+    is_there (next R.world (Take (name_of s))).0 (name_of s) ≡ false
+taken_there R s None sound here over = ap (λ (x : Option Entry). is_there (taken_out R.world (index_of R.world (name_of s)) x).0 (name_of s)) here ∙ ap is_some here
+taken_there R s (Some e) sound here over = ap is_some (taken_gone R.world (name_of s) e sound here (phase_over e.phase over))
+
+finish_there : (R : State) (s : SessionFields) (stage : Stage) → Sound R.world → s.stage ≡ stage → is_there R.world (name_of s) ≡ is_known s.stage → Dues.is_over (at_of R.world s) ≡ true →
+    is_there (run R.world (Handing.where_known stage (Take (name_of s) ∷ []))) (name_of s) ≡ false
+finish_there R s (Held eof) sound is before over = before ∙ ap is_known is
+finish_there R s Known sound is before over =
+    taken_there R s (entry_of R.world (name_of s)) sound refl (ap (λ (stage : Stage). Dues.is_over (at_stage stage (entry_of R.world (name_of s)))) (sym is) ∙ over)
+finish_there R s (OverStage ending) sound is before over = before ∙ ap is_known is
+finish_there R s Waiting sound is before over = before ∙ ap is_known is
+
+fits_same_if : (R : State) (id : TransactionId) (es : List Event) (b : Bool) (p q : Turning.Parts) → Fits R id es (λ V rs. p) → Fits R id es (λ V rs. q) → Fits R id es (λ V rs. if b then p else q)
+fits_same_if R id es true p q hp hq = hp
+fits_same_if R id es false p q hp hq = hq
+
+fits_session : (R : State) (s : SessionFields) (o : Outcome) (es : List Event) → AreDistinct R.sessions → session_of R (name_of s) ≡ Some s → is_there (run R.world es) (name_of s) ≡ false →
+    Fits R (name_of s) es (λ V rs. Turning.finish_session R s o)
+fits_session R s o es d here gone_now =
+    let closed : (a : AnswerFields) → Fits R (name_of s) es (λ V rs. Turning.closes R (name_of s) a) = λ a. fits_close R (name_of s) s es (λ V rs. a) d refl gone_now in
+    let waits : Fits R (name_of s) es (λ V rs. Turning.puts R (Turning.waits R s o) (Turning.sends_it s o words.Finished)) =
+    fits_put R (name_of s) s es (λ V rs. Turning.waits R s o) (λ V rs. Turning.sends_it s o words.Finished) here (λ V rs. refl) gone_now in
+    let third = if not s.header.acknowledged then Turning.closes R (name_of s) (Turning.sends_it s o words.Closed) else Turning.puts R (Turning.waits R s o) (Turning.sends_it s o words.Finished) in
+    let second = if not o.send then Turning.closes R (name_of s) (Turning.concluded s o words.Closed) else third in
+    fits_same_if R (name_of s) es s.is_abandoned (Turning.closes R (name_of s) (Turning.said s words.Closed)) second (closed (Turning.said s words.Closed)) (
+    fits_same_if R (name_of s) es (not o.send) (Turning.closes R (name_of s) (Turning.concluded s o words.Closed)) third (closed (Turning.concluded s o words.Closed)) (
+    fits_same_if R (name_of s) es (not s.header.acknowledged) (Turning.closes R (name_of s) (Turning.sends_it s o words.Closed)) (Turning.puts R (Turning.waits R s o) (Turning.sends_it s o words.Finished))
+    (closed (Turning.sends_it s o words.Closed)) waits
+    )
+    )
+
+fits_finish : (R : State) (o : Option SessionFields) → Sound R.world → AreDistinct R.sessions → Dues.first_over R.world R.sessions ≡ o → Knows R (session_name o) (session_of R (session_name o)) →
+    Fits R (session_name o) (Handing.take_of o) (λ V rs. Turning.finish_parts R o)
+fits_finish R None sound d is k = fits_keeps R nobody (session_of R nobody) silent k
+fits_finish R (Some s) sound d is k =
+    let over = first_over_is R.world R.sessions s is in
+    let here = member_found R.sessions s d over.0 in
+    fits_session R s (Turning.outcome_for s (entry_of R.world (name_of s))) (Handing.take_of (Some s)) d here (finish_there R s s.stage sound refl (k.1 ∙ ap knows here) over.1)
+
+-- ---- each input, of the transaction that it is about
+
+abbrev is_work : Input → Bool
+is_work (Work now) = true
+is_work i = false
+
+fits_ours_none : (R : State) (h : Header) (p : Turning.Parts) → AreKnown R → Fits R (id_of h) [] (λ V rs. p) → Fits R (id_of h) [] (λ V rs. Turning.where_ours R h p)
+fits_ours_none R h p known f =
+    fits_none_if R (id_of h) (Handing.is_ours R h) p (Turning.keeps R (Turning.quiet (Turning.foreign h))) f (fits_keeps R (id_of h) (session_of R (id_of h)) silent (refl, known (id_of h)))
+
+fits_touched : LowerLaws → (R : State) (i : Input) → Sound R.world → AreDistinct R.sessions → AreKnown R → is_work i ≡ false → Fits R (touched_in R i) (Handing.events_of R i) (λ V rs. Turning.parts_of R V rs i)
+fits_touched laws R (MetadataPdu now h m) sound d known w =
+    let o = session_of R (id_of h) in
+    fits_ours R h o (Handing.metadata_events R h m o) (λ V rs. Turning.metadata_parts R V rs h m o) (refl, known (id_of h)) (fits_metadata laws R h m o sound (refl, known (id_of h)))
+fits_touched laws R (DataPdu now h piece) sound d known w =
+    let o = session_of R (id_of h) in
+    fits_ours R h o (Handing.of_session o (DataCame h piece ∷ [])) (λ V rs. Turning.data_parts R V rs h piece o) (refl, known (id_of h)) (fits_data laws R h piece o sound (refl, known (id_of h)))
+fits_touched laws R (EofPdu now h eof) sound d known w =
+    let o = session_of R (id_of h) in
+    fits_ours R h o (Handing.of_session o (EofCame h eof ∷ [])) (λ V rs. Turning.eof_parts R V rs h eof o) (refl, known (id_of h)) (fits_eof laws R h eof o sound (refl, known (id_of h)))
+fits_touched laws R (AckPdu now h ack) sound d known w =
+    fits_ours_none R h (Turning.ack_parts R h ack (session_of R (id_of h))) known (fits_ack R h ack (session_of R (id_of h)) d (refl, known (id_of h)))
+fits_touched laws R (PromptPdu now h prompt) sound d known w =
+    fits_ours_none R h (Turning.prompt_parts R h prompt (session_of R (id_of h))) known (fits_prompt R h prompt (session_of R (id_of h)) (refl, known (id_of h)))
+fits_touched laws R (OtherPdu now h) sound d known w =
+    fits_ours_none R h (Turning.keeps R (Turning.quiet became.NotOurs)) known (fits_keeps R (id_of h) (session_of R (id_of h)) (Turning.quiet became.NotOurs) (refl, known (id_of h)))
+fits_touched laws R (Expire now) sound d known w =
+    let due = Dues.first_due R R.sessions in
+    fits_due laws R due sound d refl (refl, known (due_name due))
+fits_touched laws R (Work now) sound d known w = absurd cc
+fits_touched laws R (Finish now) sound d known w =
+    let o = Dues.first_over R.world R.sessions in
+    fits_finish R o sound d refl (refl, known (session_name o))
+fits_touched laws R (CancelAsked now id) sound d known w = fits_cancel laws R id (session_of R id) sound (refl, known id)
+fits_touched laws R ForgetAsked sound d known w = known nobody
+
+-- ---- the others
+
+abbrev NotAbout : TransactionId → List Event → Type 0
+NotAbout id es = AllByRecursion (λ v. id ≢ about v) es
+
+not_if : (id : TransactionId) (b : Bool) (es fs : List Event) → NotAbout id es → NotAbout id fs → NotAbout id (if b then es else fs)
+not_if id true es fs he hf = he
+not_if id false es fs he hf = hf
+
+not_known : (id : TransactionId) (stage : Stage) (es : List Event) → NotAbout id es → NotAbout id (Handing.where_known stage es)
+not_known id (Held eof) es h = tt
+not_known id Known es h = h
+not_known id (OverStage ending) es h = tt
+not_known id Waiting es h = tt
+
+not_session : (id : TransactionId) (o : Option SessionFields) (es : List Event) → NotAbout id es → NotAbout id (Handing.of_session o es)
+not_session id None es h = tt
+not_session id (Some s) es h = not_known id s.stage es h
+
+other_than : (n id : TransactionId) → is_same n id ≡ false → id ≢ n
+other_than n id other e = both_of (is_same n id) other (ap (is_same n) e ∙ same_self n)
+
+not_metadata_stage : (id : TransactionId) (h : Header) (m : MetadataFields) (s : SessionFields) (stage : Stage) → id ≢ id_of h → name_of s ≡ id_of h → NotAbout id (Handing.metadata_in_stage h m s stage)
+not_metadata_stage id h m s (Held eof) ne name = not_if id h.acknowledged (MetadataCame h m ∷ EofCame s.header eof ∷ []) [] (ne, ((λ e. ne (e ∙ name)), tt)) tt
+not_metadata_stage id h m s Known ne name = (ne, tt)
+not_metadata_stage id h m s (OverStage ending) ne name = tt
+not_metadata_stage id h m s Waiting ne name = tt
+
+not_metadata : (R : State) (id : TransactionId) (h : Header) (m : MetadataFields) (o : Option SessionFields) → id ≢ id_of h → session_of R (id_of h) ≡ o → NotAbout id (Handing.metadata_events R h m o)
+not_metadata R id h m None ne here = not_if id (is_closed R (id_of h) || is_full R) [] (MetadataCame h m ∷ []) tt (ne, tt)
+not_metadata R id h m (Some s) ne here = not_metadata_stage id h m s s.stage ne (found_name R.sessions (id_of h) s here)
+
+not_limit : (id n : TransactionId) (checks : Bool) (how : Handler) → id ≢ n → NotAbout id (Handing.limit_events n checks how)
+not_limit id n checks handlers.Ignore ne = tt
+not_limit id n true handlers.Cancel ne = (ne, tt)
+not_limit id n false handlers.Cancel ne = (ne, tt)
+not_limit id n true handlers.Abandon ne = (ne, tt)
+not_limit id n false handlers.Abandon ne = (ne, tt)
+
+not_due : (R : State) (id : TransactionId) (due : Dues.Due) → id ≢ due_name due → NotAbout id (Handing.due_events R due)
+not_due R id Dues.Nothing_due ne = tt
+not_due R id (Dues.Alive_due s) ne = tt
+not_due R id (Dues.Stage_due s false) ne = not_known id s.stage _ (not_if id (Handing.makes_checks s.header.acknowledged (at_of R.world s)) (Check (name_of s) ∷ []) [] (ne, tt) tt)
+not_due R id (Dues.Stage_due s true) ne =
+    not_known id s.stage _ (not_limit id (name_of s) (Handing.makes_checks s.header.acknowledged (at_of R.world s)) (Dues.handler_at R.mib s.header.acknowledged (at_of R.world s)) ne)
+
+not_take : (id : TransactionId) (o : Option SessionFields) → id ≢ session_name o → NotAbout id (Handing.take_of o)
+not_take id None ne = tt
+not_take id (Some s) ne = not_known id s.stage (Take (name_of s) ∷ []) (ne, tt)
+
+not_handed : (R : State) (i : Input) (id : TransactionId) → is_work i ≡ false → id ≢ touched_in R i → NotAbout id (Handing.events_of R i)
+not_handed R (MetadataPdu now h m) id w ne = not_if id (Handing.is_ours R h) (Handing.metadata_events R h m (session_of R (id_of h))) [] (not_metadata R id h m (session_of R (id_of h)) ne refl) tt
+not_handed R (DataPdu now h piece) id w ne = not_if id (Handing.is_ours R h) (Handing.of_session (session_of R (id_of h)) (DataCame h piece ∷ [])) [] (not_session id (session_of R (id_of h)) (DataCame h piece ∷ []) (ne, tt)) tt
+not_handed R (EofPdu now h eof) id w ne = not_if id (Handing.is_ours R h) (Handing.of_session (session_of R (id_of h)) (EofCame h eof ∷ [])) [] (not_session id (session_of R (id_of h)) (EofCame h eof ∷ []) (ne, tt)) tt
+not_handed R (AckPdu now h ack) id w ne = tt
+not_handed R (PromptPdu now h prompt) id w ne = tt
+not_handed R (OtherPdu now h) id w ne = tt
+not_handed R (Expire now) id w ne = not_due R id (Dues.first_due R R.sessions) ne
+not_handed R (Work now) id w ne = absurd cc
+not_handed R (Finish now) id w ne = not_take id (Dues.first_over R.world R.sessions) ne
+not_handed R (CancelAsked now n) id w ne = not_session id (session_of R n) (Cancel n ∷ []) (ne, tt)
+not_handed R ForgetAsked id w ne = tt
+
+-- a step leaves each entry there, and makes none
+step_own : LowerLaws → (W : World) (id : TransactionId) (o : Option Entry) → Sound W → entry_of W id ≡ o → is_there (next W (Step id)).0 id ≡ is_there W id
+step_own laws W id None sound here = ap (λ (x : Option Entry). is_there (stepped W (index_of W id) x).0 id) here
+step_own laws W id (Some e) sound here = stays_there laws W (Step id) sound refl (ap is_some here) ∙ sym (ap is_some here)
+
+step_same : LowerLaws → NextIsPromised → (W : World) (n : Option TransactionId) (id : TransactionId) → Sound W → is_there (run W (Handing.step_of n)) id ≡ is_there W id
+step_same laws promised W None id sound = refl
+step_same laws promised W (Some n) id sound = elim (cases_Bool (is_same n id)) [
+  | inl same ↦ subst (λ (x : TransactionId). is_there (next W (Step n)).0 x ≡ is_there W x) (same_is n id same) (step_own laws W n (entry_of W n) sound refl)
+  | inr other ↦ ap is_some ((promised W (Step n) sound).others id (other_than n id other))
+]
+
+-- ---- all inputs
+
+run_sound : NextIsSound → (W : World) (es : List Event) → Sound W → Sound (run W es)
+run_sound next_sound W [] s = s
+run_sound next_sound W (v ∷ vs) s = run_sound next_sound (next W v).0 vs (next_sound W v s)
+
+known_but_work : LowerLaws → NextIsSound → NextIsPromised → (R : State) (i : Input) → Sound R.world → AreDistinct R.sessions → AreKnown R → is_work i ≡ false → AreKnown (Turning.after R i)
+known_but_work laws next_sound promised R i sound d known w id =
+    let L = Handing.later (now_of i) R in
+    elim (cases_Bool (is_same (touched R i) id)) [
+      | inl same ↦
+          subst (λ (n : TransactionId). is_there (Turning.after R i).world n ≡ knows (session_of (Turning.after R i) n)) (same_is (touched R i) id same) (fits_touched laws L i sound d known w)
+      | inr other ↦
+          let entry : entry_of (run R.world (Handing.handed R i)) id ≡ entry_of R.world id =
+          entries_stay next_sound promised R.world (Handing.handed R i) id sound (not_handed L i id w (other_than (touched R i) id other)) in
+          ap is_some entry ∙ known id ∙ ap knows (sym (others_stay R i id other))
+    ]
+
+known_after : LowerLaws → NextIsSound → NextIsPromised → (R : State) (i : Input) → Sound R.world → AreDistinct R.sessions → AreKnown R → AreKnown (Turning.after R i)
+known_after laws next_sound promised R (MetadataPdu now h m) sound d known = known_but_work laws next_sound promised R (MetadataPdu now h m) sound d known refl
+known_after laws next_sound promised R (DataPdu now h piece) sound d known = known_but_work laws next_sound promised R (DataPdu now h piece) sound d known refl
+known_after laws next_sound promised R (EofPdu now h eof) sound d known = known_but_work laws next_sound promised R (EofPdu now h eof) sound d known refl
+known_after laws next_sound promised R (AckPdu now h ack) sound d known = known_but_work laws next_sound promised R (AckPdu now h ack) sound d known refl
+known_after laws next_sound promised R (PromptPdu now h prompt) sound d known = known_but_work laws next_sound promised R (PromptPdu now h prompt) sound d known refl
+known_after laws next_sound promised R (OtherPdu now h) sound d known = known_but_work laws next_sound promised R (OtherPdu now h) sound d known refl
+known_after laws next_sound promised R (Expire now) sound d known = known_but_work laws next_sound promised R (Expire now) sound d known refl
+known_after laws next_sound promised R (Work now) sound d known = λ id. step_same laws promised R.world (next_runnable R.world.table) id sound ∙ known id
+known_after laws next_sound promised R (Finish now) sound d known = known_but_work laws next_sound promised R (Finish now) sound d known refl
+known_after laws next_sound promised R (CancelAsked now id) sound d known = known_but_work laws next_sound promised R (CancelAsked now id) sound d known refl
+known_after laws next_sound promised R ForgetAsked sound d known = known_but_work laws next_sound promised R ForgetAsked sound d known refl
+
+known_all : LowerLaws → NextIsSound → NextIsPromised → (R : State) (inputs : List Input) → Sound R.world → AreDistinct R.sessions → AreKnown R → AreKnown (Turning.after_all R inputs)
+known_all laws next_sound promised R [] sound d known = known
+known_all laws next_sound promised R (i ∷ is) sound d known =
+    known_all laws next_sound promised (Turning.after R i) is (run_sound next_sound R.world (Handing.handed R i) sound) (distinct_after R i d) (known_after laws next_sound promised R i sound d known)
+
+pub known_is_entry : LowerLaws → NextIsSound → NextIsPromised → KnownIsEntry
+known_is_entry laws next_sound promised mib W inputs sound none =
+    known_all laws next_sound promised (begin mib W) inputs sound tt (λ id. ap (λ (t : List Entry). is_some (slice_get t (place_of id t))) none)
