@@ -9,3 +9,4 @@ pub mod Limits
 pub mod Asking
 pub mod Serving
 pub mod Knowing
+pub mod Delivering

@@ -16,18 +16,20 @@
 --     IsSet mib                 each interval is at least one tick
 --     ServedOnce                at one moment each timer that is due is served once
 --     KnownIsEntry              a session is known exactly where the core has an entry of its name
+--     data_events h ps          the pieces as File Data PDUs of one transaction
+--     AnsweredIsDelivered       once every missing octet came, the file is complete, or its checksum is wrong
 --     AreApart                  no two sessions have one name
 --     sent_while R inputs id    how often its Finished PDU is sent, as long as it waits for the acknowledgement
 --     SentAtMost                at most as often as the limit says
 --     EntriesStay               events of others leave a transaction's entry in the core as it is
 --     NoneAgain                 a Metadata PDU of a transaction that is closed and remembered is not handed on
-use Rattle.std.specs.Prelude.{◌≡◌, ◌≢◌, ◌⊎◌, ℕ, ◌+◌, ◌-◌, ◌*◌, ◌≤◌, ◌<◌, Bool, true, false, if◌then◌else◌, List, [], ◌∷◌, ◌++◌, length, Option, Some, None, is_some}
+use Rattle.std.specs.Prelude.{◌≡◌, ◌≢◌, ◌⊎◌, ℕ, ◌+◌, ◌-◌, ◌*◌, ◌≤◌, ◌<◌, Bool, true, false, if◌then◌else◌, List, [], ◌∷◌, ◌++◌, map, min, length, Option, Some, None, is_some}
 use Rattle.std.specs.List.{AllByRecursion, flat_map}
 use Rattle.cfdp_status.specs.declared.transaction.TransactionId.{TransactionId}
 use Rattle.cfdp_leases.specs.Leases.{is_same}
 use Rattle.cfdp_directives.specs.declared.ack.TransactionStatus.TheVariants.{Terminated, Unrecognized}
 use Rattle.cfdp_directives.specs.Reading.{NakFields}
-use Rattle.cfdp_retransmission.specs.Coming.{covers, one_if}
+use Rattle.cfdp_retransmission.specs.Coming.{Piece, AreKept, Answers, covers, one_if}
 use Rattle.cfdp_retransmission.specs.declared.timer.Expiry.{Expiry}
 use Rattle.cfdp_retransmission.specs.declared.timer.Expiry.TheVariants.{NotDue, Again, Limit}
 use Rattle.cfdp_pdus.specs.Values.{MetadataFields}
@@ -38,9 +40,12 @@ use Rattle.cfdp_sessions.specs.declared.session.Stage.{Stage}
 use Rattle.cfdp_sessions.specs.declared.session.Stage.TheVariants.{Held, Known, Waiting}
 use Rattle.cfdp_transactions.specs.Entry.{Entry, id_of, reach}
 use Rattle.cfdp_transactions.specs.ReceivedLaws.{octet_at}
+use Rattle.cfdp_transactions.specs.Received.{is_whole}
 use Rattle.cfdp_transactions.specs.declared.event.Event.{Event}
+use Rattle.cfdp_transactions.specs.declared.event.Event.TheVariants.{Data as DataCame}
+use Rattle.cfdp_transactions.specs.declared.phase.Phase.TheVariants.{Awaiting, Executing, Ended}
 use Rattle.cfdp_transactions.specs.Events.{about}
-use Rattle.cfdp_transactions.specs.World.{World, entry_of}
+use Rattle.cfdp_transactions.specs.World.{World, bound, entry_of}
 use Rattle.cfdp_transactions.specs.Next.{run}
 use Rattle.cfdp_transactions.specs.Sound.{Sound}
 use Rattle.cfdp_transactions.specs.Headline.{Promised, AtEach}
@@ -208,6 +213,17 @@ AreKnown R = (id : TransactionId) → is_some (entry_of R.world id) ≡ knows (s
 
 abbrev pub KnownIsEntry : Type 0
 KnownIsEntry = (mib : Mib) (W : World) (inputs : List Input) → Sound W → W.table ≡ [] → AreKnown (after_all (begin mib W) inputs)
+
+abbrev pub data_events : Header → List Piece → List Event
+data_events h ps = map (λ p. DataCame h (record { offset = p.0; octets = p.1 })) ps
+
+-- in Awaiting; none of the pieces is passed over, and none ends after the file does
+abbrev pub AnsweredIsDelivered : Type 0
+AnsweredIsDelivered =
+    (W : World) (h : Header) (e : Entry) (eof : Eof) (made : ℕ) (ps : List Piece) → h.destination ≡ W.config.entity → entry_of W (id_of h) ≡ Some e →
+    e.phase ≡ Awaiting made → e.eof ≡ Some eof → length e.received ≤ eof.size → is_whole eof.size e.received ≡ false →
+    AllByRecursion (λ p. p.0 + length p.1 ≤ min (bound W.config e.metadata) eof.size) ps → AreKept e.received ps → Answers eof.size e.received ps →
+    (now : Entry) × (entry_of (run W (data_events h ps)) (id_of h) ≡ Some now) × ((now.phase ≡ Executing 0) ⊎ (now.phase ≡ Ended 5))
 
 abbrev pub AreApart : Type 0
 AreApart = (mib : Mib) (W : World) (inputs : List Input) → AreDistinct (after_all (begin mib W) inputs).sessions

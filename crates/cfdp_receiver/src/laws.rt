@@ -1,6 +1,6 @@
 //! What is true of the receiver, whatever comes. These functions do nothing: their contracts are the laws.
 
-ghost use Rattle.cfdp_receiver.specs.Laws.{HandsOn, HeadlineHolds, FewEvents, FewPdus, AcknowledgedOnce, OthersStay, UnrecognizedIsTrue, TerminatedIsTrue, ClosedIsOver, FinishedOnly, NoneAgain, NaksAsk, ExactlyMissing, FewNakPdus, FewRequests, ServedOnce, KnownIsEntry, AreApart, SentAtMost, EntriesStay};
+ghost use Rattle.cfdp_receiver.specs.Laws.{HandsOn, HeadlineHolds, FewEvents, FewPdus, AcknowledgedOnce, OthersStay, UnrecognizedIsTrue, TerminatedIsTrue, ClosedIsOver, FinishedOnly, NoneAgain, NaksAsk, ExactlyMissing, FewNakPdus, FewRequests, ServedOnce, KnownIsEntry, AnsweredIsDelivered, AreApart, SentAtMost, EntriesStay};
 
 /// The world of a receiver is the core's own run of the events that its inputs handed on.
 pub fn hands_on()
@@ -122,3 +122,9 @@ pub fn known_is_entry()
     cfdp_states::laws::enough_room();
     cfdp_states::laws::any_slot_with();
 }
+
+/// Once every octet that was missing has come, and no piece was passed over, the file of a transaction that waits for it is complete, or its
+/// checksum is wrong.
+pub fn answered_is_delivered()
+    ensures { AnsweredIsDelivered }
+{}
