@@ -205,7 +205,7 @@ impl Sequence {
             {
                 return false;
             }
-            seen += requests.len().min(1_000);
+            seen = seen.saturating_add(requests.len());
             low = cut.1;
             rest = more;
         }

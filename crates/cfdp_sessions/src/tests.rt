@@ -6,7 +6,7 @@ use crate::{Closed, MOST_SESSIONS, Session, Sessions, Stage};
 use cfdp_pdus::Header;
 use cfdp_retransmission::Timer;
 use cfdp_status::TransactionId;
-use std::alloc::Global;
+use std::alloc::{AllocError, Global};
 
 /// A transaction from entity `source`.
 fn id(source: u64, number: u64) -> TransactionId {
@@ -43,12 +43,12 @@ fn add(sessions: &mut Sessions, session: Session) {
 }
 
 /// 64 sessions of one source, numbered from 0.
-fn full(alloc: Global) -> Option<Sessions> {
-    let mut sessions = Sessions::new(alloc).ok()?;
+fn full(alloc: Global) -> Result<Sessions, AllocError> {
+    let mut sessions = Sessions::new(alloc)?;
     for number in 0..64u64 {
         add(&mut sessions, session(alloc, 1, number, number));
     }
-    Some(sessions)
+    Ok(sessions)
 }
 
 /// Whether the sessions have these numbers, in order.
@@ -62,102 +62,106 @@ fn has_numbers(sessions: &Sessions, numbers: &[u64]) -> bool {
 }
 
 #[test]
-fn fills_and_empties(rt: HostRuntime) {
-    let mut sessions = full(rt.alloc()).unwrap();
-    assert!(rt; sessions.is_full(), "64 sessions");
+fn fills_and_empties(rt: HostRuntime) -> Result<(), AllocError> {
+    let mut sessions = full(rt.alloc())?;
+    assert!(&rt; sessions.is_full(), "64 sessions");
     for number in 0..64u64 {
         let found = sessions.get(id(1, number));
-        assert!(rt;
+        assert!(&rt;
             found.is_some_and(|s| s.alive_at == number),
             "number {number}"
         );
     }
     for number in 0..60u64 {
         sessions.close(id(1, number));
-        assert!(rt; !sessions.is_full(), "less than 64 after {number}");
-        assert!(rt; sessions.get(id(1, number)).is_none(), "closed: {number}");
+        assert!(&rt; !sessions.is_full(), "less than 64 after {number}");
+        assert!(&rt; sessions.get(id(1, number)).is_none(), "closed: {number}");
     }
-    assert!(rt;
+    assert!(&rt;
         has_numbers(&sessions, &[60, 61, 62, 63]),
         "the others, in order"
     );
     add(&mut sessions, session(rt.alloc(), 1, 0, 7));
-    assert!(rt;
+    assert!(&rt;
         has_numbers(&sessions, &[60, 61, 62, 63, 0]),
         "one more, after the others"
     );
+    Ok(())
 }
 
 #[test]
-fn names_at_their_limits(rt: HostRuntime) {
+fn names_at_their_limits(rt: HostRuntime) -> Result<(), AllocError> {
     let alloc = rt.alloc();
-    let mut sessions = Sessions::new(alloc).unwrap();
+    let mut sessions = Sessions::new(alloc)?;
     for (source, number) in [(0, 0), (0, u64::MAX), (u64::MAX, 0), (u64::MAX, u64::MAX)] {
-        assert!(rt;
+        assert!(&rt;
             sessions.get(id(source, number)).is_none(),
             "{source}/{number}: before"
         );
         add(&mut sessions, session(alloc, source, number, 1));
-        assert!(rt;
+        assert!(&rt;
             sessions.get(id(source, number)).is_some(),
             "{source}/{number}: after"
         );
     }
-    assert!(rt; sessions.len() == 4);
+    assert!(&rt; sessions.len() == 4);
+    Ok(())
 }
 
 #[test]
-fn one_is_replaced(rt: HostRuntime) {
+fn one_is_replaced(rt: HostRuntime) -> Result<(), AllocError> {
     let alloc = rt.alloc();
-    let mut sessions = Sessions::new(alloc).unwrap();
+    let mut sessions = Sessions::new(alloc)?;
     for number in 0..3u64 {
         add(&mut sessions, session(alloc, 1, number, 0));
     }
     sessions.put(session(alloc, 1, 1, 9));
     sessions.put(session(alloc, 2, 1, 9));
-    assert!(rt;
+    assert!(&rt;
         has_numbers(&sessions, &[0, 1, 2]),
         "the same names, in order"
     );
     for (number, alive_at) in [(0, 0), (1, 9), (2, 0)] {
         let found = sessions.get(id(1, number));
-        assert!(rt;
+        assert!(&rt;
             found.is_some_and(|s| s.alive_at == alive_at),
             "number {number}"
         );
     }
-    assert!(rt; sessions.get(id(2, 1)).is_none(), "none was added");
+    assert!(&rt; sessions.get(id(2, 1)).is_none(), "none was added");
     sessions.close(id(2, 1));
-    assert!(rt; sessions.len() == 3, "none was closed");
+    assert!(&rt; sessions.len() == 3, "none was closed");
+    Ok(())
 }
 
 /// 256 closed transactions of one source, numbered from 0.
-fn closed(alloc: Global) -> Option<Closed> {
-    let mut closed = Closed::new(alloc).ok()?;
+fn closed(alloc: Global) -> Result<Closed, AllocError> {
+    let mut closed = Closed::new(alloc)?;
     for number in 0..256u64 {
         closed.add(id(1, number));
     }
-    Some(closed)
+    Ok(closed)
 }
 
 #[test]
-fn fills_and_forgets(rt: HostRuntime) {
-    let mut closed = closed(rt.alloc()).unwrap();
-    assert!(rt; !closed.has_forgotten(), "256 names");
+fn fills_and_forgets(rt: HostRuntime) -> Result<(), AllocError> {
+    let mut closed = closed(rt.alloc())?;
+    assert!(&rt; !closed.has_forgotten(), "256 names");
     for number in 0..256u64 {
-        assert!(rt; closed.remembers(id(1, number)), "number {number}");
+        assert!(&rt; closed.remembers(id(1, number)), "number {number}");
     }
-    assert!(rt; !closed.remembers(id(2, 0)), "another source");
+    assert!(&rt; !closed.remembers(id(2, 0)), "another source");
     closed.add(id(1, 256));
-    assert!(rt; closed.has_forgotten(), "257 names");
-    assert!(rt; !closed.remembers(id(1, 0)), "the oldest is dropped");
-    assert!(rt;
+    assert!(&rt; closed.has_forgotten(), "257 names");
+    assert!(&rt; !closed.remembers(id(1, 0)), "the oldest is dropped");
+    assert!(&rt;
         closed.remembers(id(1, 1)) && closed.remembers(id(1, 256)),
         "the others stay"
     );
     closed.clear();
-    assert!(rt;
+    assert!(&rt;
         !closed.remembers(id(1, 256)) && closed.has_forgotten(),
         "cleared"
     );
+    Ok(())
 }
