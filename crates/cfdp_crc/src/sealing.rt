@@ -1,6 +1,6 @@
 //! The CRC at the end of a PDU, checked and taken off in place, or added in place.
 
-ghost use Rattle.std.specs.Prelude.{◌≡◌, ◌≢◌, ◌≤◌, ◌<◌, ◌+◌, ◌/◌, ◌%◌, ◌∷◌, length, slice_index, take, drop, IfOk, IfErr, OnErr, OnOk, Ok, Err};
+ghost use Rattle.std.specs.Prelude.{◌≡◌, ◌≢◌, ◌≤◌, ◌<◌, ◌+◌, ◌/◌, ◌%◌, ◌∷◌, length, slice_index, take, drop, IfOk, IfErr, IsOk, OnErr, OnOk, Ok, Err};
 ghost use Rattle.cfdp_crc.specs.declared.sealing.SealFault.TheVariants.{NoRoom};
 ghost use Rattle.cfdp_crc.specs.Seal.{sealed_at, sealed_by, header_len, plain_by, plain_len, sealed, unsealed, with_flag};
 
@@ -178,6 +178,8 @@ pub fn seal(buffer: &mut [u8], len: usize) -> Result<usize, SealFault>
     ensures rest { IfOk result (λ whole. drop whole buffer.new ≡ drop whole buffer.old) }
     ensures err { IfErr result (λ fault. fault ≢ NoRoom → sealed (take len buffer.old) ≡ Err fault) }
     ensures no_room { result ≡ Err NoRoom → length buffer.old < len + 2 }
+    // Room is judged last: it is missing only where a CRC could be added otherwise.
+    ensures no_room_last { result ≡ Err NoRoom → IsOk (sealed (take len buffer.old)) }
     ensures unchanged { OnErr result (buffer.new ≡ buffer.old) }
 {
     let field = plain_len(&buffer[..len])?;

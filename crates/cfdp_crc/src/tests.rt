@@ -135,7 +135,7 @@ struct Refused {
     fault: SealFault,
 }
 
-static REFUSED: [Refused; 4] = [
+static REFUSED: [Refused; 5] = [
     Refused {
         name: "no octets",
         octets: b"",
@@ -149,6 +149,11 @@ static REFUSED: [Refused; 4] = [
     Refused {
         name: "it has a CRC",
         octets: b"\x2a\x00\x05\x00\x01\x05\x02\x06\x40\x01\x20\x99",
+        fault: SealFault::HasCrc,
+    },
+    Refused {
+        name: "it has a CRC, and there is no room for another",
+        octets: b"\x2a\x00\x18\x00\x01\x05\x02\x08\0\0\0\0\0\0\0\x0f\0\0\0\0\0\0\0\x0f\0\0\0\0\0\0\0",
         fault: SealFault::HasCrc,
     },
     Refused {

@@ -1,4 +1,3 @@
-pub mod Placing
 pub mod Lengths
 pub mod Ranges
 pub mod ReadingBack

@@ -25,7 +25,7 @@ use Rattle.cfdp_directives.specs.declared.read.Directive.TheVariants as directiv
 use Rattle.cfdp_directives.specs.Laws.{AckReadsBack, NakReadsBack, PromptReadsBack, KeepAliveReadsBack}
 use Rattle.cfdp_directives.specs.Reading.{status_code, status_of, ack_at, prompt_at, keep_alive_at, directive_in, directive_at, directive_from, are_pairs, pair_len, pairs_in, pairs_at, pairs_from, nak_of, request_count}
 use Rattle.cfdp_directives.specs.Spelling.{IsSizedKeepAlive, range_octets, ack_field, nak_field, prompt_flags, prompt_field, keep_alive_field}
-use Rattle.cfdp_directives.proofs.Lengths.{range_len, ranges_len}
+use Rattle.cfdp_directives.proofs.Lengths.{range_len, ranges_len, nak_short}
 use Rattle.cfdp_directives.proofs.Ranges.{range_again, ranges_again, are_whole, are_counted}
 
 -- ---- the header
@@ -161,10 +161,6 @@ keep_alive_reads_back header keep_alive is sized =
     directive_again header 12 octets is (inr (inr (inr refl))) short ∙ keep_alive_in header keep_alive sized
 
 -- ---- NAK
-
-nak_short : (large : Bool) (n : ℕ) → n ≤ 4094 → 1 + pair_len large * (1 + n) ≤ 65535
-nak_short true n few = omega arith
-nak_short false n few = omega arith
 
 pairs_again : (header : Header) (octets : List ℕ) → IsHeader header → length (8 ∷ octets) ≤ 65535
     → pairs_at (pdu_octets false header (8 ∷ octets)) ≡ pairs_in header (8 ∷ octets)

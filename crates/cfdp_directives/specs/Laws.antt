@@ -1,5 +1,6 @@
--- What is written of a PDU with a valid header is read as that header and value.
-use Rattle.std.specs.Prelude.{◌≡◌, ◌≤◌, ℕ, List, length, Ok, All}
+-- What is written of a PDU with a valid header is read as that header and value. A NAK PDU has room for as many requests as `most_requests` says,
+-- and for no more.
+use Rattle.std.specs.Prelude.{◌≡◌, ◌≤◌, ◌↔◌, ℕ, Bool, List, length, Ok, All}
 use Rattle.cfdp_pdus.specs.Canonical.{IsHeader}
 use Rattle.cfdp_pdus.specs.declared.header.Header.{Header}
 use Rattle.cfdp_directives.specs.declared.ack.Ack.{Ack}
@@ -7,7 +8,7 @@ use Rattle.cfdp_directives.specs.declared.keep_alive.KeepAlive.{KeepAlive}
 use Rattle.cfdp_directives.specs.declared.prompt.Prompt.{Prompt}
 use Rattle.cfdp_directives.specs.declared.read.Directive.TheVariants as directives
 use Rattle.cfdp_directives.specs.Reading.{directive_at, nak_at}
-use Rattle.cfdp_directives.specs.Spelling.{IsSizedAck, IsSizedRange, IsSizedKeepAlive, ack_pdu, nak_pdu, prompt_pdu, keep_alive_pdu}
+use Rattle.cfdp_directives.specs.Spelling.{IsSizedAck, IsSizedRange, IsSizedKeepAlive, most_requests, ack_pdu, nak_field, nak_pdu, prompt_pdu, keep_alive_pdu}
 
 abbrev pub AckReadsBack : Type 0
 AckReadsBack =
@@ -16,9 +17,14 @@ AckReadsBack =
 
 abbrev pub NakReadsBack : Type 0
 NakReadsBack =
-    (header : Header) (scope : ℕ × ℕ) (requests : List (ℕ × ℕ)) → IsHeader header → length requests ≤ 4094 →
+    (header : Header) (scope : ℕ × ℕ) (requests : List (ℕ × ℕ)) → IsHeader header → length requests ≤ most_requests header.large →
     IsSizedRange header.large scope → All (IsSizedRange header.large) requests →
     nak_at (nak_pdu header scope requests) ≡ Ok (record { header = header; scope = scope; requests = requests })
+
+abbrev pub MostRequestsFit : Type 0
+MostRequestsFit =
+    (large : Bool) (scope : ℕ × ℕ) (requests : List (ℕ × ℕ)) →
+    (length requests ≤ most_requests large) ↔ (length (nak_field large scope requests) ≤ 65535)
 
 abbrev pub PromptReadsBack : Type 0
 PromptReadsBack =

@@ -2,7 +2,8 @@
 --   ack_field, nak_field, prompt_field, keep_alive_field     the data fields
 --   ack_pdu, nak_pdu, prompt_pdu, keep_alive_pdu             the whole PDUs
 --   IsSizedAck, IsSizedRange, IsSizedKeepAlive               the numbers fit their fields
-use Rattle.std.specs.Prelude.{ℕ, ◌+◌, ◌*◌, ◌^◌, ◌<◌, ◌==◌, Bool, false, List, [], ◌∷◌, ◌++◌}
+--   most_requests large                                      how many requests fit into the data field of a NAK PDU
+use Rattle.std.specs.Prelude.{ℕ, ◌+◌, ◌*◌, ◌^◌, ◌<◌, ◌==◌, if◌then◌else◌, Bool, false, List, [], ◌∷◌, ◌++◌}
 use Rattle.std.specs.List.{flat_map}
 use Rattle.byteorder.specs.Endian.{big_bytes}
 use Rattle.cfdp_pdus.specs.Bits.{digit, fss}
@@ -39,6 +40,10 @@ range_octets large range = big_bytes (fss large) range.0 ++ big_bytes (fss large
 
 unfoldable pub nak_field : Bool → ℕ × ℕ → List (ℕ × ℕ) → List ℕ
 nak_field large scope requests = 8 ∷ (range_octets large scope ++ flat_map (range_octets large) requests)
+
+-- a data field has 65,535 octets at most: the directive code, and 16 octets for the scope and for each request of a large file, else 8
+abbrev pub most_requests : Bool → ℕ
+most_requests large = 4094 + (if large then 0 else 4096)
 
 abbrev pub nak_pdu : Header → ℕ × ℕ → List (ℕ × ℕ) → List ℕ
 nak_pdu header scope requests = pdu_octets false header (nak_field header.large scope requests)

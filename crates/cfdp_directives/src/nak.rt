@@ -1,18 +1,21 @@
 //! The NAK PDU, by which a file's receiver asks for what is missing.
 
-ghost use Rattle.std.specs.Prelude.{◌≡◌, ◌≤◌, ◌+◌, ◌*◌, ◌++◌, ◌↔◌, ℕ, All, length, drop, vec_len, true, IfErr, IfOk, IfSome, IfNone, OnOk, OnErr, OnSome, IsOk, IsSome};
+ghost use Rattle.std.specs.Prelude.{◌≡◌, ◌≤◌, ◌<◌, ◌+◌, ◌*◌, ◌++◌, ◌↔◌, ℕ, All, length, drop, vec_len, true, IfErr, IfOk, IfSome, IfNone, OnOk, OnErr, OnSome, IsOk, IsSome};
 ghost use Rattle.std.specs.Vec.{vec_capacity};
 ghost use Rattle.std.specs.List.{flat_map};
 ghost use Rattle.cfdp_tlv.specs.Reading.{Answers};
 ghost use Rattle.cfdp_pdus.specs.Canonical.{IsHeader};
 ghost use Rattle.cfdp_pdus.specs.declared.fault.WriteFault.TheVariants.{Memory};
-ghost use Rattle.cfdp_directives.specs.Placing.{filled, overwritten};
+ghost use Rattle.cfdp_pdus.specs.Placing.{filled, overwritten};
 ghost use Rattle.cfdp_directives.specs.Reading.{are_pairs, nak_in, nak_within, pair_len, pairs_at, pairs_in, range_at, ranges_at};
-ghost use Rattle.cfdp_directives.specs.Spelling.{IsSizedRange, nak_field, nak_pdu, range_octets};
+ghost use Rattle.cfdp_directives.specs.Spelling.{IsSizedRange, most_requests, nak_field, nak_pdu, range_octets};
 
-use crate::put::{add_room, put_header, put_number, put_octets};
+use crate::put::add_room;
 use byteorder::{BigEndian, ByteOrder};
-use cfdp_pdus::{Header, PduFault, WriteFault, directive, header_len, read_start, size_len};
+use cfdp_pdus::{
+    Header, PduFault, WriteFault, directive, header_len, put_header, put_number, put_octets,
+    read_start, size_len,
+};
 use std::error::Error;
 use std::fmt;
 
@@ -65,6 +68,14 @@ impl From<PduFault> for NakFault {
     }
 }
 
+/// How many requests a NAK PDU has at most: as many as fit into its data field of 65,535 octets after the directive code
+/// and the scope. They are 8,190, and 4,094 with the large file flag.
+pub fn most_requests(large: bool) -> usize
+    ensures { result ≡ most_requests large }
+{
+    if large { 4_094 } else { 8_190 }
+}
+
 /// How many octets a start and an end have.
 fn range_len(large: bool) -> usize
     ensures { result ≡ pair_len large }
@@ -75,7 +86,9 @@ fn range_len(large: bool) -> usize
 /// The data field of a NAK PDU: the header, and the octets of its starts and ends.
 #[tactic(auto, unfolding(crate::specs::Reading::pairs_in))]
 fn ranges_in(header: Header, field: &[u8]) -> Result<(Header, &[u8]), PduFault>
+    requires { length field.now ≤ 65535 }
     ensures exact { Answers (λ x. (x.0, x.1.now)) result (pairs_in header field.now) }
+    ensures short { IfOk result (λ x. length x.1.now < 65535) }
     ensures whole { IfOk result (λ x. are_pairs x.0.large (length x.1.now) ≡ true) }
 {
     let [code, rest @ ..] = field else {
@@ -95,6 +108,7 @@ fn ranges_in(header: Header, field: &[u8]) -> Result<(Header, &[u8]), PduFault>
 #[tactic(auto, unfolding(crate::specs::Reading::pairs_at))]
 fn find_ranges(octets: &[u8]) -> Result<(Header, &[u8]), PduFault>
     ensures exact { Answers (λ x. (x.0, x.1.now)) result (pairs_at octets.now) }
+    ensures short { IfOk result (λ x. length x.1.now < 65535) }
     ensures whole { IfOk result (λ x. are_pairs x.0.large (length x.1.now) ≡ true) }
 {
     let start = read_start(octets)?;
@@ -130,7 +144,7 @@ fn read_ranges(large: bool, octets: &[u8], ranges: &mut [Range])
 /// Reads the NAK PDU that the octets spell (CCSDS 727.0-B-5 §5.2.6). Its requests are then the first ranges of
 /// `requests`, as many as [`Nak::count`] says; the others stay. Takes no memory.
 ///
-/// A NAK PDU has 8,190 requests at most. Cost: one pass over the octets.
+/// It has [`most_requests`] at most. Cost: one pass over the octets.
 ///
 /// # Errors
 ///
@@ -141,6 +155,8 @@ fn read_ranges(large: bool, octets: &[u8], ranges: &mut [Range])
 pub fn read_nak(octets: &[u8], requests: &mut [Range]) -> Result<Nak, NakFault>
     ensures exact { Answers (nak_in requests.new) result (nak_within (length requests.old) octets.now) }
     ensures count { IfOk result (λ nak. nak.count ≤ length requests.old) }
+    // As many as a writer takes.
+    ensures most { IfOk result (λ nak. nak.count ≤ most_requests nak.header.large) }
     ensures kept { IfOk result (λ nak. drop nak.count requests.new ≡ drop nak.count requests.old) }
     ensures unchanged { OnErr result (requests.new ≡ requests.old) }
 {
@@ -184,18 +200,18 @@ fn put_ranges(out: &mut [u8], at: usize, large: bool, ranges: &[Range])
 }
 
 /// How many octets the data field has.
-#[tactic(auto, unfolding(crate::specs::Spelling::nak_field))]
+#[tactic(auto, using(crate::proofs::Lengths::nak_short), unfolding(crate::specs::Spelling::nak_field))]
 fn field_len(large: bool, requests: &[Range]) -> u16
-    requires { length requests.now ≤ 4094 }
+    requires { length requests.now ≤ most_requests large }
     ensures { (scope : ℕ × ℕ) → result ≡ length (nak_field large scope requests.now) }
 {
-    1 + range_len(large) as u16 * (1 + requests.len() as u16)
+    (1 + range_len(large) * (1 + requests.len())) as u16
 }
 
 /// How many octets the PDU has.
 fn nak_len(header: &Header, requests: &[Range]) -> usize
     requires header { IsHeader header.now }
-    requires count { length requests.now ≤ 4094 }
+    requires count { length requests.now ≤ most_requests header.now.large }
     ensures { (scope : ℕ × ℕ) → result ≡ length (nak_pdu header.now scope requests.now) }
 {
     header_len(header) + usize::from(field_len(header.large, requests))
@@ -205,7 +221,7 @@ fn nak_len(header: &Header, requests: &[Range]) -> usize
 #[tactic(auto, unfolding(crate::specs::Spelling::nak_field))]
 fn fill_nak(header: &Header, scope: Range, requests: &[Range], out: &mut [u8])
     requires header { IsHeader header.now }
-    requires count { length requests.now ≤ 4094 }
+    requires count { length requests.now ≤ most_requests header.now.large }
     requires scope { IsSizedRange header.now.large scope }
     requires sized { All (IsSizedRange header.now.large) requests.now }
     requires room { length (nak_pdu header.now scope requests.now) ≤ length out.old }
@@ -213,7 +229,7 @@ fn fill_nak(header: &Header, scope: Range, requests: &[Range], out: &mut [u8])
 {
     let large = header.large;
     let at = header_len(header);
-    put_header(out, header, field_len(large, requests));
+    put_header(out, false, header, field_len(large, requests));
     put_octets(out, at, &[directive::NAK]);
     put_range(out, at + 1, large, scope);
     put_ranges(out, at + 1 + range_len(large), large, requests);
@@ -223,11 +239,11 @@ fn fill_nak(header: &Header, scope: Range, requests: &[Range], out: &mut [u8])
 /// length in octets; the rest of the buffer stays. Returns `None`, and writes nothing, exactly where the buffer is
 /// too short. Takes no memory.
 ///
-/// There are 4,094 requests at most, so that the data field has no more than 65,535 octets. The request 0 to 0 asks
+/// There are [`most_requests`] at most, so that the data field has no more than 65,535 octets. The request 0 to 0 asks
 /// for the Metadata PDU. Cost: the octets that it writes.
 pub fn put_nak(header: &Header, scope: Range, requests: &[Range], out: &mut [u8]) -> Option<usize>
     requires header { IsHeader header.now }
-    requires count { length requests.now ≤ 4094 }
+    requires count { length requests.now ≤ most_requests header.now.large }
     requires scope { IsSizedRange header.now.large scope }
     requires sized { All (IsSizedRange header.now.large) requests.now }
     ensures fits { IsSome result ↔ (length (nak_pdu header.now scope requests.now) ≤ length out.old) }
@@ -245,7 +261,7 @@ pub fn put_nak(header: &Header, scope: Range, requests: &[Range], out: &mut [u8]
 
 /// Appends a NAK PDU (CCSDS 727.0-B-5 §5.2.6): its scope and its requests.
 ///
-/// There are 4,094 requests at most, so that the data field has no more than 65,535 octets. The request 0 to 0 asks
+/// There are [`most_requests`] at most, so that the data field has no more than 65,535 octets. The request 0 to 0 asks
 /// for the Metadata PDU. The only fault is `Memory`. Cost: the octets that it appends, and one growth of the vector
 /// at most.
 pub fn write_nak(
@@ -255,7 +271,7 @@ pub fn write_nak(
     out: &mut Vec<u8>,
 ) -> Result<(), WriteFault>
     requires header { IsHeader header.now }
-    requires count { length requests.now ≤ 4094 }
+    requires count { length requests.now ≤ most_requests header.now.large }
     requires scope { IsSizedRange header.now.large scope }
     requires sized { All (IsSizedRange header.now.large) requests.now }
     ensures ok { OnOk result (out.new.items ≡ out.old.items ++ nak_pdu header.now scope requests.now) }

@@ -1,56 +1,12 @@
-//! Writing a PDU, and parts of one.
+//! Writing a directive, as its header and its data field.
 
-ghost use Rattle.std.specs.Prelude.{◌≡◌, ◌≤◌, ◌<◌, ◌+◌, ◌*◌, ◌^◌, ◌++◌, ◌↔◌, length, replicate, vec_len, false, IfErr, IfSome, IfNone, OnOk, OnErr, OnSome, IsOk, IsSome};
+ghost use Rattle.std.specs.Prelude.{◌≡◌, ◌≤◌, ◌+◌, ◌++◌, ◌↔◌, length, replicate, vec_len, false, IfErr, IfSome, IfNone, OnOk, OnErr, OnSome, IsOk, IsSome};
 ghost use Rattle.std.specs.Vec.{vec_capacity};
-ghost use Rattle.byteorder.specs.Endian.{big_bytes};
-ghost use Rattle.cfdp_pdus.specs.Canonical.{IsHeader, header_octets, pdu_octets};
+ghost use Rattle.cfdp_pdus.specs.Canonical.{IsHeader, pdu_octets};
 ghost use Rattle.cfdp_pdus.specs.declared.fault.WriteFault.TheVariants.{Memory};
-ghost use Rattle.cfdp_directives.specs.Placing.{filled, overwritten};
+ghost use Rattle.cfdp_pdus.specs.Placing.{filled};
 
-use byteorder::{BigEndian, ByteOrder};
-use cfdp_pdus::{Header, WriteFault, header_len};
-
-/// Writes octets at an offset.
-pub(crate) fn put_octets(out: &mut [u8], at: usize, octets: &[u8])
-    requires { at + length octets.now ≤ length out.old }
-    ensures { out.new ≡ overwritten out.old at octets.now }
-{
-    out[at..at + octets.len()].copy_from_slice(octets);
-}
-
-/// Writes a number of `len` octets at an offset, the most significant first.
-pub(crate) fn put_number(out: &mut [u8], at: usize, number: u64, len: usize)
-    requires low { 1 ≤ len }
-    requires high { len ≤ 8 }
-    requires fits { number < 256 ^ len }
-    requires room { at + len ≤ length out.old }
-    ensures { out.new ≡ overwritten out.old at (big_bytes len number) }
-{
-    BigEndian::write_uint(&mut out[at..], number, len);
-}
-
-/// Writes the header (CCSDS 727.0-B-5 §5.1) of a directive whose data field has `len` octets: the version is 001, the
-/// CRC flag, the segmentation control bit and the segment metadata flag are 0.
-pub(crate) fn put_header(out: &mut [u8], header: &Header, len: u16)
-    requires valid { IsHeader header.now }
-    requires room { 4 + 2 * header.now.id_len + header.now.number_len ≤ length out.old }
-    ensures { out.new ≡ filled (header_octets false header.now len) out.old }
-{
-    let direction = 8 * u8::from(header.toward_sender);
-    let mode = 4 * u8::from(!header.acknowledged);
-    let id_len = usize::from(header.id_len);
-    let number_len = usize::from(header.number_len);
-    put_octets(out, 0, &[32 + direction + mode + u8::from(header.large)]);
-    put_number(out, 1, u64::from(len), 2);
-    put_octets(
-        out,
-        3,
-        &[16 * (header.id_len - 1) + (header.number_len - 1)],
-    );
-    put_number(out, 4, header.source, id_len);
-    put_number(out, 4 + id_len, header.number, number_len);
-    put_number(out, 4 + id_len + number_len, header.destination, id_len);
-}
+use cfdp_pdus::{Header, WriteFault, header_len, put_header, put_octets};
 
 /// Appends zeros, and asks for their room once.
 pub(crate) fn add_room(out: &mut Vec<u8>, len: usize) -> Result<(), WriteFault>
@@ -80,7 +36,7 @@ fn fill_pdu(header: &Header, field: &[u8], out: &mut [u8])
     requires room { length (pdu_octets false header.now field.now) ≤ length out.old }
     ensures { out.new ≡ filled (pdu_octets false header.now field.now) out.old }
 {
-    put_header(out, header, field.len() as u16);
+    put_header(out, false, header, field.len() as u16);
     put_octets(out, header_len(header), field);
 }
 

@@ -1,5 +1,6 @@
 //! The PDUs of worked transactions as values, both ways, and a slow reader beside the real one.
 
+mod shown;
 mod slow;
 
 ghost use Rattle.std.specs.Prelude.{◌<◌, ◌^◌};
@@ -499,6 +500,48 @@ fn compare(rt: &impl Abort, alloc: Global, row: &Row) -> Result<(), AllocError> 
 fn a_slow_reader_reads_the_same(rt: HostRuntime) -> Result<(), AllocError> {
     for row in &ROWS {
         compare(&rt, rt.alloc(), row)?;
+    }
+    Ok(())
+}
+
+/// A NAK PDU with as many requests as fit: how it begins, its length, and how many they are.
+struct Longest {
+    name: &'static str,
+    begin: &'static [u8],
+    len: usize,
+    large: bool,
+    requests: usize,
+}
+
+static LONGEST: [Longest; 2] = [
+    Longest {
+        name: "a small file",
+        begin: b"\x28\xff\xf9\x00\x01\x05\x02\x08",
+        len: 7 + 1 + 8 * 8_191,
+        large: false,
+        requests: 8_190,
+    },
+    Longest {
+        name: "a large file",
+        begin: b"\x29\xff\xf1\x00\x01\x05\x02\x08",
+        len: 7 + 1 + 16 * 4_095,
+        large: true,
+        requests: 4_094,
+    },
+];
+
+#[test]
+fn the_most_requests_are_read(rt: HostRuntime) -> Result<(), AllocError> {
+    for row in &LONGEST {
+        let name = row.name;
+        let mut octets = Vec::from_slice(rt.alloc(), row.begin)?;
+        octets.resize(row.len, 0)?;
+        let mut list = Vec::new(rt.alloc());
+        list.resize(row.requests, UNTOUCHED)?;
+        let count = read_nak(&octets, &mut list).map(|nak| nak.count);
+        assert!(rt; count == Ok(row.requests), "{name}");
+        assert!(rt; most_requests(row.large) == row.requests, "most: {name}");
+        assert!(rt; list.last() == Some(&(0, 0)), "last: {name}");
     }
     Ok(())
 }

@@ -24,7 +24,7 @@ use Rattle.cfdp_pdus.proofs.OutcomeSteps.{outcome_take, outcome_again}
 name_takes : (octets name rest : List ℕ) → name_at octets ≡ Ok (name, rest) → octets ≡ lv name ++ rest
 name_takes octets name rest e = lv_takes octets name rest (mend_ok LengthMismatch (lv_at octets) (name, rest) e)
 
-name_again : (name rest : List ℕ) → name_at (lv name ++ rest) ≡ Ok (name, rest)
+pub name_again : (name rest : List ℕ) → name_at (lv name ++ rest) ≡ Ok (name, rest)
 name_again name rest = ap (mend LengthMismatch) (lv_again name rest)
 
 -- ---- Metadata

@@ -17,3 +17,5 @@ pub mod SoundSteps
 pub mod DirectiveSteps
 pub mod ReceiveSteps
 pub mod FaultSteps
+pub mod MessageSteps
+pub mod Placing

@@ -116,7 +116,7 @@ header_takes first (high ∷ low ∷ fourth ∷ octets) start e version no_crc =
       segment_metadata = refl;
     })
 
-start_takes : (octets : List ℕ) (start : Start) → start_at octets ≡ Ok start → Begins octets start
+pub start_takes : (octets : List ℕ) (start : Start) → start_at octets ≡ Ok start → Begins octets start
 unfolding start_at
 start_takes [] start e = absurd cc
 start_takes (first ∷ octets) start e =
@@ -219,7 +219,7 @@ field_takes false segment_metadata header (code ∷ octets) pdu e =
     let directs = directive_takes header code octets pdu e in
     record { of_header = directs.of_header; spelled = directs.spelled }
 
-field_again : (file_data segment_metadata : Bool) (field : List ℕ) (pdu : Pdu) → SpellsField file_data segment_metadata field pdu
+pub field_again : (file_data segment_metadata : Bool) (field : List ℕ) (pdu : Pdu) → SpellsField file_data segment_metadata field pdu
     → field_at (record { file_data = file_data; segment_metadata = segment_metadata; header = header_of pdu; field = field }) ≡ Ok pdu
 unfolding field_at
 field_again true segment_metadata field (pdus.FileData header file_data) spelled = rw (file_data_again header.large segment_metadata field file_data spelled) refl
@@ -249,7 +249,7 @@ pdu_takes octets pdu e =
       spelled = spelled;
     })
 
-header_again : (first high low fourth : ℕ) (names field : List ℕ) (header : Header) → HasHeader first fourth names header → length field ≡ 256 * high + low
+pub header_again : (first high low fourth : ℕ) (names field : List ℕ) (header : Header) → HasHeader first fourth names header → length field ≡ 256 * high + low
     → start_at (first ∷ high ∷ low ∷ fourth ∷ (names ++ field)) ≡ Ok (record { file_data = flag 4 first; segment_metadata = flag 3 fourth; header = header; field = field })
 unfolding start_at header_at
 header_again first high low fourth names field header has len =

@@ -1,5 +1,5 @@
 -- A PDU that octets spell is sound.
-use Rattle.std.proofs.Common.{◌≡◌, ◌<◌, ℕ, zero, suc, ◌^◌, List, [], ◌∷◌, ◌++◌, length, get_or, Bool, true, false, Result, Ok, Err, sym, ap, subst, arith}
+use Rattle.std.proofs.Common.{◌≡◌, ◌<◌, ◌≤◌, ℕ, zero, suc, ◌^◌, List, [], ◌∷◌, ◌++◌, length, get_or, Bool, true, false, Result, Ok, Err, sym, ap, subst, arith}
 use Rattle.std.specs.Prelude.{IfOk}
 use Rattle.std.specs.List.{AllByRecursion}
 use Rattle.byteorder.specs.Numbers.{big_from-lt}
@@ -15,6 +15,8 @@ use Rattle.cfdp_pdus.specs.Values.{MetadataFields, FileDataFields, FinishedField
 use Rattle.cfdp_pdus.specs.Bits.{flag, IsNumber, fss}
 use Rattle.cfdp_pdus.specs.Grammar.{values_of, field_octets, EachAsks, HasHeader, header_of, SpellsDirective, SpellsField, SpellsMetadata, SpellsFileData, SpellsEof, SpellsFinished, SpellsPdu}
 use Rattle.cfdp_pdus.specs.Canonical.{IsHeader, IsSizedFileData, IsSizedEof, IsAnswerable}
+use Rattle.cfdp_pdus.specs.First.{Start, start_at}
+use Rattle.cfdp_pdus.proofs.PduSteps.{start_takes}
 use Rattle.cfdp_pdus.specs.Sound.{IsSound, IsSoundMetadata, IsSoundFinished}
 
 -- ---- octets are below 256
@@ -58,6 +60,15 @@ header_sound first fourth names header are has =
       number = number_fits has.number_octets header.number_len header.number (front has.number_octets has.destination_octets rest) has.number;
       destination = number_fits has.destination_octets header.id_len header.destination (behind has.number_octets has.destination_octets rest) has.destination;
     }
+
+-- a data field's length has two octets
+pub field_short : (octets : List ℕ) (start : Start) → AreOctets octets → start_at octets ≡ Ok start → length start.field ≤ 65535
+field_short octets start are read =
+    let begins = start_takes octets start read in
+    let all : AreOctets (begins.first ∷ begins.high ∷ begins.low ∷ begins.fourth ∷ begins.rest) = subst AreOctets begins.octets_are are in
+    let high : begins.high < 256 = all.1.0 in
+    let low : begins.low < 256 = all.1.1.0 in
+    omega (arith, begins.field_len)
 
 -- ---- the data fields
 

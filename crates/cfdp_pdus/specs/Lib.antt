@@ -9,3 +9,5 @@ pub mod Equality
 pub mod Texts
 pub mod Sound
 pub mod Receiving
+pub mod Messages
+pub mod Placing

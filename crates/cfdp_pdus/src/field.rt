@@ -14,6 +14,9 @@ use cfdp_tlv::{
 };
 use std::alloc::{AllocError, Global};
 
+/// The type of a message to user TLV.
+pub const MESSAGE_TO_USER: u8 = 2;
+
 /// The type of an entity ID TLV.
 pub const ENTITY_ID: u8 = 6;
 
@@ -43,7 +46,7 @@ fn read_request_parts(value: &[u8]) -> Result<RequestParts<'_>, PduFault>
 
 /// How many filestore requests there are among TLV fields, each of which is looked at. It takes no
 /// memory.
-fn count_requests(octets: &[u8]) -> Result<usize, PduFault>
+pub fn count_requests(octets: &[u8]) -> Result<usize, PduFault>
     ensures { result ≡ count_of (requests_of (fields_at octets.now)) }
 {
     let mut count = 0usize;

@@ -8,9 +8,11 @@
 //! asks for room once, for the whole PDU, before it writes.
 //!
 //! What every PDU has in common is public too, for crates that read and write further PDUs: [`read_start`] reads a header,
-//! [`push_header`] appends one, [`read_number`] and [`push_number`] do so with numbers, and [`directive`] has the directive codes.
+//! [`push_header`] appends one and [`put_header`] writes one into a buffer, [`read_number`], [`push_number`] and [`put_number`] do so with
+//! numbers, and [`directive`] has the directive codes.
 #![tactic(auto)]
 
+mod buffer;
 pub mod directive;
 mod eof;
 mod fault;
@@ -19,6 +21,7 @@ mod file_data;
 mod finished;
 mod header;
 pub mod laws;
+mod message;
 mod metadata;
 mod number;
 mod pdu;
@@ -27,12 +30,14 @@ mod read;
 #[cfg(test)]
 mod tests;
 
+pub use buffer::{put_header, put_number, put_octets};
 pub use cfdp_checksum::modular_checksum;
 pub use eof::{Eof, write_eof};
 pub use fault::{PduFault, WriteFault};
 pub use file_data::{FileData, Piece, write_file_data};
 pub use finished::{Finished, write_finished};
 pub use header::{Header, Start, read_start};
+pub use message::{Messages, read_messages};
 pub use metadata::{Metadata, write_metadata};
 pub use number::{bit, read_number, size_len};
 pub use pdu::Pdu;

@@ -7,11 +7,15 @@ ghost use Rattle.cfdp_pdus.specs.Canonical.{IsHeader, header_octets, location, f
 ghost use Rattle.std.specs.Option.{ForSome};
 
 use crate::Header;
+use crate::buffer::put_header;
 use crate::field::ENTITY_ID;
 use byteorder::{BigEndian, ByteOrder};
 
 /// The longest data field, in octets: its length is two octets.
 pub const MAX_FIELD_LEN: usize = 65_535;
+
+/// The longest header, in octets.
+const MAX_HEADER_LEN: usize = 28;
 
 /// Appends a number of `len` octets, the most significant first. There is room for them, so no memory is asked for.
 pub fn push_number(out: &mut Vec<u8>, number: u64, len: usize)
@@ -84,13 +88,8 @@ pub fn push_header(out: &mut Vec<u8>, file_data: bool, header: &Header, len: u16
     ensures len { vec_len out.new ≡ vec_len out.old + (4 + 2 * header.now.id_len + header.now.number_len) }
     ensures capacity { vec_capacity out.old ≤ vec_capacity out.new }
 {
-    let kind = 16 * u8::from(file_data);
-    let direction = 8 * u8::from(header.toward_sender);
-    let mode = 4 * u8::from(!header.acknowledged);
-    out.push_reserved(32 + kind + direction + mode + u8::from(header.large));
-    push_number(out, u64::from(len), 2);
-    out.push_reserved(16 * (header.id_len - 1) + (header.number_len - 1));
-    push_number(out, header.source, usize::from(header.id_len));
-    push_number(out, header.number, usize::from(header.number_len));
-    push_number(out, header.destination, usize::from(header.id_len));
+    let mut octets = [0u8; MAX_HEADER_LEN];
+    put_header(&mut octets, file_data, header, len);
+    out.extend_from_slice(&octets[..header_len(header)])
+        .unwrap();
 }

@@ -1,5 +1,7 @@
 //! The PDUs of worked transactions, read and written with ample memory.
 
+mod user_messages;
+
 ghost use Rattle.std.specs.Prelude.{◌<◌, ◌^◌, IfSome};
 ghost use Rattle.cfdp_pdus.specs.Canonical.{IsHeader};
 

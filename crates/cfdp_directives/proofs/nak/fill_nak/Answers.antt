@@ -2,10 +2,10 @@ use Rattle.std.proofs.Common.{arith, ◌≡◌, ◌+◌, ◌≤◌, ◌∷◌, [
 use Rattle.std.specs.List.{flat_map}
 use Rattle.cfdp_pdus.proofs.WriteSteps.{pdu_len}
 use Rattle.cfdp_pdus.specs.Canonical.{header_octets}
-use Rattle.cfdp_directives.specs.Placing.{filled, overwritten}
+use Rattle.cfdp_pdus.specs.Placing.{filled, overwritten}
 use Rattle.cfdp_directives.specs.Spelling.{nak_field, range_octets}
 use Rattle.cfdp_directives.proofs.Lengths.{nak_parts, range_len}
-use Rattle.cfdp_directives.proofs.Placing.{then, pdu_filled}
+use Rattle.cfdp_pdus.proofs.Placing.{then, pdu_filled}
 use Rattle.cfdp_directives.proofs.nak.fill_nak.Goals as goal
 
 pub put_header-requires-clause-room : goal.put_header-requires-clause-room
@@ -71,4 +71,4 @@ returns c =
     then c.put_header.new.out c.put_range.new.out c.put_ranges.new.out (code ++ scope) requests at (at + 1 + c.range_len.result)
     within till_scope c.put_ranges.ensures
     (omega (arith, c.range_len.ensures, range_len h.large c.args.scope)) in
-    pdu_filled h c.args.out.now c.put_header.new.out c.put_ranges.new.out field at header till_requests c.header_len-at.ensures
+    pdu_filled false h c.args.out.now c.put_header.new.out c.put_ranges.new.out field at header till_requests c.header_len-at.ensures

@@ -1,6 +1,6 @@
 use Rattle.std.proofs.Common.{arith, false}
 use Rattle.cfdp_pdus.proofs.WriteSteps.{pdu_len}
-use Rattle.cfdp_directives.proofs.Placing.{pdu_filled}
+use Rattle.cfdp_pdus.proofs.Placing.{pdu_filled}
 use Rattle.cfdp_directives.proofs.put.fill_pdu.Goals as goal
 
 pub put_header-requires-clause-room : goal.put_header-requires-clause-room
@@ -12,5 +12,5 @@ put_octets-requires c =
 
 pub returns : goal.returns
 returns c =
-    pdu_filled c.args.header.now c.args.out.now c.put_header.new.out c.put_octets.new.out c.args.field.now _
+    pdu_filled false c.args.header.now c.args.out.now c.put_header.new.out c.put_octets.new.out c.args.field.now _
     c.put_header.ensures c.put_octets.ensures c.header_len.ensures

@@ -1,11 +1,11 @@
 -- Octets that are put one part after the other.
-use Rattle.std.proofs.Common.{◌≡◌, ◌≤◌, ℕ, ◌+◌, ◌*◌, List, [], ◌∷◌, ◌++◌, length, take, drop, false, refl, sym, ap, ◌∙◌, append_assoc, arith}
+use Rattle.std.proofs.Common.{◌≡◌, ◌≤◌, ℕ, ◌+◌, ◌*◌, List, [], ◌∷◌, ◌++◌, length, take, drop, Bool, refl, sym, ap, ◌∙◌, append_assoc, arith}
 use Rattle.std.proofs.lemmas.List.{length-append, length-take-le, take_at, drop_at, drop-drop}
 use Rattle.byteorder.specs.Endian.{big_bytes}
 use Rattle.byteorder.specs.Numbers.{length-bytes_high_first}
 use Rattle.cfdp_pdus.specs.Canonical.{first_octet, fourth_octet, header_octets, pdu_octets}
 use Rattle.cfdp_pdus.specs.declared.header.Header.{Header}
-use Rattle.cfdp_directives.specs.Placing.{filled, overwritten}
+use Rattle.cfdp_pdus.specs.Placing.{filled, overwritten}
 
 -- a part after those that are there
 pub overwritten-overwritten : (buffer xs ys : List ℕ) (at next : ℕ)
@@ -47,8 +47,8 @@ pub after : (buffer now new xs ys : List ℕ) (next : ℕ)
 after buffer now new xs ys next is_now is_new same =
     then buffer now new xs ys 0 next (omega arith) (is_now ∙ sym (at_front buffer xs)) is_new (omega (arith, same)) ∙ at_front buffer (xs ++ ys)
 
-pub length-header_octets : (header : Header) (len : ℕ) → length (header_octets false header len) ≡ 4 + 2 * header.id_len + header.number_len
-length-header_octets header len =
+pub length-header_octets : (file_data : Bool) (header : Header) (len : ℕ) → length (header_octets file_data header len) ≡ 4 + 2 * header.id_len + header.number_len
+length-header_octets file_data header len =
     let source = big_bytes header.id_len header.source in
     let number = big_bytes header.number_len header.number in
     let destination = big_bytes header.id_len header.destination in
@@ -62,19 +62,19 @@ length-header_octets header len =
     )
 
 -- the six parts of a header
-pub header_filled : (header : Header) (len : ℕ) (b p q r s t u : List ℕ) (second third : ℕ)
-    → p ≡ overwritten b 0 (first_octet false header ∷ [])
+pub header_filled : (file_data : Bool) (header : Header) (len : ℕ) (b p q r s t u : List ℕ) (second third : ℕ)
+    → p ≡ overwritten b 0 (first_octet file_data header ∷ [])
     → q ≡ overwritten p 1 (big_bytes 2 len)
     → r ≡ overwritten q 3 (fourth_octet header ∷ [])
     → s ≡ overwritten r 4 (big_bytes header.id_len header.source)
     → t ≡ overwritten s second (big_bytes header.number_len header.number) → second ≡ 4 + header.id_len
     → u ≡ overwritten t third (big_bytes header.id_len header.destination) → third ≡ 4 + header.id_len + header.number_len
-    → u ≡ filled (header_octets false header len) b
-header_filled header len b p q r s t u second third is_p is_q is_r is_s is_t at_second is_u at_third =
+    → u ≡ filled (header_octets file_data header len) b
+header_filled file_data header len b p q r s t u second third is_p is_q is_r is_s is_t at_second is_u at_third =
     let source = big_bytes header.id_len header.source in
     let number = big_bytes header.number_len header.number in
     let destination = big_bytes header.id_len header.destination in
-    let first = first_octet false header ∷ [] in
+    let first = first_octet file_data header ∷ [] in
     let fourth = fourth_octet header ∷ [] in
     let front = first ++ (big_bytes 2 len ++ fourth) in
     let till_q = after b p q first (big_bytes 2 len) 1 (is_p ∙ at_front b first) is_q refl in
@@ -93,9 +93,16 @@ header_filled header len b p q r s t u second third is_p is_q is_r is_s is_t at_
     till_u ∙ ap (λ (o : List ℕ). filled (front ++ o) b) (append_assoc source number destination)
 
 -- the data field after the header
-pub pdu_filled : (header : Header) (buffer now new field : List ℕ) (at : ℕ)
-    → now ≡ filled (header_octets false header (length field)) buffer → new ≡ overwritten now at field
-    → at ≡ 4 + 2 * header.id_len + header.number_len → new ≡ filled (pdu_octets false header field) buffer
-pdu_filled header buffer now new field at is_now is_new same =
-    let octets = header_octets false header (length field) in
-    after buffer now new octets field at is_now is_new (same ∙ sym (length-header_octets header (length field)))
+pub pdu_filled : (file_data : Bool) (header : Header) (buffer now new field : List ℕ) (at : ℕ)
+    → now ≡ filled (header_octets file_data header (length field)) buffer → new ≡ overwritten now at field
+    → at ≡ 4 + 2 * header.id_len + header.number_len → new ≡ filled (pdu_octets file_data header field) buffer
+pdu_filled file_data header buffer now new field at is_now is_new same =
+    let octets = header_octets file_data header (length field) in
+    after buffer now new octets field at is_now is_new (same ∙ sym (length-header_octets file_data header (length field)))
+
+-- a header that was written to the front is there
+pub header_front : (file_data : Bool) (header : Header) (len : ℕ) (buffer : List ℕ) (n : ℕ) → n ≡ 4 + 2 * header.id_len + header.number_len
+    → take n (filled (header_octets file_data header len) buffer) ≡ header_octets file_data header len
+header_front file_data header len buffer n is =
+    let octets = header_octets file_data header len in
+    take_at octets (drop (length octets) buffer) n (length-header_octets file_data header len ∙ sym is)
