@@ -157,6 +157,13 @@ struct cfdp_transaction {
     uint64_t number;
 };
 
+/* What the Metadata PDU of a transaction said (5.2.5), but for its names and its filestore requests. */
+struct cfdp_metadata {
+    uint64_t size;          /* of the file, in octets; 0 if it is unbounded */
+    uint32_t closure;       /* 1 if transaction closure is requested, else 0 */
+    uint32_t checksum_type; /* 0 to 15: 0 is the modular checksum, 15 is none */
+};
+
 /* How far a transaction is. */
 enum cfdp_phase_kind {
     CFDP_PHASE_RECEIVING = 1,   /* file data is taken, and no EOF PDU has come */
@@ -223,6 +230,16 @@ uint32_t cfdp_gap(struct cfdp_engine *engine, uint64_t source, uint64_t number, 
  * is taken. Answers CFDP_DONE, CFDP_NOTHING if there is no such transaction, or CFDP_NO_ENGINE. */
 uint32_t cfdp_progress(struct cfdp_engine *engine, uint64_t source, uint64_t number, uint64_t *offset);
 uint32_t cfdp_reach(struct cfdp_engine *engine, uint64_t source, uint64_t number, uint64_t *offset);
+
+/* What the Metadata PDU of a transaction said, as long as its outcome was not taken. Answers CFDP_DONE, CFDP_NOTHING if there is no such
+ * transaction, or CFDP_NO_ENGINE. */
+uint32_t cfdp_metadata(struct cfdp_engine *engine, uint64_t source, uint64_t number, struct cfdp_metadata *metadata);
+
+/* The source and the destination file name of a transaction's Metadata PDU, as it spells them. The octets are written to the beginning
+ * of `out`, with no 0 after them, and `*count` says how many they are: at most 255, and 0 if the PDU names no file. Answers
+ * CFDP_DONE; CFDP_TOO_SHORT with the length needed in `*count`; CFDP_NOTHING if there is no such transaction; or CFDP_NO_ENGINE. */
+uint32_t cfdp_source_name(struct cfdp_engine *engine, uint64_t source, uint64_t number, uint8_t *out, size_t room, size_t *count);
+uint32_t cfdp_destination_name(struct cfdp_engine *engine, uint64_t source, uint64_t number, uint8_t *out, size_t room, size_t *count);
 
 /* What stands at a path. Answers CFDP_DONE, CFDP_NOTHING, CFDP_BAD_PATH, or CFDP_NO_ENGINE. Cost: one pass over a file's octets, for its
  * checksum. */

@@ -83,6 +83,22 @@ static void show_gaps(uint64_t source, uint64_t number) {
         printf("missing %" PRIu64 " to %" PRIu64 "\n", gap.start, gap.end);
 }
 
+/* What the Metadata PDU of a transaction said. */
+static void show_metadata(uint64_t source, uint64_t number) {
+    struct cfdp_metadata metadata = {0};
+    uint8_t from[255], to[255];
+    size_t from_count = 0, to_count = 0;
+    expect(cfdp_metadata(&engine, source, number, &metadata), CFDP_DONE);
+    expect(cfdp_source_name(&engine, source, number, from, sizeof from, &from_count), CFDP_DONE);
+    expect(cfdp_destination_name(&engine, source, number, to, sizeof to, &to_count), CFDP_DONE);
+    printf("metadata: %" PRIu64 " octets, closure %" PRIu32 ", checksum type %" PRIu32 ", '%.*s' to '%.*s'\n", metadata.size, metadata.closure,
+        metadata.checksum_type, (int)from_count, (const char *)from, (int)to_count, (const char *)to);
+    /* A buffer that is too short: the length that is needed. */
+    if (to_count == 0) return;
+    expect(cfdp_destination_name(&engine, source, number, from, to_count - 1, &from_count), CFDP_TOO_SHORT);
+    expect((uint32_t)from_count, (uint32_t)to_count);
+}
+
 /* How far a transaction's file has come. */
 static void show_progress(uint64_t source, uint64_t number) {
     uint64_t progress = 0;
@@ -156,11 +172,13 @@ int main(void) {
     expect(cfdp_reply_text(&(struct cfdp_reply){.kind = 18}, list_eof, 0, line, sizeof line, &count), CFDP_NOTHING);
 
     RECEIVE(list_metadata);
+    show_metadata(1, 1);
     RECEIVE(list_eof);
     run();
     take(1, 1);
 
     RECEIVE(file_metadata);
+    show_metadata(1, 2);
     show_progress(1, 2);
     show_order();
     RECEIVE(other_metadata);
@@ -191,6 +209,9 @@ int main(void) {
     uint64_t progress = 0;
     expect(cfdp_progress(&engine, 1, 2, &progress), CFDP_NOTHING);
     expect(cfdp_reach(&engine, 1, 2, &progress), CFDP_NOTHING);
+    struct cfdp_metadata metadata;
+    expect(cfdp_metadata(&engine, 1, 2, &metadata), CFDP_NOTHING);
+    expect(cfdp_source_name(&engine, 1, 2, line, sizeof line, &count), CFDP_NOTHING);
     show_order();
 
     show_file(&(struct cfdp_path){.length = 8, .octets = "app/prog"});
@@ -205,5 +226,7 @@ int main(void) {
     printf("free %" PRIu32 " spare %" PRIu32 "\n", blocks.free, blocks.spare);
     expect(cfdp_free(&engine), CFDP_DONE);
     expect(cfdp_free(&engine), CFDP_NO_ENGINE);
+    expect(cfdp_metadata(&engine, 1, 2, &metadata), CFDP_NO_ENGINE);
+    expect(cfdp_destination_name(&engine, 1, 2, line, sizeof line, &count), CFDP_NO_ENGINE);
     return failed;
 }

@@ -6,4 +6,5 @@ pub mod Calls
 pub mod Reads
 pub mod Stored
 pub mod Shown
+pub mod Announced
 pub mod Next

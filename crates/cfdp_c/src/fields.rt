@@ -37,6 +37,19 @@ pub struct NameFields {
     pub number: u64,
 }
 
+/// A C `struct cfdp_metadata`: what the Metadata PDU of a transaction said (CCSDS 727.0-B-5 §5.2.5), but for its names and
+/// its filestore requests.
+#[derive(Clone, Copy, Debug, PartialEq, Eq)]
+#[repr(C)]
+pub struct MetadataNumbers {
+    /// The file's size in octets; 0 where it is unbounded.
+    pub size: u64,
+    /// Whether transaction closure is requested: 1 or 0.
+    pub closure: u32,
+    /// The checksum type, 0 to 15: 0 is the modular checksum, 15 is none.
+    pub checksum_type: u32,
+}
+
 /// A C `struct cfdp_phase`: how far a transaction is.
 #[derive(Clone, Copy, Debug, PartialEq, Eq)]
 #[repr(C)]

@@ -6,6 +6,7 @@
 //! (`fields`, `reply`, `answer`).
 #![tactic(auto)]
 
+mod announced;
 mod answer;
 mod events;
 mod fields;
@@ -19,6 +20,7 @@ mod slot;
 mod store;
 mod texts;
 
+pub use announced::{cfdp_destination_name, cfdp_metadata, cfdp_source_name};
 pub use events::{cfdp_cancel, cfdp_check, cfdp_receive, cfdp_step, cfdp_take};
 pub use making::{cfdp_engine_octets, cfdp_free, cfdp_new};
 pub use next::cfdp_next;

@@ -111,7 +111,7 @@ fn line_of(
 }
 
 /// Writes a text to the beginning of a buffer, and tells its length; or tells only that, where it does not fit.
-fn put(text: &[u8], out: &mut [u8], count: &mut usize) -> Answer
+pub(crate) fn put(text: &[u8], out: &mut [u8], count: &mut usize) -> Answer
     ensures { Puts text.now out.old out.new count.new (code_of result) }
 {
     *count = text.len();
