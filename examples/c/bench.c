@@ -160,7 +160,7 @@ static void add_request(enum action action, const char *first, const char *secon
 
 static uint8_t octet_of(uint32_t at) { return (uint8_t)((at * 2654435761u) >> 24); }
 
-/* A File Data PDU with so many octets of a file, from the offset `at` on. */
+/* A File Data PDU with `count` octets of a file, from the offset `at` on. */
 static void make_data(uint32_t number, uint32_t at, uint32_t count) {
     begin(0x34, number);
     put_number(at);
@@ -420,7 +420,7 @@ static void check_gap(uint32_t count) {
     check_pieces(count);
 }
 
-/* So many blocks are in use. */
+/* Fails unless `used` blocks are in use. */
 static void check_blocks(uint32_t used) {
     struct cfdp_blocks blocks;
     if (cfdp_blocks(&engine, &blocks) != CFDP_DONE || blocks.free != BLOCKS - used) fail("another number of free blocks");

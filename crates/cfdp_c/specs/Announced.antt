@@ -1,8 +1,8 @@
--- What the calls from C tell of a transaction's Metadata PDU.
---   metadata_of W id          what the Metadata PDU of a transaction said, where the transaction is there
+-- What C reads of the Metadata PDU of a transaction.
+--   metadata_of W id          the Metadata PDU of a transaction, if the engine has the transaction
 --   metadata_numbers m        its numbers, as a struct
---   WritesName f handle out written before count answer    the name that f tells of an engine's world is written to the beginning of a
---                             buffer and its length told; or it does not fit; or there is none
+--   WritesName f handle out written before count answer    the name that f reads in an engine's world is written to the start of a
+--                             buffer, and its length to count; or it does not fit; or there is none
 use Rattle.std.specs.Prelude.{◌≡◌, ℕ, if◌then◌else◌, List, Option, Some, None}
 use Rattle.cfdp_status.specs.declared.transaction.TransactionId.{TransactionId}
 use Rattle.cfdp_pdus.specs.Values.{MetadataFields}

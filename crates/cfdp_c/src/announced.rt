@@ -1,4 +1,4 @@
-//! What an engine tells of a transaction's Metadata PDU. Nothing here takes memory or changes anything.
+//! What the Metadata PDU of a transaction announced. Nothing here takes memory or changes anything.
 ghost use Rattle.std.specs.Prelude.{◌≡◌};
 ghost use Rattle.std.specs.Option.{option_map};
 ghost use Rattle.cfdp_c.specs.Announced.{WritesName, metadata_numbers, metadata_of};
@@ -41,8 +41,8 @@ pub extern "C" fn cfdp_metadata(
     };
     let answer = match entity.core().metadata(TransactionId { source, number }) {
         None => Answer::Nothing,
-        Some(told) => {
-            *metadata = metadata_numbers(told);
+        Some(announced) => {
+            *metadata = metadata_numbers(announced);
             Answer::Done
         }
     };
@@ -68,7 +68,7 @@ pub extern "C" fn cfdp_source_name(
     };
     let answer = match entity.core().metadata(TransactionId { source, number }) {
         None => Answer::Nothing,
-        Some(told) => put(&told.source_name, out, count),
+        Some(announced) => put(&announced.source_name, out, count),
     };
     engine.put(entity);
     answer.code()
@@ -92,7 +92,7 @@ pub extern "C" fn cfdp_destination_name(
     };
     let answer = match entity.core().metadata(TransactionId { source, number }) {
         None => Answer::Nothing,
-        Some(told) => put(&told.destination_name, out, count),
+        Some(announced) => put(&announced.destination_name, out, count),
     };
     engine.put(entity);
     answer.code()
