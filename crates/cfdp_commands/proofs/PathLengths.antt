@@ -28,7 +28,7 @@ no_path-long octets long = elim (path_of octets) as (λ o. path_of octets ≡ o 
   | Some p ↦ λ e. let short = spelled_short octets p (spelled_from_path_of octets p e) in absurd (omega (arith, long, short))
 ] refl
 
--- no octets have a fault that is a want of memory
+-- no fault of octets is out of memory
 
 name_fault : (a b c : Bool)
     → (if a then Some EmptyName else if b then Some BadName else if c then Some NameTooLong else None) ≡ Some Memory → ⊥

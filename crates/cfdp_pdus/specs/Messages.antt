@@ -63,7 +63,7 @@ options_said (first ∷ high ∷ low ∷ fourth ∷ rest) header metadata spelle
 
 -- ---- from left to right
 
--- what is left after the names of a Metadata PDU, of the octets behind its directive code
+-- what is left after the names of a Metadata PDU, of the octets after its directive code
 unfoldable pub after_names : Bool → List ℕ → Result (List ℕ) PduFault
 after_names large [] = Err LengthMismatch
 after_names large (flags ∷ octets) = do

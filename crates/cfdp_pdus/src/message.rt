@@ -111,7 +111,7 @@ impl<'a> Messages<'a> {
     }
 }
 
-/// What is left of a Metadata PDU after its names, of the octets behind its directive code.
+/// What is left of a Metadata PDU after its names, of the octets after its directive code.
 #[tactic(auto, unfolding(crate::specs::Messages::after_names))]
 fn skip_names(large: bool, octets: &[u8]) -> Result<&[u8], PduFault>
     ensures { Answers (λ options. options.now) result (after_names large octets.now) }

@@ -230,7 +230,7 @@ fn memory_of_bad_events(rt: HostRuntime) {
     }
 }
 
-/// Some octets, and so many of one octet after them.
+/// Some octets, and `count` times one octet after them.
 fn repeated(alloc: Global, before: &[u8], octet: u8, count: usize) -> Result<Vec<u8>, AllocError> {
     let mut octets = Vec::from_slice(alloc, before)?;
     for _ in 0..count {

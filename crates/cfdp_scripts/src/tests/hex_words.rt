@@ -67,7 +67,7 @@ fn word_of(alloc: Global, octets: &[u8], is_upper: bool) -> Result<String, Alloc
     }
 }
 
-/// A create request of so many octets. In a long one the TLV is short, and other octets come after it.
+/// A create request of `len` octets. In a long one the TLV is short, and other octets come after it.
 fn request(alloc: Global, len: usize) -> Result<Vec<u8>, AllocError> {
     if len > 33 {
         return octets_from(alloc, &[0, 3, 0, 1, b'a'], len);

@@ -95,7 +95,7 @@ fn lines(rt: HostRuntime) {
     all_hold(&rt, rt.alloc(), &LINES);
 }
 
-/// What `links` ends with over a file whose second line has so many of the octet, before these.
+/// What `links` ends with over a file whose second line has the octet `count` times, before these.
 fn end_of_links<R: Abort + Threads + Wait + Sync>(
     rt: &R,
     alloc: Global,
@@ -123,7 +123,7 @@ fn lines_of_links(rt: HostRuntime) -> Result<(), AllocError> {
     Ok(())
 }
 
-/// Comment lines of so many octets in all: as many as a read asks for, in one line.
+/// Comment lines of `left` octets in all; one line has as many as a read asks for.
 #[derive(Drop)]
 struct Comments {
     left: usize,
@@ -158,7 +158,7 @@ impl ScriptIn for Comments {
 /// More octets than an input may have, by far.
 const TWICE: usize = 2 * 268_435_456;
 
-/// What a run of so many ends with.
+/// What a run of `TWICE` octets ends with.
 fn end_of_twice(alloc: Global, kind: Kind, writer: &mut Writer) -> End {
     let mut comments = Comments { left: TWICE };
     match kind {
