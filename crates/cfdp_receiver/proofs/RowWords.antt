@@ -3,7 +3,7 @@
 --     mib                       how the entity is set up
 --     header n, id n            of transaction 1/n;  header_un n: in unacknowledged mode
 --     M, D low high, E          the file's Metadata, its octets from one offset to another, its EOF
---     R0 m                      the entity with no session
+--     fresh m                   the entity with no session
 --     ack, nak, alive           PDUs that are sent, of transaction 1/n
 --     says, replies             an answer that sends nothing: a word of the receiver's own, or the core's
 use Rattle.std.proofs.Common.{ℕ, suc, ◌+◌, ◌-◌, Bool, List, [], ◌∷◌}
@@ -43,8 +43,8 @@ mib = record {
 }
 
 -- the entity with no session
-abbrev pub R0 : Mib → State
-R0 m = begin m (start config)
+abbrev pub fresh : Mib → State
+fresh m = begin m (start config)
 
 abbrev pub header : ℕ → Header
 header n = record { toward_sender = false; acknowledged = true; large = false; id_len = 1; number_len = 1; source = 1; number = n; destination = 2 }

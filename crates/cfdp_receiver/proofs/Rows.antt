@@ -32,7 +32,7 @@ use Rattle.cfdp_receiver.specs.declared.mib.NakMode.TheVariants as modes
 use Rattle.cfdp_receiver.specs.State.{State, AnswerFields, Input, MetadataPdu, DataPdu, EofPdu, AckPdu, PromptPdu, OtherPdu, Expire, Work, Finish, CancelAsked, ForgetAsked, now_of}
 use Rattle.cfdp_receiver.specs.Handing.{later}
 use Rattle.cfdp_receiver.specs.Turning.{Parts, parts_of, after, all_answers}
-use Rattle.cfdp_receiver.proofs.RowWords.{mib, R0, header, header_un, id, M, D, E, finished_ack, ack, nak, alive, says, replies, described, segment, pdu_of, ended, nothing}
+use Rattle.cfdp_receiver.proofs.RowWords.{mib, fresh, header, header_un, id, M, D, E, finished_ack, ack, nak, alive, says, replies, described, segment, pdu_of, ended, nothing}
 
 -- ---- an input that hands on an event, and then others: its answer and those to what follows, by what the core makes of the first
 
@@ -53,30 +53,30 @@ all_on R i more inputs x = (parts_on R i more x).answer ∷ all_answers (after_o
 
 -- ---- the Metadata PDU comes first, at 0: of 1/5, and in unacknowledged mode of 1/7
 
-abbrev W1 : Header → World
-W1 h = record { config = config; filestore = empty_filestore; table = new_entry h M Receiving 0 (Install (codes "f" ∷ []) ∷ []) 2 2 ∷ [] }
+abbrev with_entry : Header → World
+with_entry h = record { config = config; filestore = empty_filestore; table = new_entry h M Receiving 0 (Install (codes "f" ∷ []) ∷ []) 2 2 ∷ [] }
 
-admitted : next (start config) (MetadataCame (header 5) M) ≡ (W1 (header 5), Reply.Admitted 2 2)
+admitted : next (start config) (MetadataCame (header 5) M) ≡ (with_entry (header 5), Reply.Admitted 2 2)
 unfolding statuses steps peak row free_row install step_bound blocks blocks_of
 admitted = simp look_ups
 
-admitted_un : next (start config) (MetadataCame (header_un 7) M) ≡ (W1 (header_un 7), Reply.Admitted 2 2)
+admitted_un : next (start config) (MetadataCame (header_un 7) M) ≡ (with_entry (header_un 7), Reply.Admitted 2 2)
 unfolding statuses steps peak row free_row install step_bound blocks blocks_of
 admitted_un = simp look_ups
 
-abbrev R1 : Mib → State
-R1 m = after_on (R0 m) (MetadataPdu 0 (header 5) M) [] (W1 (header 5), Reply.Admitted 2 2)
+abbrev live : Mib → State
+live m = after_on (fresh m) (MetadataPdu 0 (header 5) M) [] (with_entry (header 5), Reply.Admitted 2 2)
 
-abbrev R1_un : State
-R1_un = after_on (R0 mib) (MetadataPdu 0 (header_un 7) M) [] (W1 (header_un 7), Reply.Admitted 2 2)
+abbrev live_un : State
+live_un = after_on (fresh mib) (MetadataPdu 0 (header_un 7) M) [] (with_entry (header_un 7), Reply.Admitted 2 2)
 
 first : (m : Mib) (inputs : List Input) →
-    all_answers (R0 m) (MetadataPdu 0 (header 5) M ∷ inputs) ≡ record (replies 5 (Reply.Admitted 2 2)) { indications = described 5 ∷ [] } ∷ all_answers (R1 m) inputs
-first m inputs = ap (all_on (R0 m) (MetadataPdu 0 (header 5) M) [] inputs) admitted
+    all_answers (fresh m) (MetadataPdu 0 (header 5) M ∷ inputs) ≡ record (replies 5 (Reply.Admitted 2 2)) { indications = described 5 ∷ [] } ∷ all_answers (live m) inputs
+first m inputs = ap (all_on (fresh m) (MetadataPdu 0 (header 5) M) [] inputs) admitted
 
 first_un : (inputs : List Input) →
-    all_answers (R0 mib) (MetadataPdu 0 (header_un 7) M ∷ inputs) ≡ record (replies 7 (Reply.Admitted 2 2)) { indications = described 7 ∷ [] } ∷ all_answers R1_un inputs
-first_un inputs = ap (all_on (R0 mib) (MetadataPdu 0 (header_un 7) M) [] inputs) admitted_un
+    all_answers (fresh mib) (MetadataPdu 0 (header_un 7) M ∷ inputs) ≡ record (replies 7 (Reply.Admitted 2 2)) { indications = described 7 ∷ [] } ∷ all_answers live_un inputs
+first_un inputs = ap (all_on (fresh mib) (MetadataPdu 0 (header_un 7) M) [] inputs) admitted_un
 
 -- ---- each row after its Metadata PDU
 
@@ -94,7 +94,7 @@ abbrev delivered : AnswerFields
 delivered = record (says 5 words.Finished) { finished = pdu_of 5 (2 ∷ []) ∷ []; indications = ended 5 0 false 2 ∷ [] }
 
 -- everything comes in order; then its acknowledgement; and the EOF PDU again
-in_order : all_answers (R1 mib) (data_at 0 0 15 ∷ EofPdu 0 (header 5) E ∷ Work 0 ∷ Finish 0 ∷ AckPdu 0 (header 5) finished_ack ∷ EofPdu 0 (header 5) E ∷ []) ≡
+in_order : all_answers (live mib) (data_at 0 0 15 ∷ EofPdu 0 (header 5) E ∷ Work 0 ∷ Finish 0 ∷ AckPdu 0 (header 5) finished_ack ∷ EofPdu 0 (header 5) E ∷ []) ≡
     stored 0 15
     ∷ record (replies 5 Reply.Complete) { acks = ack 5 0 Active ∷ []; indications = tells.EofRecv (id 5) ∷ [] }
     ∷ replies 5 Reply.Installed
@@ -106,7 +106,7 @@ unfolding statuses steps peak row free_row table install step_bound blocks block
 in_order = simp look_ups
 
 -- the middle comes first; the EOF PDU comes twice; the gaps come from the last to the first
-two_gaps : all_answers (R1 mib) (data_at 0 4 8 ∷ EofPdu 0 (header 5) E ∷ EofPdu 0 (header 5) E ∷ data_at 0 8 15 ∷ data_at 0 0 4 ∷ []) ≡
+two_gaps : all_answers (live mib) (data_at 0 4 8 ∷ EofPdu 0 (header 5) E ∷ EofPdu 0 (header 5) E ∷ data_at 0 8 15 ∷ data_at 0 0 4 ∷ []) ≡
     stored 4 8
     ∷ record (replies 5 Reply.Waiting) { acks = ack 5 0 Active ∷ []; naks = nak 5 0 15 ((0, 4) ∷ (8, 15) ∷ []) ∷ []; indications = tells.EofRecv (id 5) ∷ [] }
     ∷ record (replies 5 Reply.Duplicate) { acks = ack 5 0 Active ∷ [] }
@@ -117,13 +117,13 @@ unfolding blocks_of weighed_from
 two_gaps = refl
 
 -- immediate: the gap is asked for when it begins
-at_once : all_answers (R1 (record mib { nak_mode = modes.Immediate })) (data_at 0 0 4 ∷ data_at 0 8 12 ∷ []) ≡
+at_once : all_answers (live (record mib { nak_mode = modes.Immediate })) (data_at 0 0 4 ∷ data_at 0 8 12 ∷ []) ≡
     stored 0 4 ∷ record (stored 8 12) { naks = nak 5 4 12 ((4, 8) ∷ []) ∷ [] } ∷ []
 unfolding blocks_of weighed_from
 at_once = refl
 
 -- Prompt PDUs
-prompted : all_answers (R1 mib) (data_at 0 4 8 ∷ PromptPdu 0 (header 5) prompts.Nak ∷ PromptPdu 0 (header 5) prompts.KeepAlive ∷ []) ≡
+prompted : all_answers (live mib) (data_at 0 4 8 ∷ PromptPdu 0 (header 5) prompts.Nak ∷ PromptPdu 0 (header 5) prompts.KeepAlive ∷ []) ≡
     stored 4 8
     ∷ record (says 5 words.Answered) { naks = nak 5 0 8 ((0, 4) ∷ []) ∷ [] }
     ∷ record (says 5 words.Answered) { keep_alives = alive 5 8 ∷ [] }
@@ -132,7 +132,7 @@ unfolding blocks_of weighed_from
 prompted = refl
 
 -- one request in each NAK PDU
-one_each : all_answers (R1 (record mib { longest_nak = 72 })) (data_at 0 4 8 ∷ EofPdu 0 (header 5) E ∷ []) ≡
+one_each : all_answers (live (record mib { longest_nak = 72 })) (data_at 0 4 8 ∷ EofPdu 0 (header 5) E ∷ []) ≡
     stored 4 8
     ∷ record (replies 5 Reply.Waiting) {
       acks = ack 5 0 Active ∷ [];
@@ -150,7 +150,7 @@ asked = record (says 5 words.Expired) { naks = nak 5 0 15 ((0, 15) ∷ []) ∷ [
 abbrev failed : ℕ → List ℕ
 failed condition = pdu_of 5 ((16 * condition + 4) ∷ 6 ∷ 1 ∷ 2 ∷ [])
 
-nothing_comes : all_answers (R1 mib) (EofPdu 1 (header 5) E ∷ Expire 10 ∷ Expire 11 ∷ Expire 21 ∷ Expire 31 ∷ Finish 31 ∷ Expire 41 ∷ Expire 51 ∷ Expire 61 ∷ Expire 71 ∷ []) ≡
+nothing_comes : all_answers (live mib) (EofPdu 1 (header 5) E ∷ Expire 10 ∷ Expire 11 ∷ Expire 21 ∷ Expire 31 ∷ Finish 31 ∷ Expire 41 ∷ Expire 51 ∷ Expire 61 ∷ Expire 71 ∷ []) ≡
     record (replies 5 Reply.Waiting) { acks = ack 5 0 Active ∷ []; naks = nak 5 0 15 ((0, 15) ∷ []) ∷ []; indications = tells.EofRecv (id 5) ∷ [] }
     ∷ nothing
     ∷ asked
@@ -174,7 +174,7 @@ held_eof = record (says 5 words.Held) {
 }
 
 -- an octet that was missing begins the timer and its count anew; one that was there does not
-progress_counts : all_answers (R1 mib) (EofPdu 1 (header 5) E ∷ Expire 11 ∷ data_at 12 0 4 ∷ Expire 21 ∷ Expire 22 ∷ data_at 23 0 4 ∷ Expire 32 ∷ Expire 42 ∷ []) ≡
+progress_counts : all_answers (live mib) (EofPdu 1 (header 5) E ∷ Expire 11 ∷ data_at 12 0 4 ∷ Expire 21 ∷ Expire 22 ∷ data_at 23 0 4 ∷ Expire 32 ∷ Expire 42 ∷ []) ≡
     record (replies 5 Reply.Waiting) { acks = ack 5 0 Active ∷ []; naks = nak 5 0 15 ((0, 15) ∷ []) ∷ []; indications = tells.EofRecv (id 5) ∷ [] }
     ∷ asked
     ∷ stored 0 4
@@ -188,7 +188,7 @@ unfolding blocks_of weighed_from
 progress_counts = refl
 
 -- of two sessions that are due the one that began first is served first, once; then the other; then none
-two_due : all_answers (R0 mib) (EofPdu 0 (header 5) E ∷ EofPdu 0 (header 6) E ∷ Expire 10 ∷ Expire 10 ∷ Expire 10 ∷ []) ≡
+two_due : all_answers (fresh mib) (EofPdu 0 (header 5) E ∷ EofPdu 0 (header 6) E ∷ Expire 10 ∷ Expire 10 ∷ Expire 10 ∷ []) ≡
     held_eof
     ∷ record (says 6 words.Held) { acks = ack 6 0 Active ∷ []; naks = nak 6 0 15 ((0, 0) ∷ (0, 15) ∷ []) ∷ []; indications = tells.EofRecv (id 6) ∷ [] }
     ∷ record (says 5 words.Expired) { naks = nak 5 0 15 ((0, 0) ∷ (0, 15) ∷ []) ∷ [] }
@@ -198,7 +198,7 @@ two_due : all_answers (R0 mib) (EofPdu 0 (header 5) E ∷ EofPdu 0 (header 6) E 
 two_due = refl
 
 -- Keep Alive, and then inactivity
-kept_alive : all_answers (R1 (record mib { keep_alive = Some 20 })) (data_at 1 0 8 ∷ Expire 20 ∷ Expire 101 ∷ Finish 101 ∷ []) ≡
+kept_alive : all_answers (live (record mib { keep_alive = Some 20 })) (data_at 1 0 8 ∷ Expire 20 ∷ Expire 101 ∷ Finish 101 ∷ []) ≡
     stored 0 8
     ∷ record (says 5 words.KeptAlive) { keep_alives = alive 5 8 ∷ [] }
     ∷ says 5 words.Faulted
@@ -211,7 +211,7 @@ kept_alive = refl
 abbrev patient : Mib
 patient = record mib { inactivity = record { interval = 5; at_limit = handlers.Ignore }; nak = record { interval = 10; limit = 3; at_limit = handlers.Abandon } }
 
-abandoned : all_answers (R1 patient) (Expire 5 ∷ EofPdu 6 (header 5) E ∷ Expire 16 ∷ Expire 26 ∷ Expire 36 ∷ Finish 36 ∷ EofPdu 36 (header 5) E ∷ []) ≡
+abandoned : all_answers (live patient) (Expire 5 ∷ EofPdu 6 (header 5) E ∷ Expire 16 ∷ Expire 26 ∷ Expire 36 ∷ Finish 36 ∷ EofPdu 36 (header 5) E ∷ []) ≡
     record (says 5 words.Ignored) { indications = tells.Fault (id 5) 8 ∷ [] }
     ∷ record (replies 5 Reply.Waiting) { acks = ack 5 0 Active ∷ []; naks = nak 5 0 15 ((0, 15) ∷ []) ∷ []; indications = tells.EofRecv (id 5) ∷ [] }
     ∷ asked
@@ -224,7 +224,7 @@ unfolding blocks_of weighed_from
 abandoned = refl
 
 -- unacknowledged: the check limit
-unacknowledged : all_answers R1_un (DataPdu 2 (header_un 7) (D 0 8) ∷ EofPdu 2 (header_un 7) E ∷ Expire 12 ∷ Expire 22 ∷ Finish 22 ∷ []) ≡
+unacknowledged : all_answers live_un (DataPdu 2 (header_un 7) (D 0 8) ∷ EofPdu 2 (header_un 7) E ∷ Expire 12 ∷ Expire 22 ∷ Finish 22 ∷ []) ≡
     record (replies 7 Reply.Stored) { indications = segment 7 0 8 ∷ [] }
     ∷ record (replies 7 Reply.Waiting) { indications = tells.EofRecv (id 7) ∷ [] }
     ∷ says 7 words.Expired
@@ -239,7 +239,7 @@ unacknowledged = refl
 
 -- ---- the EOF PDU comes first
 
-held : all_answers (R0 mib) (EofPdu 0 (header 5) E ∷ data_at 0 0 15 ∷ EofPdu 0 (header 5) E ∷ MetadataPdu 0 (header_un 5) M ∷ []) ≡
+held : all_answers (fresh mib) (EofPdu 0 (header 5) E ∷ data_at 0 0 15 ∷ EofPdu 0 (header 5) E ∷ MetadataPdu 0 (header_un 5) M ∷ []) ≡
     held_eof ∷ says 5 words.Idle ∷ record (says 5 words.Duplicate) { acks = ack 5 0 Active ∷ [] } ∷ says 5 words.Idle ∷ []
 held = refl
 
@@ -248,7 +248,7 @@ abbrev cancelled_eof : Eof
 cancelled_eof = record { condition = 15; checksum = 0; size = 0 }
 
 ended_by_its_sender :
-    all_answers (R0 mib) (EofPdu 0 (header 5) (record E { checksum = 0; size = 0 }) ∷ EofPdu 0 (header 6) cancelled_eof ∷ EofPdu 0 (header 5) cancelled_eof ∷ Finish 0 ∷ []) ≡
+    all_answers (fresh mib) (EofPdu 0 (header 5) (record E { checksum = 0; size = 0 }) ∷ EofPdu 0 (header 6) cancelled_eof ∷ EofPdu 0 (header 5) cancelled_eof ∷ Finish 0 ∷ []) ≡
     record held_eof { naks = nak 5 0 0 ((0, 0) ∷ []) ∷ [] }
     ∷ record (says 6 words.Unknown) { acks = ack 6 15 Unrecognized ∷ [] }
     ∷ record (says 5 words.Faulted) { acks = ack 5 15 Active ∷ [] }
@@ -259,18 +259,18 @@ ended_by_its_sender = refl
 
 -- ---- the Metadata PDU comes after the EOF PDU that is held
 
-abbrev Rh : State
-Rh = after (R0 mib) (EofPdu 0 (header 5) E)
+abbrev holding : State
+holding = after (fresh mib) (EofPdu 0 (header 5) E)
 
-abbrev Rj : State
-Rj = after_on Rh (MetadataPdu 0 (header 5) M) (EofCame (header 5) E ∷ []) (W1 (header 5), Reply.Admitted 2 2)
+abbrev resumed : State
+resumed = after_on holding (MetadataPdu 0 (header 5) M) (EofCame (header 5) E ∷ []) (with_entry (header 5), Reply.Admitted 2 2)
 
 joined : (inputs : List Input) →
-    all_answers Rh (MetadataPdu 0 (header 5) M ∷ inputs)
-    ≡ record (replies 5 (Reply.Admitted 2 2)) { naks = nak 5 0 15 ((0, 15) ∷ []) ∷ []; indications = described 5 ∷ [] } ∷ all_answers Rj inputs
-joined inputs = ap (all_on Rh (MetadataPdu 0 (header 5) M) (EofCame (header 5) E ∷ []) inputs) admitted
+    all_answers holding (MetadataPdu 0 (header 5) M ∷ inputs)
+    ≡ record (replies 5 (Reply.Admitted 2 2)) { naks = nak 5 0 15 ((0, 15) ∷ []) ∷ []; indications = described 5 ∷ [] } ∷ all_answers resumed inputs
+joined inputs = ap (all_on holding (MetadataPdu 0 (header 5) M) (EofCame (header 5) E ∷ []) inputs) admitted
 
-after_the_join : all_answers Rj (data_at 0 0 15 ∷ []) ≡ completed 0 15 ∷ []
+after_the_join : all_answers resumed (data_at 0 0 15 ∷ []) ≡ completed 0 15 ∷ []
 unfolding blocks_of weighed_from
 after_the_join = refl
 
@@ -279,27 +279,27 @@ after_the_join = refl
 abbrev with_request : MetadataFields
 with_request = record M { requests = asks action.CreateFile (codes "g") ∷ [] }
 
-abbrev W12 : World
-W12 = record {
+abbrev with_list : World
+with_list = record {
   config = config;
   filestore = empty_filestore;
   table = new_entry (header 5) with_request Receiving 0 (Install (codes "f" ∷ []) ∷ Perform (CreateFile (codes "g" ∷ [])) ∷ []) 3 4 ∷ [];
 }
 
-admitted_with : next (start config) (MetadataCame (header 5) with_request) ≡ (W12, Reply.Admitted 3 4)
+admitted_with : next (start config) (MetadataCame (header 5) with_request) ≡ (with_list, Reply.Admitted 3 4)
 unfolding statuses steps peak row free_row table create install step_bound blocks blocks_of
 admitted_with = simp look_ups
 
-abbrev R12 : State
-R12 = after_on (R0 mib) (MetadataPdu 0 (header 5) with_request) [] (W12, Reply.Admitted 3 4)
+abbrev listed : State
+listed = after_on (fresh mib) (MetadataPdu 0 (header 5) with_request) [] (with_list, Reply.Admitted 3 4)
 
 first_with : (inputs : List Input) →
-    all_answers (R0 mib) (MetadataPdu 0 (header 5) with_request ∷ inputs)
-    ≡ record (replies 5 (Reply.Admitted 3 4)) { indications = described 5 ∷ [] } ∷ all_answers R12 inputs
-first_with inputs = ap (all_on (R0 mib) (MetadataPdu 0 (header 5) with_request) [] inputs) admitted_with
+    all_answers (fresh mib) (MetadataPdu 0 (header 5) with_request ∷ inputs)
+    ≡ record (replies 5 (Reply.Admitted 3 4)) { indications = described 5 ∷ [] } ∷ all_answers listed inputs
+first_with inputs = ap (all_on (fresh mib) (MetadataPdu 0 (header 5) with_request) [] inputs) admitted_with
 
 not_again :
-    all_answers R12 (CancelAsked 0 (id 5) ∷ Finish 0 ∷ AckPdu 0 (header 5) (record finished_ack { directive = 4 }) ∷ AckPdu 0 (header 5) finished_ack ∷ MetadataPdu 0 (header 5) with_request ∷ []) ≡
+    all_answers listed (CancelAsked 0 (id 5) ∷ Finish 0 ∷ AckPdu 0 (header 5) (record finished_ack { directive = 4 }) ∷ AckPdu 0 (header 5) finished_ack ∷ MetadataPdu 0 (header 5) with_request ∷ []) ≡
     replies 5 Reply.Cancelled
     ∷ record (says 5 words.Finished) { finished = pdu_of 5 (0xf4 ∷ 1 ∷ 4 ∷ 0x0f ∷ 1 ∷ 0x67 ∷ 0 ∷ 6 ∷ 1 ∷ 2 ∷ []) ∷ []; indications = ended 5 15 true 0 ∷ [] }
     ∷ says 5 words.Idle
