@@ -241,19 +241,20 @@ uint32_t cfdp_metadata(struct cfdp_engine *engine, uint64_t source, uint64_t num
 uint32_t cfdp_source_name(struct cfdp_engine *engine, uint64_t source, uint64_t number, uint8_t *out, size_t room, size_t *count);
 uint32_t cfdp_destination_name(struct cfdp_engine *engine, uint64_t source, uint64_t number, uint8_t *out, size_t room, size_t *count);
 
-/* What stands at a path. Answers CFDP_DONE, CFDP_NOTHING, CFDP_BAD_PATH, or CFDP_NO_ENGINE. Cost: one pass over a file's octets, for its
- * checksum. */
+/* What stands at a path. Answers CFDP_DONE, CFDP_NOTHING, CFDP_BAD_PATH, or CFDP_NO_ENGINE. Cost: a look-up of each name, whatever the
+ * size of a file: its checksum is kept with it. */
 uint32_t cfdp_look_up(struct cfdp_engine *engine, const struct cfdp_path *path, struct cfdp_entry *entry);
 
 /* Copies a file's octets from the place `at` on to the beginning of `out`: as many as there are and as fit in `room`; `*count` says how
- * many. Answers CFDP_DONE; CFDP_NOTHING where no file stands at the path; CFDP_BAD_PATH; or CFDP_NO_ENGINE. */
+ * many. Answers CFDP_DONE; CFDP_NOTHING where no file stands at the path; CFDP_BAD_PATH; or CFDP_NO_ENGINE. Cost: at most 48 steps to
+ * `at`, whatever its size and the order in which the file came, and one copy of the octets. */
 uint32_t cfdp_read(struct cfdp_engine *engine, const struct cfdp_path *path, uint64_t at, uint8_t *out, size_t room, size_t *count);
 
 /* What comes next in the filestore behind a path, in path order (a directory before what is below it). The path need not stand there; one of
  * length 0 is before all. Answers CFDP_DONE with the path of what comes next in `*path`, zeros behind its octets, and what stands
  * there in `*entry`; CFDP_NOTHING behind the last one; CFDP_BAD_PATH; or CFDP_NO_ENGINE. So a loop that begins with length 0 and passes the
  * same struct on goes over all that stands there. Cost: one pass over the entries of each directory on the way, of which there
- * are 8 at most, and over a file's octets, for its checksum. */
+ * are 8 at most. */
 uint32_t cfdp_next(struct cfdp_engine *engine, struct cfdp_path *path, struct cfdp_entry *entry);
 
 /* The line that `cfdpsim replay` writes of a reply (docs/FORMATS.md), with its line end: "1/24 refused conflict 1/22\n". `octets` is

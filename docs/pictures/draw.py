@@ -410,12 +410,13 @@ PAYLOAD = ((8, 127, "payload: octets of a file, or of one that arrives", 730, BL
 NODE = (
     (8, 9, "parent", 58, BLUE), (10, 11, "first", 52, BLUE), (12, 13, "last", 52, BLUE), (14, 17, "size", 56, BLUE),
     (18, 18, "is a/file", 44, BLUE), (19, 19, "name/length", 54, BLUE), (20, 21, "same/head", 54, BLUE),
-    (22, 23, "next/entry", 54, BLUE), (24, 25, "entry/before", 54, BLUE), (26, 31, "", 44, "#ffffff"),
-    (32, 127, "name, at most 96 octets", 208, BLUE))
+    (22, 23, "next/entry", 54, BLUE), (24, 25, "entry/before", 54, BLUE), (26, 29, "sum", 44, BLUE),
+    (30, 31, "", 22, "#ffffff"), (32, 127, "name, at most 96 octets", 186, BLUE))
 ARENA_BOXES = (
     (30, 400, 168, 44, ["index heads", "one for each block"], "#ffffff"),
     (30, 480, 168, 44, ["the root's first entry", "and how many"], "#ffffff"),
-    (30, 580, 168, 44, ["slot 0 of 64", "size, first, last, at"], "#ffffff"),
+    (30, 530, 168, 44, ["ways back", "one for each block"], "#ffffff"),
+    (30, 580, 168, 44, ["slot 0 of 64", "run, size, sum, at"], "#ffffff"),
     (300, 468, 130, 66, ["block 0: a node", "directory d", "1 entry"], BLUE),
     (500, 468, 130, 66, ["block 1: a node", "file f, 300", "parent 0"], BLUE),
     (500, 396, 126, 50, ["block 2: rank 0", "octets 0 to 119"], "#ffffff"),

@@ -49,7 +49,8 @@ pub trait Filestore: Drop {
             ≡ slice_range (octets_at (state self.now).filestore path.now) at (at + length buffer.old) };
 
     /// A file's modular checksum (CCSDS 727.0-B-5 §4.2.2): modulo 2^32 the sum of its octets as words of four octets, the
-    /// first one the most significant and the last word filled with zeros. Takes no memory. In time linear in the octets.
+    /// first one the most significant and the last word filled with zeros. Takes no memory. In time at most linear in the
+    /// octets; a store that keeps the checksum with the octets takes no more than for `size`.
     fn checksum(&self, path: &Path) -> u32
         requires { IsTrue (is_file (node_at (state self.now).filestore path.now)) }
         ensures { result ≡ checksum (octets_at (state self.now).filestore path.now) };
@@ -73,7 +74,7 @@ pub trait Filestore: Drop {
         requires range { at + length buffer.old ≤ length (staged_in (state self.now).filestore slot) }
         ensures { buffer.new ≡ slice_range (staged_in (state self.now).filestore slot) at (at + length buffer.old) };
 
-    /// The modular checksum of what is staged in the slot, as that of a file. Takes no memory. In time linear in the octets.
+    /// The modular checksum of what is staged in the slot, as that of a file, and at the same cost. Takes no memory.
     fn staged_checksum(&self, slot: u8) -> u32
         requires { slot < 64 }
         ensures { result ≡ checksum (staged_in (state self.now).filestore slot) };

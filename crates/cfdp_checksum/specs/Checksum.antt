@@ -2,6 +2,7 @@
 -- first of them the highest, added up modulo 2^32.
 --   weight i             what an octet at offset i counts
 --   weighed_from i octets    the sum of the octets from offset i, each times its weight
+--   checksum_at i octets     this sum modulo 2^32: what octets from offset i on add to a file's checksum
 --   checksum octets      the sum of all of them modulo 2^32
 use Rattle.std.specs.Prelude.{ℕ, ◌+◌, ◌-◌, ◌*◌, ◌%◌, ◌^◌, List, [], ◌∷◌}
 
@@ -12,5 +13,8 @@ unfoldable pub weighed_from : ℕ → List ℕ → ℕ
 weighed_from i [] = 0
 weighed_from i (octet ∷ octets) = octet * weight i + weighed_from (i + 1) octets
 
+abbrev pub checksum_at : ℕ → List ℕ → ℕ
+checksum_at i octets = weighed_from i octets % 2 ^ 32
+
 abbrev pub checksum : List ℕ → ℕ
-checksum octets = weighed_from 0 octets % 2 ^ 32
+checksum octets = checksum_at 0 octets

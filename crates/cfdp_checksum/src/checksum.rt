@@ -1,9 +1,12 @@
 //! The sum, word by word.
 
-ghost use Rattle.std.specs.Prelude.{◌≡◌, ◌<◌, length};
-ghost use Rattle.cfdp_checksum.specs.Checksum.{checksum, weighed_from};
+ghost use Rattle.std.specs.Prelude.{◌≡◌, ◌+◌, ◌<◌, ◌≤◌, length};
+ghost use Rattle.cfdp_checksum.specs.Checksum.{checksum, checksum_at, weighed_from};
 
 use byteorder::{BigEndian, ByteOrder};
+
+/// The octets of a word.
+const WORD_OCTETS: usize = 4;
 
 /// The modular checksum of a file (CCSDS 727.0-B-5 §4.2.2): the sum modulo 2^32 of its octets as words
 /// of four from offset 0, the last word filled with zeros. It takes no memory, and goes over the octets once.
@@ -18,6 +21,31 @@ pub fn modular_checksum(octets: &[u8]) -> u32
         rest = rest.split_at(4).1;
     }
     sum.wrapping_add(last_word(rest))
+}
+
+/// What octets that begin at an offset of a file add to its modular checksum (CCSDS 727.0-B-5 §4.2.2): their sum modulo
+/// 2^32, each at its place in a word of four octets, counted from offset 0 of the file. It takes no memory, and goes
+/// over the octets once.
+#[inline]
+pub fn modular_checksum_at(offset: usize, octets: &[u8]) -> u32
+    ensures { result ≡ checksum_at offset octets.now }
+{
+    let place = offset % WORD_OCTETS;
+    if place == 0 {
+        return modular_checksum(octets);
+    }
+    let (first, rest) = octets.split_at(octets.len().min(WORD_OCTETS - place));
+    first_word(place, first).wrapping_add(modular_checksum(rest))
+}
+
+/// The end of a word from a place in it on, or a part of that, which stops before the word ends.
+fn first_word(place: usize, octets: &[u8]) -> u32
+    requires some { 0 < place }
+    requires inside { place < 4 }
+    requires fits { place + length octets.now ≤ 4 }
+    ensures { result ≡ weighed_from place octets.now }
+{
+    last_word(octets) >> (8 * place)
 }
 
 /// Fewer octets than a word, filled with zeros behind.

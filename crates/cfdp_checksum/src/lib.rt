@@ -1,9 +1,10 @@
 //! The modular checksum of CFDP (CCSDS 727.0-B-5 §4.2.2), which EOF PDUs carry and by which a listing tells files
 //! apart. Contracts see it as the sum of all octets, each times the weight of its place in a word of four;
-//! `Rattle.cfdp_checksum.specs.Checksum` has the words, and [`laws`] says how the sums of pieces add up.
+//! `Rattle.cfdp_checksum.specs.Checksum` has the words, and [`laws`] says how the sums of pieces add up, so that a sum
+//! can be kept while a file changes.
 #![tactic(auto)]
 
 mod checksum;
 pub mod laws;
 
-pub use checksum::modular_checksum;
+pub use checksum::{modular_checksum, modular_checksum_at};

@@ -12,9 +12,6 @@ use std::alloc::{AllocError, Global};
 /// How many transactions there are: more than the entity has room for.
 pub const TRANSACTIONS: u64 = 72;
 
-/// How many octets of a file come in one File Data PDU.
-const PIECE: u64 = 150;
-
 /// The paths that transactions name: directories, and files in them.
 static NAMES: [&[u8]; 48] = [
     b"a", b"b", b"c", b"d", b"e", b"f", b"g", b"h", b"i", b"j", b"k", b"l", b"m", b"n", b"o", b"p",
@@ -62,18 +59,32 @@ fn header(number: u64) -> Header {
     }
 }
 
-/// How many octets its file has: none, or up to 12 pieces.
-fn size_of(number: u64) -> u64 {
-    number % 13 * PIECE / 2
+/// The files of all transactions.
+#[derive(Clone, Copy)]
+pub struct Files {
+    /// How many octets of a file come in one File Data PDU.
+    pub piece: u64,
 }
 
-/// The octets of its file from the place on, as many as there are and as a PDU brings.
-fn octets_of(alloc: Global, number: u64, offset: u64, most: u64) -> Result<Vec<u8>, Memory> {
-    let mut octets = Vec::new(alloc);
-    for at in offset..size_of(number).min(offset.saturating_add(most)) {
-        octets.push((at.wrapping_mul(7).wrapping_add(number) % 256) as u8)?;
+impl Files {
+    /// How many octets the longest one has: those of 6 pieces.
+    pub fn longest(self) -> u64 {
+        self.piece.saturating_mul(6)
     }
-    Ok(octets)
+
+    /// How many octets the file of a transaction has: none, or those of up to 12 halves of a piece.
+    fn size(self, number: u64) -> u64 {
+        self.piece.saturating_mul(number % 13) / 2
+    }
+
+    /// The octets of its file from an offset on: as many as there are, and at most this many.
+    fn octets(self, alloc: Global, number: u64, offset: u64, most: u64) -> Result<Vec<u8>, Memory> {
+        let mut octets = Vec::new(alloc);
+        for at in offset..self.size(number).min(offset.saturating_add(most)) {
+            octets.push((at.wrapping_mul(7).wrapping_add(number) % 256) as u8)?;
+        }
+        Ok(octets)
+    }
 }
 
 /// What may happen to a transaction.
@@ -176,7 +187,13 @@ impl Random {
     }
 
     /// A Metadata PDU: three in four have a file, and most have a few requests.
-    fn metadata(&mut self, alloc: Global, store: &ListStore, number: u64) -> Result<Event, Memory> {
+    fn metadata(
+        &mut self,
+        alloc: Global,
+        store: &ListStore,
+        files: Files,
+        number: u64,
+    ) -> Result<Event, Memory> {
         let mut requests = Vec::new(alloc);
         for _ in 0..self.below(3) {
             requests.push(self.request(alloc, store)?)?;
@@ -192,7 +209,7 @@ impl Random {
             size: if self.is_one_in(8) {
                 0
             } else {
-                size_of(number)
+                files.size(number)
             },
             source_name: Vec::new(alloc),
             destination_name,
@@ -202,19 +219,20 @@ impl Random {
     }
 
     /// A File Data PDU with some piece of the file.
-    fn data(&mut self, alloc: Global, number: u64) -> Result<Event, Memory> {
-        let offset = self.below(6) * PIECE;
-        let octets = octets_of(alloc, number, offset, PIECE)?;
+    fn data(&mut self, alloc: Global, files: Files, number: u64) -> Result<Event, Memory> {
+        let offset = files.piece.saturating_mul(self.below(6));
+        let octets = files.octets(alloc, number, offset, files.piece)?;
         Ok(Event::Data(header(number), FileData { offset, octets }))
     }
 
     /// An EOF PDU: 15 in 16 without an error, and 15 in 16 of all with the right checksum.
-    fn eof(&mut self, alloc: Global, number: u64) -> Result<Event, Memory> {
-        let checksum = modular_checksum(&octets_of(alloc, number, 0, size_of(number))?);
+    fn eof(&mut self, alloc: Global, files: Files, number: u64) -> Result<Event, Memory> {
+        let size = files.size(number);
+        let checksum = modular_checksum(&files.octets(alloc, number, 0, size)?);
         let eof = Eof {
             condition: if self.is_one_in(16) { 15 } else { 0 },
             checksum: if self.is_one_in(16) { 0 } else { checksum },
-            size: size_of(number),
+            size,
         };
         Ok(Event::Eof(header(number), eof))
     }
@@ -235,13 +253,18 @@ impl Random {
     }
 
     /// The next event of an entity.
-    pub fn event(&mut self, alloc: Global, core: &Core<ListStore>) -> Result<Event, Memory> {
+    pub fn event(
+        &mut self,
+        alloc: Global,
+        core: &Core<ListStore>,
+        files: Files,
+    ) -> Result<Event, Memory> {
         let number = self.number();
         let id = id(number);
         Ok(match self.happening(core.phase(id)) {
-            Happening::Metadata => self.metadata(alloc, core.store(), number)?,
-            Happening::Data => self.data(alloc, number)?,
-            Happening::Eof => self.eof(alloc, number)?,
+            Happening::Metadata => self.metadata(alloc, core.store(), files, number)?,
+            Happening::Data => self.data(alloc, files, number)?,
+            Happening::Eof => self.eof(alloc, files, number)?,
             Happening::Step => Event::Step(id),
             Happening::Cancel => Event::Cancel(id),
             Happening::Check => Event::Check(id),

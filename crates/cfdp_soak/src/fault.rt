@@ -16,6 +16,8 @@ pub enum Wrong {
     Spare,
     #[error("other things stand in the filestores")]
     Listings,
+    #[error("a file has other octets in one filestore")]
+    Octets,
     #[error("not each kind of reply came")]
     Tame,
 }

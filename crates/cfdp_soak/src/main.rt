@@ -1,9 +1,11 @@
-//! `cfdp_soak EVENTS SEED`: so many events at random, over a filestore inside an arena and over a plain list side by side.
+//! `cfdp_soak EVENTS SEED`: events at random, over a filestore inside an arena and over a plain list side by side.
+//! Filestores of 160 blocks get EVENTS events, and then filestores of 400 and of 4,096 blocks a tenth as many each.
 //!
-//! After each event both entities have given the same reply, no step has failed, and in each the spare blocks are those that are
-//! free, less what is granted to live transactions and not yet taken; after each thousandth, and after the last, the same files
-//! and directories stand in both. Where it is otherwise the program says so, with the number of the event, and its exit status is
-//! 1. How often each kind of reply came is told on standard error.
+//! After each event both entities have given the same reply, no step has failed, and in each the spare blocks are those
+//! that are free, less what is granted to live transactions and not yet taken. After each thousandth, and after the
+//! last, both have the same files and directories, and the same octets in each file. Where it is otherwise the program
+//! says so, with the number of the event, and its exit status is 1. How often each kind of reply came is told on
+//! standard error, in a line for each of the three sizes.
 #![tactic(auto)]
 
 mod counts;
@@ -11,11 +13,14 @@ mod events;
 mod fault;
 mod pair;
 mod random;
+mod settings;
 
 use counts::Counts;
+use events::Files;
 use fault::{Fault, Wrong};
 use pair::Pair;
 use random::Random;
+use settings::{SETTINGS, Setting};
 use std::alloc::Global;
 use std::env;
 use std::process::ExitCode;
@@ -29,29 +34,50 @@ fn main(rt: HostRuntime) -> ExitCode {
         let _ = eprintln!(rt; "cfdp_soak EVENTS SEED: two numbers");
         return ExitCode::from(2);
     };
-    let (ran, handed_in, counts) = run(rt.alloc(), events, seed);
-    let _ = eprintln!(rt; "{counts}");
+    for setting in SETTINGS {
+        if !goes_well(&rt, setting, setting.events(events), seed) {
+            return ExitCode::from(1);
+        }
+    }
+    ExitCode::SUCCESS
+}
+
+/// Whether all is as it has to be over filestores of one size. Prints how it ended.
+fn goes_well<R: AllocGlobal + Eprint + Print>(
+    rt: &R,
+    setting: Setting,
+    events: u64,
+    seed: u64,
+) -> bool {
+    let (ran, handed_in, counts) = run(rt.alloc(), setting, events, seed);
+    let blocks = setting.blocks();
+    let _ = eprintln!(rt; "{blocks} blocks: {counts}");
     match ran {
         Ok(()) => {
             let _ = println!(rt;
-                "{events} events: each reply and all that stands are equal, and no step failed"
+                "{blocks} blocks, {events} events: each reply and all that stands are equal, and no step failed"
             );
-            ExitCode::SUCCESS
+            true
         }
         Err(Fault::Memory) => {
             let _ = eprintln!(rt; "cfdp_soak: out of memory");
-            ExitCode::from(1)
+            false
         }
         Err(Fault::Wrong(wrong)) => {
-            let _ = println!(rt; "event {handed_in}: {wrong}");
-            ExitCode::from(1)
+            let _ = println!(rt; "{blocks} blocks, event {handed_in}: {wrong}");
+            false
         }
     }
 }
 
-/// Hands in so many events of this seed: how that ended, how many were handed in, and what was replied.
-fn run(alloc: Global, events: u64, seed: u64) -> (Result<(), Fault>, u64, Counts) {
-    match Soak::new(alloc, seed) {
+/// Hands in the events of this seed: how that ended, how many were handed in, and what was replied.
+fn run(
+    alloc: Global,
+    setting: Setting,
+    events: u64,
+    seed: u64,
+) -> (Result<(), Fault>, u64, Counts) {
+    match Soak::new(alloc, setting, seed) {
         Ok(mut soak) => (soak.run(alloc, events), soak.handed_in, soak.counts),
         Err(fault) => (Err(fault), 0, Counts::new()),
     }
@@ -73,9 +99,10 @@ fn number_of(word: &str) -> Option<u64> {
     }
 }
 
-/// Two entities, the events to come, and what was replied.
+/// Two entities, the files of transactions, the events to come, and what was replied.
 #[derive(Drop)]
 struct Soak {
+    files: Files,
     random: Random,
     pair: Pair,
     counts: Counts,
@@ -85,10 +112,11 @@ struct Soak {
 
 impl Soak {
     /// Before the first event of this seed.
-    fn new(alloc: Global, seed: u64) -> Result<Soak, Fault> {
+    fn new(alloc: Global, setting: Setting, seed: u64) -> Result<Soak, Fault> {
         Ok(Soak {
+            files: setting.files(),
             random: Random::new(seed),
-            pair: Pair::new(alloc)?,
+            pair: Pair::new(alloc, setting)?,
             counts: Counts::new(),
             handed_in: 0,
         })
@@ -109,7 +137,7 @@ impl Soak {
 
     /// Hands in the next event.
     fn turn(&mut self, alloc: Global) -> Result<(), Fault> {
-        let event = self.random.event(alloc, self.pair.plain())?;
+        let event = self.random.event(alloc, self.pair.plain(), self.files)?;
         self.handed_in = self.handed_in.saturating_add(1);
         let reply = self.pair.apply(&event)?;
         self.counts.count(&reply);

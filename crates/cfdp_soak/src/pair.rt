@@ -1,15 +1,13 @@
 //! Two entities side by side, alike but for their filestores.
 use crate::events::{TRANSACTIONS, id, path_of};
 use crate::fault::{Fault, Wrong};
-use cfdp_actions::{Filestore, ListStore, Protected};
-use cfdp_paths::Memory;
+use crate::settings::Setting;
+use cfdp_actions::{Filestore, Kind, ListStore, Protected};
+use cfdp_paths::{Memory, Path};
 use cfdp_status::TransactionId;
 use cfdp_transactions::{Config, Core, Event, Reply};
 use cfdp_tree::TreeStore;
 use std::alloc::Global;
-
-/// How many blocks each filestore has: too few for all that is asked for.
-const BLOCKS: u32 = 160;
 
 /// An entity over a filestore inside an arena, and one over a plain list.
 #[derive(Drop)]
@@ -26,9 +24,12 @@ fn protected(alloc: Global) -> Result<Protected, Memory> {
     }
 }
 
-/// The configuration of both: entity 2, files of unbounded size of at most 900 octets, and two checks.
-fn config(alloc: Global) -> Result<Config, Fault> {
-    Config::new(2, BLOCKS, 900, 2, 16, protected(alloc)?).map_err(|_| Fault::Wrong(Wrong::Config))
+/// The configuration of both: entity 2, a cap of the octets of the longest file, and two checks.
+fn config(alloc: Global, setting: Setting) -> Result<Config, Fault> {
+    let longest = setting.files().longest();
+    let protected = protected(alloc)?;
+    let config = Config::new(2, setting.blocks(), longest, 2, 16, protected);
+    config.map_err(|_| Fault::Wrong(Wrong::Config))
 }
 
 /// The blocks that are granted to live transactions and not yet taken.
@@ -66,10 +67,10 @@ fn went_well(event: &Event, reply: &Reply) -> bool {
 
 impl Pair {
     /// Two that have just begun.
-    pub fn new(alloc: Global) -> Result<Pair, Fault> {
+    pub fn new(alloc: Global, setting: Setting) -> Result<Pair, Fault> {
         Ok(Pair {
-            tree: tree(alloc)?,
-            list: list(alloc)?,
+            tree: tree(alloc, setting)?,
+            list: list(alloc, setting)?,
         })
     }
 
@@ -93,24 +94,50 @@ impl Pair {
         Ok(reply)
     }
 
-    /// Compares all that stands in both filestores.
+    /// Compares both filestores: their listings, and the octets of each file.
     pub fn compare(&self, alloc: Global) -> Result<(), Fault> {
         let listed = self.list.store().listing(alloc)?;
         if self.tree.store().listing(alloc)? != listed {
             return Err(Fault::Wrong(Wrong::Listings));
         }
+        for entry in &listed {
+            self.compare_octets(alloc, &entry.path)?;
+        }
+        Ok(())
+    }
+
+    /// Compares the octets of the file at a path, if there is one.
+    fn compare_octets(&self, alloc: Global, path: &Path) -> Result<(), Fault> {
+        let octets = octets_at(alloc, self.list.store(), path)?;
+        if octets_at(alloc, self.tree.store(), path)? != octets {
+            return Err(Fault::Wrong(Wrong::Octets));
+        }
         Ok(())
     }
 }
 
-fn tree(alloc: Global) -> Result<Core<TreeStore>, Fault> {
-    let config = config(alloc)?;
+/// The octets of the file at a path; `None` if there is no file.
+fn octets_at<S: Filestore>(
+    alloc: Global,
+    store: &S,
+    path: &Path,
+) -> Result<Option<Vec<u8>>, Memory> {
+    if store.kind(path) != Some(Kind::File) {
+        return Ok(None);
+    }
+    let mut octets = vec![in alloc; 0; store.size(path) as usize]?;
+    store.read(path, 0, octets.as_mut_slice());
+    Ok(Some(octets))
+}
+
+fn tree(alloc: Global, setting: Setting) -> Result<Core<TreeStore>, Fault> {
+    let config = config(alloc, setting)?;
     let store = TreeStore::new(alloc, config.blocks())?;
     Ok(Core::new(alloc, config, store)?)
 }
 
-fn list(alloc: Global) -> Result<Core<ListStore>, Fault> {
-    let config = config(alloc)?;
+fn list(alloc: Global, setting: Setting) -> Result<Core<ListStore>, Fault> {
+    let config = config(alloc, setting)?;
     let store = ListStore::new(alloc, config.blocks())?;
     Ok(Core::new(alloc, config, store)?)
 }

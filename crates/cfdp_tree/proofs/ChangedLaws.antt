@@ -14,8 +14,11 @@ use Rattle.cfdp_arena.specs.Arena.{Blocks, octets_at, free_count}
 use Rattle.cfdp_actions.specs.Filestore.{Node, Filestore, blocks}
 use Rattle.cfdp_tree.specs.declared.contents.Contents.{Contents}
 use Rattle.cfdp_tree.specs.declared.index.Head.{Head}
+use Rattle.cfdp_ways.specs.declared.way.Way.{Way}
 use Rattle.cfdp_tree.specs.declared.slots.Slot.{Slot}
 use Rattle.cfdp_tree.specs.Runs.{IsHeld, Apart, Stays}
+use Rattle.cfdp_tree.specs.Ways.{HasWays}
+use Rattle.cfdp_tree.proofs.WayLaws.{ways_still, ways_none}
 use Rattle.cfdp_tree.specs.Contents.{IsFilled, contents_in}
 use Rattle.cfdp_tree.specs.Nodes.{nodes_in}
 use Rattle.cfdp_tree.specs.Tree.{IsTree}
@@ -23,7 +26,7 @@ use Rattle.cfdp_tree.specs.Index.{Heads, IsIndex}
 use Rattle.cfdp_tree.specs.Entries.{IsGrouped}
 use Rattle.cfdp_tree.specs.Kept.{no_contents, file_in, holdings, Shows, filestore_of, store_of, IsStored}
 use Rattle.cfdp_tree.specs.Slots.{staged_in, IsPlaced, IsStore}
-use Rattle.cfdp_tree.proofs.MarkLaws.{slot_stays}
+use Rattle.cfdp_tree.proofs.SlotPlaces.{slot_stays}
 use Rattle.cfdp_tree.proofs.ContentsLaws.{none_filled, stays_filled, stays_contents}
 use Rattle.cfdp_tree.proofs.ShowLaws.{tree_shows, shown_same}
 use Rattle.cfdp_tree.proofs.SeenLaws.{mapped_at, held_at}
@@ -38,8 +41,13 @@ IsLeft arena later before after = (after ≡ no_contents) ⊎ ((after ≡ before
 
 module _ (arena later : Blocks) (before after : Contents) where
   left_filled : IsLeft arena later before after → IsFilled arena before → IsFilled later after
-  left_filled (inl e) filled = none_filled later after (ap (λ (x : Contents). x.run.count) e) (ap (λ (x : Contents). x.size) e)
+  left_filled (inl e) filled = none_filled later after (ap (λ (x : Contents). x.run.count) e) (ap (λ (x : Contents). x.size) e) (ap (λ (x : Contents). x.sum) e)
   left_filled (inr same) filled = subst (IsFilled later) (sym same.0) (stays_filled arena later before same.1 filled)
+
+  left_led : (ways : List Way) → length later ≡ length arena → IsLeft arena later before after → HasWays arena ways before.run → HasWays later ways after.run
+  left_led ways long (inl e) has = ways_none later ways after.run (has.long ∙ sym long) (ap (λ (x : Contents). x.run.count) e)
+  left_led ways long (inr same) has = subst (λ (x : Contents). HasWays later ways x.run) (sym same.0)
+      (ways_still arena later ways before.run long (λ k less. same.1.places k (omega (arith, less))) has)
 
   left_apart : (other now : Contents) → IsLeft arena later before after → IsLeft arena later other now → Apart before.run other.run → Apart after.run now.run
   left_apart other now (inl e) right apart = (λ some more. absurd (omega (arith, some, ap (λ (x : Contents). x.run.count) e)))
@@ -47,17 +55,17 @@ module _ (arena later : Blocks) (before after : Contents) where
   left_apart other now (inr same) (inr alike) apart =
       subst (λ (x : Contents). Apart x.run now.run) (sym same.0) (subst (λ (x : Contents). Apart before.run x.run) (sym alike.0) apart)
 
-module _ (arena : Blocks) (heads : Heads) (root : Head) (slots : List Slot) (store : IsStore arena heads root slots) where
+module _ (arena : Blocks) (heads : Heads) (root : Head) (slots : List Slot) {ways : List Way} (store : IsStore arena ways heads root slots) where
   pub list_held : (j : ℕ) → IsHeld arena (get_or (staged_in slots) j no_contents).run
   list_held j = elim (cases_lt j (length (staged_in slots))) [
     | inl less ↦ subst (λ (x : Contents). IsHeld arena x.run) (get_or_append_left (staged_in slots) (map file_in (nodes_in arena)) no_contents j less) (store.kept.stored.filled j).held
-    | inr past ↦ subst (λ (x : Contents). IsHeld arena x.run) (sym (get_or_past (staged_in slots) j no_contents past)) (none_filled arena no_contents refl refl).held
+    | inr past ↦ subst (λ (x : Contents). IsHeld arena x.run) (sym (get_or_past (staged_in slots) j no_contents past)) (none_filled arena no_contents refl refl refl).held
   ]
 
   pub file_held : (b : ℕ) → IsHeld arena (file_in (octets_at (nodes_in arena) b)).run
   file_held b = subst (λ (x : Contents). IsHeld arena x.run) (held_at arena heads root slots store (store_of arena (staged_in slots)) refl b) (store.kept.stored.filled (length (staged_in slots) + b)).held
 
-module _ (arena later : Blocks) (heads after : Heads) (root end : Head) (slots : List Slot) (store : IsStore arena heads root slots) (long : length later ≡ length arena)
+module _ (arena later : Blocks) (heads after : Heads) (root end : Head) (slots : List Slot) {ways : List Way} (store : IsStore arena ways heads root slots) (long : length later ≡ length arena)
     (lists : (j : ℕ) → Stays arena later (get_or (staged_in slots) j no_contents).run)
     (files : (b : ℕ) → IsLeft arena later (file_in (octets_at (nodes_in arena) b)) (file_in (octets_at (nodes_in later) b)))
     (F : finite.FinMap path_cmp Node) (shows : Shows later (nodes_in later) F) (tree : IsTree (nodes_in later))
@@ -93,11 +101,12 @@ module _ (arena later : Blocks) (heads after : Heads) (root end : Head) (slots :
         subst (λ x. IsLeft arena later x (get_or (holdings (nodes_in later) staged) i no_contents)) (sym was) (subst (IsLeft arena later (file_in (octets_at (nodes_in arena) b))) (sym is) (files b)))
   ]
 
-  stored_now : IsStored later (holdings (nodes_in later) staged)
+  stored_now : IsStored later ways (holdings (nodes_in later) staged)
   stored_now = record {
     filled = (λ i. left_filled arena later (get_or (holdings (nodes_in arena) staged) i no_contents) (get_or (holdings (nodes_in later) staged) i no_contents) (left_at i) (store.kept.stored.filled i));
     apart = (λ i j differ. left_apart arena later (get_or (holdings (nodes_in arena) staged) i no_contents) (get_or (holdings (nodes_in later) staged) i no_contents)
         (get_or (holdings (nodes_in arena) staged) j no_contents) (get_or (holdings (nodes_in later) staged) j no_contents) (left_at i) (left_at j) (store.kept.stored.apart i j differ));
+    led = (λ i. left_led arena later (get_or (holdings (nodes_in arena) staged) i no_contents) (get_or (holdings (nodes_in later) staged) i no_contents) ways long (left_at i) (store.kept.stored.led i));
   }
 
   placed_now : All (IsPlaced later) slots
@@ -105,9 +114,9 @@ module _ (arena later : Blocks) (heads after : Heads) (root end : Head) (slots :
       let s = get_or slots j d in
       let at : get_or staged j no_contents ≡ s.contents = mapped_at (λ (slot : Slot). slot.contents) slots j s no_contents within (get_or_default slots j d s within) in
       let stays = subst (λ (x : Contents). Stays arena later x.run) at (lists j) in
-      slot_stays arena later s stays long (store.placed j d within)
+      slot_stays arena later s stays (store.placed j d within)
 
-  pub nodes_store : free_count later + blocks seen ≡ length later → IsStore later after end slots
+  pub nodes_store : free_count later + blocks seen ≡ length later → IsStore later ways after end slots
   nodes_store counted = record {
     kept = record {
       some = omega (arith, long, store.kept.some);

@@ -1,5 +1,5 @@
 -- What is copied of a file.
---     directory_there, file_there, file_held     what stands at a path, by its node's block
+--     directory_there, file_there, file_held, file_ways     what stands at a path, by its node's block
 --     none_copied                    where there are no octets the buffer stays
 --     copied                         so many octets, read from where the copy begins
 use Rattle.std.proofs.Common.{rules, ◌≡◌, ℕ, ◌+◌, ◌≤◌, List, [], ◌++◌, drop, length, Some, sym, ap, ◌∙◌, arith}
@@ -10,6 +10,7 @@ use Rattle.cfdp_actions.specs.declared.kind.Kind.TheVariants as kind
 use Rattle.cfdp_actions.specs.Filestore.{Directory, File, node_at, is_file}
 use Rattle.cfdp_actions.specs.Store.{Store}
 use Rattle.cfdp_tree.specs.declared.index.Head.{Head}
+use Rattle.cfdp_ways.specs.declared.way.Way.{Way}
 use Rattle.cfdp_tree.specs.declared.slots.Slot.{Slot}
 use Rattle.cfdp_tree.specs.Index.{Heads}
 use Rattle.cfdp_tree.specs.Row.{row_of, kind_told}
@@ -21,8 +22,10 @@ use Rattle.cfdp_tree.specs.Slots.{staged_in, IsStore}
 use Rattle.cfdp_tree.specs.Found.{beginning, fitting, with_octets}
 use Rattle.cfdp_tree.proofs.ContentsLaws.{length-contents}
 use Rattle.cfdp_tree.proofs.SeenLaws.{seen_block, seen_file, file_small}
+use Rattle.cfdp_tree.proofs.SeenLaws as seen_laws
+use Rattle.cfdp_tree.specs.Ways.{HasWays}
 
-module _ (arena : Blocks) (heads : Heads) (root : Head) (slots : List Slot) (store : IsStore arena heads root slots) (now : Store) (view : store_of arena (staged_in slots) ≡ now)
+module _ (arena : Blocks) (heads : Heads) (root : Head) (slots : List Slot) {ways : List Way} (store : IsStore arena ways heads root slots) (now : Store) (view : store_of arena (staged_in slots) ≡ now)
     (b : ℕ) (p : Path) (block : List ℕ) (node : IsNode (nodes_in arena) b) (way : path_of (nodes_in arena) b ≡ p) (is : octets_at arena b ≡ Some block) where
   pub directory_there : kind.Directory ≡ kind_told (row_of block).kind → node_at now.filestore p ≡ Some Directory
   directory_there told =
@@ -40,6 +43,9 @@ module _ (arena : Blocks) (heads : Heads) (root : Head) (slots : List Slot) (sto
         let seen = seen_file arena heads root slots store now view b p block node way is (ap is_file file_there) in
         let small = file_small arena heads root slots store now view p in
         (seen.1, omega (arith, small, ap length seen.0, length-contents arena (contents_told kind.File (row_of block)) seen.1))
+
+    pub file_ways : HasWays arena ways (contents_told kind.File (row_of block)).run
+    file_ways = seen_laws.file_ways arena heads root slots store now view b p block node way is (ap is_file file_there)
 
 none_fits : (at : ℕ) (buffer : List ℕ) → fitting [] at buffer ≡ 0
 none_fits at buffer = omega arith

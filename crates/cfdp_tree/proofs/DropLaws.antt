@@ -23,6 +23,7 @@ use Rattle.cfdp_actions.proofs.ChangeLaws.{blocks-becomes}
 use Rattle.cfdp_tree.specs.declared.contents.Contents.{Contents}
 use Rattle.cfdp_tree.specs.declared.runs.Run.{Run}
 use Rattle.cfdp_tree.specs.declared.index.Head.{Head}
+use Rattle.cfdp_ways.specs.declared.way.Way.{Way}
 use Rattle.cfdp_tree.specs.declared.slots.Slot.{Slot}
 use Rattle.cfdp_tree.specs.Row.{Row, row_of, kind_told}
 use Rattle.cfdp_tree.specs.Runs.{Apart, Stays, RunsStay, Spares, nth}
@@ -75,7 +76,7 @@ stays_two first second third run one runs =
     let two = runs run one.held in
     record { held = two.held; octets = two.octets ∙ one.octets; places = (λ k within. two.places k within ∙ one.places k within) }
 
-module _ (arena : Blocks) (heads : Heads) (root : Head) (slots : List Slot) (store : IsStore arena heads root slots) (now : Store) (view : store_of arena (staged_in slots) ≡ now) where
+module _ (arena : Blocks) (heads : Heads) (root : Head) (slots : List Slot) {ways : List Way} (store : IsStore arena ways heads root slots) (now : Store) (view : store_of arena (staged_in slots) ≡ now) where
   pub seen_found : (p : Path) (found : Option ℕ) → IfNone found ((b : ℕ) → IsNode (nodes_in arena) b → path_of (nodes_in arena) b ≡ p → ⊥) → IsSome (node_at now.filestore p) → IsSome found
   seen_found p None none some = absurd (none_is (seen_none arena heads root slots store now view p none) some)
     where
@@ -83,7 +84,7 @@ module _ (arena : Blocks) (heads : Heads) (root : Head) (slots : List Slot) (sto
       none_is absent is = cc
   seen_found p (Some b) none some = refl
 
-module _ (arena : Blocks) (heads : Heads) (root : Head) (slots : List Slot) (store : IsStore arena heads root slots) (now : Store) (view : store_of arena (staged_in slots) ≡ now)
+module _ (arena : Blocks) (heads : Heads) (root : Head) (slots : List Slot) {ways : List Way} (store : IsStore arena ways heads root slots) (now : Store) (view : store_of arena (staged_in slots) ≡ now)
     (path : Path) (b : ℕ) (node : IsNode (nodes_in arena) b) (way : path_of (nodes_in arena) b ≡ path) where
   abbrev nodes : Blocks
   nodes = nodes_in arena
@@ -215,7 +216,7 @@ module _ (arena : Blocks) (heads : Heads) (root : Head) (slots : List Slot) (sto
           ]
             where
               none_stays : (new : Blocks) → Stays arena new no_contents.run
-              none_stays new = record { held = (none_filled new no_contents refl refl).held; octets = refl; places = (λ k within. zero_nth k within) }
+              none_stays new = record { held = (none_filled new no_contents refl refl refl).held; octets = refl; places = (λ k within. zero_nth k within) }
                 where
                   zero_nth : (k : ℕ) → k ≤ 0 → nth new 0 k ≡ nth arena 0 k
                   zero_nth k within =
@@ -253,7 +254,7 @@ module _ (arena : Blocks) (heads : Heads) (root : Head) (slots : List Slot) (sto
           seen_is : record { nodes = F; staged = (store_of arena staged).filestore.staged } ≡ files.changed now.filestore (Becomes path None)
           seen_is = (λ i. record { nodes = F; staged = (view i).filestore.staged })
 
-          pub drop_store : IsStore later heads_now root_now slots
+          pub drop_store : IsStore later ways heads_now root_now slots
           drop_store =
               nodes_store arena later heads heads_now root root_now slots store long list_stays left_at F shows_later tree_later index_later groups_later
               (omega (arith, ap blocks seen_is, blocks-becomes now.filestore path None, weight_is, freed, long, seen_blocks arena heads root slots store now view))

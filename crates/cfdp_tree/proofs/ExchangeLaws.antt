@@ -13,9 +13,11 @@ use Rattle.cfdp_actions.specs.Filestore as files
 use Rattle.cfdp_actions.specs.Store.{Store, with_changes}
 use Rattle.cfdp_actions.proofs.ChangeLaws.{blocks-becomes, blocks-stages}
 use Rattle.cfdp_tree.specs.declared.contents.Contents.{Contents}
+use Rattle.cfdp_ways.specs.declared.way.Way.{Way}
 use Rattle.cfdp_tree.specs.declared.slots.Slot.{Slot}
 use Rattle.cfdp_tree.specs.Row.{row_of, name_of, kind_told}
 use Rattle.cfdp_tree.specs.Runs.{Apart, RunsStay}
+use Rattle.cfdp_tree.specs.Ways.{HasWays}
 use Rattle.cfdp_tree.specs.Contents.{IsFilled, contents_in}
 use Rattle.cfdp_tree.specs.Nodes.{nodes_in}
 use Rattle.cfdp_tree.specs.Tree.{IsNode, row_at, name_at, path_of}
@@ -23,15 +25,16 @@ use Rattle.cfdp_tree.specs.declared.index.Head.{Head}
 use Rattle.cfdp_tree.specs.Index.{Heads}
 use Rattle.cfdp_tree.specs.Kept.{no_contents, contents_told, file_of, file_in, holdings, node_of, store_of, IsStored}
 use Rattle.cfdp_tree.specs.Slots.{staged_in, IsPlaced, IsStore}
-use Rattle.cfdp_tree.specs.Files.{with_run, SameOctets}
-use Rattle.cfdp_tree.proofs.MarkLaws.{slot_stays}
+use Rattle.cfdp_tree.specs.Files.{with_contents, SameOctets}
+use Rattle.cfdp_tree.proofs.SlotPlaces.{slot_stays}
+use Rattle.cfdp_tree.proofs.WayLaws.{same_ways, ways_still}
 use Rattle.cfdp_tree.proofs.ContentsLaws.{stays_filled, stays_contents}
 use Rattle.cfdp_tree.proofs.StoredLaws.{apart_back}
 use Rattle.cfdp_tree.proofs.SeenLaws.{seen_blocks, mapped_at, slot_there, slot_filled, seen_staged, staged_is}
 use Rattle.cfdp_tree.proofs.SlotLaws.{told_same}
 use Rattle.cfdp_tree.proofs.FileLaws.{same_filled, same_contents, same_apart, all_maps, file_there, held_here, held_other, in_held, told_written, written_seen, written_store}
 
-module _ (old new : Blocks) (held : List Contents) (i j : ℕ) (first : i < length held) (second : j < length held) (differ : i ≢ j) (stored : IsStored old held) (runs : RunsStay old new)
+module _ (old new : Blocks) (held : List Contents) (i j : ℕ) (first : i < length held) (second : j < length held) (differ : i ≢ j) {ways : List Way} (stored : IsStored old ways held) (runs : RunsStay old new) (long : length new ≡ length old)
     (a : Contents) (same : SameOctets a (get_or held i no_contents)) where
   abbrev now : List Contents
   now = set (set held i (get_or held j no_contents)) j a
@@ -55,7 +58,7 @@ module _ (old new : Blocks) (held : List Contents) (i j : ℕ) (first : i < leng
     else_is : k ≢ i → k ≢ j → from ≡ k
 
   itself : (x y : Contents) → x ≡ y → SameOctets x y
-  itself x y e = subst (SameOctets x) e (record { size = refl; count = refl; first = (λ some. refl); last = (λ some. refl) })
+  itself x y e = subst (SameOctets x) e (record { size = refl; sum = refl; count = refl; first = (λ some. refl); last = (λ some. refl) })
 
   comes : (k : ℕ) → Comes k
   comes k = elim (cases_eq k i) [
@@ -127,14 +130,21 @@ module _ (old new : Blocks) (held : List Contents) (i j : ℕ) (first : i < leng
       let half = same_apart (get_or now l no_contents) there y.octets here.run (apart_back here.run there.run were) in
       same_apart (get_or now k no_contents) here x.octets (get_or now l no_contents).run (apart_back (get_or now l no_contents).run here.run half)
 
-  pub exchanged : IsStored new now
-  exchanged = record { filled = filled_at; apart = apart_at }
+  led_at : (k : ℕ) → HasWays new ways (get_or now k no_contents).run
+  led_at k =
+      let x = comes k in
+      let was = get_or held x.from no_contents in
+      same_ways new ways (get_or now k no_contents) was x.octets
+      (ways_still old new ways was.run long (λ n less. (runs was.run (stored.filled x.from).held).places n (omega (arith, less))) (stored.led x.from))
+
+  pub exchanged : IsStored new ways now
+  exchanged = record { filled = filled_at; apart = apart_at; led = led_at }
 
 -- a file of the store, and a slot
-module _ (arena : Blocks) (heads : Heads) (root : Head) (slots : List Slot) (store : IsStore arena heads root slots) (now : Store) (view : store_of arena (staged_in slots) ≡ now)
+module _ (arena : Blocks) (heads : Heads) (root : Head) (slots : List Slot) {ways : List Way} (store : IsStore arena ways heads root slots) (now : Store) (view : store_of arena (staged_in slots) ≡ now)
     (b : ℕ) (p : Path) (node : IsNode (nodes_in arena) b) (way : path_of (nodes_in arena) b ≡ p) (file : is_file (node_at now.filestore p) ≡ true)
     (i : ℕ) (small : i < 64) (slot : Slot) (is : slot ≡ get_or slots i slot) (later : Blocks) (written : List ℕ) (nodes_later : nodes_in later ≡ with_block (nodes_in arena) b written)
-    (row : row_of written ≡ record (with_run (row_at (nodes_in arena) b) slot.contents.run) { size = slot.contents.size }) (name : name_of written ≡ name_at (nodes_in arena) b) (whole : length written ≡ 128)
+    (row : row_of written ≡ with_contents (row_at (nodes_in arena) b) slot.contents) (name : name_of written ≡ name_at (nodes_in arena) b) (whole : length written ≡ 128)
     (runs : RunsStay arena later) (free : free_count later ≡ free_count arena) (long : length later ≡ length arena)
     (after : Slot) (after_is : after.contents ≡ contents_told kind.File (row_at (nodes_in arena) b)) (placed : IsPlaced later after) where
   abbrev nodes : Blocks
@@ -199,11 +209,11 @@ module _ (arena : Blocks) (heads : Heads) (root : Head) (slots : List Slot) (sto
       ∙ sym (set-append_right front back (length staged) (length staged + b) told many (omega arith) ∙ ap (λ k. front ++ set back k told) (omega arith))
       ∙ ap (λ xs. set xs (length staged + b) told) (sym (set-append_left staged back i before there) ∙ ap (set held i) (sym file_held))
 
-  stored_now : IsStored later (holdings (with_block nodes b written) (staged_in slots_now))
+  stored_now : IsStored later ways (holdings (with_block nodes b written) (staged_in slots_now))
   stored_now =
       let within = in_held arena heads root slots store now view b p node way file in
-      subst (IsStored later) (sym holdings_now)
-      (exchanged arena later held i (length staged + b) (omega (arith, within, there)) within (λ e. omega (arith, there, e)) store.kept.stored runs told (subst (SameOctets told) (sym slot_held) same))
+      subst (IsStored later ways) (sym holdings_now)
+      (exchanged arena later held i (length staged + b) (omega (arith, within, there)) within (λ e. omega (arith, there, e)) store.kept.stored runs long told (subst (SameOctets told) (sym slot_held) same))
 
   file_octets : octets_at now.filestore p ≡ contents_in arena before
   file_octets = ap octets_in (file_there arena heads root slots store now view b p node way file)
@@ -247,7 +257,7 @@ module _ (arena : Blocks) (heads : Heads) (root : Head) (slots : List Slot) (sto
       get_or_append_left staged (map file_in nodes) no_contents j inside ∙ mapped_at (λ (slot : Slot). slot.contents) slots j s no_contents within (get_or_default slots j d s within) in
       let was_filled = subst (IsFilled arena) at (store.kept.stored.filled j) in
       let stays = runs s.contents.run was_filled.held in
-      slot_stays arena later s stays long (store.placed j d within)
+      slot_stays arena later s stays (store.placed j d within)
 
   placed_now : All (IsPlaced later) slots_now
   placed_now j d within = elim (cases_eq j i) [
@@ -255,9 +265,9 @@ module _ (arena : Blocks) (heads : Heads) (root : Head) (slots : List Slot) (sto
     | inr other ↦ subst (IsPlaced later) (sym (get_or-set_other slots i j after d other)) (place_stays j d (omega (arith, within, length-set slots i after)))
   ]
 
-  pub exchange_store : IsStore later heads root slots_now
+  pub exchange_store : IsStore later ways heads root slots_now
   exchange_store = written_store arena heads root slots store now view b p node way file later slot.contents written row name whole (files.staged_in now.filestore i) here node_stays nodes_later long
-      slots_now (set now.filestore.staged i (octets_at now.filestore p)) lists_are (length-set slots i after) stored_now counted_now placed_now
+      slots_now (set now.filestore.staged i (octets_at now.filestore p)) lists_are ways (length-set slots i after) stored_now counted_now placed_now
 
   pub exchange_seen : store_of later (staged_in slots_now) ≡ with_changes now (Stages i (octets_at now.filestore p) ∷ Becomes p (Some (File (files.staged_in now.filestore i))) ∷ [])
   exchange_seen = written_seen arena heads root slots store now view b p node way file later slot.contents written row name whole (files.staged_in now.filestore i) here node_stays nodes_later long

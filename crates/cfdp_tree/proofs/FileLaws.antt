@@ -23,9 +23,11 @@ use Rattle.cfdp_actions.specs.Store.{Store, with_changes}
 use Rattle.cfdp_actions.proofs.ChangeLaws.{blocks-becomes}
 use Rattle.cfdp_tree.specs.declared.runs.Run.{Run}
 use Rattle.cfdp_tree.specs.declared.contents.Contents.{Contents}
+use Rattle.cfdp_ways.specs.declared.way.Way.{Way}
 use Rattle.cfdp_tree.specs.declared.slots.Slot.{Slot}
 use Rattle.cfdp_tree.specs.Row.{row_of, name_of, kind_told}
 use Rattle.cfdp_tree.specs.Runs.{Apart, Spares, Stays, RunsStay}
+use Rattle.cfdp_tree.specs.Ways.{HasWays, KeepsWays}
 use Rattle.cfdp_tree.specs.Contents.{IsFilled, contents_in}
 use Rattle.cfdp_tree.specs.Nodes.{nodes_in}
 use Rattle.cfdp_tree.specs.Tree.{IsNode, row_at, name_at, path_of, IsTree, SamePlaces}
@@ -34,10 +36,11 @@ use Rattle.cfdp_tree.specs.Index.{Heads, IsIndex}
 use Rattle.cfdp_tree.specs.Entries.{IsGrouped}
 use Rattle.cfdp_tree.specs.Kept.{no_contents, contents_told, file_of, file_in, holdings, node_told, node_of, Shows, filestore_of, store_of, IsStored}
 use Rattle.cfdp_tree.specs.Slots.{staged_in, IsPlaced, IsStore}
-use Rattle.cfdp_tree.specs.Files.{with_run, SameOctets}
-use Rattle.cfdp_tree.proofs.MarkLaws.{slot_stays}
+use Rattle.cfdp_tree.specs.Files.{with_contents, SameOctets}
+use Rattle.cfdp_tree.proofs.SlotPlaces.{slot_stays}
+use Rattle.cfdp_tree.proofs.WayLaws.{same_ways, ways_still}
 use Rattle.cfdp_tree.proofs.Filling.{blocks_of-fits}
-use Rattle.cfdp_tree.proofs.ContentsLaws.{length-contents, none_filled, none_contents, stays_filled, stays_contents}
+use Rattle.cfdp_tree.proofs.ContentsLaws.{length-contents, none_filled, none_contents, none_sum as none_summed, stays_filled, stays_contents}
 use Rattle.cfdp_tree.proofs.TreeLaws.{same_node}
 use Rattle.cfdp_tree.proofs.PlaceLaws.{same_paths, same_tree}
 use Rattle.cfdp_tree.proofs.ShowLaws.{tree_shows, shown_same}
@@ -50,15 +53,18 @@ use Rattle.cfdp_tree.proofs.FileRows as rows
 -- octets that are in the same blocks
 module _ (a b : Contents) (same : SameOctets a b) where
   same_is : 0 < b.run.count → a ≡ b
-  same_is some = (λ k. record { run = record { first = same.first some k; last = same.last some k; count = same.count k }; size = same.size k })
+  same_is some = (λ k. record { run = record { first = same.first some k; last = same.last some k; count = same.count k }; size = same.size k; sum = same.sum k })
 
   module _ (arena : Blocks) (filled : IsFilled arena b) where
     none_size : b.run.count ≡ 0 → a.size ≡ 0
     none_size none = omega (arith, none, filled.blocks, blocks_of-fits b.size, same.size)
 
+    none_sum : b.run.count ≡ 0 → a.sum ≡ 0
+    none_sum none = same.sum ∙ filled.summed ∙ none_summed arena b none (sym same.size ∙ none_size none)
+
     pub same_filled : IsFilled arena a
     same_filled = elim (cases_eq b.run.count 0) [
-      | inl none ↦ none_filled arena a (same.count ∙ none) (none_size none)
+      | inl none ↦ none_filled arena a (same.count ∙ none) (none_size none) (none_sum none)
       | inr some ↦ subst (IsFilled arena) (sym (same_is (omega arith))) filled
     ]
 
@@ -84,7 +90,7 @@ told_file arena kind.File contents file = refl
 told_file arena kind.Directory contents file = cc
 
 -- a file of the store
-module _ (arena : Blocks) (heads : Heads) (root : Head) (slots : List Slot) (store : IsStore arena heads root slots) (now : Store) (view : store_of arena (staged_in slots) ≡ now)
+module _ (arena : Blocks) (heads : Heads) (root : Head) (slots : List Slot) {ways : List Way} (store : IsStore arena ways heads root slots) (now : Store) (view : store_of arena (staged_in slots) ≡ now)
     (b : ℕ) (p : Path) (node : IsNode (nodes_in arena) b) (way : path_of (nodes_in arena) b ≡ p) (file : is_file (node_at now.filestore p) ≡ true) where
   abbrev nodes : Blocks
   nodes = nodes_in arena
@@ -120,7 +126,7 @@ module _ (arena : Blocks) (heads : Heads) (root : Head) (slots : List Slot) (sto
   held_other c other = held_at arena heads root slots store now view c ∙ some_is (octets_at nodes c) other
 
   -- its block is written
-  module _ (later : Blocks) (contents : Contents) (written : List ℕ) (row : row_of written ≡ record (with_run (row_at nodes b) contents.run) { size = contents.size })
+  module _ (later : Blocks) (contents : Contents) (written : List ℕ) (row : row_of written ≡ with_contents (row_at nodes b) contents)
       (name : name_of written ≡ name_at nodes b) (whole : length written ≡ 128) where
     abbrev new : Blocks
     new = with_block nodes b written
@@ -208,9 +214,9 @@ module _ (arena : Blocks) (heads : Heads) (root : Head) (slots : List Slot) (sto
             let capacity : length later ≡ now.capacity = long ∙ ap (λ (s : Store). s.capacity) view in
             (λ k. record { filestore = filestore_is k; capacity = capacity k; takes_no_memory = memory k })
 
-        pub written_store : length slots_now ≡ length slots → IsStored later (holdings new (staged_in slots_now)) → free_count later + blocks filestore_now ≡ length later → All (IsPlaced later) slots_now
-            → IsStore later heads root slots_now
-        written_store many stored counted placed = record {
+        pub written_store : (ways_now : List Way) → length slots_now ≡ length slots → IsStored later ways_now (holdings new (staged_in slots_now)) → free_count later + blocks filestore_now ≡ length later
+            → All (IsPlaced later) slots_now → IsStore later ways_now heads root slots_now
+        written_store ways_now many stored counted placed = record {
           kept = record {
             some = omega (arith, long, store.kept.some);
             small = omega (arith, long, store.kept.small);
@@ -218,7 +224,7 @@ module _ (arena : Blocks) (heads : Heads) (root : Head) (slots : List Slot) (sto
             tree = subst IsTree (sym nodes_now) tree_new;
             index = subst (λ ns. IsIndex ns heads None) (sym nodes_now) (file_index nodes store.kept.tree b node kind_there written contents row name whole heads None store.kept.index);
             groups = subst (λ ns. IsGrouped ns root None) (sym nodes_now) (file_groups nodes store.kept.tree b node kind_there written contents row name whole root None store.kept.groups);
-            stored = subst (λ ns. IsStored later (holdings ns (staged_in slots_now))) (sym nodes_now) stored;
+            stored = subst (λ ns. IsStored later ways_now (holdings ns (staged_in slots_now))) (sym nodes_now) stored;
             counted = ap (λ F. free_count later + blocks F) filestore_is ∙ counted;
           };
           placed = placed;
@@ -227,14 +233,14 @@ module _ (arena : Blocks) (heads : Heads) (root : Head) (slots : List Slot) (sto
   -- its octets are others, and then its block says so
   module _ (middle later : Blocks) (after : Contents) (written : List ℕ) (nodes_middle : nodes_in middle ≡ nodes) (long_middle : length middle ≡ length arena)
       (spares : Spares arena middle before.run after.run) (filled : IsFilled middle after) (taken : free_count middle + blocks_of after.size ≡ free_count arena + blocks_of before.size)
-      (nodes_later : nodes_in later ≡ with_block (nodes_in middle) b written) (row : row_of written ≡ record (with_run (row_at (nodes_in middle) b) after.run) { size = after.size })
+      (nodes_later : nodes_in later ≡ with_block (nodes_in middle) b written) (row : row_of written ≡ with_contents (row_at (nodes_in middle) b) after)
       (name : name_of written ≡ name_at (nodes_in middle) b) (whole : length written ≡ 128) (runs : RunsStay middle later) (free : free_count later ≡ free_count middle) (long : length later ≡ length middle)
       (octets : List ℕ) (octets_is : contents_in middle after ≡ octets) where
     abbrev told : Contents
     told = file_of written
 
-    row_is : row_of written ≡ record (with_run (row_at nodes b) after.run) { size = after.size }
-    row_is = row ∙ ap (λ ns. record (with_run (row_at ns b) after.run) { size = after.size }) nodes_middle
+    row_is : row_of written ≡ with_contents (row_at nodes b) after
+    row_is = row ∙ ap (λ ns. with_contents (row_at ns b) after) nodes_middle
 
     name_is : name_of written ≡ name_at nodes b
     name_is = name ∙ ap (λ ns. name_at ns b) nodes_middle
@@ -310,12 +316,24 @@ module _ (arena : Blocks) (heads : Heads) (root : Head) (slots : List Slot) (sto
         let at : get_or held j no_contents ≡ s.contents = slot_at j inside ∙ mapped_at (λ (slot : Slot). slot.contents) slots j s no_contents within (get_or_default slots j d s within) in
         let stays = subst (λ (x : Contents). Stays arena later x.run) at
         (run_spared arena later held (length staged + b) in_held told store.kept.stored spares_held filled_told j (λ e. omega (arith, inside, e))).0 in
-        slot_stays arena later s stays (long ∙ long_middle) (store.placed j d within)
+        slot_stays arena later s stays (store.placed j d within)
 
-    pub file_store : IsStore later heads root slots
-    file_store = written_store later after written row_is name_is whole octets here node_stays nodes_is (long ∙ long_middle) slots now.filestore.staged lists_are refl
-        (subst (IsStored later) (sym holdings_now) (stored_changed arena later held (length staged + b) in_held told store.kept.stored spares_held filled_told))
-        counted_now place_stays
+    -- the ways of its blocks, and of those of all others
+    module _ (ways_now : List Way) (has : HasWays middle ways_now after.run) (keeps : KeepsWays arena middle ways ways_now before.run) where
+      has_later : HasWays later ways_now told.run
+      has_later = same_ways later ways_now told after same
+          (ways_still middle later ways_now after.run long (λ k less. (runs after.run filled.held).places k (omega (arith, less))) has)
+
+      keeps_later : KeepsWays arena later ways ways_now (get_or held (length staged + b) no_contents).run
+      keeps_later other is apart was =
+          let apart_before = subst (λ (x : Contents). Apart x.run other) held_here apart in
+          let still = (spares other is apart_before).0.held in
+          ways_still middle later ways_now other long (λ k less. (runs other still).places k (omega (arith, less))) (keeps other is apart_before was)
+
+      pub file_store : IsStore later ways_now heads root slots
+      file_store = written_store later after written row_is name_is whole octets here node_stays nodes_is (long ∙ long_middle) slots now.filestore.staged lists_are ways_now refl
+          (subst (IsStored later ways_now) (sym holdings_now) (stored_changed arena later held (length staged + b) in_held told store.kept.stored spares_held filled_told ways_now has_later keeps_later))
+          counted_now place_stays
 
     pub file_changes : store_of later (staged_in slots) ≡ with_changes now (Becomes p (Some (File octets)) ∷ [])
     file_changes = written_seen later after written row_is name_is whole octets here node_stays nodes_is (long ∙ long_middle) slots now.filestore.staged lists_are

@@ -19,7 +19,7 @@ use Rattle.cfdp_tree.specs.Tree.{IsNode, row_at, name_at, IsNamed, IsTree, SameP
 use Rattle.cfdp_tree.specs.Index.{Heads, IsIndex}
 use Rattle.cfdp_tree.specs.Entries.{IsGrouped}
 use Rattle.cfdp_tree.specs.Kept.{contents_told}
-use Rattle.cfdp_tree.specs.Files.{with_run, SameOctets}
+use Rattle.cfdp_tree.specs.Files.{with_run, with_contents, SameOctets}
 use Rattle.cfdp_tree.proofs.PlaceLaws.{kept_by, same_places}
 use Rattle.cfdp_tree.proofs.OutLaws.{index_kept}
 use Rattle.cfdp_tree.proofs.GroupLaws.{grouped_sized}
@@ -31,19 +31,20 @@ run_keeps {X = X} word row run same = by_test (run.count == 0)
     by_test true = refl
     by_test false = same
 
-pub row_keeps : {X : Type 0} (word : Row → X) (row : Row) (contents : Contents) → ((first last size : ℕ) → word (record row { first = first; last = last; size = size }) ≡ word row)
-    → word (record (with_run row contents.run) { size = contents.size }) ≡ word row
+pub row_keeps : {X : Type 0} (word : Row → X) (row : Row) (contents : Contents) → ((first last size sum : ℕ) → word (record row { first = first; last = last; size = size; sum = sum }) ≡ word row)
+    → word (with_contents row contents) ≡ word row
 row_keeps {X = X} word row contents same = by_test (contents.run.count == 0)
   where
-    by_test : (none : Bool) → word (record (if none then row else record row { first = contents.run.first; last = contents.run.last }) { size = contents.size }) ≡ word row
-    by_test true = same row.first row.last contents.size
-    by_test false = same contents.run.first contents.run.last contents.size
+    by_test : (none : Bool) → word (record (if none then row else record row { first = contents.run.first; last = contents.run.last }) { size = contents.size; sum = contents.sum }) ≡ word row
+    by_test true = same row.first row.last contents.size contents.sum
+    by_test false = same contents.run.first contents.run.last contents.size contents.sum
 
 -- what was written is what it says
 pub told_same : (row : Row) (contents : Contents) → contents.run.count ≡ blocks_of contents.size
-    → SameOctets (contents_told kind.File (record (with_run row contents.run) { size = contents.size })) contents
+    → SameOctets (contents_told kind.File (with_contents row contents)) contents
 told_same row contents blocks = record {
   size = refl;
+  sum = refl;
   count = sym blocks;
   first = (λ some. ap (λ (none : Bool). (if none then row else record row { first = contents.run.first; last = contents.run.last }).first) (not_none some));
   last = (λ some. ap (λ (none : Bool). (if none then row else record row { first = contents.run.first; last = contents.run.last }).last) (not_none some));
@@ -53,11 +54,11 @@ told_same row contents blocks = record {
     not_none some = ne_eqb contents.run.count 0 (λ e. omega (arith, some, e))
 
 module _ (nodes : Blocks) (tree : IsTree nodes) (b : ℕ) (node : IsNode nodes b) (file : kind_told (row_at nodes b).kind ≡ kind.File) (block : List ℕ) (contents : Contents)
-    (row : row_of block ≡ record (with_run (row_at nodes b) contents.run) { size = contents.size }) (name : name_of block ≡ name_at nodes b) (whole : length block ≡ 128) where
+    (row : row_of block ≡ with_contents (row_at nodes b) contents) (name : name_of block ≡ name_at nodes b) (whole : length block ≡ 128) where
   abbrev new : Blocks
   new = with_block nodes b block
 
-  keeps : {X : Type 0} (word : Row → X) → ((first last size : ℕ) → word (record (row_at nodes b) { first = first; last = last; size = size }) ≡ word (row_at nodes b)) → word (row_of block) ≡ word (row_at nodes b)
+  keeps : {X : Type 0} (word : Row → X) → ((first last size sum : ℕ) → word (record (row_at nodes b) { first = first; last = last; size = size; sum = sum }) ≡ word (row_at nodes b)) → word (row_of block) ≡ word (row_at nodes b)
   keeps word same = ap word row ∙ row_keeps word (row_at nodes b) contents same
 
   named : IsNamed block
@@ -65,36 +66,36 @@ module _ (nodes : Blocks) (tree : IsTree nodes) (b : ℕ) (node : IsNode nodes b
       let was = tree.named b node in
       record {
         whole = whole;
-        fits = omega (arith, keeps (λ (r : Row). r.name_length) (λ _ _ _. refl), was.fits);
+        fits = omega (arith, keeps (λ (r : Row). r.name_length) (λ _ _ _ _. refl), was.fits);
         name = subst IsName (sym name) was.name;
       }
 
   pub file_kind : kind_told (row_of block).kind ≡ kind.File
-  file_kind = ap kind_told (keeps (λ (r : Row). r.kind) (λ _ _ _. refl)) ∙ file
+  file_kind = ap kind_told (keeps (λ (r : Row). r.kind) (λ _ _ _ _. refl)) ∙ file
 
   pub file_places : SamePlaces nodes new
   file_places = same_places nodes b block node tree named
-      (keeps (λ (r : Row). if r.parent == b then None else Some r.parent) (λ _ _ _. refl)) name (keeps (λ (r : Row). kind_told r.kind) (λ _ _ _. refl))
+      (keeps (λ (r : Row). if r.parent == b then None else Some r.parent) (λ _ _ _ _. refl)) name (keeps (λ (r : Row). kind_told r.kind) (λ _ _ _ _. refl))
 
-  kept : {X : Type 0} (word : Row → X) → ((first last size : ℕ) → word (record (row_at nodes b) { first = first; last = last; size = size }) ≡ word (row_at nodes b))
+  kept : {X : Type 0} (word : Row → X) → ((first last size sum : ℕ) → word (record (row_at nodes b) { first = first; last = last; size = size; sum = sum }) ≡ word (row_at nodes b))
       → (c : ℕ) → word (row_at new c) ≡ word (row_at nodes c)
   kept word same = kept_by nodes b block node (λ c entry. word (row_of (unwrap_or entry []))) (keeps word same)
 
   same_head : (c : ℕ) → (row_at new c).same_head ≡ (row_at nodes c).same_head
-  same_head = kept (λ (r : Row). r.same_head) (λ _ _ _. refl)
+  same_head = kept (λ (r : Row). r.same_head) (λ _ _ _ _. refl)
 
   pub file_index : (heads : Heads) (out : Option ℕ) → IsIndex nodes heads out → IsIndex new heads out
   file_index heads out index = index_kept nodes new heads out file_places same_head (length-set nodes b (Some block)) index
 
   -- the row by its numbers
-  row_is : row_of block ≡ record (row_at nodes b) { first = (with_run (row_at nodes b) contents.run).first; last = (with_run (row_at nodes b) contents.run).last; size = contents.size }
+  row_is : row_of block ≡ record (row_at nodes b) { first = (with_run (row_at nodes b) contents.run).first; last = (with_run (row_at nodes b) contents.run).last; size = contents.size; sum = contents.sum }
   row_is = row ∙ by_test (contents.run.count == 0)
     where
       by_test : (none : Bool) → (let was = row_at nodes b in let with = if none then was else record was { first = contents.run.first; last = contents.run.last } in
-          record with { size = contents.size } ≡ record was { first = with.first; last = with.last; size = contents.size })
+          record with { size = contents.size; sum = contents.sum } ≡ record was { first = with.first; last = with.last; size = contents.size; sum = contents.sum })
       by_test true = refl
       by_test false = refl
 
   pub file_groups : (root : Head) (out : Option ℕ) → IsGrouped nodes root out → IsGrouped new root out
   file_groups root out groups =
-      grouped_sized nodes root out b block (with_run (row_at nodes b) contents.run).first (with_run (row_at nodes b) contents.run).last contents.size tree node file row_is groups
+      grouped_sized nodes root out b block (with_run (row_at nodes b) contents.run).first (with_run (row_at nodes b) contents.run).last contents.size contents.sum tree node file row_is groups

@@ -1,7 +1,7 @@
 -- Files that were found in a store.
 --     filled_blocks              octets have just the blocks for them
 --     file_found, file_most      a file has a node, and no more octets than there can be
---     found_filled, found_octets, found_size, found_blocks       its octets
+--     found_filled, found_ways, found_octets, found_size, found_blocks       its octets
 --     found_same, found_apart    two of them stand at one node, or their octets are apart
 --     found_one, found_two       and their paths are one, or two
 --     append_most, append_room   there are blocks for the octets of both, those of the other one behind these
@@ -20,9 +20,11 @@ use Rattle.cfdp_actions.proofs.StoreLaws.{weight-found, octets-weight}
 use Rattle.cfdp_actions.proofs.SurveyLaws.{blocks_of-bound}
 use Rattle.cfdp_tree.specs.declared.contents.Contents.{Contents}
 use Rattle.cfdp_tree.specs.declared.files.FoundFile.{FoundFile}
+use Rattle.cfdp_ways.specs.declared.way.Way.{Way}
 use Rattle.cfdp_tree.specs.declared.slots.Slot.{Slot}
 use Rattle.cfdp_tree.specs.Row.{row_of, name_of}
 use Rattle.cfdp_tree.specs.Runs.{Apart, Spares, RunsStay}
+use Rattle.cfdp_tree.specs.Ways.{HasWays, KeepsWays}
 use Rattle.cfdp_tree.specs.Contents.{IsFilled, contents_in}
 use Rattle.cfdp_tree.specs.Nodes.{nodes_in}
 use Rattle.cfdp_tree.specs.Tree.{IsNode, row_at, name_at, path_of}
@@ -30,7 +32,7 @@ use Rattle.cfdp_tree.specs.declared.index.Head.{Head}
 use Rattle.cfdp_tree.specs.Index.{Heads}
 use Rattle.cfdp_tree.specs.Kept.{contents_told, no_contents, holdings, store_of}
 use Rattle.cfdp_tree.specs.Slots.{staged_in, IsStore}
-use Rattle.cfdp_tree.specs.Files.{with_run}
+use Rattle.cfdp_tree.specs.Files.{with_contents}
 use Rattle.cfdp_tree.proofs.ContentsLaws.{length-contents}
 use Rattle.cfdp_tree.proofs.TreeLaws.{same_node}
 use Rattle.cfdp_tree.proofs.SeenLaws.{shows, seen_free, seen_blocks, file_small}
@@ -43,7 +45,7 @@ some_node : (o : Option Node) → is_file o ≡ true → (node : Node) × (o ≡
 some_node None file = cc
 some_node (Some node) file = (node, refl)
 
-module _ (arena : Blocks) (heads : Heads) (root : Head) (slots : List Slot) (store : IsStore arena heads root slots) (now : Store) (view : store_of arena (staged_in slots) ≡ now) where
+module _ (arena : Blocks) (heads : Heads) (root : Head) (slots : List Slot) {ways : List Way} (store : IsStore arena ways heads root slots) (now : Store) (view : store_of arena (staged_in slots) ≡ now) where
   abbrev nodes : Blocks
   nodes = nodes_in arena
 
@@ -67,6 +69,10 @@ module _ (arena : Blocks) (heads : Heads) (root : Head) (slots : List Slot) (sto
     )
 
     module _ (found : FoundFile) (node : IsNode nodes found.node) (way : path_of nodes found.node ≡ p) (is : found.contents ≡ contents_told kind.File (row_at nodes found.node)) where
+      pub found_ways : HasWays arena ways found.contents.run
+      found_ways = subst (λ (x : Contents). HasWays arena ways x.run) (sym is)
+          (subst (λ (x : Contents). HasWays arena ways x.run) (held_here arena heads root slots store now view found.node p node way file) (store.kept.stored.led (length (staged_in slots) + found.node)))
+
       pub found_filled : IsFilled arena found.contents
       found_filled = subst (IsFilled arena) (sym is) (file_filled arena heads root slots store now view found.node p node way file)
 
@@ -82,13 +88,13 @@ module _ (arena : Blocks) (heads : Heads) (root : Head) (slots : List Slot) (sto
       -- its octets are others
       module _ (middle later : Blocks) (after : Contents) (written : List ℕ) (nodes_middle : nodes_in middle ≡ nodes) (long_middle : length middle ≡ length arena)
           (spares : Spares arena middle found.contents.run after.run) (filled : IsFilled middle after) (taken : free_count middle + blocks_of after.size ≡ free_count arena + blocks_of found.contents.size)
-          (nodes_later : nodes_in later ≡ with_block (nodes_in middle) found.node written) (row : row_of written ≡ record (with_run (row_at (nodes_in middle) found.node) after.run) { size = after.size })
+          (nodes_later : nodes_in later ≡ with_block (nodes_in middle) found.node written) (row : row_of written ≡ with_contents (row_at (nodes_in middle) found.node) after)
           (name : name_of written ≡ name_at (nodes_in middle) found.node) (whole : length written ≡ 128) (runs : RunsStay middle later) (free : free_count later ≡ free_count middle) (long : length later ≡ length middle)
           (octets : List ℕ) (octets_is : contents_in middle after ≡ octets) where
-        pub found_store : IsStore later heads root slots
-        found_store = file_store arena heads root slots store now view found.node p node way file middle later after written nodes_middle long_middle
+        pub found_store : (ways_now : List Way) → HasWays middle ways_now after.run → KeepsWays arena middle ways ways_now found.contents.run → IsStore later ways_now heads root slots
+        found_store ways_now has keeps = file_store arena heads root slots store now view found.node p node way file middle later after written nodes_middle long_middle
             (subst (λ (x : Contents). Spares arena middle x.run after.run) is spares) filled (taken ∙ ap (λ (x : Contents). free_count arena + blocks_of x.size) is)
-            nodes_later row name whole runs free long octets octets_is
+            nodes_later row name whole runs free long octets octets_is ways_now has (subst (λ (x : Contents). KeepsWays arena middle ways ways_now x.run) is keeps)
 
         pub found_changes : store_of later (staged_in slots) ≡ with_changes now (Becomes p (Some (File octets)) ∷ [])
         found_changes = file_changes arena heads root slots store now view found.node p node way file middle later after written nodes_middle long_middle

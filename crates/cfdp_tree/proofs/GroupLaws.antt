@@ -220,9 +220,9 @@ file_head old b block root file (Some d) is =
     not_file : kind_told (row_at old b).kind ≡ kind.Directory → ⊥
     not_file directory = cc
 
-pub grouped_sized : (old : Blocks) (root : Head) (out : Option ℕ) (b : ℕ) (block : List ℕ) (first last size : ℕ) → IsTree old → IsNode old b → kind_told (row_at old b).kind ≡ kind.File
-    → row_of block ≡ record (row_at old b) { first = first; last = last; size = size } → IsGrouped old root out → IsGrouped (with_block old b block) root out
-grouped_sized old root out b block first last size tree node file row groups =
+pub grouped_sized : (old : Blocks) (root : Head) (out : Option ℕ) (b : ℕ) (block : List ℕ) (first last size sum : ℕ) → IsTree old → IsNode old b → kind_told (row_at old b).kind ≡ kind.File
+    → row_of block ≡ record (row_at old b) { first = first; last = last; size = size; sum = sum } → IsGrouped old root out → IsGrouped (with_block old b block) root out
+grouped_sized old root out b block first last size sum tree node file row groups =
     let new = with_block old b block in
     let nexts : (c : ℕ) → entry_after new c ≡ entry_after old c = row_kept old b block node (λ (r : Row). r.next_entry) (ap (λ (r : Row). r.next_entry) row) in
     let befores : (c : ℕ) → entry_before new c ≡ entry_before old c = row_kept old b block node (λ (r : Row). r.previous_entry) (ap (λ (r : Row). r.previous_entry) row) in

@@ -1,13 +1,15 @@
 -- A run with one more block.
 --     begun_held, begun_octets, begun_stay, begun_nodes      the first block
---     grown_held, grown_octets, grown_others, grown_free, grown_size, grown_places, grown_nodes     one more after the last
+--     grown_held, grown_octets, grown_others, grown_free, grown_size, grown_places, grown_nodes, grown_live     one more after the last
 --     no_live                                                what is free is not live
 --     taken_octets, taken_written                            the octets of a block that was just taken
-use Rattle.std.proofs.Common.{◌≡◌, ◌≢◌, ℕ, suc, ◌+◌, ◌-◌, ◌<◌, List, ◌++◌, length, Option, Some, None, refl, sym, ap, ◌∙◌, subst, arith, append-nil, length-set}
+use Rattle.std.proofs.Common.{◌≡◌, ◌≢◌, ℕ, suc, ◌+◌, ◌-◌, ◌<◌, List, ◌++◌, length, Option, Some, None, refl, sym, ap, ◌∙◌, subst, inl, inr, arith, append-nil, length-set}
 use Rattle.std.proofs.lemmas.List.{get_or-set_same, get_or-set_other, set-set}
+use Rattle.std.proofs.lemmas.Bool.{cases_eq}
 use Rattle.std.specs.Prelude.{IsSome}
 use Rattle.cfdp_arena.specs.Arena.{Blocks, octets_at, IsLive, with_block, free_count}
 use Rattle.cfdp_arena.specs.Blocks.{blank_block}
+use Rattle.cfdp_arena.proofs.Chains.{live_within}
 use Rattle.cfdp_tree.specs.declared.header.BlockKind.TheVariants as kind
 use Rattle.cfdp_tree.specs.declared.runs.Run.{Run}
 use Rattle.cfdp_tree.specs.Block.{Header, header_of, payload, tagged, linked}
@@ -20,6 +22,13 @@ use Rattle.cfdp_tree.proofs.RunLaws.{KeepsFrom, nth_part, kept_run, kept_octets,
 pub no_live : (entry : Option (List ℕ)) → entry ≡ None → IsSome entry → ⊥
 no_live (Some x) e s = cc
 no_live None e s = cc
+
+-- a block that is written is live
+live_written : (arena : Blocks) (block : ℕ) (new : List ℕ) (b : ℕ) → IsLive arena b → IsLive (with_block arena block new) b
+live_written arena block new b live = elim (cases_eq b block) [
+  | inl e ↦ subst IsSome (sym (ap (octets_at (with_block arena block new)) e ∙ get_or-set_same arena block (Some new) None (live_within arena block (subst (IsLive arena) e live)))) refl
+  | inr other ↦ subst IsSome (sym (get_or-set_other arena block b (Some new) None other)) live
+]
 
 -- a free block is taken, and is given an owner, a rank and a kind
 module _ (arena begun : Blocks) (block : ℕ) (free : octets_at arena block ≡ None) (inside : block < length arena)
@@ -148,6 +157,9 @@ module _ (arena begun : Blocks) (block : ℕ) (free : octets_at arena block ≡ 
 
       pub grown_free : free_count grown + 1 ≡ free_count arena
       grown_free = omega (arith, free_count-written begun run.last new grown_last_live, begun_free)
+
+      pub grown_live : (b : ℕ) → IsLive arena b → IsLive grown b
+      grown_live b live = live_written begun run.last new b (subst IsSome (sym (begun_stay b live)) live)
 
       pub grown_size : length grown ≡ length arena
       grown_size = length-set begun run.last (Some new) ∙ ap length begun_is ∙ length-set arena block (Some fresh)

@@ -7,7 +7,8 @@ pub mod FrontLaws
 pub mod NodeLaws
 pub mod GrowLaws
 pub mod SpareLaws
-pub mod MarkLaws
+pub mod WayLaws
+pub mod SlotPlaces
 pub mod Filling
 pub mod ContentsLaws
 pub mod RowLaws

@@ -20,6 +20,7 @@ use Rattle.cfdp_actions.proofs.StoreLaws.{no_blocks}
 use Rattle.cfdp_actions.proofs.ChangeLaws.{blocks-becomes}
 use Rattle.cfdp_tree.specs.declared.contents.Contents.{Contents}
 use Rattle.cfdp_tree.specs.declared.index.Head.{Head}
+use Rattle.cfdp_ways.specs.declared.way.Way.{Way}
 use Rattle.cfdp_tree.specs.declared.slots.Slot.{Slot}
 use Rattle.cfdp_tree.specs.Row.{Row, row_of, name_of, kind_told, plain_row}
 use Rattle.cfdp_tree.specs.Runs.{Stays, RunsStay}
@@ -49,7 +50,7 @@ no_node e = cc
 
 plain_file : (parent : ℕ) (k : Kind) (name : Name) → contents_told (kind_told (plain_row parent k name).kind) (plain_row parent k name) ≡ no_contents
 plain_file parent kind.Directory name = refl
-plain_file parent kind.File name = ap (λ n. record { run = record { first = 0; last = 0; count = n }; size = 0 }) no_blocks
+plain_file parent kind.File name = ap (λ n. record { run = record { first = 0; last = 0; count = n }; size = 0; sum = 0 }) no_blocks
 
 plain_node : (arena : Blocks) (parent : ℕ) (k : Kind) (name : Name) → node_told arena (kind_told (plain_row parent k name).kind) no_contents ≡ empty_node k
 plain_node arena parent kind.Directory name = refl
@@ -59,7 +60,7 @@ empty_weight : (k : Kind) → weight (Some (empty_node k)) ≡ 1
 empty_weight kind.Directory = refl
 empty_weight kind.File = ap (λ n. 1 + n) no_blocks
 
-module _ (arena : Blocks) (heads : Heads) (root : Head) (slots : List Slot) (store : IsStore arena heads root slots) (now : Store) (view : store_of arena (staged_in slots) ≡ now)
+module _ (arena : Blocks) (heads : Heads) (root : Head) (slots : List Slot) {ways : List Way} (store : IsStore arena ways heads root slots) (now : Store) (view : store_of arena (staged_in slots) ≡ now)
     (path : Path) (is_path : IsPath path) (depth : ℕ) (long : length path ≡ depth + 1) (parent_good : parent_is_good now.filestore path ≡ true)
     (place : Option ℕ) (place_node : IfSome place (λ b. IsNode (nodes_in arena) b)) (place_path : IfSome place (λ b. path_of (nodes_in arena) b ≡ take depth path))
     (place_none : IfNone place ((b : ℕ) → IsNode (nodes_in arena) b → path_of (nodes_in arena) b ≡ take depth path → ⊥)) (name : Name) (name_is : name ≡ get_or path depth []) where
@@ -205,7 +206,7 @@ module _ (arena : Blocks) (heads : Heads) (root : Head) (slots : List Slot) (sto
       seen_is : record { nodes = finite.insert now.filestore.nodes path (empty_node k); staged = (store_of arena staged).filestore.staged } ≡ files.changed now.filestore (Becomes path (Some (empty_node k)))
       seen_is = (λ i. record { nodes = finite.insert now.filestore.nodes path (empty_node k); staged = (view i).filestore.staged })
 
-      pub make_store : IsStore later heads_now root_now slots
+      pub make_store : IsStore later ways heads_now root_now slots
       make_store =
           nodes_store arena later heads heads_now root root_now slots store long_now lists_stay files_left (finite.insert now.filestore.nodes path (empty_node k)) shows_now tree index groups
           (omega (

@@ -16,6 +16,7 @@ use Rattle.cfdp_actions.specs.Store.{empty_store}
 use Rattle.cfdp_actions.proofs.StoreLaws.{no_blocks}
 use Rattle.cfdp_tree.specs.declared.contents.Contents.{Contents}
 use Rattle.cfdp_tree.specs.declared.index.Head.{Head}
+use Rattle.cfdp_ways.specs.declared.way.Way.{Way}
 use Rattle.cfdp_tree.specs.declared.slots.Slot.{Slot}
 use Rattle.cfdp_tree.specs.Contents.{IsFilled, contents_in}
 use Rattle.cfdp_tree.specs.Nodes.{only_node, nodes_in}
@@ -24,17 +25,17 @@ use Rattle.cfdp_tree.specs.Index.{no_head, list_of, list_at, IsIndex}
 use Rattle.cfdp_tree.specs.Lists.{IsDouble}
 use Rattle.cfdp_tree.specs.Entries.{entry_after, entry_before, entries_at, IsPlace, IsMember, IsGrouped}
 use Rattle.cfdp_tree.specs.Kept.{no_contents, file_in, holdings, Shows, filestore_of, store_of, IsStored}
-use Rattle.cfdp_tree.specs.Marks.{most_marks}
 use Rattle.cfdp_tree.specs.Slots.{staged_in, IsPlaced, IsFresh, IsStore}
 use Rattle.cfdp_tree.proofs.ContentsLaws.{none_filled}
-use Rattle.cfdp_tree.proofs.MarkLaws.{slot_starts}
+use Rattle.cfdp_tree.proofs.SlotPlaces.{slot_starts}
+use Rattle.cfdp_tree.proofs.WayLaws.{ways_none}
 use Rattle.cfdp_tree.proofs.ShowLaws.{tree_shows, shown_same}
 
 pub head_none : (head : Head) → head.first ≡ 0 → head.count ≡ 0 → head ≡ no_head
 head_none head first count = (λ k. record { first = first k; count = count k })
 
-pub contents_none : (contents : Contents) → contents.run.first ≡ 0 → contents.run.last ≡ 0 → contents.run.count ≡ 0 → contents.size ≡ 0 → contents ≡ no_contents
-contents_none contents first last count size = (λ k. record { run = record { first = first k; last = last k; count = count k }; size = size k })
+pub contents_none : (contents : Contents) → contents.run.first ≡ 0 → contents.run.last ≡ 0 → contents.run.count ≡ 0 → contents.size ≡ 0 → contents.sum ≡ 0 → contents ≡ no_contents
+contents_none contents first last count size sum = (λ k. record { run = record { first = first k; last = last k; count = count k }; size = size k; sum = sum k })
 
 -- one thing, again and again
 
@@ -68,7 +69,7 @@ none_live zero = refl
 none_live (suc n) = none_live n
 
 module _ (n : ℕ) (some : 1 ≤ n) (few : n ≤ 65536) (heads : List Head) (root : Head) (head : Head) (heads_are : heads ≡ replicate n head) (head_is : head ≡ no_head) (root_is : root ≡ no_head)
-    (slots : List Slot) (many : length slots ≡ 64) (fresh : All (IsFresh n) slots) where
+    (slots : List Slot) (many : length slots ≡ 64) (fresh : All IsFresh slots) where
   abbrev arena : Blocks
   arena = all_free n
 
@@ -161,11 +162,13 @@ module _ (n : ℕ) (some : 1 ≤ n) (few : n ≤ 65536) (heads : List Head) (roo
         ∙ ap (λ (xs : List Contents). get_or xs (i - length staged) no_contents) files_are ∙ one_each n no_contents no_contents refl (i - length staged)
   ]
 
-  stored : IsStored arena (holdings nodes staged)
-  stored = record {
-    filled = (λ i. subst (IsFilled arena) (sym (held_at i)) (none_filled arena no_contents refl refl));
-    apart = (λ i j differ more. absurd (omega (arith, more, ap (λ (x : Contents). x.run.count) (held_at i))));
-  }
+  module _ (ways : List Way) (ways_long : length ways ≡ n) where
+    stored : IsStored arena ways (holdings nodes staged)
+    stored = record {
+      filled = (λ i. subst (IsFilled arena) (sym (held_at i)) (none_filled arena no_contents refl refl refl));
+      apart = (λ i j differ more. absurd (omega (arith, more, ap (λ (x : Contents). x.run.count) (held_at i))));
+      led = (λ i. ways_none arena ways (get_or (holdings nodes staged) i no_contents).run (ways_long ∙ sym (length-replicate {A = Option (List ℕ)} n None)) (ap (λ (x : Contents). x.run.count) (held_at i)));
+    }
 
   none_shown : Shows arena nodes (finite.empty {R = path_cmp})
   none_shown = record { each = (λ b node. absurd (no_node b node)); only = (λ p node e. absurd (none_some (sym (get-empty path_cmp p) ∙ e))) }
@@ -194,10 +197,10 @@ module _ (n : ℕ) (some : 1 ≤ n) (few : n ≤ 65536) (heads : List Head) (roo
   none_used = omega (arith, no_entries (finite.entries (finite.empty {X = Node} {R = path_cmp})) (sym (len-entries finite.empty) ∙ len-empty path_cmp Node), sum_by-replicate (λ (octets : List ℕ). blocks_of (length octets)) 64 [], no_blocks)
 
   placed : All (IsPlaced arena) slots
-  placed i d less = let slot = fresh i d less in slot_starts arena (get_or slots i d) slot.block slot.index slot.marks (slot.memory ∙ ap most_marks (sym (length-replicate {A = Option (List ℕ)} n None)))
+  placed i d less = let slot = fresh i d less in slot_starts arena (get_or slots i d) slot.block slot.index (slot.blank ∙ sym (ap (λ (x : Contents). x.size) slot.contents))
 
-  pub new_store : IsStore arena heads root slots
-  new_store = record {
+  pub new_store : (ways : List Way) → length ways ≡ n → IsStore arena ways heads root slots
+  new_store ways ways_long = record {
     kept = record {
       some = omega (arith, length-replicate {A = Option (List ℕ)} n None, some);
       small = omega (arith, length-replicate {A = Option (List ℕ)} n None, few);
@@ -205,7 +208,7 @@ module _ (n : ℕ) (some : 1 ≤ n) (few : n ≤ 65536) (heads : List Head) (roo
       tree = tree;
       index = index;
       groups = groups;
-      stored = stored;
+      stored = stored ways ways_long;
       counted = omega (arith, ap blocks filestore_empty, none_used, none_live n, length-replicate {A = Option (List ℕ)} n None);
     };
     placed = placed;

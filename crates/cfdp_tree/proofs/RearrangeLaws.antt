@@ -56,9 +56,9 @@ rearranged_then first second third one two = record {
   capacity = two.capacity ∙ one.capacity;
 }
 
-contents_kept : (kind : Kind) (r s : Row) → r.first ≡ s.first → r.last ≡ s.last → r.size ≡ s.size → contents_told kind r ≡ contents_told kind s
-contents_kept kind.Directory r s first last size = refl
-contents_kept kind.File r s first last size = (λ k. record { run = record { first = first k; last = last k; count = blocks_of (size k) }; size = size k })
+contents_kept : (kind : Kind) (r s : Row) → r.first ≡ s.first → r.last ≡ s.last → r.size ≡ s.size → r.sum ≡ s.sum → contents_told kind r ≡ contents_told kind s
+contents_kept kind.Directory r s first last size sum = refl
+contents_kept kind.File r s first last size sum = (λ k. record { run = record { first = first k; last = last k; count = blocks_of (size k) }; size = size k; sum = sum k })
 
 module _ (arena : Blocks) (b : ℕ) (shown block : List ℕ) (tree : IsTree (nodes_in arena)) (node : IsNode (nodes_in arena) b) (is : octets_at arena b ≡ Some shown)
     (header : header_of block ≡ header_of shown) (rest : drop 32 block ≡ drop 32 shown) (whole : length block ≡ 128) where
@@ -133,7 +133,7 @@ module _ (arena : Blocks) (b : ℕ) (shown block : List ℕ) (tree : IsTree (nod
     next_rest = rearranged
         (ap (λ (r : Row). r.parent) row) (ap (λ (r : Row). r.kind) row) (ap (λ (r : Row). r.name_length) row) (ap (λ (r : Row). r.same_head) row)
         (ap (λ (r : Row). contents_told (kind_told r.kind) r) row
-        ∙ contents_kept (kind_told (row_of shown).kind) (record (row_of shown) { next_entry = next }) (row_of shown) refl refl refl)
+        ∙ contents_kept (kind_told (row_of shown).kind) (record (row_of shown) { next_entry = next }) (row_of shown) refl refl refl refl)
 
   module _ (previous : ℕ) (row : row_of block ≡ record (row_of shown) { previous_entry = previous }) where
     pub before_named : NamesBefore nodes later b previous
@@ -148,7 +148,7 @@ module _ (arena : Blocks) (b : ℕ) (shown block : List ℕ) (tree : IsTree (nod
     before_rest = rearranged
         (ap (λ (r : Row). r.parent) row) (ap (λ (r : Row). r.kind) row) (ap (λ (r : Row). r.name_length) row) (ap (λ (r : Row). r.same_head) row)
         (ap (λ (r : Row). contents_told (kind_told r.kind) r) row
-        ∙ contents_kept (kind_told (row_of shown).kind) (record (row_of shown) { previous_entry = previous }) (row_of shown) refl refl refl)
+        ∙ contents_kept (kind_told (row_of shown).kind) (record (row_of shown) { previous_entry = previous }) (row_of shown) refl refl refl refl)
 
   module _ (head : Head) (row : row_of block ≡ record (row_of shown) { first = head.first; size = head.count }) where
     head_others : (root : Head) (other : Option ℕ) → other ≢ Some b → entry_head later root other ≡ entry_head nodes root other

@@ -5,8 +5,8 @@
 --     blank_row      what a blank block says
 --     length-name    how many octets its name has
 --     name-put       its name, where one was put there
---     row-sized      what it says, where its size changes
-use Rattle.std.proofs.Common.{◌≡◌, ◌≢◌, ℕ, refl, sym, ap, take, ◌++◌, append_assoc, ◌+◌, ◌*◌, ◌/◌, ◌%◌, ◌<◌, ◌≤◌, List, length, length-drop, drop, set, get_or, ◌∙◌, arith, length-set}
+--     row-sized, row-summed     what it says, where its size changes, or the checksum of its octets
+use Rattle.std.proofs.Common.{◌≡◌, ◌⊎◌, ℕ, refl, sym, ap, take, ◌++◌, append_assoc, ◌+◌, ◌*◌, ◌/◌, ◌%◌, ◌<◌, ◌≤◌, List, length, length-drop, drop, set, get_or, ◌∙◌, inl, inr, arith, length-set}
 use Rattle.std.proofs.lemmas.List.{get_or-set_same, get_or-set_other, get_or-drop, drop-set-lt, length-take-le, take_at, drop_at}
 use Rattle.cfdp_arena.specs.Blocks.{blank_block, with_part}
 use Rattle.cfdp_tree.specs.Block.{number_at, with_number, header_of, payload}
@@ -33,7 +33,9 @@ module _ (a b : List ℕ) (same : (i : ℕ) → i < 32 → get_or a i 0 ≡ get_
       let head = number_same 20 (omega arith) in
       let next = number_same 22 (omega arith) in
       let previous = number_same 24 (omega arith) in
-      (λ k. record { parent = parent k; first = first k; last = last k; size = low k + 65536 * high k; kind = kind k; name_length = name k; same_head = head k; next_entry = next k; previous_entry = previous k })
+      let sum_low = number_same 26 (omega arith) in
+      let sum_high = number_same 28 (omega arith) in
+      (λ k. record { parent = parent k; first = first k; last = last k; size = low k + 65536 * high k; kind = kind k; name_length = name k; same_head = head k; next_entry = next k; previous_entry = previous k; sum = sum_low k + 65536 * sum_high k })
 
   pub header_same : header_of a ≡ header_of b
   header_same =
@@ -61,9 +63,11 @@ row-payload a b same =
     let head = pair 12 20 refl in
     let next = pair 14 22 refl in
     let previous = pair 16 24 refl in
-    (λ k. record { parent = parent k; first = first k; last = last k; size = low k + 65536 * high k; kind = kind k; name_length = name k; same_head = head k; next_entry = next k; previous_entry = previous k })
+    let sum_low = pair 18 26 refl in
+    let sum_high = pair 20 28 refl in
+    (λ k. record { parent = parent k; first = first k; last = last k; size = low k + 65536 * high k; kind = kind k; name_length = name k; same_head = head k; next_entry = next k; previous_entry = previous k; sum = sum_low k + 65536 * sum_high k })
 
-pub blank_row : row_of blank_block ≡ record { parent = 0; first = 0; last = 0; size = 0; kind = 0; name_length = 0; same_head = 0; next_entry = 0; previous_entry = 0 }
+pub blank_row : row_of blank_block ≡ record { parent = 0; first = 0; last = 0; size = 0; kind = 0; name_length = 0; same_head = 0; next_entry = 0; previous_entry = 0; sum = 0 }
 unfolding blank_block
 blank_row = refl
 
@@ -79,57 +83,90 @@ name-put block name whole =
     ∙ ap (take (length name)) (drop_at (take 32 block) (name ++ rest) 32 front)
     ∙ take_at name rest (length name) refl
 
-module _ (block : List ℕ) (whole : length block ≡ 128) (lowest low high highest : ℕ) where
+-- four octets from a place on
+module _ (block : List ℕ) (whole : length block ≡ 128) (place : ℕ) (within : place + 4 ≤ 128) (lowest low high highest : ℕ) where
   abbrev one : List ℕ
-  one = set block 14 lowest
+  one = set block place lowest
 
   abbrev two : List ℕ
-  two = set one 15 low
+  two = set one (place + 1) low
 
   abbrev three : List ℕ
-  three = set two 16 high
+  three = set two (place + 2) high
 
-  abbrev sized : List ℕ
-  sized = set three 17 highest
+  abbrev four : List ℕ
+  four = set three (place + 3) highest
 
-  other : (i : ℕ) → i ≢ 14 → i ≢ 15 → i ≢ 16 → i ≢ 17 → get_or sized i 0 ≡ get_or block i 0
-  other i a b c d =
-      get_or-set_other three 17 i highest 0 d ∙ get_or-set_other two 16 i high 0 c ∙ get_or-set_other one 15 i low 0 b ∙ get_or-set_other block 14 i lowest 0 a
+  pub other : (i : ℕ) → (i < place) ⊎ (place + 4 ≤ i) → get_or four i 0 ≡ get_or block i 0
+  other i (inl before) =
+      get_or-set_other three (place + 3) i highest 0 (omega arith) ∙ get_or-set_other two (place + 2) i high 0 (omega arith)
+      ∙ get_or-set_other one (place + 1) i low 0 (omega arith) ∙ get_or-set_other block place i lowest 0 (omega arith)
+  other i (inr after) =
+      get_or-set_other three (place + 3) i highest 0 (omega arith) ∙ get_or-set_other two (place + 2) i high 0 (omega arith)
+      ∙ get_or-set_other one (place + 1) i low 0 (omega arith) ∙ get_or-set_other block place i lowest 0 (omega arith)
+
+  pub before : (i : ℕ) → i + 1 < place → number_at four i ≡ number_at block i
+  before i less = (λ k. other i (inl (omega arith)) k + 256 * other (i + 1) (inl (omega arith)) k)
+
+  pub after : (i : ℕ) → place + 4 ≤ i → number_at four i ≡ number_at block i
+  after i more = (λ k. other i (inr more) k + 256 * other (i + 1) (inr (omega arith)) k)
 
   long_one : length one ≡ 128
-  long_one = length-set block 14 lowest ∙ whole
+  long_one = length-set block place lowest ∙ whole
 
   long_two : length two ≡ 128
-  long_two = length-set one 15 low ∙ long_one
+  long_two = length-set one (place + 1) low ∙ long_one
 
   long_three : length three ≡ 128
-  long_three = length-set two 16 high ∙ long_two
+  long_three = length-set two (place + 2) high ∙ long_two
 
-  at14 : get_or sized 14 0 ≡ lowest
-  at14 = get_or-set_other three 17 14 highest 0 (omega arith) ∙ get_or-set_other two 16 14 high 0 (omega arith) ∙ get_or-set_other one 15 14 low 0 (omega arith) ∙ get_or-set_same block 14 lowest 0 (omega arith)
+  at_place : get_or four place 0 ≡ lowest
+  at_place =
+      get_or-set_other three (place + 3) place highest 0 (omega arith) ∙ get_or-set_other two (place + 2) place high 0 (omega arith)
+      ∙ get_or-set_other one (place + 1) place low 0 (omega arith) ∙ get_or-set_same block place lowest 0 (omega arith)
 
-  at15 : get_or sized 15 0 ≡ low
-  at15 = get_or-set_other three 17 15 highest 0 (omega arith) ∙ get_or-set_other two 16 15 high 0 (omega arith) ∙ get_or-set_same one 15 low 0 (omega (arith, long_one))
+  at_next : get_or four (place + 1) 0 ≡ low
+  at_next =
+      get_or-set_other three (place + 3) (place + 1) highest 0 (omega arith) ∙ get_or-set_other two (place + 2) (place + 1) high 0 (omega arith)
+      ∙ get_or-set_same one (place + 1) low 0 (omega (arith, long_one))
 
-  at16 : get_or sized 16 0 ≡ high
-  at16 = get_or-set_other three 17 16 highest 0 (omega arith) ∙ get_or-set_same two 16 high 0 (omega (arith, long_two))
+  at_third : get_or four (place + 2) 0 ≡ high
+  at_third = get_or-set_other three (place + 3) (place + 2) highest 0 (omega arith) ∙ get_or-set_same two (place + 2) high 0 (omega (arith, long_two))
 
-  at17 : get_or sized 17 0 ≡ highest
-  at17 = get_or-set_same three 17 highest 0 (omega (arith, long_three))
+  at_last : get_or four (place + 3) 0 ≡ highest
+  at_last = get_or-set_same three (place + 3) highest 0 (omega (arith, long_three))
 
-  pair : (i j : ℕ) → get_or sized i 0 ≡ get_or block i 0 → get_or sized j 0 ≡ get_or block j 0 → get_or sized i 0 + 256 * get_or sized j 0 ≡ get_or block i 0 + 256 * get_or block j 0
-  pair i j a b = (λ k. a k + 256 * b k)
+  pub number_put : (number : ℕ) → lowest + 256 * low + 65536 * (high + 256 * highest) ≡ number
+      → get_or four place 0 + 256 * get_or four (place + 1) 0 + 65536 * (get_or four (place + 2) 0 + 256 * get_or four (place + 3) 0) ≡ number
+  number_put number is = (λ k. at_place k + 256 * at_next k + 65536 * (at_third k + 256 * at_last k)) ∙ is
 
-  pub row-sized : (size : ℕ) → lowest + 256 * low + 65536 * (high + 256 * highest) ≡ size → row_of sized ≡ record (row_of block) { size = size }
-  row-sized size size_is =
-      let parent = pair 8 9 (other 8 (omega arith) (omega arith) (omega arith) (omega arith)) (other 9 (omega arith) (omega arith) (omega arith) (omega arith)) in
-      let first = pair 10 11 (other 10 (omega arith) (omega arith) (omega arith) (omega arith)) (other 11 (omega arith) (omega arith) (omega arith) (omega arith)) in
-      let last = pair 12 13 (other 12 (omega arith) (omega arith) (omega arith) (omega arith)) (other 13 (omega arith) (omega arith) (omega arith) (omega arith)) in
-      let kind = other 18 (omega arith) (omega arith) (omega arith) (omega arith) in
-      let name = other 19 (omega arith) (omega arith) (omega arith) (omega arith) in
-      let head = pair 20 21 (other 20 (omega arith) (omega arith) (omega arith) (omega arith)) (other 21 (omega arith) (omega arith) (omega arith) (omega arith)) in
-      let next = pair 22 23 (other 22 (omega arith) (omega arith) (omega arith) (omega arith)) (other 23 (omega arith) (omega arith) (omega arith) (omega arith)) in
-      let previous = pair 24 25 (other 24 (omega arith) (omega arith) (omega arith) (omega arith)) (other 25 (omega arith) (omega arith) (omega arith) (omega arith)) in
-      let sum : get_or sized 14 0 + 256 * get_or sized 15 0 + 65536 * (get_or sized 16 0 + 256 * get_or sized 17 0) ≡ size =
-      (λ k. at14 k + 256 * at15 k + 65536 * (at16 k + 256 * at17 k)) ∙ size_is in
-      (λ k. record { parent = parent k; first = first k; last = last k; size = sum k; kind = kind k; name_length = name k; same_head = head k; next_entry = next k; previous_entry = previous k })
+module _ (block : List ℕ) (whole : length block ≡ 128) (lowest low high highest number : ℕ) (is : lowest + 256 * low + 65536 * (high + 256 * highest) ≡ number) where
+  pub row-sized : row_of (four block whole 14 (omega arith) lowest low high highest) ≡ record (row_of block) { size = number }
+  row-sized =
+      let parent = before block whole 14 (omega arith) lowest low high highest 8 (omega arith) in
+      let first = before block whole 14 (omega arith) lowest low high highest 10 (omega arith) in
+      let last = before block whole 14 (omega arith) lowest low high highest 12 (omega arith) in
+      let kind = other block whole 14 (omega arith) lowest low high highest 18 (inr (omega arith)) in
+      let name = other block whole 14 (omega arith) lowest low high highest 19 (inr (omega arith)) in
+      let head = after block whole 14 (omega arith) lowest low high highest 20 (omega arith) in
+      let next = after block whole 14 (omega arith) lowest low high highest 22 (omega arith) in
+      let previous = after block whole 14 (omega arith) lowest low high highest 24 (omega arith) in
+      let sum_low = after block whole 14 (omega arith) lowest low high highest 26 (omega arith) in
+      let sum_high = after block whole 14 (omega arith) lowest low high highest 28 (omega arith) in
+      let size = number_put block whole 14 (omega arith) lowest low high highest number is in
+      (λ k. record { parent = parent k; first = first k; last = last k; size = size k; kind = kind k; name_length = name k; same_head = head k; next_entry = next k; previous_entry = previous k; sum = sum_low k + 65536 * sum_high k })
+
+  pub row-summed : row_of (four block whole 26 (omega arith) lowest low high highest) ≡ record (row_of block) { sum = number }
+  row-summed =
+      let parent = before block whole 26 (omega arith) lowest low high highest 8 (omega arith) in
+      let first = before block whole 26 (omega arith) lowest low high highest 10 (omega arith) in
+      let last = before block whole 26 (omega arith) lowest low high highest 12 (omega arith) in
+      let low_size = before block whole 26 (omega arith) lowest low high highest 14 (omega arith) in
+      let high_size = before block whole 26 (omega arith) lowest low high highest 16 (omega arith) in
+      let kind = other block whole 26 (omega arith) lowest low high highest 18 (inl (omega arith)) in
+      let name = other block whole 26 (omega arith) lowest low high highest 19 (inl (omega arith)) in
+      let head = before block whole 26 (omega arith) lowest low high highest 20 (omega arith) in
+      let next = before block whole 26 (omega arith) lowest low high highest 22 (omega arith) in
+      let previous = before block whole 26 (omega arith) lowest low high highest 24 (omega arith) in
+      let sum = number_put block whole 26 (omega arith) lowest low high highest number is in
+      (λ k. record { parent = parent k; first = first k; last = last k; size = low_size k + 65536 * high_size k; kind = kind k; name_length = name k; same_head = head k; next_entry = next k; previous_entry = previous k; sum = sum k })

@@ -2,8 +2,8 @@
 --     shows                      its nodes are those of the map from paths
 --     seen_node, seen_block, seen_none, seen_there       what stands at a path is what stands at its node
 --     seen_blocks, few_blocks, file_small, staged_small    the blocks in use, and the octets of a file and of a staged list
---     seen_file                  a file's octets stand in its contents
---     seen_staged                so do those that are staged
+--     seen_file, file_ways       a file's octets stand in its contents, and the ways of their blocks lead back
+--     seen_staged, slot_ways     so do those that are staged
 --     seen_parent                the parent of a path is the beginning of it
 --     told_kind, told_directory  a node by its kind
 use Rattle.std.proofs.Common.{◌≡◌, ℕ, zero, suc, ◌+◌, ◌-◌, ◌<◌, ◌≤◌, true, false, not, ◌&&◌, List, [], ◌∷◌, length, map, take, get_or, Option, Some, None, refl, sym, ap, ◌∙◌, subst, arith}
@@ -23,10 +23,12 @@ use Rattle.cfdp_actions.specs.Store.{Store, free_blocks, kind_of, is_file_kind}
 use Rattle.cfdp_actions.proofs.StoreLaws.{weight-found, octets-weight, lists-each}
 use Rattle.cfdp_actions.proofs.SurveyLaws.{blocks_of-bound}
 use Rattle.cfdp_tree.specs.declared.contents.Contents.{Contents}
+use Rattle.cfdp_ways.specs.declared.way.Way.{Way}
 use Rattle.cfdp_tree.specs.declared.slots.Slot.{Slot}
 use Rattle.cfdp_tree.specs.Row.{Row, row_of, kind_told}
 use Rattle.cfdp_tree.specs.Contents.{IsFilled, contents_in}
 use Rattle.cfdp_tree.specs.Nodes.{nodes_in}
+use Rattle.cfdp_tree.specs.Ways.{HasWays}
 use Rattle.cfdp_tree.specs.Tree.{IsNode, path_of}
 use Rattle.cfdp_tree.specs.declared.index.Head.{Head}
 use Rattle.cfdp_tree.specs.Index.{Heads}
@@ -70,7 +72,7 @@ seen_parent F p depth long some =
     ∙ ap (is_good F) above
     ∙ good_at F (take depth p) (omega (arith, long, length-take-le depth p (omega (arith, long))))
 
-module _ (arena : Blocks) (heads : Heads) (root : Head) (slots : List Slot) (store : IsStore arena heads root slots) (now : Store) (view : store_of arena (staged_in slots) ≡ now) where
+module _ (arena : Blocks) (heads : Heads) (root : Head) (slots : List Slot) {ways : List Way} (store : IsStore arena ways heads root slots) (now : Store) (view : store_of arena (staged_in slots) ≡ now) where
   pub shows : Shows arena (nodes_in arena) now.filestore.nodes
   shows = subst (λ (s : Store). Shows arena (nodes_in arena) s.filestore.nodes) view (tree_shows arena (nodes_in arena) store.kept.tree)
 
@@ -134,6 +136,15 @@ module _ (arena : Blocks) (heads : Heads) (root : Head) (slots : List Slot) (sto
       let here : octets_at (nodes_in arena) b ≡ Some block = node_entry arena b node ∙ is in
       (ap octets_in at ∙ told.0, subst (IsFilled arena) (held_at b ∙ ap file_in here ∙ told.1) (store.kept.stored.filled (length (staged_in slots) + b)))
 
+  -- the ways of its blocks
+  pub file_ways : (b : ℕ) (p : Path) (block : List ℕ) → IsNode (nodes_in arena) b → path_of (nodes_in arena) b ≡ p → octets_at arena b ≡ Some block → is_file (node_at now.filestore p) ≡ true
+      → HasWays arena ways (contents_told kind.File (row_of block)).run
+  file_ways b p block node e is file =
+      let at = seen_block b p block node e is in
+      let told = told_file arena (kind_told (row_of block).kind) (row_of block) (sym (ap is_file at) ∙ file) in
+      let here : octets_at (nodes_in arena) b ≡ Some block = node_entry arena b node ∙ is in
+      subst (λ (x : Contents). HasWays arena ways x.run) (held_at b ∙ ap file_in here ∙ told.1) (store.kept.stored.led (length (staged_in slots) + b))
+
   module _ (i : ℕ) (small : i < 64) where
     pub slot_there : i < length slots
     slot_there = omega (arith, store.kept.slots, length-map slots (λ (slot : Slot). slot.contents))
@@ -150,6 +161,10 @@ module _ (arena : Blocks) (heads : Heads) (root : Head) (slots : List Slot) (sto
 
       pub slot_filled : IsFilled arena slot.contents
       slot_filled = subst (IsFilled arena) (get_or_append_left (staged_in slots) (map file_in (nodes_in arena)) no_contents i (omega (arith, store.kept.slots)) ∙ staged_is) (store.kept.stored.filled i)
+
+      pub slot_ways : HasWays arena ways slot.contents.run
+      slot_ways = subst (λ (x : Contents). HasWays arena ways x.run)
+          (get_or_append_left (staged_in slots) (map file_in (nodes_in arena)) no_contents i (omega (arith, store.kept.slots)) ∙ staged_is) (store.kept.stored.led i)
 
       pub staged_size : length (files.staged_in now.filestore i) ≡ slot.contents.size
       staged_size = ap (λ (xs : List ℕ). length xs) seen_staged ∙ length-contents arena slot.contents slot_filled

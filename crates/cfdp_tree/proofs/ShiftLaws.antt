@@ -21,6 +21,7 @@ use Rattle.cfdp_states.proofs.Prefixes.{rebased-below, rebased_back}
 use Rattle.cfdp_states.proofs.Moves.{after-append, find-tree_at, moved, nothing_there, moved_there, moved_apart, blocks-moved}
 use Rattle.cfdp_tree.specs.declared.contents.Contents.{Contents}
 use Rattle.cfdp_tree.specs.declared.index.Head.{Head}
+use Rattle.cfdp_ways.specs.declared.way.Way.{Way}
 use Rattle.cfdp_tree.specs.declared.slots.Slot.{Slot}
 use Rattle.cfdp_tree.specs.Row.{Row, row_of, name_of, kind_told}
 use Rattle.cfdp_tree.specs.Runs.{Stays, RunsStay}
@@ -99,7 +100,7 @@ held_is : (o : Option (List ℕ)) → IsSome o → file_of (unwrap_or o []) ≡ 
 held_is None some = cc
 held_is (Some block) some = refl
 
-module _ (arena : Blocks) (heads : Heads) (root : Head) (slots : List Slot) (store : IsStore arena heads root slots) (now : Store) (view : store_of arena (staged_in slots) ≡ now)
+module _ (arena : Blocks) (heads : Heads) (root : Head) (slots : List Slot) {ways : List Way} (store : IsStore arena ways heads root slots) (now : Store) (view : store_of arena (staged_in slots) ≡ now)
     (p : Path) (b : ℕ) (node : IsNode (nodes_in arena) b) (way : path_of (nodes_in arena) b ≡ p)
     (q : Path) (is_path : IsPath q) (depth : ℕ) (long : length q ≡ depth + 1) (parent_good : parent_is_good now.filestore q ≡ true)
     (place : Option ℕ) (place_node : IfSome place (λ x. IsNode (nodes_in arena) x)) (place_path : IfSome place (λ x. path_of (nodes_in arena) x ≡ take depth q))
@@ -332,7 +333,7 @@ module _ (arena : Blocks) (heads : Heads) (root : Head) (slots : List Slot) (sto
               nodes_seen arena later heads heads_now root root_now slots store long_now list_stays left_at G.nodes shows_later tree_later index groups
               ∙ (λ i. record (view i) { filestore = filestore_is i })
 
-          pub shift_store : IsStore later heads_now root_now slots
+          pub shift_store : IsStore later ways heads_now root_now slots
           shift_store =
               nodes_store arena later heads heads_now root root_now slots store long_now list_stays left_at G.nodes shows_later tree_later index groups
               (omega (arith, ap blocks filestore_is, blocks-moved F p q rooted some_q absent, free, long_now, seen_blocks arena heads root slots store now view))

@@ -17,9 +17,11 @@ use Rattle.cfdp_actions.specs.Filestore as files
 use Rattle.cfdp_actions.specs.Store.{Store, with_changes}
 use Rattle.cfdp_actions.proofs.ChangeLaws.{blocks-stages}
 use Rattle.cfdp_tree.specs.declared.contents.Contents.{Contents}
+use Rattle.cfdp_ways.specs.declared.way.Way.{Way}
 use Rattle.cfdp_tree.specs.declared.slots.Slot.{Slot}
 use Rattle.cfdp_tree.specs.Row.{row_of, kind_told}
 use Rattle.cfdp_tree.specs.Runs.{Spares, Stays}
+use Rattle.cfdp_tree.specs.Ways.{HasWays, KeepsWays}
 use Rattle.cfdp_tree.specs.Contents.{IsFilled, contents_in}
 use Rattle.cfdp_tree.specs.Nodes.{nodes_in}
 use Rattle.cfdp_tree.specs.Tree.{IsNode, IsTree}
@@ -28,7 +30,7 @@ use Rattle.cfdp_tree.specs.Index.{Heads, IsIndex}
 use Rattle.cfdp_tree.specs.Entries.{IsGrouped}
 use Rattle.cfdp_tree.specs.Kept.{no_contents, file_of, file_in, holdings, node_told, node_of, Shows, filestore_of, store_of, IsStored}
 use Rattle.cfdp_tree.specs.Slots.{staged_in, IsPlaced, IsStore}
-use Rattle.cfdp_tree.proofs.MarkLaws.{slot_stays}
+use Rattle.cfdp_tree.proofs.SlotPlaces.{slot_stays}
 use Rattle.cfdp_tree.proofs.ContentsLaws.{length-contents}
 use Rattle.cfdp_tree.proofs.ShowLaws.{tree_shows, shown_same}
 use Rattle.cfdp_tree.proofs.StoredLaws.{stored_changed, stored_others, spared as run_spared}
@@ -52,7 +54,7 @@ set_maps {A = A} {B = B} f g (x ∷ xs) zero y d same = ap (λ ys. y ∷ ys) (al
     all_same (x ∷ xs) same = (λ k. same 0 (omega arith) k ∷ all_same xs (λ j within. same (suc j) (omega arith)) k)
 set_maps f g (x ∷ xs) (suc i) y d same = (λ k. same 0 (omega arith) (λ e. omega arith) k ∷ set_maps f g xs i y d (λ j within other. same (suc j) (omega arith) (λ e. other (omega arith))) k)
 
-module _ (arena later : Blocks) (heads : Heads) (root : Head) (slots : List Slot) (store : IsStore arena heads root slots) (i : ℕ) (small : i < 64) (slot : Slot) (is : slot ≡ get_or slots i slot) (after : Slot)
+module _ (arena later : Blocks) (heads : Heads) (root : Head) (slots : List Slot) {ways : List Way} (store : IsStore arena ways heads root slots) (i : ℕ) (small : i < 64) (slot : Slot) (is : slot ≡ get_or slots i slot) (after : Slot)
     (nodes : nodes_in later ≡ nodes_in arena) (long : length later ≡ length arena) (spares : Spares arena later slot.contents.run after.contents.run)
     (filled : IsFilled later after.contents) (placed : IsPlaced later after) (taken : free_count later + blocks_of after.contents.size ≡ free_count arena + blocks_of slot.contents.size) where
   abbrev staged : List Contents
@@ -87,9 +89,6 @@ module _ (arena later : Blocks) (heads : Heads) (root : Head) (slots : List Slot
 
   holdings_now : holdings (nodes_in later) (staged_in now) ≡ set held i after.contents
   holdings_now = (λ k. staged_now k ++ map file_in (nodes k)) ∙ sym (set-append_left staged (map file_in (nodes_in arena)) i after.contents there)
-
-  stored_now : IsStored later (holdings (nodes_in later) (staged_in now))
-  stored_now = subst (IsStored later) (sym holdings_now) (stored_changed arena later held i in_held after.contents store.kept.stored spared filled)
 
   some_is : (o : Option (List ℕ)) → IsSome o → file_in o ≡ file_of (unwrap_or o [])
   some_is None some = cc
@@ -152,7 +151,7 @@ module _ (arena later : Blocks) (heads : Heads) (root : Head) (slots : List Slot
       get_or_append_left staged (map file_in (nodes_in arena)) no_contents j (omega (arith, length-map slots (λ (slot : Slot). slot.contents)))
       ∙ mapped_at (λ (slot : Slot). slot.contents) slots j s no_contents within (get_or_default slots j d s within) in
       let stays = subst (λ (x : Contents). Stays arena later x.run) at (spared_at j other) in
-      slot_stays arena later s stays long (store.placed j d within)
+      slot_stays arena later s stays (store.placed j d within)
 
   placed_now : All (IsPlaced later) now
   placed_now j d within = elim (cases_eq j i) [
@@ -160,20 +159,28 @@ module _ (arena later : Blocks) (heads : Heads) (root : Head) (slots : List Slot
     | inr other ↦ subst (IsPlaced later) (sym (get_or-set_other slots i j after d other)) (place_stays j other d (omega (arith, length-set slots i after)))
   ]
 
-  pub slot_store : IsStore later heads root now
-  slot_store = record {
-    kept = record {
-      some = omega (arith, long, store.kept.some);
-      small = omega (arith, long, store.kept.small);
-      slots = length-map now (λ (slot : Slot). slot.contents) ∙ length-set slots i after ∙ sym (length-map slots (λ (slot : Slot). slot.contents)) ∙ store.kept.slots;
-      tree = subst IsTree (sym nodes) store.kept.tree;
-      index = subst (λ ns. IsIndex ns heads None) (sym nodes) store.kept.index;
-      groups = subst (λ ns. IsGrouped ns root None) (sym nodes) store.kept.groups;
-      stored = stored_now;
-      counted = counted_now;
-    };
-    placed = placed_now;
-  }
+  module _ (ways_now : List Way) (has : HasWays later ways_now after.contents.run) (keeps : KeepsWays arena later ways ways_now slot.contents.run) where
+    keeps_held : KeepsWays arena later ways ways_now (get_or held i no_contents).run
+    keeps_held = subst (λ (x : Contents). KeepsWays arena later ways ways_now x.run) (sym held_slot) keeps
+
+    stored_now : IsStored later ways_now (holdings (nodes_in later) (staged_in now))
+    stored_now = subst (IsStored later ways_now) (sym holdings_now)
+        (stored_changed arena later held i in_held after.contents store.kept.stored spared filled ways_now has keeps_held)
+
+    pub slot_store : IsStore later ways_now heads root now
+    slot_store = record {
+      kept = record {
+        some = omega (arith, long, store.kept.some);
+        small = omega (arith, long, store.kept.small);
+        slots = length-map now (λ (slot : Slot). slot.contents) ∙ length-set slots i after ∙ sym (length-map slots (λ (slot : Slot). slot.contents)) ∙ store.kept.slots;
+        tree = subst IsTree (sym nodes) store.kept.tree;
+        index = subst (λ ns. IsIndex ns heads None) (sym nodes) store.kept.index;
+        groups = subst (λ ns. IsGrouped ns root None) (sym nodes) store.kept.groups;
+        stored = stored_now;
+        counted = counted_now;
+      };
+      placed = placed_now;
+    }
 
   pub slot_changes : (now_seen : Store) → store_of arena staged ≡ now_seen → (given : ℕ) → i ≡ given → (list : List ℕ) → octets ≡ list
       → store_of later (staged_in now) ≡ with_changes now_seen (Stages given list ∷ [])

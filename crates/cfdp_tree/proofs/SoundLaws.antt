@@ -17,6 +17,7 @@ use Rattle.cfdp_actions.specs.declared.kind.Kind.TheVariants as kind
 use Rattle.cfdp_actions.specs.Filestore.{octets_in}
 use Rattle.cfdp_actions.specs.Filestore as files
 use Rattle.cfdp_actions.specs.Store.{Store}
+use Rattle.cfdp_ways.specs.declared.way.Way.{Way}
 use Rattle.cfdp_tree.specs.declared.slots.Slot.{Slot}
 use Rattle.cfdp_tree.specs.declared.index.Head.{Head}
 use Rattle.cfdp_tree.specs.Row.{Row, row_of, kind_told}
@@ -47,7 +48,7 @@ told_octets : (arena : Blocks) (k : Kind) (row : Row) → octets_in (Some (node_
 told_octets arena kind.Directory row = refl
 told_octets arena kind.File row = refl
 
-module _ (arena : Blocks) (heads : Heads) (root : Head) (slots : List Slot) (store : IsStore arena heads root slots) (now : Store) (view : store_of arena (staged_in slots) ≡ now) where
+module _ (arena : Blocks) (heads : Heads) (root : Head) (slots : List Slot) {ways : List Way} (store : IsStore arena ways heads root slots) (now : Store) (view : store_of arena (staged_in slots) ≡ now) where
   pub node_sound : (b : ℕ) → IsNode (nodes_in arena) b → IsSound arena (with_path (nodes_in arena) b)
   node_sound b node =
       let nodes = nodes_in arena in let block = octets_of nodes b in

@@ -7,9 +7,11 @@ use Rattle.std.proofs.Common.{◌≡◌, ◌≢◌, ℕ, ◌<◌, List, length, 
 use Rattle.std.proofs.lemmas.List.{get_or-set_same, get_or-set_other}
 use Rattle.std.proofs.lemmas.Bool.{cases_eq}
 use Rattle.cfdp_arena.specs.Arena.{Blocks}
+use Rattle.cfdp_ways.specs.declared.way.Way.{Way}
 use Rattle.cfdp_tree.specs.declared.runs.Run.{Run}
 use Rattle.cfdp_tree.specs.declared.contents.Contents.{Contents}
 use Rattle.cfdp_tree.specs.Runs.{Apart, Stays, Spares}
+use Rattle.cfdp_tree.specs.Ways.{HasWays, KeepsWays}
 use Rattle.cfdp_tree.specs.Contents.{IsFilled, contents_in}
 use Rattle.cfdp_tree.specs.Kept.{no_contents, IsStored}
 use Rattle.cfdp_tree.proofs.ContentsLaws.{stays_filled, stays_contents}
@@ -17,7 +19,7 @@ use Rattle.cfdp_tree.proofs.ContentsLaws.{stays_filled, stays_contents}
 pub apart_back : (a b : Run) → Apart a b → Apart b a
 apart_back a b apart some other e = apart other some (sym e)
 
-module _ (old new : Blocks) (held : List Contents) (i : ℕ) (within : i < length held) (after : Contents) (stored : IsStored old held)
+module _ (old new : Blocks) (held : List Contents) (i : ℕ) (within : i < length held) (after : Contents) {was : List Way} (stored : IsStored old was held)
     (spares : Spares old new (get_or held i no_contents).run after.run) (filled : IsFilled new after) where
   pub spared : (j : ℕ) → j ≢ i → Stays old new (get_or held j no_contents).run × Apart after.run (get_or held j no_contents).run
   spared j other = spares (get_or held j no_contents).run (stored.filled j).held (stored.apart i j (λ e. other (sym e)))
@@ -49,8 +51,16 @@ module _ (old new : Blocks) (held : List Contents) (i : ℕ) (within : i < lengt
     ]
   ]
 
-  pub stored_changed : IsStored new (set held i after)
-  stored_changed = record { filled = filled_at; apart = apart_at }
+  module _ (now : List Way) (has : HasWays new now after.run) (keeps : KeepsWays old new was now (get_or held i no_contents).run) where
+    led_at : (j : ℕ) → HasWays new now (get_or (set held i after) j no_contents).run
+    led_at j = elim (cases_eq j i) [
+      | inl e ↦ subst (λ (x : Contents). HasWays new now x.run) (sym (ap (λ k. get_or (set held i after) k no_contents) e ∙ here)) has
+      | inr other ↦ subst (λ (x : Contents). HasWays new now x.run) (sym (there j other))
+          (keeps (get_or held j no_contents).run (stored.filled j).held (stored.apart i j (λ e. other (sym e))) (stored.led j))
+    ]
+
+    pub stored_changed : IsStored new now (set held i after)
+    stored_changed = record { filled = filled_at; apart = apart_at; led = led_at }
 
   pub stored_others : (j : ℕ) → j ≢ i → contents_in new (get_or held j no_contents) ≡ contents_in old (get_or held j no_contents)
   stored_others j other = stays_contents old new (get_or held j no_contents) (spared j other).0

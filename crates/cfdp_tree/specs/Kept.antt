@@ -2,12 +2,12 @@
 --     no_contents                    no octets
 --     contents_told, file_of, file_in    the octets of a file: by its row, its block and its entry;  none for a directory
 --     holdings nodes staged          the contents of all slots, and then those of all blocks
---     IsStored arena held            they are there, and no two share a block
+--     IsStored arena ways held       they are there, no two share a block, and the ways of their blocks lead back
 --     node_told, node_of             what stands at a node
 --     standing_from arena nodes b    the nodes from b on, each with its path
 --     Shows arena nodes F            what stands at a path in the map is what stands at the node of this path
 --     filestore_of, store_of         the filestore, and the store
---     IsKept arena heads root staged what is true of every such store
+--     IsKept arena ways heads root staged     what is true of every such store
 use Rattle.std.specs.Prelude.{◌≡◌, ◌≢◌, ℕ, suc, ◌+◌, ◌<◌, ◌≤◌, true, List, [], ◌∷◌, ◌++◌, Option, Some, None, length, map, slice_index_or}
 use Rattle.std.specs.FinMap as finite
 use Rattle.cfdp_paths.specs.Paths.{Path, path_cmp}
@@ -16,9 +16,11 @@ use Rattle.cfdp_actions.specs.declared.kind.Kind.{Kind}
 use Rattle.cfdp_actions.specs.declared.kind.Kind.TheVariants as kind
 use Rattle.cfdp_actions.specs.Filestore.{Node, Directory, File, Filestore, blocks_of, blocks}
 use Rattle.cfdp_actions.specs.Store.{Store}
+use Rattle.cfdp_ways.specs.declared.way.Way.{Way}
 use Rattle.cfdp_tree.specs.declared.contents.Contents.{Contents}
 use Rattle.cfdp_tree.specs.Row.{Row, row_of, kind_told}
 use Rattle.cfdp_tree.specs.Runs.{Apart}
+use Rattle.cfdp_tree.specs.Ways.{HasWays}
 use Rattle.cfdp_tree.specs.Contents.{IsFilled, contents_in}
 use Rattle.cfdp_tree.specs.Nodes.{nodes_in}
 use Rattle.cfdp_tree.specs.Tree.{IsNode, path_of, IsTree}
@@ -27,11 +29,11 @@ use Rattle.cfdp_tree.specs.Index.{Heads, IsIndex}
 use Rattle.cfdp_tree.specs.Entries.{IsGrouped}
 
 abbrev pub no_contents : Contents
-no_contents = record { run = record { first = 0; last = 0; count = 0 }; size = 0 }
+no_contents = record { run = record { first = 0; last = 0; count = 0 }; size = 0; sum = 0 }
 
 abbrev pub contents_told : Kind → Row → Contents
 contents_told kind.Directory row = no_contents
-contents_told kind.File row = record { run = record { first = row.first; last = row.last; count = blocks_of row.size }; size = row.size }
+contents_told kind.File row = record { run = record { first = row.first; last = row.last; count = blocks_of row.size }; size = row.size; sum = row.sum }
 
 abbrev pub file_of : List ℕ → Contents
 file_of block = contents_told (kind_told (row_of block).kind) (row_of block)
@@ -43,9 +45,10 @@ file_in (Some block) = file_of block
 abbrev pub holdings : Blocks → List Contents → List Contents
 holdings nodes staged = staged ++ map file_in nodes
 
-pub record IsStored (arena : Blocks) (held : List Contents) : Type 0 where
+pub record IsStored (arena : Blocks) (ways : List Way) (held : List Contents) : Type 0 where
   pub filled : (i : ℕ) → IsFilled arena (slice_index_or held i no_contents)
   pub apart : (i j : ℕ) → i ≢ j → Apart (slice_index_or held i no_contents).run (slice_index_or held j no_contents).run
+  pub led : (i : ℕ) → HasWays arena ways (slice_index_or held i no_contents).run
 
 abbrev pub node_told : Blocks → Kind → Contents → Node
 node_told arena kind.Directory contents = Directory
@@ -72,13 +75,13 @@ filestore_of arena staged = record {
 abbrev pub store_of : Blocks → List Contents → Store
 store_of arena staged = record { filestore = filestore_of arena staged; capacity = length arena; takes_no_memory = true }
 
-pub record IsKept (arena : Blocks) (heads : Heads) (root : Head) (staged : List Contents) : Type 0 where
+pub record IsKept (arena : Blocks) (ways : List Way) (heads : Heads) (root : Head) (staged : List Contents) : Type 0 where
   pub some : 0 < length arena
   pub small : length arena ≤ 65536
   pub slots : length staged ≡ 64
   pub tree : IsTree (nodes_in arena)
   pub index : IsIndex (nodes_in arena) heads None
   pub groups : IsGrouped (nodes_in arena) root None
-  pub stored : IsStored arena (holdings (nodes_in arena) staged)
+  pub stored : IsStored arena ways (holdings (nodes_in arena) staged)
   -- each block that is not free is a node or has octets of a file or of a staged list
   pub counted : free_count arena + blocks (filestore_of arena staged) ≡ length arena

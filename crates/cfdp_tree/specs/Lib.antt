@@ -1,7 +1,7 @@
 -- The filestore inside an arena, from the lowest layer up.
 --     Block        what a block of the arena says of itself, and its payload
 --     Runs         runs of blocks, and the octets that they hold
---     Marks        marks in a run, by which its blocks are found
+--     Ways         the ways back in runs, by which their blocks are found
 --     Contents     the octets of a file or of a staged list, which stand in a run
 --     Row          a node: what stands at one path, and its links
 --     Nodes        the nodes of an arena alone
@@ -29,7 +29,6 @@ pub mod Index
 pub mod Kept
 pub mod Links
 pub mod Lists
-pub mod Marks
 pub mod Next
 pub mod Nodes
 pub mod Places
@@ -40,3 +39,4 @@ pub mod Survey
 pub mod Text
 pub mod Tree
 pub mod Walk
+pub mod Ways

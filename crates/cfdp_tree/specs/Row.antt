@@ -11,7 +11,8 @@
 --     octets 20 and 21    the next node of the same index head
 --     octets 22 and 23    the next entry of the parent
 --     octets 24 and 25    the entry of the parent before it
---     octets 26 to 31     nothing
+--     octets 26 to 29     of a file the checksum of its octets
+--     octets 30 and 31    nothing
 --     octets 32 to 127    the name, and zeros
 --     Row, row_of         what a node's block says
 --     name_of             its name
@@ -32,6 +33,7 @@ pub record Row : Type 0 where
   pub same_head : ℕ
   pub next_entry : ℕ
   pub previous_entry : ℕ
+  pub sum : ℕ
 
 abbrev pub row_of : List ℕ → Row
 row_of block = record {
@@ -44,6 +46,7 @@ row_of block = record {
   same_head = number_at block 20;
   next_entry = number_at block 22;
   previous_entry = number_at block 24;
+  sum = number_at block 26 + 65536 * number_at block 28;
 }
 
 abbrev pub name_of : List ℕ → List ℕ
@@ -68,4 +71,5 @@ plain_row parent kind name = record {
   same_head = 0;
   next_entry = 0;
   previous_entry = 0;
+  sum = 0;
 }

@@ -22,7 +22,7 @@ use Rattle.std.specs.Prelude.{◌≡◌, ◌≢◌, ℕ, suc, zero, ◌-◌, ◌
 use Rattle.cfdp_arena.specs.Arena.{Blocks, octets_at, IsLive}
 use Rattle.cfdp_tree.specs.Block.{Header, header_of, payload, kind_octet}
 use Rattle.cfdp_tree.specs.declared.header.BlockKind.TheVariants as kind
-use Rattle.cfdp_tree.specs.declared.cursor.Cursor.{Cursor}
+use Rattle.cfdp_ways.specs.declared.cursor.Cursor.{Cursor}
 use Rattle.cfdp_tree.specs.declared.runs.Run.{Run}
 
 abbrev pub octets : Option (List ℕ) → List ℕ

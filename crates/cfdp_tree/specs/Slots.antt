@@ -1,15 +1,16 @@
--- The staged lists of a store, each with the position of its last write, and the marks in its run.
+-- The staged lists of a store, each with the position of its last write, and with the offset of the first octet that was
+-- never written, nor any after it.
 --     staged_in slots            the lists
---     IsPlaced arena slot        the position is one of the list's run, and the marks are those of blocks of it, in memory
---                                for just the most marks that it can have
---     IsFresh blocks slot        the list is empty, the position is its beginning, and it has no marks but their memory
---     IsStore arena heads root slots     what is true of every store of such parts
-use Rattle.std.specs.Prelude.{◌≡◌, ℕ, List, [], All, length, map, vec_capacity}
+--     IsPlaced arena slot        the position is one of the list's run, and from the offset on there are zeros alone
+--     IsFresh slot               the list is empty, and the position and the offset are its beginning
+--     IsStore arena ways heads root slots     what is true of every store of such parts
+use Rattle.std.specs.Prelude.{◌≡◌, ◌-◌, ◌≤◌, List, All, drop, map, replicate}
 use Rattle.cfdp_arena.specs.Arena.{Blocks}
+use Rattle.cfdp_ways.specs.declared.way.Way.{Way}
 use Rattle.cfdp_tree.specs.declared.contents.Contents.{Contents}
 use Rattle.cfdp_tree.specs.declared.slots.Slot.{Slot}
 use Rattle.cfdp_tree.specs.Runs.{IsAt}
-use Rattle.cfdp_tree.specs.Marks.{IsMarked, most_marks}
+use Rattle.cfdp_tree.specs.Contents.{contents_in}
 use Rattle.cfdp_tree.specs.declared.index.Head.{Head}
 use Rattle.cfdp_tree.specs.Index.{Heads}
 use Rattle.cfdp_tree.specs.Kept.{no_contents, IsKept}
@@ -19,16 +20,15 @@ staged_in slots = map (λ slot. slot.contents) slots
 
 pub record IsPlaced (arena : Blocks) (slot : Slot) : Type 0 where
   pub place : IsAt arena slot.contents.run slot.place
-  pub marked : IsMarked arena slot.contents.run slot.marks.numbers.items
-  pub memory : vec_capacity slot.marks.numbers ≡ most_marks (length arena)
+  pub within : slot.blank_from ≤ slot.contents.size
+  pub blank : drop slot.blank_from (contents_in arena slot.contents) ≡ replicate (slot.contents.size - slot.blank_from) 0
 
-pub record IsFresh (blocks : ℕ) (slot : Slot) : Type 0 where
+pub record IsFresh (slot : Slot) : Type 0 where
   pub contents : slot.contents ≡ no_contents
   pub block : slot.place.block ≡ slot.contents.run.first
   pub index : slot.place.index ≡ 0
-  pub marks : slot.marks.numbers.items ≡ []
-  pub memory : vec_capacity slot.marks.numbers ≡ most_marks blocks
+  pub blank : slot.blank_from ≡ 0
 
-pub record IsStore (arena : Blocks) (heads : Heads) (root : Head) (slots : List Slot) : Type 0 where
-  pub kept : IsKept arena heads root (staged_in slots)
+pub record IsStore (arena : Blocks) (ways : List Way) (heads : Heads) (root : Head) (slots : List Slot) : Type 0 where
+  pub kept : IsKept arena ways heads root (staged_in slots)
   pub placed : All (IsPlaced arena) slots

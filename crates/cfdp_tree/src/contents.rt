@@ -3,24 +3,29 @@ ghost use Rattle.std.specs.Prelude.{◌≡◌, ℕ, ◌+◌, ◌*◌, ◌<◌, �
 ghost use Rattle.cfdp_arena.specs.Arena.{free_count};
 ghost use Rattle.cfdp_actions.specs.Filestore.{blocks_of};
 ghost use Rattle.cfdp_actions.specs.Store.{extended, overwritten};
+ghost use Rattle.cfdp_checksum.specs.Checksum.{checksum_at};
 ghost use Rattle.cfdp_tree.specs.Nodes.{nodes_in};
 ghost use Rattle.cfdp_tree.specs.Runs.{IsAt, Apart, Spares, nth};
+ghost use Rattle.cfdp_tree.specs.Ways.{HasWays, KeepsWays};
 ghost use Rattle.cfdp_tree.specs.Contents.{IsFilled, contents_in};
 ghost use Rattle.cfdp_tree.specs.Kept.{contents_told, file_of};
 ghost use Rattle.cfdp_tree.specs.Row.{row_of, kind_told};
 
-use crate::cursor::Cursor;
 use crate::header::PAYLOAD_OCTETS;
-use crate::rows::{first_of, kind_of, last_of, size_of};
+use crate::rows::{first_of, kind_of, last_of, size_of, sum_of};
 use crate::runs::Run;
 use cfdp_actions::Kind;
 use cfdp_arena::{Arena, Block};
+use cfdp_checksum::modular_checksum_at;
+use cfdp_ways::{Cursor, Way};
 
-/// The octets of a file or of a staged list: a run that has just the blocks for them, and how many they are.
+/// The octets of a file or of a staged list: a run that has just the blocks for them, how many they are, and their
+/// modular checksum.
 #[derive(Clone, Copy)]
 pub(crate) struct Contents {
     pub(crate) run: Run,
     pub(crate) size: u32,
+    pub(crate) sum: u32,
 }
 
 /// The blocks of so many octets.
@@ -44,6 +49,7 @@ pub(crate) fn contents_of(block: &Block) -> Contents
             count: blocks_of(size),
         },
         size,
+        sum: sum_of(block),
     }
 }
 
@@ -63,24 +69,28 @@ impl Contents {
     pub(crate) fn empty() -> Contents
         ensures blocks { result.run.count ≡ 0 }
         ensures size { result.size ≡ 0 }
+        ensures sum { result.sum ≡ 0 }
         ensures first { result.run.first ≡ 0 }
         ensures last { result.run.last ≡ 0 }
     {
         Contents {
             run: Run::empty(),
             size: 0,
+            sum: 0,
         }
     }
 
-    /// Adds zeros at the end, up to the size, which is at most that of 65,536 blocks. In time linear in the blocks that
-    /// are taken.
-    pub(crate) fn extend(&mut self, arena: &mut Arena, size: u32)
+    /// Adds zeros at the end, up to the size, which is at most that of 65,536 blocks. The checksum stays. In time linear
+    /// in the blocks that are taken.
+    pub(crate) fn extend(&mut self, arena: &mut Arena, ways: &mut [Way], size: u32)
         requires filled { IsFilled arena.old self.old }
+        requires ways { HasWays arena.old ways.old self.old.run }
         requires longer { self.old.size ≤ size }
         requires most { size ≤ 7864320 }
         requires room { blocks_of size ≤ free_count arena.old + blocks_of self.old.size }
         ensures filled { IsFilled arena.new self.new }
         ensures size { self.new.size ≡ size }
+        ensures sum { self.new.sum ≡ self.old.sum }
         ensures octets { contents_in arena.new self.new ≡ extended (contents_in arena.old self.old) size }
         ensures taken { free_count arena.new + blocks_of size ≡ free_count arena.old + blocks_of self.old.size }
         ensures capacity { length arena.new ≡ length arena.old }
@@ -88,52 +98,96 @@ impl Contents {
         ensures places { (k : ℕ) → k < self.old.run.count →
             nth arena.new self.new.run.first k ≡ nth arena.old self.old.run.first k }
         ensures nodes { nodes_in arena.new ≡ nodes_in arena.old }
+        ensures ways { HasWays arena.new ways.new self.new.run }
+        ensures other_ways { KeepsWays arena.old arena.new ways.old ways.new self.old.run }
     {
         let mut run = self.run;
-        run.grow_to(arena, blocks_of(size));
-        *self = Contents { run, size };
+        run.grow_to(arena, ways, blocks_of(size));
+        *self = Contents {
+            run,
+            size,
+            sum: self.sum,
+        };
     }
 
-    /// Puts octets in the place of those from the place `at` on, and answers the place of the last block that was
-    /// written. In time linear in the octets, and in the steps from the place that is handed in to the first block that
-    /// is written.
-    pub(crate) fn put(&self, arena: &mut Arena, from: Cursor, at: u32, octets: &[u8]) -> Cursor
-        requires filled { IsFilled arena.old self.now }
-        requires from { IsAt arena.old self.now.run from }
-        requires range { at + length octets.now ≤ self.now.size }
-        ensures filled { IsFilled arena.new self.now }
-        ensures octets { contents_in arena.new self.now ≡ overwritten (contents_in arena.old self.now) at octets.now }
-        ensures place { IsAt arena.new self.now.run result }
+    /// Overwrites the octets from the offset `at` on, and returns the position of the last block that was written. The
+    /// caller says what the octets that are there add to the checksum. In time linear in the octets; the first block is
+    /// found as by `Run::find`.
+    pub(crate) fn put(
+        &mut self,
+        arena: &mut Arena,
+        ways: &[Way],
+        from: Cursor,
+        at: u32,
+        octets: &[u8],
+        before: u32,
+    ) -> Cursor
+        requires filled { IsFilled arena.old self.old }
+        requires ways { HasWays arena.old ways.now self.old.run }
+        requires from { IsAt arena.old self.old.run from }
+        requires range { at + length octets.now ≤ self.old.size }
+        requires before { before ≡ checksum_at at (slice_range (contents_in arena.old self.old) at (at + length octets.now)) }
+        ensures filled { IsFilled arena.new self.new }
+        ensures run { self.new.run ≡ self.old.run }
+        ensures size { self.new.size ≡ self.old.size }
+        ensures octets { contents_in arena.new self.new ≡ overwritten (contents_in arena.old self.old) at octets.now }
+        ensures place { IsAt arena.new self.new.run result }
         ensures free { free_count arena.new ≡ free_count arena.old }
         ensures capacity { length arena.new ≡ length arena.old }
-        ensures spares { Spares arena.old arena.new self.now.run self.now.run }
-        ensures places { (k : ℕ) → k ≤ self.now.run.count →
-            nth arena.new self.now.run.first k ≡ nth arena.old self.now.run.first k }
+        ensures spares { Spares arena.old arena.new self.old.run self.new.run }
+        ensures places { (k : ℕ) → k ≤ self.old.run.count →
+            nth arena.new self.new.run.first k ≡ nth arena.old self.old.run.first k }
         ensures nodes { nodes_in arena.new ≡ nodes_in arena.old }
     {
-        self.run.write(arena, from, at as usize, octets)
+        let last = self.run.write(arena, ways, from, at as usize, octets);
+        let after = modular_checksum_at(at as usize, octets);
+        self.sum = self.sum.wrapping_sub(before).wrapping_add(after);
+        last
     }
 
-    /// Fills the buffer with the octets from the place `at` on, and answers the place of the last block that was read.
-    /// In time linear in the octets, and in the steps from the place that is handed in to the first block that is read.
-    pub(crate) fn get(&self, arena: &Arena, from: Cursor, at: u32, buffer: &mut [u8]) -> Cursor
+    /// What the octets add to the checksum of a file in which they begin at an offset. In constant time if the offset is
+    /// a multiple of 4, otherwise in time linear in the octets.
+    fn sum_at(&self, arena: &Arena, offset: u32) -> u32
         requires filled { IsFilled arena.now self.now }
+        ensures { result ≡ checksum_at offset (contents_in arena.now self.now) }
+    {
+        if offset % 4 == 0 {
+            return self.sum;
+        }
+        self.run
+            .sum_of(arena, self.run.start(), 0, self.size as usize, offset)
+    }
+
+    /// Fills the buffer with the octets from the offset `at` on, and returns the position of the last block that was
+    /// read. In time linear in the octets; the first block is found as by `Run::find`.
+    pub(crate) fn get(
+        &self,
+        arena: &Arena,
+        ways: &[Way],
+        from: Cursor,
+        at: u32,
+        buffer: &mut [u8],
+    ) -> Cursor
+        requires filled { IsFilled arena.now self.now }
+        requires ways { HasWays arena.now ways.now self.now.run }
         requires from { IsAt arena.now self.now.run from }
         requires range { at + length buffer.old ≤ self.now.size }
         ensures octets { buffer.new ≡ slice_range (contents_in arena.now self.now) at (at + length buffer.old) }
         ensures place { IsAt arena.now self.now.run result }
     {
-        self.run.read(arena, from, at as usize, buffer)
+        self.run.read(arena, ways, from, at as usize, buffer)
     }
 
     /// Adds so many zeros at the end, and answers the place of the last block before them, from which they are found at
     /// once. In time linear in the blocks that are taken.
-    fn make_room(&mut self, arena: &mut Arena, more: u32) -> Cursor
+    fn make_room(&mut self, arena: &mut Arena, ways: &mut [Way], more: u32) -> Cursor
         requires filled { IsFilled arena.old self.old }
+        requires ways { HasWays arena.old ways.old self.old.run }
         requires most { self.old.size + more ≤ 7864320 }
         requires room { blocks_of (self.old.size + more) ≤ free_count arena.old + blocks_of self.old.size }
         ensures filled { IsFilled arena.new self.new }
         ensures size { self.new.size ≡ self.old.size + more }
+        ensures sum { self.new.sum ≡ self.old.sum }
         ensures octets { contents_in arena.new self.new ≡ extended (contents_in arena.old self.old) (self.old.size + more) }
         ensures place { IsAt arena.new self.new.run result }
         ensures taken { free_count arena.new + blocks_of (self.old.size + more)
@@ -141,16 +195,19 @@ impl Contents {
         ensures capacity { length arena.new ≡ length arena.old }
         ensures spares { Spares arena.old arena.new self.old.run self.new.run }
         ensures nodes { nodes_in arena.new ≡ nodes_in arena.old }
+        ensures ways { HasWays arena.new ways.new self.new.run }
+        ensures other_ways { KeepsWays arena.old arena.new ways.old ways.new self.old.run }
     {
         let tail = self.run.tail();
         let none = self.run.count == 0;
-        self.extend(arena, self.size + more);
+        self.extend(arena, ways, self.size + more);
         if none { self.run.start() } else { tail }
     }
 
     /// Puts the octets of another list after these, from block to block. In time linear in them.
-    pub(crate) fn append(&mut self, arena: &mut Arena, source: &Contents)
+    pub(crate) fn append(&mut self, arena: &mut Arena, ways: &mut [Way], source: &Contents)
         requires filled { IsFilled arena.old self.old }
+        requires ways { HasWays arena.old ways.old self.old.run }
         requires source { IsFilled arena.old source.now }
         requires apart { Apart self.old.run source.now.run }
         requires most { self.old.size + source.now.size ≤ 7864320 }
@@ -163,19 +220,24 @@ impl Contents {
         ensures capacity { length arena.new ≡ length arena.old }
         ensures spares { Spares arena.old arena.new self.old.run self.new.run }
         ensures nodes { nodes_in arena.new ≡ nodes_in arena.old }
+        ensures ways { HasWays arena.new ways.new self.new.run }
+        ensures other_ways { KeepsWays arena.old arena.new ways.old ways.new self.old.run }
     {
         if source.size == 0 {
             return;
         }
         let size = self.size as usize;
-        let to = self.make_room(arena, source.size);
+        let added = source.sum_at(arena, self.size);
+        let to = self.make_room(arena, ways, source.size);
         self.run
             .copy(arena, to, size, &source.run, source.size as usize);
+        self.sum = self.sum.wrapping_add(added);
     }
 
     /// Puts the octets after themselves, from block to block. In time linear in them.
-    pub(crate) fn append_self(&mut self, arena: &mut Arena)
+    pub(crate) fn append_self(&mut self, arena: &mut Arena, ways: &mut [Way])
         requires filled { IsFilled arena.old self.old }
+        requires ways { HasWays arena.old ways.old self.old.run }
         requires most { 2 * self.old.size ≤ 7864320 }
         requires room { blocks_of (2 * self.old.size) ≤ free_count arena.old + blocks_of self.old.size }
         ensures filled { IsFilled arena.new self.new }
@@ -186,17 +248,22 @@ impl Contents {
         ensures capacity { length arena.new ≡ length arena.old }
         ensures spares { Spares arena.old arena.new self.old.run self.new.run }
         ensures nodes { nodes_in arena.new ≡ nodes_in arena.old }
+        ensures ways { HasWays arena.new ways.new self.new.run }
+        ensures other_ways { KeepsWays arena.old arena.new ways.old ways.new self.old.run }
     {
         let size = self.size;
-        let to = self.make_room(arena, size);
+        let added = self.sum_at(arena, size);
+        let to = self.make_room(arena, ways, size);
         self.run
             .copy(arena, to, size as usize, &self.run, size as usize);
+        self.sum = self.sum.wrapping_add(added);
     }
 
     /// Puts the octets of another list in the place of these, whose blocks go back first. In time linear in the other
     /// list.
-    pub(crate) fn replace(&mut self, arena: &mut Arena, source: &Contents)
+    pub(crate) fn replace(&mut self, arena: &mut Arena, ways: &mut [Way], source: &Contents)
         requires filled { IsFilled arena.old self.old }
+        requires ways { HasWays arena.old ways.old self.old.run }
         requires source { IsFilled arena.old source.now }
         requires apart { Apart self.old.run source.now.run }
         requires most { source.now.size ≤ 7864320 }
@@ -209,10 +276,12 @@ impl Contents {
         ensures capacity { length arena.new ≡ length arena.old }
         ensures spares { Spares arena.old arena.new self.old.run self.new.run }
         ensures nodes { nodes_in arena.new ≡ nodes_in arena.old }
+        ensures ways { HasWays arena.new ways.new self.new.run }
+        ensures other_ways { KeepsWays arena.old arena.new ways.old ways.new self.old.run }
     {
         self.release(arena);
         *self = Contents::empty();
-        self.append(arena, source);
+        self.append(arena, ways, source);
     }
 
     /// Gives the blocks back as one. In constant time.

@@ -5,10 +5,10 @@ ghost use Rattle.cfdp_actions.specs.Store.{overwritten};
 ghost use Rattle.cfdp_tree.specs.Nodes.{nodes_in};
 ghost use Rattle.cfdp_tree.specs.Runs.{IsHeld, IsAt, OthersStay, KeepsFront, octets_in, nth};
 
-use crate::cursor::Cursor;
 use crate::header::PAYLOAD_OCTETS;
 use crate::runs::Run;
 use cfdp_arena::Arena;
+use cfdp_ways::Cursor;
 
 /// An octet of a run: the place of its block, and its place in the block's payload.
 #[derive(Clone, Copy)]
@@ -101,6 +101,7 @@ impl Run {
         ensures held { IsHeld arena.new self.now }
         ensures octets { octets_in arena.new self.now
             ≡ overwritten (octets_in arena.old self.now) at (take len (octets_in arena.old source.now)) }
+        ensures places { (k : ℕ) → k ≤ self.now.count → nth arena.new self.now.first k ≡ nth arena.old self.now.first k }
         ensures free { free_count arena.new ≡ free_count arena.old }
         ensures size { length arena.new ≡ length arena.old }
         ensures others { OthersStay arena.old arena.new self.now }

@@ -6,20 +6,22 @@ ghost use Rattle.cfdp_tree.specs.Block.{header_of};
 ghost use Rattle.cfdp_tree.specs.Row.{row_of};
 ghost use Rattle.cfdp_tree.specs.Nodes.{nodes_in};
 ghost use Rattle.cfdp_tree.specs.Runs.{IsHeld, Apart, RunsStay, Spares};
+ghost use Rattle.cfdp_tree.specs.Ways.{HasWays, KeepsWays};
 ghost use Rattle.cfdp_tree.specs.Contents.{IsFilled, contents_in};
 ghost use Rattle.cfdp_tree.specs.Tree.{IsNode, IsTree, row_at, name_at, path_of};
 ghost use Rattle.cfdp_tree.specs.Index.{IsIndex};
 ghost use Rattle.cfdp_tree.specs.Kept.{contents_told};
-ghost use Rattle.cfdp_tree.specs.Files.{with_run};
+ghost use Rattle.cfdp_tree.specs.Files.{with_contents, with_run};
 
 use crate::contents::{Contents, contents_of};
 use crate::index::Head;
 use crate::lookup::find_path;
-use crate::rows::{set_first, set_last, set_size};
+use crate::rows::{set_first, set_last, set_size, set_sum};
 use crate::runs::Run;
 use cfdp_actions::Kind;
 use cfdp_arena::{Arena, Block, BlockId};
 use cfdp_paths::Path;
+use cfdp_ways::Way;
 
 /// A file that was found: its node, and its octets.
 #[derive(Clone, Copy)]
@@ -48,8 +50,9 @@ pub(crate) fn find_file(arena: &Arena, heads: &[Head], path: &Path) -> FoundFile
 
 impl FoundFile {
     /// Puts the octets of a file, which may be the same one, behind those of this one. In time linear in them.
-    pub(crate) fn append(&self, arena: &mut Arena, source: &FoundFile) -> Contents
+    pub(crate) fn append(&self, arena: &mut Arena, ways: &mut [Way], source: &FoundFile) -> Contents
         requires filled { IsFilled arena.old self.now.contents }
+        requires ways { HasWays arena.old ways.old self.now.contents.run }
         requires source { IsFilled arena.old source.now.contents }
         requires same { self.now.node ≡ source.now.node → self.now.contents ≡ source.now.contents }
         requires apart { self.now.node ≢ source.now.node → Apart self.now.contents.run source.now.contents.run }
@@ -65,25 +68,26 @@ impl FoundFile {
         ensures capacity { length arena.new ≡ length arena.old }
         ensures spares { Spares arena.old arena.new self.now.contents.run result.run }
         ensures nodes { nodes_in arena.new ≡ nodes_in arena.old }
+        ensures ways { HasWays arena.new ways.new result.run }
+        ensures other_ways { KeepsWays arena.old arena.new ways.old ways.new self.now.contents.run }
     {
         let mut contents = self.contents;
         if self.node == source.node {
-            contents.append_self(arena);
+            contents.append_self(arena, ways);
         } else {
-            contents.append(arena, &source.contents);
+            contents.append(arena, ways, &source.contents);
         }
         contents
     }
 }
 
-/// Says where a file's octets stand, and how many they are. In constant time.
+/// Says where a file's octets are, how many there are, and what their checksum is. In constant time.
 pub(crate) fn set_contents(arena: &mut Arena, node: &BlockId, contents: &Contents)
     requires node { IsNode (nodes_in arena.old) node.now }
     requires held { IsHeld arena.old contents.now.run }
     ensures nodes { nodes_in arena.new
         ≡ with_block (nodes_in arena.old) node.now (octets_of (nodes_in arena.new) node.now) }
-    ensures row { row_at (nodes_in arena.new) node.now
-        ≡ record (with_run (row_at (nodes_in arena.old) node.now) contents.now.run) { size = contents.now.size } }
+    ensures row { row_at (nodes_in arena.new) node.now ≡ with_contents (row_at (nodes_in arena.old) node.now) contents.now }
     ensures name { name_at (nodes_in arena.new) node.now ≡ name_at (nodes_in arena.old) node.now }
     ensures whole { length (octets_of (nodes_in arena.new) node.now) ≡ 128 }
     ensures runs { RunsStay arena.old arena.new }
@@ -94,6 +98,7 @@ pub(crate) fn set_contents(arena: &mut Arena, node: &BlockId, contents: &Content
     let block = arena.bytes_mut(*node);
     set_run(block, &contents.run);
     set_size(block, contents.size);
+    set_sum(block, contents.sum);
 }
 
 /// Names the first and the last block of a file's octets, where there are some. The rest of the block stays.

@@ -15,7 +15,7 @@ use cfdp_paths::Names;
 
 impl TreeStore {
     /// What stands at the path of these names; `None` where nothing does. Takes no memory. In expected time linear in the
-    /// octets of the names, and of a file.
+    /// octets of the names, whatever the size of a file.
     pub fn find(&self, names: Names<'_>) -> Option<Found>
         requires { All IsName names }
         ensures { result ≡ option_map found_of (node_at self.now.filestore names.entry) }
@@ -26,7 +26,7 @@ impl TreeStore {
 
     /// Copies a file's octets from the place `at` on to the front of the buffer, as many as there are and as fit, and
     /// answers how many; `None` where no file stands at the path of these names. Takes no memory. In expected time linear
-    /// in the octets of the names, in the blocks of the file up to the place, and in the octets that are copied.
+    /// in the octets of the names and in those that are copied, and logarithmic in the blocks of the file.
     pub fn read_at(&self, names: Names<'_>, at: u64, buffer: &mut [u8]) -> Option<usize>
         requires { All IsName names }
         ensures count { result ≡ octets_read (node_at self.now.filestore names.entry) at buffer.old }
@@ -42,7 +42,13 @@ impl TreeStore {
                 let start = at.min(size);
                 let count = (size - start).min(buffer.len() as u64) as usize;
                 let front = &mut buffer[..count];
-                file.get(&self.arena, file.run.start(), start as u32, front);
+                file.get(
+                    &self.arena,
+                    &self.ways,
+                    file.run.start(),
+                    start as u32,
+                    front,
+                );
                 Some(count)
             }
         }

@@ -8,9 +8,7 @@ ghost use Rattle.cfdp_tree.specs.Kept.{node_of};
 ghost use Rattle.cfdp_tree.specs.Nodes.{nodes_in};
 ghost use Rattle.cfdp_tree.specs.Survey.{shown, IsSound};
 
-use crate::contents::contents_of;
-use crate::rows::{kind_of, size_of};
-use crate::summing::checksum_of;
+use crate::rows::{kind_of, size_of, sum_of};
 use cfdp_actions::{Entry, Kind, Standing};
 use cfdp_arena::{Arena, BlockId};
 use cfdp_paths::{Memory, Path};
@@ -57,7 +55,7 @@ pub(crate) fn only_standing(
     Ok(all)
 }
 
-/// The same with the checksums of the files. In time linear in all their octets.
+/// The same with the checksums of the files. In time linear in the number of the nodes.
 ///
 /// # Errors
 ///
@@ -123,7 +121,7 @@ pub struct Found {
     pub checksum: u32,
 }
 
-/// What stands at a node. In time linear in the octets of a file.
+/// What stands at a node. In constant time.
 pub(crate) fn tell(arena: &Arena, node: &BlockId) -> Found
     requires { IsSound arena.now ([], node.now) }
     ensures kind { result.kind ≡ kind_of (node_of arena.now (octets_of (nodes_in arena.now) node.now)) }
@@ -138,13 +136,10 @@ pub(crate) fn tell(arena: &Arena, node: &BlockId) -> Found
             size: 0,
             checksum: 0,
         },
-        Kind::File => {
-            let file = contents_of(block);
-            Found {
-                kind: Kind::File,
-                size: u64::from(file.size),
-                checksum: checksum_of(arena, &file),
-            }
-        }
+        Kind::File => Found {
+            kind: Kind::File,
+            size: u64::from(size_of(block)),
+            checksum: sum_of(block),
+        },
     }
 }

@@ -41,8 +41,8 @@ impl TreeStore {
     /// at least 776 octets. They begin at [`NextEntry::start`], and the octets before that stay as they were. `None`
     /// where no path in the store is greater: the whole buffer then stays as it was.
     ///
-    /// Takes no memory. In expected time linear in the entries of the directories on the way, which are at most 8, and
-    /// in the octets of the found file, for its checksum.
+    /// Takes no memory. In expected time linear in the entries of the directories on the way, which are at most 8,
+    /// whatever the size of the found file.
     pub fn next_entry(&self, after: Names<'_>, text: &mut [u8]) -> Option<NextEntry>
         requires names { All IsName after }
         requires room { 776 ≤ length text.old }

@@ -15,11 +15,19 @@ pub(crate) fn put_part(block: &mut Block, at: usize, part: &[u8])
     block[start..start + part.len()].copy_from_slice(part);
 }
 
+/// Octets of a block's payload from the place `at` in it on.
+pub(crate) fn part_of(block: &Block, at: usize, len: usize) -> &[u8]
+    requires within { at + len ≤ 120 }
+    ensures { result.now ≡ slice_range (payload block.now) at (at + len) }
+{
+    let start = HEADER_OCTETS + at;
+    &block[start..start + len]
+}
+
 /// Fills the buffer with octets of a block's payload from the place `at` in it on.
 pub(crate) fn get_part(block: &Block, at: usize, buffer: &mut [u8])
     requires within { at + length buffer.old ≤ 120 }
     ensures { buffer.new ≡ slice_range (payload block.now) at (at + length buffer.old) }
 {
-    let start = HEADER_OCTETS + at;
-    buffer.copy_from_slice(&block[start..start + buffer.len()]);
+    buffer.copy_from_slice(part_of(block, at, buffer.len()));
 }

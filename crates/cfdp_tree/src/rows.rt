@@ -232,6 +232,27 @@ pub(crate) fn size_of(block: &Block) -> u32
     u32::from_le_bytes([block[14], block[15], block[16], block[17]])
 }
 
+/// The checksum of a file's octets.
+pub(crate) fn sum_of(block: &Block) -> u32
+    ensures { result ≡ (row_of block.now).sum }
+{
+    u32::from_le_bytes([block[26], block[27], block[28], block[29]])
+}
+
+/// Says what the checksum of a file's octets is. The rest of the block stays.
+pub(crate) fn set_sum(block: &mut Block, sum: u32)
+    ensures row { row_of block.new ≡ record (row_of block.old) { sum = sum } }
+    ensures header { header_of block.new ≡ header_of block.old }
+    ensures name { drop 32 block.new ≡ drop 32 block.old }
+    ensures whole { length block.new ≡ 128 }
+{
+    let [lowest, low, high, highest] = sum.to_le_bytes();
+    block[26] = lowest;
+    block[27] = low;
+    block[28] = high;
+    block[29] = highest;
+}
+
 /// Says how many octets a file has, or how many entries a directory. The rest of the block stays.
 pub(crate) fn set_size(block: &mut Block, size: u32)
     ensures row { row_of block.new ≡ record (row_of block.old) { size = size } }

@@ -5,9 +5,11 @@ ghost use Rattle.cfdp_arena.specs.Blocks.{blank_block};
 ghost use Rattle.cfdp_tree.specs.Block.{payload};
 ghost use Rattle.cfdp_tree.specs.Nodes.{nodes_in};
 ghost use Rattle.cfdp_tree.specs.Runs.{IsHeld, AllStay, OthersStay, octets_in, nth};
+ghost use Rattle.cfdp_tree.specs.Ways.{HasWays, StayLive, WaysStay};
 
 use crate::header::{BlockKind, set_next, set_tag};
 use cfdp_arena::{Arena, BlockId};
+use cfdp_ways::{Way, begin_list, extend_list};
 
 /// A run of blocks in an arena: its first block, its last block and how many there are. Where there are none, the two
 /// blocks mean nothing.
@@ -33,9 +35,10 @@ impl Run {
         }
     }
 
-    /// Takes one more block, of zeros, to the end of the run. In constant time.
-    pub(crate) fn grow(&mut self, arena: &mut Arena)
+    /// Takes one more block, of zeros, to the end of the run, and writes its way. In constant time.
+    pub(crate) fn grow(&mut self, arena: &mut Arena, ways: &mut [Way])
         requires held { IsHeld arena.old self.old }
+        requires ways { HasWays arena.old ways.old self.old }
         requires few { self.old.count < 65536 }
         requires room { 0 < free_count arena.old }
         ensures held { IsHeld arena.new self.new }
@@ -48,11 +51,17 @@ impl Run {
         ensures fresh { self.old.count ≡ 0 → octets_at arena.old self.new.first ≡ None }
         ensures places { (k : ℕ) → k < self.old.count → nth arena.new self.new.first k ≡ nth arena.old self.old.first k }
         ensures nodes { nodes_in arena.new ≡ nodes_in arena.old }
+        ensures live { StayLive arena.old arena.new }
+        ensures ways { HasWays arena.new ways.new self.new }
+        ensures ways_stay { WaysStay arena.old ways.old ways.new }
     {
         if self.count == 0 {
             *self = begin(arena);
+            begin_list(ways, self.first);
         } else {
+            let last = self.tail();
             self.lengthen(arena);
+            extend_list(ways, &last, self.last);
         }
     }
 
@@ -71,6 +80,10 @@ impl Run {
         ensures first { self.new.first ≡ self.old.first }
         ensures places { (k : ℕ) → k < self.old.count → nth arena.new self.new.first k ≡ nth arena.old self.old.first k }
         ensures nodes { nodes_in arena.new ≡ nodes_in arena.old }
+        ensures live { StayLive arena.old arena.new }
+        ensures was_free { octets_at arena.old self.new.last ≡ None }
+        ensures within { self.new.last < length arena.old }
+        ensures few_blocks { length arena.old ≤ 65536 }
     {
         let block = take_block(arena);
         set_tag(
@@ -84,9 +97,11 @@ impl Run {
         self.count += 1;
     }
 
-    /// Takes blocks of zeros to the end of the run, up to so many blocks. In time linear in the blocks that are taken.
-    pub(crate) fn grow_to(&mut self, arena: &mut Arena, count: u32)
+    /// Takes blocks of zeros to the end of the run, up to a number of blocks, and writes their ways. In time linear in
+    /// the blocks that are taken.
+    pub(crate) fn grow_to(&mut self, arena: &mut Arena, ways: &mut [Way], count: u32)
         requires held { IsHeld arena.old self.old }
+        requires ways { HasWays arena.old ways.old self.old }
         requires more { self.old.count ≤ count }
         requires few { count ≤ 65536 }
         requires room { count ≤ free_count arena.old + self.old.count }
@@ -101,9 +116,12 @@ impl Run {
         ensures fresh { self.old.count ≡ 0 → 0 < count → octets_at arena.old self.new.first ≡ None }
         ensures places { (k : ℕ) → k < self.old.count → nth arena.new self.new.first k ≡ nth arena.old self.old.first k }
         ensures nodes { nodes_in arena.new ≡ nodes_in arena.old }
+        ensures live { StayLive arena.old arena.new }
+        ensures ways { HasWays arena.new ways.new self.new }
+        ensures ways_stay { WaysStay arena.old ways.old ways.new }
     {
         for _block in self.count..count {
-            self.grow(arena);
+            self.grow(arena, ways);
         }
     }
 
@@ -129,6 +147,9 @@ fn begin(arena: &mut Arena) -> Run
     ensures size { length arena.new ≡ length arena.old }
     ensures others { AllStay arena.old arena.new }
     ensures fresh { octets_at arena.old result.first ≡ None }
+    ensures within { result.first < length arena.old }
+    ensures few_blocks { length arena.old ≤ 65536 }
+    ensures live { StayLive arena.old arena.new }
     ensures nodes { nodes_in arena.new ≡ nodes_in arena.old }
 {
     let block = take_block(arena);

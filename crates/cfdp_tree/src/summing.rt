@@ -1,33 +1,72 @@
-//! The checksum of the octets of a file or of a staged list.
-ghost use Rattle.std.specs.Prelude.{◌≡◌};
-ghost use Rattle.cfdp_checksum.specs.Checksum.{checksum};
+//! What the octets of a run add to a checksum.
+ghost use Rattle.std.specs.Prelude.{◌≡◌, ◌+◌, ◌*◌, ◌/◌, ◌<◌, ◌≤◌, slice_range};
+ghost use Rattle.cfdp_checksum.specs.Checksum.{checksum_at};
 ghost use Rattle.cfdp_tree.specs.Block.{payload};
-ghost use Rattle.cfdp_tree.specs.Contents.{IsFilled, contents_in};
+ghost use Rattle.cfdp_tree.specs.Runs.{IsHeld, IsAt, octets_in};
 
-use crate::contents::Contents;
-use crate::header::{HEADER_OCTETS, next_of};
+use crate::header::{HEADER_OCTETS, PAYLOAD_OCTETS};
+use crate::payload::part_of;
+use crate::runs::Run;
 use cfdp_arena::{Arena, Block};
-use cfdp_checksum::modular_checksum;
+use cfdp_checksum::modular_checksum_at;
+use cfdp_ways::Cursor;
 
-/// The modular checksum of the octets. A payload has whole words of four, so that the sums of the blocks add up, and
-/// the zeros after the octets add nothing. Each block is summed whole, where it is. In time linear in the blocks.
-pub(crate) fn checksum_of(arena: &Arena, contents: &Contents) -> u32
-    requires { IsFilled arena.now contents.now }
-    ensures { result ≡ checksum (contents_in arena.now contents.now) }
+/// What octets of a block's payload, from the place `at` in it on, add to the checksum of a file in which they begin at
+/// the offset `offset`. In time linear in the octets.
+fn part_sum(block: &Block, at: usize, len: usize, offset: usize) -> u32
+    requires within { at + len ≤ 120 }
+    ensures { result ≡ checksum_at offset (slice_range (payload block.now) at (at + len)) }
 {
-    let mut block = contents.run.first;
-    let mut sum = 0u32;
-    for _step in 0..contents.run.count {
-        let octets = arena.bytes(block);
-        sum = sum.wrapping_add(payload_sum(octets));
-        block = next_of(octets);
+    if len == PAYLOAD_OCTETS {
+        // The compiler knows the length of a whole payload, and sums it by vectors.
+        return modular_checksum_at(offset, &block[HEADER_OCTETS..]);
     }
-    sum
+    modular_checksum_at(offset, part_of(block, at, len))
 }
 
-/// The modular checksum of a block's payload.
-fn payload_sum(block: &Block) -> u32
-    ensures { result ≡ checksum (payload block.now) }
-{
-    modular_checksum(&block[HEADER_OCTETS..])
+impl Run {
+    /// What `len` octets of one block's payload, from the place `at` in it on, add to the checksum of a file in which
+    /// they begin at the offset `offset`. In time linear in the octets.
+    fn sum_in(&self, arena: &Arena, cursor: &Cursor, at: usize, len: usize, offset: usize) -> u32
+        requires held { IsHeld arena.now self.now }
+        requires place { IsAt arena.now self.now cursor.now }
+        requires within { cursor.now.index < self.now.count }
+        requires fits { at + len ≤ 120 }
+        ensures { let start = 120 * cursor.now.index + at in
+            result ≡ checksum_at offset (slice_range (octets_in arena.now self.now) start (start + len)) }
+    {
+        part_sum(arena.bytes(cursor.block), at, len, offset)
+    }
+
+    /// What `len` octets of the run from the offset `at` on add to the checksum of a file in which they begin at the
+    /// offset `offset`. The block of the first of them is handed in. In time linear in the octets.
+    pub(crate) fn sum_of(
+        &self,
+        arena: &Arena,
+        first: Cursor,
+        at: usize,
+        len: usize,
+        offset: u32,
+    ) -> u32
+        requires held { IsHeld arena.now self.now }
+        requires first { IsAt arena.now self.now first }
+        requires index { first.index ≡ at / 120 }
+        requires range { at + len ≤ 120 * self.now.count }
+        ensures { result ≡ checksum_at offset (slice_range (octets_in arena.now self.now) at (at + len)) }
+    {
+        let end = at + len;
+        let begin = at / PAYLOAD_OCTETS;
+        let mut cursor = first;
+        let mut sum = 0u32;
+        for index in begin..(end + PAYLOAD_OCTETS - 1) / PAYLOAD_OCTETS {
+            let block_start = index * PAYLOAD_OCTETS;
+            let start = at.max(block_start);
+            let stop = end.min(block_start + PAYLOAD_OCTETS);
+            let place = offset as usize + (start - at);
+            let added = self.sum_in(arena, &cursor, start - block_start, stop - start, place);
+            sum = sum.wrapping_add(added);
+            cursor = self.after(arena, &cursor);
+        }
+        sum
+    }
 }

@@ -4,12 +4,13 @@ ghost use Rattle.cfdp_arena.specs.Arena.{free_count};
 ghost use Rattle.cfdp_actions.specs.Store.{overwritten};
 ghost use Rattle.cfdp_tree.specs.Nodes.{nodes_in};
 ghost use Rattle.cfdp_tree.specs.Runs.{IsHeld, IsAt, OthersStay, octets_in, nth};
+ghost use Rattle.cfdp_tree.specs.Ways.{HasWays};
 
-use crate::cursor::Cursor;
 use crate::header::PAYLOAD_OCTETS;
 use crate::payload::{get_part, put_part};
 use crate::runs::Run;
 use cfdp_arena::Arena;
+use cfdp_ways::{Cursor, Way};
 
 impl Run {
     /// Puts octets into the payload of one block, from the place `at` in it on. In time linear in the octets.
@@ -43,11 +44,19 @@ impl Run {
         get_part(arena.bytes(cursor.block), at, buffer);
     }
 
-    /// Puts octets in the place of those of the run from the place `at` on, and answers the place of the last block that
-    /// was written, from which the octets behind them are found at once. In time linear in the octets, and in the steps
-    /// from the place that is handed in to the first block that is written.
-    pub(crate) fn write(&self, arena: &mut Arena, from: Cursor, at: usize, octets: &[u8]) -> Cursor
+    /// Overwrites the octets of the run from the offset `at` on, and returns the position of the last block that was
+    /// written, from which the octets after them are found at once. In time linear in the octets; the first block is
+    /// found as by `find`.
+    pub(crate) fn write(
+        &self,
+        arena: &mut Arena,
+        ways: &[Way],
+        from: Cursor,
+        at: usize,
+        octets: &[u8],
+    ) -> Cursor
         requires held { IsHeld arena.old self.now }
+        requires ways { HasWays arena.old ways.now self.now }
         requires from { IsAt arena.old self.now from }
         requires range { at + length octets.now ≤ 120 * self.now.count }
         ensures held { IsHeld arena.new self.now }
@@ -61,7 +70,7 @@ impl Run {
     {
         let end = at + octets.len();
         let begin = at / PAYLOAD_OCTETS;
-        let mut cursor = self.seek(arena, from, begin as u32);
+        let mut cursor = self.find(arena, ways, from, begin as u32);
         let mut last = cursor;
         for index in begin..(end + PAYLOAD_OCTETS - 1) / PAYLOAD_OCTETS {
             let block_start = index * PAYLOAD_OCTETS;
@@ -75,11 +84,18 @@ impl Run {
         last
     }
 
-    /// Fills the buffer with the octets of the run from the place `at` on, and answers the place of the last block that
-    /// was read. In time linear in the octets, and in the steps from the place that is handed in to the first block that
-    /// is read.
-    pub(crate) fn read(&self, arena: &Arena, from: Cursor, at: usize, buffer: &mut [u8]) -> Cursor
+    /// Fills the buffer with the octets of the run from the offset `at` on, and returns the position of the last block
+    /// that was read. In time linear in the octets; the first block is found as by `find`.
+    pub(crate) fn read(
+        &self,
+        arena: &Arena,
+        ways: &[Way],
+        from: Cursor,
+        at: usize,
+        buffer: &mut [u8],
+    ) -> Cursor
         requires held { IsHeld arena.now self.now }
+        requires ways { HasWays arena.now ways.now self.now }
         requires from { IsAt arena.now self.now from }
         requires range { at + length buffer.old ≤ 120 * self.now.count }
         ensures octets { buffer.new ≡ slice_range (octets_in arena.now self.now) at (at + length buffer.old) }
@@ -87,7 +103,7 @@ impl Run {
     {
         let end = at + buffer.len();
         let begin = at / PAYLOAD_OCTETS;
-        let mut cursor = self.seek(arena, from, begin as u32);
+        let mut cursor = self.find(arena, ways, from, begin as u32);
         let mut last = cursor;
         for index in begin..(end + PAYLOAD_OCTETS - 1) / PAYLOAD_OCTETS {
             let block_start = index * PAYLOAD_OCTETS;

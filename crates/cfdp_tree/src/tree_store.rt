@@ -13,40 +13,44 @@ use crate::index::{Head, insert};
 use crate::listing::{entries, only_standing, standings};
 use crate::lookup::{find_path, lookup};
 use crate::nodes::{create_node, delete_node, rename_node};
-use crate::rows::{home_of, kind_of, size_of};
+use crate::rows::{home_of, kind_of, size_of, sum_of};
 use crate::slots::Slot;
-use crate::summing::checksum_of;
 use crate::survey::survey;
 use crate::walk::{deepest_in, entries_in};
 use cfdp_actions::{Entry, Filestore, Kind, Standing};
 use cfdp_arena::Arena;
 use cfdp_paths::{Memory, Path};
+use cfdp_ways::Way;
 use std::alloc::Global;
 use std::marker::Model;
 
 /// A store whose files and directories are in the blocks of an arena.
 ///
-/// In the arena are the nodes, one block for each file or directory, with its name and its links to the others, and the
-/// octets of files and of staged lists, 120 in each block. Beside the arena are the heads of the index's lists, one for
-/// each block, the head of the list of the root's entries, and 64 slots, each with the size, the first and the last
-/// block of a staged list, where it was last written, and the numbers of its first block and of each 32nd block after
-/// that one (marks). [`TreeStore::new`] takes the memory of all of these, and none of them grows after it. `listing`
-/// and `standing` take memory for what they return, and no other call takes any.
+/// In the arena are the nodes, one block for each file or directory, with its name, its links to the others and the
+/// checksum of a file's octets, and the octets of files and of staged lists, 120 in each block. Beside the arena are the
+/// ways back from block to block, one for each block ([`Way`]), the heads of the index's lists, one for each block, the
+/// head of the list of the root's entries, and 64 slots, each with the size, the checksum, the first and the last block
+/// of a staged list, where it was last written, and how far it was ever written. [`TreeStore::new`] takes the memory of
+/// all of these, and none of them grows after it. `listing` and `standing` take memory for what they return, and no
+/// other call takes any.
 ///
 /// Cost: a call looks each name of its paths up by the directory and the name, in expected constant time whatever else
-/// the directory has. `kind`, `parent_is_good`, `has_entries`, `size`, `make_file`, `make_dir`, `install` of a new
-/// file, and `rename`, also of a directory, take no more than that; `free` and `staged_size` take constant time.
+/// the directory has. `kind`, `parent_is_good`, `has_entries`, `size`, `checksum`, `make_file`, `make_dir`, `install` of
+/// a new file, and `rename`, also of a directory, take no more than that; `free`, `staged_size` and `staged_checksum`
+/// take constant time.
 /// `remove`, `unstage` and `install` over a file give back the blocks that are dropped as one, in constant time;
 /// `stage_extend` fills those that it takes with zeros. `read`, `read_staged`, `stage_put`, `append` and `replace` copy
 /// the octets that they are asked for by slices of a block; `append` and `replace` from block to block with no buffer.
-/// `read_staged` and `stage_put` find the offset in at most 31 steps from block to block, in whatever order octets
-/// come. A store of at most 256 blocks keeps no marks: there it is at most 255 steps, from the last write, if that is
-/// before the offset. `read` begins at the file's first block. `deepest` and `standing` go through what is at and below
-/// the path, `listing` through everything with all octets, and `next_entry` through the entries of the directories on
-/// the way.
+/// `stage_put` sums what it writes, and what it overwrites unless nothing was written there or after it; `append` sums
+/// the second file unless the first one's size is a multiple of 4.
+/// `read`, `read_staged` and `stage_put` find the offset in at most 3 steps for each binary digit of the number of
+/// blocks, so 48 in a file of 65,536 blocks, in whatever order its octets came and are read. `deepest` and `standing` go
+/// through what is at and below the path, `listing` through everything but the octets, and `next_entry` through the
+/// entries of the directories on the way.
 #[derive(Drop)]
 pub struct TreeStore {
     pub(crate) arena: Arena,
+    pub(crate) ways: Vec<Way>,
     pub(crate) heads: Vec<Head>,
     pub(crate) root: Head,
     pub(crate) slots: Vec<Slot>,
@@ -64,7 +68,7 @@ impl Model for TreeStore {
 
     ghost view = { λ s. store_of s.arena (staged_in s.slots.items) };
 
-    ghost invariant = { λ s. IsStore s.arena s.heads.items s.root s.slots.items };
+    ghost invariant = { λ s. IsStore s.arena s.ways.items s.heads.items s.root s.slots.items };
 }
 
 /// How many slots for staged lists a store has.
@@ -72,8 +76,8 @@ const SLOTS: usize = 64;
 
 impl TreeStore {
     /// Makes a store of `blocks` blocks, from 1 to 65,536, with no files, no directories and no staged lists. It takes
-    /// all the memory that the store ever keeps: 128 octets for each block, a head of the index for each block, and the
-    /// 64 slots, each with two octets for each 32 blocks if there are more than 256. In time linear in the blocks.
+    /// all the memory that the store ever keeps: for each block 128 octets, 6 for its way and 8 for a head of the index,
+    /// and the 64 slots. In time linear in the blocks.
     ///
     /// # Errors
     ///
@@ -84,14 +88,17 @@ impl TreeStore {
         ensures { IfOk result (λ store. store ≡ empty_store blocks true) }
     {
         let arena = Arena::new(alloc, blocks)?;
+        let mut ways = Vec::new(alloc);
+        ways.resize(blocks as usize, Way::none())?;
         let mut heads = Vec::new(alloc);
         heads.resize(blocks as usize, Head::empty())?;
         let mut slots = Vec::with_capacity(alloc, SLOTS)?;
         for _slot in 0..SLOTS {
-            slots.push(Slot::new(alloc, blocks)?)?;
+            slots.push(Slot::empty())?;
         }
         Ok(TreeStore {
             arena,
+            ways,
             heads,
             root: Head::empty(),
             slots,
@@ -151,13 +158,12 @@ impl Filestore for TreeStore {
     fn read(&self, path: &Path, at: u64, buffer: &mut [u8]) {
         let node = find_path(&self.arena, &self.heads, path).unwrap();
         let file = contents_of(self.arena.bytes(node));
-        file.get(&self.arena, file.run.start(), at as u32, buffer);
+        file.get(&self.arena, &self.ways, file.run.start(), at as u32, buffer);
     }
 
     fn checksum(&self, path: &Path) -> u32 {
         let node = find_path(&self.arena, &self.heads, path).unwrap();
-        let file = contents_of(self.arena.bytes(node));
-        checksum_of(&self.arena, &file)
+        sum_of(self.arena.bytes(node))
     }
 
     fn deepest(&self, path: &Path) -> u8 {
@@ -175,11 +181,11 @@ impl Filestore for TreeStore {
 
     fn read_staged(&self, slot: u8, at: u64, buffer: &mut [u8]) {
         let slot = &self.slots[usize::from(slot)];
-        slot.get(&self.arena, at as u32, buffer);
+        slot.get(&self.arena, &self.ways, at as u32, buffer);
     }
 
     fn staged_checksum(&self, slot: u8) -> u32 {
-        checksum_of(&self.arena, &self.slots[usize::from(slot)].contents)
+        self.slots[usize::from(slot)].contents.sum
     }
 
     fn free(&self) -> u32 {
@@ -254,7 +260,7 @@ impl Filestore for TreeStore {
     fn append(&mut self, first: &Path, second: &Path) -> Result<u32, Memory> {
         let file = find_file(&self.arena, &self.heads, first);
         let source = find_file(&self.arena, &self.heads, second);
-        let contents = file.append(&mut self.arena, &source);
+        let contents = file.append(&mut self.arena, &mut self.ways, &source);
         set_contents(&mut self.arena, &file.node, &contents);
         Ok(contents.run.count - file.contents.run.count + source.contents.run.count)
     }
@@ -266,7 +272,7 @@ impl Filestore for TreeStore {
             return Ok(0);
         }
         let mut contents = file.contents;
-        contents.replace(&mut self.arena, &source.contents);
+        contents.replace(&mut self.arena, &mut self.ways, &source.contents);
         set_contents(&mut self.arena, &file.node, &contents);
         Ok(file.contents.run.count + 2 * source.contents.run.count)
     }
@@ -274,13 +280,13 @@ impl Filestore for TreeStore {
     fn stage_extend(&mut self, slot: u8, size: u64) -> Result<u32, Memory> {
         let slot = &mut self.slots[usize::from(slot)];
         let before = slot.contents.run.count;
-        slot.extend(&mut self.arena, size as u32);
+        slot.extend(&mut self.arena, &mut self.ways, size as u32);
         Ok(slot.contents.run.count - before)
     }
 
     fn stage_put(&mut self, slot: u8, at: u64, octets: &[u8]) {
         let slot = &mut self.slots[usize::from(slot)];
-        slot.put(&mut self.arena, at as u32, octets);
+        slot.put(&mut self.arena, &self.ways, at as u32, octets);
     }
 
     fn unstage(&mut self, slot: u8) -> u32 {

@@ -210,6 +210,27 @@ static SHRINKING: Work = [
 /// How many slots are staged in: 0, 21, 42 and 63.
 const SLOTS: u8 = 4;
 
+/// How far into a file or a staged list an operation reaches.
+#[derive(Clone, Copy)]
+enum Reach {
+    /// Into the first few blocks.
+    Near,
+    /// Into the first 150 blocks.
+    Far,
+}
+
+impl Reach {
+    /// The first offset at which no operation begins.
+    fn end(self) -> u64
+        ensures { 0 < result }
+    {
+        match self {
+            Reach::Near => 301,
+            Reach::Far => 18_001,
+        }
+    }
+}
+
 /// What is done, and all that it may be done with.
 #[derive(Drop)]
 struct Operation {
@@ -227,6 +248,7 @@ impl Random {
         alloc: Global,
         store: &ListStore,
         work: &Work,
+        reach: Reach,
     ) -> Result<Operation, Memory> {
         let count = match self.below(4) {
             0 => 119 + self.below(3),
@@ -238,7 +260,7 @@ impl Random {
             task,
             names: self.names(alloc, store, task)?,
             slot: self.below(u64::from(SLOTS)) as u8 * 21,
-            at: self.below(301),
+            at: self.below(reach.end()),
             octets: self.octets(alloc, count)?,
         })
     }
@@ -434,13 +456,16 @@ impl Pair {
 #[derive(Drop)]
 struct Script {
     random: Random,
+    reach: Reach,
     pair: Pair,
 }
 
 impl Script {
     /// One operation: both stores give the same answer.
     fn go_on(&mut self, rt: &impl Abort, alloc: Global, work: &Work) -> Result<(), Memory> {
-        let operation = self.random.operation(alloc, &self.pair.lists, work)?;
+        let operation = self
+            .random
+            .operation(alloc, &self.pair.lists, work, self.reach)?;
         let agrees = self.pair.agrees_on(alloc, &operation)?;
         assert!(rt; agrees);
         Ok(())
@@ -483,8 +508,8 @@ impl Script {
     }
 }
 
-/// A script of so many rounds on two empty stores of so many blocks.
-fn run(rt: &impl Abort, alloc: Global, blocks: u32, rounds: u32) -> Result<(), Memory>
+/// A script of some rounds on two empty stores of a number of blocks.
+fn run(rt: &impl Abort, alloc: Global, blocks: u32, reach: Reach, rounds: u32) -> Result<(), Memory>
     requires some { 1 ≤ blocks }
     requires few { blocks ≤ 65536 }
 {
@@ -492,6 +517,7 @@ fn run(rt: &impl Abort, alloc: Global, blocks: u32, rounds: u32) -> Result<(), M
         random: Random {
             state: u64::from(blocks),
         },
+        reach,
         pair: Pair {
             lists: ListStore::new(alloc, blocks)?,
             tree: TreeStore::new(alloc, blocks)?,
@@ -507,10 +533,20 @@ fn run(rt: &impl Abort, alloc: Global, blocks: u32, rounds: u32) -> Result<(), M
 
 #[test]
 fn on_few_blocks(rt: HostRuntime) -> Result<(), Memory> {
-    run(&rt, rt.alloc(), 24, 5)
+    run(&rt, rt.alloc(), 24, Reach::Near, 5)
 }
 
 #[test]
 fn on_more_blocks(rt: HostRuntime) -> Result<(), Memory> {
-    run(&rt, rt.alloc(), 150, 5)
+    run(&rt, rt.alloc(), 150, Reach::Near, 5)
+}
+
+#[test]
+fn with_long_lists_on_400_blocks(rt: HostRuntime) -> Result<(), Memory> {
+    run(&rt, rt.alloc(), 400, Reach::Far, 3)
+}
+
+#[test]
+fn with_long_lists_on_4096_blocks(rt: HostRuntime) -> Result<(), Memory> {
+    run(&rt, rt.alloc(), 4096, Reach::Far, 2)
 }

@@ -209,10 +209,10 @@ fn run_at_last<R: Abort + Print>(rt: &R, alloc: Global, script: &Script<'_>) -> 
     Ok(())
 }
 
-/// A `TreeStore` of more than 256 blocks keeps marks for each slot, in an allocation of their own.
-const MARKED_BLOCKS: u32 = 257;
+/// A `TreeStore` of more blocks than the other scripts have.
+const MORE_BLOCKS: u32 = 257;
 
-/// Of 60 staged blocks the last one is written first, then the first one, and then the 33rd one, which has a mark.
+/// Of 60 staged blocks the last one is written first, then the first one, and then the 33rd one.
 const WRITES_OUT_OF_ORDER: &[Step<'static>] = &[
     Step::Takes(Asked::Extend(SLOT, 7_200), 60, 197),
     Step::Puts(SLOT, 7_080, ONES),
@@ -221,23 +221,23 @@ const WRITES_OUT_OF_ORDER: &[Step<'static>] = &[
     Step::Shows(Shown::Staged(SLOT, 7_200, 7_080, ONES)),
     Step::Shows(Shown::Staged(SLOT, 7_200, 0, ONES)),
     Step::Shows(Shown::Staged(SLOT, 7_200, 3_840, ONES)),
-    Step::Takes(Asked::Unstage(SLOT), 60, MARKED_BLOCKS),
+    Step::Takes(Asked::Unstage(SLOT), 60, MORE_BLOCKS),
 ];
 
-/// A store with marks. If one of its allocations is refused, the next call makes it.
-fn marked_store<R: Print>(rt: &R, alloc: Global) -> Result<TreeStore, Memory> {
-    match TreeStore::new(alloc, MARKED_BLOCKS) {
+/// A store of more blocks. If one of its allocations is refused, the next call makes it.
+fn larger_store<R: Print>(rt: &R, alloc: Global) -> Result<TreeStore, Memory> {
+    match TreeStore::new(alloc, MORE_BLOCKS) {
         Err(AllocError) => {
             let _ = println!(rt; "the store was refused memory");
-            TreeStore::new(alloc, MARKED_BLOCKS)
+            TreeStore::new(alloc, MORE_BLOCKS)
         }
         answer => answer,
     }
 }
 
 #[test]
-fn writes_out_of_order_in_a_store_with_marks(rt: HostRuntime) -> Result<(), Memory> {
-    let mut store = marked_store(&rt, rt.alloc())?;
+fn writes_out_of_order_in_a_larger_store(rt: HostRuntime) -> Result<(), Memory> {
+    let mut store = larger_store(&rt, rt.alloc())?;
     take_at_last(
         &rt,
         rt.alloc(),

@@ -136,8 +136,61 @@ const STAGES: &[Step<'static>] = &[
     Step::Takes(Asked::Unstage(0), 62, 64),
 ];
 
+/// The sum of what is staged after each piece: among zeros, over a part of the last one, over its beginning, twice, over
+/// all with the greatest octets and with zeros, and after the list grew within a word; then of files that are appended
+/// within a word, and of one that is replaced.
+const KEEPS_SUMS: &[Step<'static>] = &[
+    Step::Takes(Asked::Extend(0, 7), 1, 63),
+    Step::Shows(Shown::StagedChecksum(0, 0)),
+    Step::Puts(0, 2, &[1, 2, 3]),
+    Step::Shows(Shown::StagedChecksum(0, 0x0300_0102)),
+    Step::Puts(0, 1, &[4, 5, 6]),
+    Step::Shows(Shown::StagedChecksum(0, 0x0304_0506)),
+    Step::Puts(0, 0, &[7]),
+    Step::Shows(Shown::StagedChecksum(0, 0x0a04_0506)),
+    Step::Puts(0, 0, &[7]),
+    Step::Shows(Shown::StagedChecksum(0, 0x0a04_0506)),
+    Step::Puts(0, 0, &[255; 7]),
+    Step::Shows(Shown::StagedChecksum(0, 0xffff_feff)),
+    Step::Puts(0, 0, &[0; 7]),
+    Step::Shows(Shown::StagedChecksum(0, 0)),
+    Step::Puts(0, 4, &[1, 2, 3]),
+    Step::Shows(Shown::StagedChecksum(0, 0x0102_0300)),
+    Step::Takes(Asked::Extend(0, 9), 0, 63),
+    Step::Shows(Shown::StagedChecksum(0, 0x0102_0300)),
+    Step::Puts(0, 7, &[4, 5]),
+    Step::Shows(Shown::StagedChecksum(0, 0x0602_0304)),
+    Step::Takes(Asked::Install(0, b"a"), 1, 62),
+    Step::Shows(Shown::StagedChecksum(0, 0)),
+    Step::Shows(Shown::Checksum(b"a", Some(0x0602_0304))),
+    Step::Takes(Asked::Extend(1, 5), 1, 61),
+    Step::Puts(1, 0, &[1, 2, 3, 4, 5]),
+    Step::Takes(Asked::Install(1, b"b"), 1, 60),
+    Step::Shows(Shown::Checksum(b"b", Some(0x0602_0304))),
+    Step::Performs(Action::AppendFile, b"a", b"b", 0x30, 1, 60),
+    Step::Shows(Shown::Checksum(b"a", Some(0x0a08_0507))),
+    Step::Performs(Action::AppendFile, b"b", b"a", 0x30, 1, 60),
+    Step::Shows(Shown::Checksum(b"b", Some(0x0d0c_0b09))),
+    Step::Performs(Action::ReplaceFile, b"a", b"b", 0x40, 3, 60),
+    Step::Shows(Shown::Checksum(b"a", Some(0x0d0c_0b09))),
+    // What a file had is staged no more, once another one took its place.
+    Step::Takes(Asked::Extend(0, 4), 1, 59),
+    Step::Puts(0, 0, &[1]),
+    Step::Takes(Asked::Install(0, b"b"), 1, 60),
+    Step::Shows(Shown::Checksum(b"b", Some(0x0100_0000))),
+    Step::Takes(Asked::Extend(0, 2), 1, 59),
+    Step::Puts(0, 1, &[9]),
+    Step::Shows(Shown::StagedChecksum(0, 0x0009_0000)),
+    Step::Takes(Asked::Unstage(0), 1, 60),
+    Step::Shows(Shown::StagedChecksum(0, 0)),
+];
+
 /// Each is run on a store of its own.
-static SCRIPTS: [Script<'static>; 8] = [
+static SCRIPTS: [Script<'static>; 9] = [
+    Script {
+        name: "keeps sums",
+        parts: &[KEEPS_SUMS],
+    },
     Script {
         name: "creates and removes",
         parts: &[CREATES_AND_REMOVES],

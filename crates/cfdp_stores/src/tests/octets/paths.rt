@@ -4,6 +4,7 @@ mod answers;
 mod lent;
 mod limits;
 mod maps;
+mod words;
 
 use super::super::calls::parsed;
 use super::{Row, all_hold};

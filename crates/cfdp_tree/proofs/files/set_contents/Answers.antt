@@ -4,7 +4,7 @@ use Rattle.cfdp_arena.proofs.Chains.{live_within}
 use Rattle.cfdp_tree.specs.declared.runs.Run.{Run}
 use Rattle.cfdp_tree.specs.Row.{Row, row_of, name_of}
 use Rattle.cfdp_tree.specs.Runs.{IsHeld, nth}
-use Rattle.cfdp_tree.specs.Files.{with_run}
+use Rattle.cfdp_tree.specs.Files.{with_contents}
 use Rattle.cfdp_tree.proofs.Counts.{free_count-written}
 use Rattle.cfdp_tree.proofs.FileRows.{run_keeps}
 use Rattle.cfdp_tree.proofs.HeldLaws.{held_part}
@@ -27,33 +27,34 @@ set_run-requires c =
 
 pub returns-clause-nodes : goal.returns-clause-nodes
 returns-clause-nodes c =
-    written_nodes c.args.arena.now c.args.node.now c.bytes_mut-block.result.now c.set_size.new.block c.requires.node c.bytes_mut-block.ensures.octets (c.set_size.ensures.header ∙ c.set_run.ensures.header)
+    written_nodes c.args.arena.now c.args.node.now c.bytes_mut-block.result.now c.set_sum.new.block c.requires.node c.bytes_mut-block.ensures.octets (c.set_sum.ensures.header ∙ c.set_size.ensures.header ∙ c.set_run.ensures.header)
 
 pub returns-clause-row : goal.returns-clause-row
 returns-clause-row c =
     let arena = c.args.arena.now in let b = c.args.node.now in let shown = c.bytes_mut-block.result.now in let contents = c.args.contents.now in
-    ap row_of (written_octets arena b shown c.set_size.new.block c.requires.node c.bytes_mut-block.ensures.octets (c.set_size.ensures.header ∙ c.set_run.ensures.header))
-    ∙ c.set_size.ensures.row
-    ∙ ap (λ (r : Row). record r { size = contents.size }) c.set_run.ensures.row
-    ∙ ap (λ xs. record (with_run (row_of xs) contents.run) { size = contents.size }) (node_octets arena b c.requires.node shown c.bytes_mut-block.ensures.octets)
+    ap row_of (written_octets arena b shown c.set_sum.new.block c.requires.node c.bytes_mut-block.ensures.octets (c.set_sum.ensures.header ∙ c.set_size.ensures.header ∙ c.set_run.ensures.header))
+    ∙ c.set_sum.ensures.row
+    ∙ ap (λ (r : Row). record r { sum = contents.sum }) c.set_size.ensures.row
+    ∙ ap (λ (r : Row). record r { size = contents.size; sum = contents.sum }) c.set_run.ensures.row
+    ∙ ap (λ xs. with_contents (row_of xs) contents) (node_octets arena b c.requires.node shown c.bytes_mut-block.ensures.octets)
 
 pub returns-clause-name : goal.returns-clause-name
 returns-clause-name c =
-    let arena = c.args.arena.now in let b = c.args.node.now in let shown = c.bytes_mut-block.result.now in let new = c.set_size.new.block in let run = c.args.contents.now.run in
-    let long = ap (λ (r : Row). r.name_length) (c.set_size.ensures.row ∙ ap (λ (r : Row). record r { size = c.args.contents.now.size }) c.set_run.ensures.row) ∙ run_keeps (λ (r : Row). r.name_length) (row_of shown) run refl in
-    let name : name_of new ≡ name_of shown = (λ k. take (long k) ((c.set_size.ensures.name ∙ c.set_run.ensures.name) k)) in
-    ap name_of (written_octets arena b shown new c.requires.node c.bytes_mut-block.ensures.octets (c.set_size.ensures.header ∙ c.set_run.ensures.header))
+    let arena = c.args.arena.now in let b = c.args.node.now in let shown = c.bytes_mut-block.result.now in let new = c.set_sum.new.block in let run = c.args.contents.now.run in
+    let long = ap (λ (r : Row). r.name_length) c.set_sum.ensures.row ∙ ap (λ (r : Row). r.name_length) c.set_size.ensures.row ∙ ap (λ (r : Row). r.name_length) c.set_run.ensures.row ∙ run_keeps (λ (r : Row). r.name_length) (row_of shown) run refl in
+    let name : name_of new ≡ name_of shown = (λ k. take (long k) ((c.set_sum.ensures.name ∙ c.set_size.ensures.name ∙ c.set_run.ensures.name) k)) in
+    ap name_of (written_octets arena b shown new c.requires.node c.bytes_mut-block.ensures.octets (c.set_sum.ensures.header ∙ c.set_size.ensures.header ∙ c.set_run.ensures.header))
     ∙ name
     ∙ ap name_of (node_octets arena b c.requires.node shown c.bytes_mut-block.ensures.octets)
 
 pub returns-clause-whole : goal.returns-clause-whole
 returns-clause-whole c =
-    ap length (written_octets c.args.arena.now c.args.node.now c.bytes_mut-block.result.now c.set_size.new.block c.requires.node c.bytes_mut-block.ensures.octets (c.set_size.ensures.header ∙ c.set_run.ensures.header))
-    ∙ c.set_size.ensures.whole
+    ap length (written_octets c.args.arena.now c.args.node.now c.bytes_mut-block.result.now c.set_sum.new.block c.requires.node c.bytes_mut-block.ensures.octets (c.set_sum.ensures.header ∙ c.set_size.ensures.header ∙ c.set_run.ensures.header))
+    ∙ c.set_sum.ensures.whole
 
 pub returns-clause-runs : goal.returns-clause-runs
-returns-clause-runs c = runs_stay c.args.arena.now c.args.node.now c.set_size.new.block c.requires.node
+returns-clause-runs c = runs_stay c.args.arena.now c.args.node.now c.set_sum.new.block c.requires.node
 
 pub returns-clause-free : goal.returns-clause-free
 returns-clause-free c =
-    free_count-written c.args.arena.now c.args.node.now c.set_size.new.block (node_live c.args.arena.now c.args.node.now c.requires.node)
+    free_count-written c.args.arena.now c.args.node.now c.set_sum.new.block (node_live c.args.arena.now c.args.node.now c.requires.node)

@@ -1,30 +1,14 @@
-use Rattle.std.proofs.Common.{◌≡◌, ◌≤◌, [], sym, ap, ◌∙◌, subst}
-use Rattle.cfdp_checksum.specs.Checksum.{checksum}
+use Rattle.std.proofs.Common.{◌≡◌, [], sym, ap, ◌∙◌, subst}
 use Rattle.cfdp_actions.specs.declared.kind.Kind.TheVariants as kind
 use Rattle.cfdp_actions.specs.declared.kind.Entry.{Entry}
 use Rattle.cfdp_actions.specs.Store.{entry_of}
-use Rattle.cfdp_tree.specs.declared.contents.Contents.{Contents}
 use Rattle.cfdp_arena.specs.Arena.{octets_of}
-use Rattle.cfdp_tree.specs.Row.{row_of}
 use Rattle.cfdp_tree.specs.Nodes.{nodes_in}
-use Rattle.cfdp_tree.specs.Contents.{IsFilled, contents_in}
-use Rattle.cfdp_tree.specs.Kept.{contents_told, file_of, node_of}
+use Rattle.cfdp_tree.specs.Contents.{IsFilled}
+use Rattle.cfdp_tree.specs.Kept.{file_of, node_of}
 use Rattle.cfdp_tree.proofs.TreeLaws.{node_octets}
 use Rattle.cfdp_tree.proofs.ListingLaws.{entry_directory, entry_file, file_filled}
 use Rattle.cfdp_tree.proofs.listing.tell.Goals as goal
-
-pub contents_of-file-requires : goal.contents_of-file-requires
-contents_of-file-requires c =
-    let block = c.bytes-block.result.now in
-    let same = node_octets c.args.arena.now c.args.node.now c.requires.node block c.bytes-block.ensures.octets in
-    subst (λ k. (contents_told k (row_of block)).size ≤ 7864320) (sym c.in-File.ensures) (subst (λ o. (file_of o).size ≤ 7864320) (sym same) c.requires.small)
-
-pub checksum_of-requires : goal.checksum_of-requires
-checksum_of-requires c =
-    let arena = c.args.arena.now in let block = c.bytes-block.result.now in
-    let same = node_octets arena c.args.node.now c.requires.node block c.bytes-block.ensures.octets in
-    subst (λ (x : Contents). IsFilled arena x) (sym c.contents_of-file.ensures)
-    (file_filled arena block [] (subst (λ o. IsFilled arena (file_of o)) (sym same) c.requires.filled) c.in-File.ensures)
 
 -- what stands at the node, as an entry of some path
 directory_told : (c : goal.In-Directory) → record { path = []; kind = kind.Directory; size = 0; checksum = 0 } ≡ entry_of ([], node_of c.args.arena.now (octets_of (nodes_in c.args.arena.now) c.args.node.now))
@@ -33,18 +17,19 @@ directory_told c =
     let same = node_octets arena c.args.node.now c.requires.node block c.bytes-block.ensures.octets in
     entry_directory arena block [] c.in-Directory.ensures ∙ ap (λ o. entry_of ([], node_of arena o)) same
 
-file_told : (c : goal.After-checksum_of)
-    → record { path = []; kind = kind.File; size = c.from.result; checksum = c.checksum_of.result } ≡ entry_of ([], node_of c.args.arena.now (octets_of (nodes_in c.args.arena.now) c.args.node.now))
+file_told : (c : goal.After-sum_of)
+    → record { path = []; kind = kind.File; size = c.from.result; checksum = c.sum_of.result } ≡ entry_of ([], node_of c.args.arena.now (octets_of (nodes_in c.args.arena.now) c.args.node.now))
 file_told c =
     let arena = c.args.arena.now in let block = c.bytes-block.result.now in
     let same = node_octets arena c.args.node.now c.requires.node block c.bytes-block.ensures.octets in
+    let filled = subst (λ o. IsFilled arena (file_of o)) (sym same) c.requires.filled in
     (λ k. record {
       path = [];
       kind = kind.File;
-      size = (c.from.ensures ∙ ap (λ (x : Contents). x.size) c.contents_of-file.ensures) k;
-      checksum = (c.checksum_of.ensures ∙ ap (λ (x : Contents). checksum (contents_in arena x)) c.contents_of-file.ensures) k;
+      size = (c.from.ensures ∙ c.size_of.ensures) k;
+      checksum = (c.sum_of.ensures ∙ (file_filled arena block [] filled c.in-File.ensures).summed) k;
     })
-    ∙ entry_file arena block [] (subst (λ o. IsFilled arena (file_of o)) (sym same) c.requires.filled) c.in-File.ensures
+    ∙ entry_file arena block [] filled c.in-File.ensures
     ∙ ap (λ o. entry_of ([], node_of arena o)) same
 
 pub returns-in-Directory-clause-kind : goal.returns-in-Directory-clause-kind

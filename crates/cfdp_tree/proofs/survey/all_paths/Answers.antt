@@ -1,5 +1,5 @@
-use Rattle.std.proofs.Common.{◌≡◌, ◌-◌, ◌++◌, ℕ, List, sym, ap, ◌∙◌, subst}
-use Rattle.std.proofs.lemmas.List.Sorted.{IsPermutation-refl, IsPermutation-trans, IsPermutation-map, All-permutation}
+use Rattle.std.proofs.Common.{◌-◌, ◌++◌, ℕ, List, sym, ap, ◌∙◌, subst}
+use Rattle.std.proofs.lemmas.List.Sorted.{IsPermutation-trans, IsPermutation-map, All-permutation}
 use Rattle.std.specs.Prelude.{All, IsPermutation, map}
 use Rattle.cfdp_tree.specs.Nodes.{nodes_in}
 use Rattle.cfdp_tree.specs.Survey.{with_path}

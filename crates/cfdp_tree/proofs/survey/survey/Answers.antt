@@ -1,9 +1,9 @@
-use Rattle.std.proofs.Common.{rules, ◌≡◌, ◌-◌, Bor, Ordering, is_lt, sym, ap, ◌∙◌, subst}
+use Rattle.std.proofs.Common.{rules, ◌≡◌, ◌-◌, Bor, Ordering, is_lt, ap}
 use Rattle.std.proofs.lemmas.Fn.{always_returns_same}
 use Rattle.std.proofs.lemmas.List.Sorted.{ranks_by, IsPermutation-trans}
 use Rattle.std.specs.Cmp.{IsTotalOrder, IsStrictWeakOrder}
 use Rattle.std.specs.Fn.{Called, ComparesAs}
-use Rattle.std.specs.Prelude.{List, Bool, IsPermutation, IsSorted, IsSortedBy, map}
+use Rattle.std.specs.Prelude.{List, Bool, IsSorted, IsSortedBy, map}
 use denote.Param.Members.{Mut}
 use Rattle.cfdp_paths.specs.Paths.{path_cmp}
 use Rattle.cfdp_paths.proofs.Comparing.{path_cmp-total}

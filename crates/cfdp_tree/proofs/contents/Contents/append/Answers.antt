@@ -1,11 +1,14 @@
-use Rattle.std.proofs.Common.{◌≡◌, ◌+◌, ℕ, length, length-take, take, sym, ◌∙◌, arith}
+use Rattle.std.proofs.Common.{◌≡◌, ◌+◌, ℕ, length, length-take, take, sym, ap, ◌∙◌, arith}
 use Rattle.cfdp_actions.specs.Store.{overwritten}
+use Rattle.cfdp_checksum.specs.Checksum.{checksum}
 use Rattle.cfdp_tree.specs.Runs.{octets_in}
 use Rattle.cfdp_tree.specs.Contents.{contents_in}
 use Rattle.cfdp_tree.proofs.Octets.{overwritten-extended}
 use Rattle.cfdp_tree.proofs.Filling.{blocks_of-fits, blocks_of-some}
 use Rattle.cfdp_tree.proofs.ContentsLaws.{length-contents, written_filled, written_contents}
 use Rattle.cfdp_tree.proofs.SpareLaws.{spares_kept, spares_then}
+use Rattle.cfdp_tree.proofs.SummingLaws.{joined_sum}
+use Rattle.cfdp_tree.proofs.WayLaws.{ways_still, keeps_still, keeps_then}
 use Rattle.cfdp_tree.proofs.contents.Contents.append.Goals as goal
 
 pub copy-requires-clause-source_stays : goal.copy-requires-clause-source_stays
@@ -23,12 +26,6 @@ copy-requires-clause-within c =
 pub copy-requires-clause-there : goal.copy-requires-clause-there
 copy-requires-clause-there c = omega (arith, c.requires.source.blocks, blocks_of-fits c.args.source.now.size)
 
-pub returns-clause-filled : goal.returns-clause-filled
-returns-clause-filled c =
-    let s = c.args.source.now in let m = c.make_room-to in
-    let part = take s.size (octets_in m.new.arena s.run) in
-    written_filled m.new.arena m.new.self m.ensures.filled c.copy.new.arena c.args.self.now.size part (omega (arith, m.ensures.size, length-take {A = ℕ})) c.copy.ensures.held c.copy.ensures.octets
-
 pub returns-clause-octets : goal.returns-clause-octets
 returns-clause-octets c =
     let a = c.args.arena.now in let old = c.args.self.now in let s = c.args.source.now in let m = c.make_room-to in let r = c.requires in
@@ -42,7 +39,30 @@ returns-clause-octets c =
     ∙ (λ k. overwritten (m.ensures.octets k) n (take s.size (spared.0.octets k)))
     ∙ overwritten-extended front back n (n + s.size) (length-contents a old r.filled) end
 
+pub returns-clause-filled : goal.returns-clause-filled
+returns-clause-filled c =
+    let a = c.args.arena.now in let old = c.args.self.now in let s = c.args.source.now in let m = c.make_room-to in let r = c.requires in
+    let part = take s.size (octets_in m.new.arena s.run) in
+    let joined = joined_sum (contents_in a old) (contents_in a s) old.size (length-contents a old r.filled) in
+    written_filled m.new.arena m.new.self m.ensures.filled c.copy.new.arena old.size part (omega (arith, m.ensures.size, length-take {A = ℕ})) c.copy.ensures.held c.copy.ensures.octets _
+    (omega (arith, m.ensures.sum, r.filled.summed, c.sum_at-added.ensures, joined) ∙ ap checksum (sym (returns-clause-octets c)))
+
 pub returns-clause-spares : goal.returns-clause-spares
 returns-clause-spares c =
     let m = c.make_room-to in let after = m.new.self.run in
     spares_then c.args.arena.now m.new.arena c.copy.new.arena c.args.self.now.run after after m.ensures.spares (spares_kept m.new.arena c.copy.new.arena after c.copy.ensures.others)
+
+pub returns-clause-ways : goal.returns-clause-ways
+returns-clause-ways c =
+    let m = c.make_room-to in let copy = c.copy.ensures in
+    ways_still m.new.arena c.copy.new.arena m.new.ways m.new.self.run copy.size (λ k less. copy.places k (omega (arith, less))) m.ensures.ways
+
+pub returns-clause-other_ways : goal.returns-clause-other_ways
+returns-clause-other_ways c =
+    let m = c.make_room-to in let copy = c.copy.ensures in let run = c.args.self.now.run in let after = m.new.self.run in
+    keeps_then c.args.arena.now m.new.arena c.copy.new.arena c.args.ways.now m.new.ways m.new.ways run after m.ensures.other_ways m.ensures.spares
+    (keeps_still m.new.arena c.copy.new.arena m.new.ways after after copy.size (spares_kept m.new.arena c.copy.new.arena after copy.others))
+
+pub copy-requires-clause-source : goal.copy-requires-clause-source
+copy-requires-clause-source c =
+    let s = c.args.source.now in let r = c.requires in (c.make_room-to.ensures.spares s.run r.source.held r.apart).0.held

@@ -1,12 +1,16 @@
-use Rattle.std.proofs.Common.{◌≡◌, ◌+◌, ◌-◌, ◌≤◌, ℕ, length, length-take, take, replicate, refl, sym, ap, ◌∙◌, arith}
+use Rattle.std.proofs.Common.{◌≡◌, ◌+◌, ◌-◌, ◌*◌, ◌≤◌, ℕ, length, length-take, take, replicate, refl, sym, ap, ◌∙◌, arith}
 use Rattle.std.proofs.lemmas.List.{take-take, take-append-le, take_all}
 use Rattle.cfdp_actions.specs.Store.{overwritten}
+use Rattle.cfdp_checksum.specs.Checksum.{checksum}
 use Rattle.cfdp_tree.specs.Runs.{octets_in}
 use Rattle.cfdp_tree.specs.Contents.{contents_in}
 use Rattle.cfdp_tree.proofs.Octets.{overwritten-extended}
 use Rattle.cfdp_tree.proofs.Filling.{blocks_of-fits}
 use Rattle.cfdp_tree.proofs.ContentsLaws.{length-contents, written_filled, written_contents}
 use Rattle.cfdp_tree.proofs.SpareLaws.{spares_kept, spares_then}
+use Rattle.cfdp_tree.proofs.SummingLaws.{joined_sum}
+use Rattle.cfdp_tree.proofs.WayLaws.{ways_still, keeps_still, keeps_then}
+use Rattle.cfdp_actions.specs.Filestore.{blocks_of}
 use Rattle.cfdp_tree.proofs.contents.Contents.append_self.Goals as goal
 
 pub copy-requires-clause-source_stays : goal.copy-requires-clause-source_stays
@@ -19,12 +23,6 @@ copy-requires-clause-within c =
 pub copy-requires-clause-there : goal.copy-requires-clause-there
 copy-requires-clause-there c =
     let m = c.make_room-to in omega (arith, m.ensures.filled.blocks, m.ensures.size, blocks_of-fits m.new.self.size)
-
-pub returns-clause-filled : goal.returns-clause-filled
-returns-clause-filled c =
-    let m = c.make_room-to in let n = c.args.self.now.size in let copy = c.copy.ensures in
-    let part = take n (octets_in m.new.arena m.new.self.run) in let fits : n + length part ≤ m.new.self.size = omega (arith, m.ensures.size, length-take {A = ℕ}) in
-    written_filled m.new.arena m.new.self m.ensures.filled c.copy.new.arena n part fits copy.held copy.octets
 
 pub returns-clause-octets : goal.returns-clause-octets
 returns-clause-octets c =
@@ -41,8 +39,33 @@ returns-clause-octets c =
     ∙ (λ k. overwritten (m.ensures.octets k) n (front k))
     ∙ overwritten-extended octets octets n (n + n) long (omega arith)
 
+pub returns-clause-filled : goal.returns-clause-filled
+returns-clause-filled c =
+    let a = c.args.arena.now in let old = c.args.self.now in let n = old.size in let m = c.make_room-to in let copy = c.copy.ensures in
+    let part = take n (octets_in m.new.arena m.new.self.run) in let fits : n + length part ≤ m.new.self.size = omega (arith, m.ensures.size, length-take {A = ℕ}) in
+    let joined = joined_sum (contents_in a old) (contents_in a old) n (length-contents a old c.requires.filled) in
+    written_filled m.new.arena m.new.self m.ensures.filled c.copy.new.arena n part fits copy.held copy.octets _
+    (omega (arith, m.ensures.sum, c.requires.filled.summed, c.sum_at-added.ensures, joined) ∙ ap checksum (sym (returns-clause-octets c)))
+
 pub returns-clause-spares : goal.returns-clause-spares
 returns-clause-spares c =
     let m = c.make_room-to in let after = m.new.self.run in
     spares_then c.args.arena.now m.new.arena c.copy.new.arena c.args.self.now.run after after m.ensures.spares
     (spares_kept m.new.arena c.copy.new.arena after c.copy.ensures.others)
+
+pub returns-clause-ways : goal.returns-clause-ways
+returns-clause-ways c =
+    let m = c.make_room-to in let copy = c.copy.ensures in
+    ways_still m.new.arena c.copy.new.arena m.new.ways m.new.self.run copy.size (λ k less. copy.places k (omega (arith, less))) m.ensures.ways
+
+pub returns-clause-other_ways : goal.returns-clause-other_ways
+returns-clause-other_ways c =
+    let m = c.make_room-to in let copy = c.copy.ensures in let run = c.args.self.now.run in let after = m.new.self.run in
+    keeps_then c.args.arena.now m.new.arena c.copy.new.arena c.args.ways.now m.new.ways m.new.ways run after m.ensures.other_ways m.ensures.spares
+    (keeps_still m.new.arena c.copy.new.arena m.new.ways after after copy.size (spares_kept m.new.arena c.copy.new.arena after copy.others))
+
+pub returns-clause-taken : goal.returns-clause-taken
+returns-clause-taken c =
+    let n = c.args.self.now.size in
+    let twice : 2 * n ≡ n + n = omega arith in
+    omega (arith, ap blocks_of twice, c.copy.ensures.free, c.make_room-to.ensures.taken)

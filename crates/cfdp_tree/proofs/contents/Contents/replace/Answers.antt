@@ -1,12 +1,13 @@
-use Rattle.std.proofs.Common.{◌≡◌, ◌+◌, ap, arith}
+use Rattle.std.proofs.Common.{◌≡◌, ◌+◌, ◌++◌, sym, ap, ◌∙◌, arith}
 use Rattle.cfdp_actions.specs.Filestore.{blocks_of}
 use Rattle.cfdp_tree.proofs.Filling.{blocks_of-none}
-use Rattle.cfdp_tree.proofs.ContentsLaws.{none_filled}
+use Rattle.cfdp_tree.proofs.ContentsLaws.{none_filled, none_contents, stays_filled, stays_contents}
 use Rattle.cfdp_tree.proofs.SpareLaws.{spares_then}
+use Rattle.cfdp_tree.proofs.WayLaws.{ways_none, keeps_still, keeps_then}
 use Rattle.cfdp_tree.proofs.contents.Contents.replace.Goals as goal
 
 pub append-requires-clause-filled : goal.append-requires-clause-filled
-append-requires-clause-filled c = none_filled c.release.new.arena c.empty.result c.empty.ensures.blocks c.empty.ensures.size
+append-requires-clause-filled c = none_filled c.release.new.arena c.empty.result c.empty.ensures.blocks c.empty.ensures.size c.empty.ensures.sum
 
 pub returns-clause-taken : goal.returns-clause-taken
 returns-clause-taken c =
@@ -19,3 +20,25 @@ returns-clause-spares c =
     let run = c.args.self.now.run in
     spares_then c.args.arena.now c.release.new.arena c.append.new.arena run run c.append.new.self.run c.release.ensures.spares
     (λ other held apart. c.append.ensures.spares other held (λ some there. absurd (omega (arith, c.empty.ensures.blocks))))
+
+pub append-requires-clause-ways : goal.append-requires-clause-ways
+append-requires-clause-ways c =
+    ways_none c.release.new.arena c.args.ways.now c.empty.result.run (c.requires.ways.long ∙ sym c.release.ensures.capacity) c.empty.ensures.blocks
+
+pub returns-clause-other_ways : goal.returns-clause-other_ways
+returns-clause-other_ways c =
+    let run = c.args.self.now.run in let gone = c.release.ensures in let ways = c.args.ways.now in
+    keeps_then c.args.arena.now c.release.new.arena c.append.new.arena ways ways c.append.new.ways run run
+    (keeps_still c.args.arena.now c.release.new.arena ways run run gone.capacity gone.spares) gone.spares
+    (λ other held apart has. c.append.ensures.other_ways other held (λ some there. absurd (omega (arith, some, c.empty.ensures.blocks))) has)
+
+pub append-requires-clause-source : goal.append-requires-clause-source
+append-requires-clause-source c =
+    let s = c.args.source.now in let r = c.requires in
+    stays_filled c.args.arena.now c.release.new.arena s (c.release.ensures.spares s.run r.source.held r.apart).0 r.source
+
+pub returns-clause-octets : goal.returns-clause-octets
+returns-clause-octets c =
+    let s = c.args.source.now in let r = c.requires in let gone = c.release.new.arena in let none = c.empty in
+    let still = stays_contents c.args.arena.now gone s (c.release.ensures.spares s.run r.source.held r.apart).0 in
+    c.append.ensures.octets ∙ (λ k. none_contents gone none.result none.ensures.blocks none.ensures.size k ++ still k)

@@ -57,6 +57,7 @@ loop-index-preserved c =
       source_octets = front_take l.arena after run source q len _ keeps e.held e.octets within e.places e.others inv.source ∙ inv.source_octets;
       from = c.after-from.ensures.place;
       from_index = omega (arith, c.after-from.ensures.index, inv.from_index);
+      places = (λ k within. e.places k within ∙ inv.places k within);
       free = e.free ∙ inv.free;
       size = e.size ∙ inv.size;
       others = others_then a l.arena after run inv.others e.others;

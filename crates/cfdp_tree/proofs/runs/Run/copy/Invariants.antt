@@ -1,8 +1,8 @@
-use Rattle.std.proofs.Common.{◌≡◌, ◌+◌, ◌*◌, ◌/◌, min, take, length}
+use Rattle.std.proofs.Common.{◌≡◌, ℕ, ◌+◌, ◌*◌, ◌/◌, ◌≤◌, min, take, length}
 use Rattle.cfdp_arena.specs.Arena.{free_count}
 use Rattle.cfdp_actions.specs.Store.{overwritten}
 use Rattle.cfdp_tree.specs.Nodes.{nodes_in}
-use Rattle.cfdp_tree.specs.Runs.{IsHeld, IsAt, OthersStay, octets_in}
+use Rattle.cfdp_tree.specs.Runs.{IsHeld, IsAt, OthersStay, octets_in, nth}
 use Rattle.cfdp_tree.proofs.runs.Run.copy.Given as goal
 
 abbrev pub invariant-loop-index : goal.invariant-loop-index
@@ -15,6 +15,7 @@ invariant-loop-index l = record {
   source_octets : take l.len (octets_in l.arena l.source) ≡ take l.len (octets_in l.fn.arena l.source);
   from : IsAt l.arena l.source l.from;
   from_index : l.from.index ≡ l.index;
+  places : (k : ℕ) → k ≤ l.self.count → nth l.arena l.self.first k ≡ nth l.fn.arena l.self.first k;
   free : free_count l.arena ≡ free_count l.fn.arena;
   size : length l.arena ≡ length l.fn.arena;
   others : OthersStay l.fn.arena l.arena l.self;

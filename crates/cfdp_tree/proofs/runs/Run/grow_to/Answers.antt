@@ -29,4 +29,7 @@ loop-block-preserved c =
       ]);
       places = (λ k within. g.places k (omega (arith, inv.count, inv.more)) ∙ inv.places k within);
       nodes = g.nodes ∙ inv.nodes;
+      live = (λ b was. g.live b (inv.live b was));
+      ways = g.ways;
+      ways_stay = (λ b was. g.ways_stay b (inv.live b was) ∙ inv.ways_stay b was);
     }

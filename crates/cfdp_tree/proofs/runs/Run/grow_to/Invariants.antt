@@ -2,6 +2,7 @@ use Rattle.std.proofs.Common.{◌≡◌, ℕ, ◌+◌, ◌-◌, ◌*◌, ◌<◌
 use Rattle.cfdp_arena.specs.Arena.{free_count, octets_at}
 use Rattle.cfdp_tree.specs.Nodes.{nodes_in}
 use Rattle.cfdp_tree.specs.Runs.{IsHeld, OthersStay, octets_in, nth}
+use Rattle.cfdp_tree.specs.Ways.{HasWays, StayLive, WaysStay}
 use Rattle.cfdp_tree.proofs.runs.Run.grow_to.Given as goal
 
 abbrev pub invariant-loop-block : goal.invariant-loop-block
@@ -18,4 +19,7 @@ invariant-loop-block l = record {
   fresh : l.fn.self.count ≡ 0 → 0 < l._block → octets_at l.fn.arena l.self.first ≡ None;
   places : (k : ℕ) → k < l.fn.self.count → nth l.arena l.self.first k ≡ nth l.fn.arena l.fn.self.first k;
   nodes : nodes_in l.arena ≡ nodes_in l.fn.arena;
+  live : StayLive l.fn.arena l.arena;
+  ways : HasWays l.arena l.ways l.self;
+  ways_stay : WaysStay l.fn.arena l.fn.ways l.ways;
 }

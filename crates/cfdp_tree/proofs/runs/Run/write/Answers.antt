@@ -28,3 +28,7 @@ loop-index-preserved c =
       places = (λ k within. c.put_in.ensures.places k within ∙ inv.places k within);
       nodes = c.put_in.ensures.nodes ∙ inv.nodes;
     }
+
+pub after-cursor-requires-clause-place : goal.after-cursor-requires-clause-place
+after-cursor-requires-clause-place c =
+    let l = c.loop-index in let at = l.invariant.place in (at.0, at.1 ∙ sym (c.put_in.ensures.places l.cursor.index at.0))

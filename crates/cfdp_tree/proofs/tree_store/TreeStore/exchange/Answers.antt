@@ -4,8 +4,8 @@ use Rattle.cfdp_actions.specs.Filestore.{File, Becomes, Stages, octets_at, stage
 use Rattle.cfdp_actions.specs.Store.{with_changes}
 use Rattle.cfdp_tree.specs.declared.contents.Contents.{Contents}
 use Rattle.cfdp_tree.specs.Nodes.{nodes_in}
-use Rattle.cfdp_tree.proofs.MarkLaws.{memory_stays, slot_starts}
-use Rattle.cfdp_tree.proofs.SeenLaws.{slot_filled, slot_placed}
+use Rattle.cfdp_tree.proofs.SlotPlaces.{slot_starts}
+use Rattle.cfdp_tree.proofs.SeenLaws.{slot_filled}
 use Rattle.cfdp_tree.proofs.FoundLaws.{file_found, file_most}
 use Rattle.cfdp_tree.proofs.ExchangeLaws.{exchange_store, exchange_seen}
 use Rattle.cfdp_tree.proofs.tree_store.TreeStore.exchange.Goals as goal
@@ -24,20 +24,16 @@ pub invariant_of-self : goal.invariant_of-self
 invariant_of-self c =
     let file = c.find_file-file.ensures in let set = c.set_contents.ensures in let later = c.set_contents.new.arena in let b = c.find_file-file.result.node in
     let after = c.hold.new.self in let held = c.hold.ensures in
-    let place = slot_placed _ _ _ _ c.self.invariant _ c.self.view_is c.from-index.result (omega (arith, c.from-index.ensures, c.requires.slot)) c.index_mut.result.now c.index_mut.ensures.value in
-    let memory = memory_stays c.self.inside.arena later _ _ set.capacity held.memory place.memory in
     exchange_store _ _ _ _ c.self.invariant _ c.self.view_is b c.args.path.now file.node file.path c.requires.file
     c.from-index.result (omega (arith, c.from-index.ensures, c.requires.slot)) c.index.result.now c.index.ensures later (octets_of (nodes_in later) b) set.nodes set.row set.name set.whole set.runs set.free set.capacity
-    after (held.contents ∙ file.contents) (slot_starts later after (held.block ∙ ap (λ (x : Contents). x.run.first) (sym held.contents)) held.index held.marks memory)
+    after (held.contents ∙ file.contents) (slot_starts later after (held.block ∙ ap (λ (x : Contents). x.run.first) (sym held.contents)) held.index (held.blank ∙ ap (λ (x : Contents). x.size) (sym held.contents)))
 
 pub returns-clause-exchanged : goal.returns-clause-exchanged
 returns-clause-exchanged c =
     let file = c.find_file-file.ensures in let set = c.set_contents.ensures in let later = c.set_contents.new.arena in let b = c.find_file-file.result.node in
     let after = c.hold.new.self in let held = c.hold.ensures in
-    let place = slot_placed _ _ _ _ c.self.invariant _ c.self.view_is c.from-index.result (omega (arith, c.from-index.ensures, c.requires.slot)) c.index_mut.result.now c.index_mut.ensures.value in
-    let memory = memory_stays c.self.inside.arena later _ _ set.capacity held.memory place.memory in
     let F = c.args.self.now.filestore in let path = c.args.path.now in
     exchange_seen _ _ _ _ c.self.invariant _ c.self.view_is b path file.node file.path c.requires.file
     c.from-index.result (omega (arith, c.from-index.ensures, c.requires.slot)) c.index.result.now c.index.ensures later (octets_of (nodes_in later) b) set.nodes set.row set.name set.whole set.runs set.free set.capacity
-    after (held.contents ∙ file.contents) (slot_starts later after (held.block ∙ ap (λ (x : Contents). x.run.first) (sym held.contents)) held.index held.marks memory)
+    after (held.contents ∙ file.contents) (slot_starts later after (held.block ∙ ap (λ (x : Contents). x.run.first) (sym held.contents)) held.index (held.blank ∙ ap (λ (x : Contents). x.size) (sym held.contents)))
     ∙ ap (λ k. with_changes c.args.self.now (Stages k (octets_at F path) ∷ Becomes path (Some (File (staged_in F k))) ∷ [])) c.from-index.ensures

@@ -43,7 +43,7 @@ invariant_of-self c =
     let made = c.create_node-node.ensures in let found = c.lookup.ensures in let linked = c.insert.ensures in let grouped = c.link_entry.ensures in
     let two = c.insert.new.arena in let later = c.link_entry.new.arena in
     let heads = with_items_is c.self.inside.heads c.insert.new.heads (c.insert.auto.heads ∙ c.deref_mut.ensures.len) in
-    subst (λ hs. IsStore later hs c.link_entry.new.root c.self.inside.slots.items) (sym heads)
+    subst (λ hs. IsStore later c.self.inside.ways.items hs c.link_entry.new.root c.self.inside.slots.items) (sym heads)
     (make_store _ _ _ _ c.self.invariant _ c.self.view_is c.args.path.now c.depth-depth.ensures.within _ (omega (arith, c.depth-depth.ensures.depth, c.depth-depth.ensures.within.some)) c.requires.parent
     c.lookup.result found.node found.path found.none c.name-name.result.now c.name-name.ensures.name
     c.requires.absent c.create_node-node.new.arena c.create_node-node.result c.args.kind made.fresh made.within made.nodes made.row made.home made.name made.whole

@@ -1,4 +1,6 @@
-use Rattle.std.proofs.Common.{◌≡◌, length, vec_len, sym, ap, ◌∙◌, subst, arith}
+use Rattle.std.proofs.Common.{◌≡◌, List, length, vec_len, sym, ap, ◌∙◌, subst, arith}
+use Rattle.std.proofs.lemmas.List.{length-replicate}
+use Rattle.cfdp_ways.specs.declared.way.Way.{Way}
 use Rattle.cfdp_tree.specs.Kept.{store_of}
 use Rattle.cfdp_tree.specs.Slots.{staged_in, IsStore}
 use Rattle.cfdp_tree.proofs.NewLaws.{head_none, filled_up, new_view, new_store}
@@ -9,17 +11,19 @@ invariant_of-result c =
     let slots = c.loop-slot.slots in let made = c.loop-slot.invariant in
     let head = head_none c.empty.result c.empty.ensures.first c.empty.ensures.count in
     let root = head_none c.empty-2.result c.empty-2.ensures.first c.empty-2.ensures.count in
-    let heads = filled_up c.args.blocks (vec_len c.new-heads.result) c.empty.result c.new-heads.result.items c.resize.new.self.items c.in_ok-resize.ensures.items c.new-heads.ensures.items c.new-heads.ensures.len in
+    let heads = filled_up c.args.blocks (vec_len c.new-heads.result) c.empty.result c.new-heads.result.items c.resize-2.new.self.items c.in_ok-resize-2.ensures.items c.new-heads.ensures.items c.new-heads.ensures.len in
     let many : length slots.items ≡ 64 = omega (arith, slots.ok.0, made.many, c.loop-slot-test.false, c.loop-slot.auto._slot-end) in
-    subst (λ a. IsStore a c.resize.new.self.items c.empty-2.result slots.items) (sym c.in_ok-arena.ensures.all_free)
-    (new_store c.args.blocks c.requires.some c.requires.few c.resize.new.self.items c.empty-2.result c.empty.result heads head root slots.items many made.fresh)
+    let ways = filled_up c.args.blocks (vec_len c.new-ways.result) c.none.result c.new-ways.result.items c.resize.new.self.items c.in_ok-resize.ensures.items c.new-ways.ensures.items c.new-ways.ensures.len in
+    let ways_long : length c.resize.new.self.items ≡ c.args.blocks = ap (λ (ws : List Way). length ws) ways ∙ length-replicate {A = Way} c.args.blocks c.none.result in
+    subst (λ a. IsStore a c.resize.new.self.items c.resize-2.new.self.items c.empty-2.result slots.items) (sym c.in_ok-arena.ensures.all_free)
+    (new_store c.args.blocks c.requires.some c.requires.few c.resize-2.new.self.items c.empty-2.result c.empty.result heads head root slots.items many made.fresh c.resize.new.self.items ways_long)
 
 pub returns : goal.returns
 returns c =
     let slots = c.loop-slot.slots in let made = c.loop-slot.invariant in
     let head = head_none c.empty.result c.empty.ensures.first c.empty.ensures.count in
     let root = head_none c.empty-2.result c.empty-2.ensures.first c.empty-2.ensures.count in
-    let heads = filled_up c.args.blocks (vec_len c.new-heads.result) c.empty.result c.new-heads.result.items c.resize.new.self.items c.in_ok-resize.ensures.items c.new-heads.ensures.items c.new-heads.ensures.len in
+    let heads = filled_up c.args.blocks (vec_len c.new-heads.result) c.empty.result c.new-heads.result.items c.resize-2.new.self.items c.in_ok-resize-2.ensures.items c.new-heads.ensures.items c.new-heads.ensures.len in
     let many : length slots.items ≡ 64 = omega (arith, slots.ok.0, made.many, c.loop-slot-test.false, c.loop-slot.auto._slot-end) in
     ap (λ a. store_of a (staged_in slots.items)) c.in_ok-arena.ensures.all_free
-    ∙ new_view c.args.blocks c.requires.some c.requires.few c.resize.new.self.items c.empty-2.result c.empty.result heads head root slots.items many made.fresh
+    ∙ new_view c.args.blocks c.requires.some c.requires.few c.resize-2.new.self.items c.empty-2.result c.empty.result heads head root slots.items many made.fresh

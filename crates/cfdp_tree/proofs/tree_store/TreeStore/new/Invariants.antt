@@ -4,4 +4,4 @@ use Rattle.cfdp_tree.specs.Slots.{IsFresh}
 use Rattle.cfdp_tree.proofs.tree_store.TreeStore.new.Given as goal
 
 abbrev pub invariant-loop-slot : goal.invariant-loop-slot
-invariant-loop-slot l = record { many : vec_len l.slots ≡ l._slot; fresh : All (IsFresh l.blocks) l.slots.items }
+invariant-loop-slot l = record { many : vec_len l.slots ≡ l._slot; fresh : All IsFresh l.slots.items }

@@ -7,10 +7,11 @@ use Rattle.cfdp_tree.specs.declared.contents.Contents.{Contents}
 use Rattle.cfdp_tree.specs.Row.{row_of}
 use Rattle.cfdp_tree.specs.Contents.{IsFilled, contents_in}
 use Rattle.cfdp_tree.specs.Kept.{contents_told}
+use Rattle.cfdp_tree.specs.Ways.{HasWays}
 use Rattle.cfdp_tree.specs.Found.{beginning, fitting, octets_read, with_octets}
 use Rattle.cfdp_tree.proofs.ContentsLaws.{length-contents}
 use Rattle.cfdp_tree.proofs.SeenLaws.{seen_none}
-use Rattle.cfdp_tree.proofs.CopiedLaws.{directory_there, file_there, file_held, none_copied, copied}
+use Rattle.cfdp_tree.proofs.CopiedLaws.{directory_there, file_there, file_held, file_ways, none_copied, copied}
 use Rattle.cfdp_tree.proofs.tree_store.TreeStore.read_at.Goals as goal
 
 pub returns-in_err-node-clause-count : goal.returns-in_err-node-clause-count
@@ -44,6 +45,13 @@ get-requires-clause-filled c =
     let found = c.in_ok-node.ensures in
     let held = file_held _ _ _ _ c.self.invariant _ c.self.view_is c.in_ok-node.node c.args.names c.bytes-block.result.now found.node found.path c.bytes-block.ensures.octets c.in-File.ensures in
     subst (IsFilled c.self.inside.arena) (sym c.contents_of-file.ensures) held.0
+
+pub get-requires-clause-ways : goal.get-requires-clause-ways
+get-requires-clause-ways c =
+    let found = c.in_ok-node.ensures in
+    let has = file_ways _ _ _ _ c.self.invariant _ c.self.view_is c.in_ok-node.node c.args.names c.bytes-block.result.now found.node found.path c.bytes-block.ensures.octets c.in-File.ensures in
+    subst (λ ws. HasWays c.self.inside.arena ws c.contents_of-file.result.run) (sym c.deref-in-File.ensures.value)
+    (subst (λ (x : Contents). HasWays c.self.inside.arena c.self.inside.ways.items x.run) (sym c.contents_of-file.ensures) has)
 
 pub returns-in-File-clause-count : goal.returns-in-File-clause-count
 returns-in-File-clause-count c =

@@ -1,9 +1,12 @@
-use Rattle.std.proofs.Common.{◌≡◌, ◌+◌, ◌-◌, ℕ, ◌++◌, sym, ap, ◌∙◌, arith}
+use Rattle.std.proofs.Common.{◌≡◌, ◌+◌, ◌-◌, ℕ, ◌++◌, sym, ap, ◌∙◌, subst, arith}
 use Rattle.cfdp_arena.specs.Arena.{octets_of}
 use Rattle.cfdp_actions.specs.Filestore.{octets_at, blocks_of}
+use Rattle.std.proofs.lemmas.List.{with_items_is}
 use Rattle.cfdp_tree.specs.Nodes.{nodes_in}
+use Rattle.cfdp_tree.specs.Ways.{HasWays, KeepsWays}
+use Rattle.cfdp_tree.specs.Slots.{IsStore}
 use Rattle.cfdp_tree.proofs.Filling.{blocks_of-le, blocks_of-most}
-use Rattle.cfdp_tree.proofs.FoundLaws.{filled_blocks, file_found, file_most, found_filled, found_octets, found_size, found_blocks, found_same, found_apart, append_most, append_room, found_store, found_changes}
+use Rattle.cfdp_tree.proofs.FoundLaws.{filled_blocks, file_found, file_most, found_filled, found_ways, found_octets, found_size, found_blocks, found_same, found_apart, append_most, append_room, found_store, found_changes}
 use Rattle.cfdp_tree.proofs.tree_store.TreeStoreFilestore.append.Goals as goal
 
 pub find_file-file-requires-clause-there : goal.find_file-file-requires-clause-there
@@ -22,6 +25,12 @@ pub append-contents-requires-clause-filled : goal.append-contents-requires-claus
 append-contents-requires-clause-filled c =
     let file = c.find_file-file.ensures in
     found_filled _ _ _ _ c.self.invariant _ c.self.view_is c.args.first.now c.requires.first c.find_file-file.result file.node file.path file.contents
+
+pub append-contents-requires-clause-ways : goal.append-contents-requires-clause-ways
+append-contents-requires-clause-ways c =
+    let file = c.find_file-file.ensures in
+    subst (λ ws. HasWays c.self.inside.arena ws c.find_file-file.result.contents.run) (sym c.deref_mut.ensures.value)
+    (found_ways _ _ _ _ c.self.invariant _ c.self.view_is c.args.first.now c.requires.first c.find_file-file.result file.node file.path file.contents)
 
 pub append-contents-requires-clause-source : goal.append-contents-requires-clause-source
 append-contents-requires-clause-source c =
@@ -84,9 +93,13 @@ taken free size was now more e same = ap (λ n. free + blocks_of n) same ∙ e
 pub invariant_of-self : goal.invariant_of-self
 invariant_of-self c =
     let file = c.find_file-file.ensures in let after = c.append-contents.ensures in let set = c.set_contents.ensures in
-    found_store _ _ _ _ c.self.invariant _ c.self.view_is c.args.first.now c.requires.first c.find_file-file.result file.node file.path file.contents
+    let ways = with_items_is c.self.inside.ways c.append-contents.new.ways (c.append-contents.auto.ways ∙ c.deref_mut.ensures.len) in
+    subst (λ ws. IsStore c.set_contents.new.arena ws c.self.inside.heads.items c.self.inside.root c.self.inside.slots.items) (sym ways)
+    (found_store _ _ _ _ c.self.invariant _ c.self.view_is c.args.first.now c.requires.first c.find_file-file.result file.node file.path file.contents
     c.append-contents.new.arena c.set_contents.new.arena c.append-contents.result (octets_of (nodes_in c.set_contents.new.arena) c.find_file-file.result.node)
     after.nodes after.capacity after.spares after.filled (taken _ _ _ _ _ after.taken after.size) set.nodes set.row set.name set.whole set.runs set.free set.capacity _ after.octets
+    c.append-contents.new.ways after.ways
+    (subst (λ ws. KeepsWays c.self.inside.arena c.append-contents.new.arena ws c.append-contents.new.ways c.find_file-file.result.contents.run) c.deref_mut.ensures.value after.other_ways))
 
 pub returns-clause-ticks : goal.returns-clause-ticks
 returns-clause-ticks c =

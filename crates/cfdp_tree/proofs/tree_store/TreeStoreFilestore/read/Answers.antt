@@ -7,8 +7,9 @@ use Rattle.cfdp_tree.specs.Nodes.{nodes_in}
 use Rattle.cfdp_tree.specs.Tree.{IsNode, path_of}
 use Rattle.cfdp_tree.specs.Contents.{IsFilled, contents_in}
 use Rattle.cfdp_tree.specs.Kept.{contents_told}
+use Rattle.cfdp_tree.specs.Ways.{HasWays}
 use Rattle.cfdp_tree.proofs.ContentsLaws.{length-contents}
-use Rattle.cfdp_tree.proofs.SeenLaws.{seen_there, seen_file, file_small}
+use Rattle.cfdp_tree.proofs.SeenLaws.{seen_there, seen_file, file_ways, file_small}
 use Rattle.cfdp_tree.proofs.tree_store.TreeStoreFilestore.read.Goals as goal
 
 pub unwrap-node-requires : goal.unwrap-node-requires
@@ -34,6 +35,15 @@ get-requires-clause-filled c =
     let way = subst (λ r. IfSome r (λ b. path_of (nodes_in arena) b ≡ path)) c.unwrap-node.ensures c.find_path.ensures.path in
     let file = seen_file _ _ _ _ c.self.invariant _ c.self.view_is c.unwrap-node.result path block node way c.bytes.ensures.octets c.requires.file in
     subst (IsFilled arena) (sym c.contents_of-file.ensures) file.1
+
+pub get-requires-clause-ways : goal.get-requires-clause-ways
+get-requires-clause-ways c =
+    let arena = c.self.inside.arena in let block = c.bytes.result.now in let path = c.args.path.now in
+    let node = subst (λ r. IfSome r (λ b. IsNode (nodes_in arena) b)) c.unwrap-node.ensures c.find_path.ensures.node in
+    let way = subst (λ r. IfSome r (λ b. path_of (nodes_in arena) b ≡ path)) c.unwrap-node.ensures c.find_path.ensures.path in
+    let has = file_ways _ _ _ _ c.self.invariant _ c.self.view_is c.unwrap-node.result path block node way c.bytes.ensures.octets c.requires.file in
+    subst (λ ws. HasWays arena ws c.contents_of-file.result.run) (sym c.deref-2.ensures.value)
+    (subst (λ (x : Contents). HasWays arena c.self.inside.ways.items x.run) (sym c.contents_of-file.ensures) has)
 
 pub get-requires-clause-range : goal.get-requires-clause-range
 get-requires-clause-range c =

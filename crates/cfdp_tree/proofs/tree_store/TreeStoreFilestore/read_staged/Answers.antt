@@ -1,8 +1,9 @@
-use Rattle.std.proofs.Common.{◌+◌, List, ℕ, length, sym, ap, ◌∙◌, arith}
+use Rattle.std.proofs.Common.{◌+◌, List, ℕ, length, sym, ap, ◌∙◌, subst, arith}
 use Rattle.std.specs.Prelude.{slice_range}
 use Rattle.cfdp_actions.specs.Filestore.{staged_in}
+use Rattle.cfdp_tree.specs.Ways.{HasWays}
 use Rattle.cfdp_tree.proofs.ContentsLaws.{length-contents}
-use Rattle.cfdp_tree.proofs.SeenLaws.{seen_staged, slot_filled, staged_small}
+use Rattle.cfdp_tree.proofs.SeenLaws.{seen_staged, slot_filled, slot_ways, staged_small}
 use Rattle.cfdp_tree.proofs.tree_store.TreeStoreFilestore.read_staged.Goals as goal
 
 pub overflow_cast-at : goal.overflow_cast-at
@@ -10,6 +11,12 @@ overflow_cast-at c = omega (arith, c.requires.range, staged_small _ _ _ _ c.self
 
 pub get-requires-clause-filled : goal.get-requires-clause-filled
 get-requires-clause-filled c = slot_filled _ _ _ _ c.self.invariant _ c.self.view_is c.from.result (omega (arith, c.from.ensures, c.requires.slot)) c.index-slot.result.now c.index-slot.ensures
+
+pub get-requires-clause-ways : goal.get-requires-clause-ways
+get-requires-clause-ways c =
+    let slot = c.index-slot.result.now in
+    subst (λ ws. HasWays c.self.inside.arena ws slot.contents.run) (sym c.deref.ensures.value)
+    (slot_ways _ _ _ _ c.self.invariant _ c.self.view_is c.from.result (omega (arith, c.from.ensures, c.requires.slot)) slot c.index-slot.ensures)
 
 pub get-requires-clause-range : goal.get-requires-clause-range
 get-requires-clause-range c =

@@ -81,7 +81,7 @@ invariant_of-self c =
     let held = c.held_by-held.ensures ∙ held_by_node _ _ _ _ c.self.invariant _ c.self.view_is path b node way c.bytes-block.result.now same in
     let one = c.release.new.arena in let later = c.delete_node.new.arena in
     let heads = with_items_is c.self.inside.heads c.remove.new.heads (c.remove.auto.heads ∙ c.deref_mut.ensures.len) in
-    subst (λ hs. IsStore later hs c.unlink_entry.new.root c.self.inside.slots.items) (sym heads)
+    subst (λ hs. IsStore later c.self.inside.ways.items hs c.unlink_entry.new.root c.self.inside.slots.items) (sym heads)
     (drop_store _ _ _ _ c.self.invariant _ c.self.view_is path b node way c.release.new.arena c.release.ensures.nodes c.unlink_entry.new.arena c.unlink_entry.ensures.same c.unlink_entry.ensures.capacity
     c.remove.new.arena c.remove.ensures.links c.requires.childless later c.delete_node.ensures.nodes
     c.unlink_entry.new.root c.unlink_entry.ensures.groups c.remove.new.heads c.remove.ensures.index

@@ -135,7 +135,7 @@ invariant_of-self c =
     let long = c.link_entry.ensures.capacity ∙ c.insert.ensures.size ∙ c.rename_node.ensures.capacity ∙ c.remove.ensures.size ∙ c.unlink_entry.ensures.capacity in
     let free = c.link_entry.ensures.free ∙ c.insert.ensures.free ∙ c.rename_node.ensures.free ∙ c.remove.ensures.free ∙ c.unlink_entry.ensures.free in
     let heads = with_items_is (with_items c.self.inside.heads c.remove.new.heads) c.insert.new.heads (c.insert.auto.heads ∙ c.deref_mut-2.ensures.len) in
-    subst (λ hs. IsStore later hs c.link_entry.new.root c.self.inside.slots.items) (sym heads)
+    subst (λ hs. IsStore later c.self.inside.ways.items hs c.link_entry.new.root c.self.inside.slots.items) (sym heads)
     (shift_store _ _ _ _ c.self.invariant _ c.self.view_is p b node way q c.depth-depth.ensures.within _ (omega (arith, c.depth-depth.ensures.depth, c.depth-depth.ensures.within.some)) c.requires.parent
     c.lookup.result c.lookup.ensures.node c.lookup.ensures.path c.lookup.ensures.none c.name-new_name.result.now c.name-new_name.ensures.name c.requires.apart
     c.remove.new.arena (alike_three _ _ _ _ c.self.invariant _ c.self.view_is p b node way arena refl c.unlink_entry.new.arena c.unlink_entry.ensures.same c.unlink_entry.ensures.capacity c.remove.new.arena c.remove.ensures.links)

@@ -1,13 +1,16 @@
-use Rattle.std.proofs.Common.{◌≡◌, ◌+◌, ◌*◌, ℕ, [], ◌∷◌, Some, length, sym, ap, ◌∙◌, arith}
+use Rattle.std.proofs.Common.{◌≡◌, ◌+◌, ◌*◌, ℕ, [], ◌∷◌, Some, length, sym, ap, ◌∙◌, subst, arith}
 use Rattle.std.proofs.lemmas.Bool.{eqb-true, eqb-false}
 use Rattle.std.specs.Prelude.{if◌then◌else◌}
 use Rattle.cfdp_arena.specs.Arena.{octets_of}
 use Rattle.cfdp_actions.specs.Filestore.{File, Becomes, octets_at, blocks_of}
 use Rattle.cfdp_actions.specs.Store.{with_changes}
+use Rattle.std.proofs.lemmas.List.{with_items_is}
 use Rattle.cfdp_tree.specs.Nodes.{nodes_in}
+use Rattle.cfdp_tree.specs.Ways.{HasWays, KeepsWays}
+use Rattle.cfdp_tree.specs.Slots.{IsStore}
 use Rattle.cfdp_tree.proofs.Filling.{blocks_of-most}
 use Rattle.cfdp_tree.proofs.SeenLaws.{file_small}
-use Rattle.cfdp_tree.proofs.FoundLaws.{file_found, file_most, found_filled, found_octets, found_blocks, found_one, found_two, found_apart, replace_most, replace_room, found_store, found_changes}
+use Rattle.cfdp_tree.proofs.FoundLaws.{file_found, file_most, found_filled, found_ways, found_octets, found_blocks, found_one, found_two, found_apart, replace_most, replace_room, found_store, found_changes}
 use Rattle.cfdp_tree.proofs.tree_store.TreeStoreFilestore.replace.Goals as goal
 
 pub find_file-file-requires-clause-there : goal.find_file-file-requires-clause-there
@@ -42,6 +45,12 @@ pub replace-requires-clause-filled : goal.replace-requires-clause-filled
 replace-requires-clause-filled c =
     let file = c.find_file-file.ensures in
     found_filled _ _ _ _ c.self.invariant _ c.self.view_is c.args.first.now c.requires.first c.find_file-file.result file.node file.path file.contents
+
+pub replace-requires-clause-ways : goal.replace-requires-clause-ways
+replace-requires-clause-ways c =
+    let file = c.find_file-file.ensures in
+    subst (λ ws. HasWays c.self.inside.arena ws c.find_file-file.result.contents.run) (sym c.deref_mut.ensures.value)
+    (found_ways _ _ _ _ c.self.invariant _ c.self.view_is c.args.first.now c.requires.first c.find_file-file.result file.node file.path file.contents)
 
 pub replace-requires-clause-source : goal.replace-requires-clause-source
 replace-requires-clause-source c =
@@ -94,9 +103,13 @@ taken free size was now more e same = ap (λ n. free + blocks_of n) same ∙ e
 pub invariant_of-self : goal.invariant_of-self
 invariant_of-self c =
     let file = c.find_file-file.ensures in let after = c.replace.ensures in let set = c.set_contents.ensures in
-    found_store _ _ _ _ c.self.invariant _ c.self.view_is c.args.first.now c.requires.first c.find_file-file.result file.node file.path file.contents
+    let ways = with_items_is c.self.inside.ways c.replace.new.ways (c.replace.auto.ways ∙ c.deref_mut.ensures.len) in
+    subst (λ ws. IsStore c.set_contents.new.arena ws c.self.inside.heads.items c.self.inside.root c.self.inside.slots.items) (sym ways)
+    (found_store _ _ _ _ c.self.invariant _ c.self.view_is c.args.first.now c.requires.first c.find_file-file.result file.node file.path file.contents
     c.replace.new.arena c.set_contents.new.arena c.replace.new.self (octets_of (nodes_in c.set_contents.new.arena) c.find_file-file.result.node)
     after.nodes after.capacity after.spares after.filled (taken _ _ _ _ _ after.taken after.size) set.nodes set.row set.name set.whole set.runs set.free set.capacity _ after.octets
+    c.replace.new.ways after.ways
+    (subst (λ ws. KeepsWays c.self.inside.arena c.replace.new.arena ws c.replace.new.ways c.find_file-file.result.contents.run) c.deref_mut.ensures.value after.other_ways))
 
 pub returns-clause-ticks : goal.returns-clause-ticks
 returns-clause-ticks c =

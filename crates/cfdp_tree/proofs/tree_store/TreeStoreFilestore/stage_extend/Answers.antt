@@ -1,8 +1,11 @@
-use Rattle.std.proofs.Common.{◌≡◌, ℕ, ◌+◌, get_or, sym, ap, ◌∙◌, subst, arith}
+use Rattle.std.proofs.Common.{◌≡◌, ℕ, ◌+◌, get_or, set, sym, ap, ◌∙◌, subst, arith}
 use Rattle.cfdp_actions.specs.Filestore.{staged_in, blocks_of}
 use Rattle.cfdp_actions.specs.Store.{extended}
+use Rattle.std.proofs.lemmas.List.{with_items_is}
+use Rattle.cfdp_tree.specs.Ways.{HasWays, KeepsWays}
+use Rattle.cfdp_tree.specs.Slots.{IsStore}
 use Rattle.cfdp_tree.proofs.Filling.{blocks_of-le}
-use Rattle.cfdp_tree.proofs.SeenLaws.{seen_staged, slot_filled, staged_size, room_there, size_fits}
+use Rattle.cfdp_tree.proofs.SeenLaws.{seen_staged, slot_filled, slot_ways, staged_size, room_there, size_fits}
 use Rattle.cfdp_tree.proofs.SlotLaws.{slot_changes, slot_store}
 use Rattle.cfdp_tree.proofs.tree_store.TreeStoreFilestore.stage_extend.Goals as goal
 
@@ -15,6 +18,12 @@ pub extend-requires-clause-filled : goal.extend-requires-clause-filled
 extend-requires-clause-filled c =
     let slot = c.index_mut-slot.result.now in let is = subst (λ k. slot ≡ get_or c.self.inside.slots.items k slot) c.from.ensures c.index_mut-slot.ensures.value in
     slot_filled _ _ _ _ c.self.invariant _ c.self.view_is c.args.slot c.requires.slot slot is
+
+pub extend-requires-clause-ways : goal.extend-requires-clause-ways
+extend-requires-clause-ways c =
+    let slot = c.index_mut-slot.result.now in let is = subst (λ k. slot ≡ get_or c.self.inside.slots.items k slot) c.from.ensures c.index_mut-slot.ensures.value in
+    subst (λ ws. HasWays c.self.inside.arena ws slot.contents.run) (sym c.deref_mut.ensures.value)
+    (slot_ways _ _ _ _ c.self.invariant _ c.self.view_is c.args.slot c.requires.slot slot is)
 
 pub extend-requires-clause-longer : goal.extend-requires-clause-longer
 extend-requires-clause-longer c =
@@ -46,8 +55,12 @@ taken free was size now more e same = ap (λ n. free + blocks_of n) same ∙ e
 pub invariant_of-self : goal.invariant_of-self
 invariant_of-self c =
     let after = c.extend.ensures in
-    slot_store c.self.inside.arena c.extend.new.arena c.self.inside.heads.items c.self.inside.root c.self.inside.slots.items c.self.invariant c.from.result (omega (arith, c.from.ensures, c.requires.slot))
+    let ways = with_items_is c.self.inside.ways c.extend.new.ways (c.extend.auto.ways ∙ c.deref_mut.ensures.len) in
+    subst (λ ws. IsStore c.extend.new.arena ws c.self.inside.heads.items c.self.inside.root (set c.self.inside.slots.items c.from.result c.extend.new.self)) (sym ways)
+    (slot_store c.self.inside.arena c.extend.new.arena c.self.inside.heads.items c.self.inside.root c.self.inside.slots.items c.self.invariant c.from.result (omega (arith, c.from.ensures, c.requires.slot))
     c.index_mut-slot.result.now c.index_mut-slot.ensures.value c.extend.new.self after.nodes after.capacity after.spares after.filled after.placed (taken _ _ _ _ _ after.taken after.size)
+    c.extend.new.ways after.ways
+    (subst (λ ws. KeepsWays c.self.inside.arena c.extend.new.arena ws c.extend.new.ways c.index_mut-slot.result.now.contents.run) c.deref_mut.ensures.value after.other_ways))
 
 pub returns-clause-ticks : goal.returns-clause-ticks
 returns-clause-ticks c =

@@ -4,10 +4,8 @@ use Rattle.cfdp_actions.specs.Filestore.{staged_in}
 use Rattle.cfdp_tree.proofs.SeenLaws.{seen_staged, slot_filled}
 use Rattle.cfdp_tree.proofs.tree_store.TreeStoreFilestore.staged_checksum.Goals as goal
 
-pub checksum_of-requires : goal.checksum_of-requires
-checksum_of-requires c = slot_filled _ _ _ _ c.self.invariant _ c.self.view_is c.from.result (omega (arith, c.from.ensures, c.requires)) c.index.result.now c.index.ensures
-
 pub returns : goal.returns
 returns c =
+    let filled = slot_filled _ _ _ _ c.self.invariant _ c.self.view_is c.from.result (omega (arith, c.from.ensures, c.requires)) c.index.result.now c.index.ensures in
     let octets = seen_staged _ _ _ _ c.self.invariant _ c.self.view_is c.from.result (omega (arith, c.from.ensures, c.requires)) c.index.result.now c.index.ensures in
-    c.checksum_of.ensures ∙ ap checksum (sym octets ∙ ap (staged_in c.args.self.now.filestore) c.from.ensures)
+    filled.summed ∙ ap checksum (sym octets ∙ ap (staged_in c.args.self.now.filestore) c.from.ensures)

@@ -1,17 +1,17 @@
-use Rattle.std.proofs.Common.{◌≡◌, ◌+◌, ℕ, [], get_or, length, vec_capacity, sym, ap, ◌∙◌, subst, arith}
+use Rattle.std.proofs.Common.{◌≡◌, ◌+◌, ℕ, [], get_or, sym, ap, ◌∙◌, subst, arith}
 use Rattle.cfdp_arena.specs.Arena.{Blocks}
 use Rattle.cfdp_actions.specs.Filestore.{blocks_of}
 use Rattle.cfdp_tree.specs.declared.contents.Contents.{Contents}
 use Rattle.cfdp_tree.specs.declared.runs.Run.{Run}
 use Rattle.cfdp_tree.specs.declared.slots.Slot.{Slot}
 use Rattle.cfdp_tree.specs.Runs.{Spares}
-use Rattle.cfdp_tree.specs.Marks.{most_marks}
 use Rattle.cfdp_tree.specs.Slots.{IsPlaced}
 use Rattle.cfdp_tree.proofs.Filling.{blocks_of-none}
 use Rattle.cfdp_tree.proofs.ContentsLaws.{none_filled, none_contents}
-use Rattle.cfdp_tree.proofs.MarkLaws.{memory_stays, slot_starts}
-use Rattle.cfdp_tree.proofs.SeenLaws.{slot_filled, slot_placed, staged_size}
+use Rattle.cfdp_tree.proofs.SlotPlaces.{slot_starts}
+use Rattle.cfdp_tree.proofs.SeenLaws.{slot_filled, slot_ways, staged_size}
 use Rattle.cfdp_tree.proofs.SlotLaws.{slot_changes, slot_store}
+use Rattle.cfdp_tree.proofs.WayLaws.{ways_none, keeps_still}
 use Rattle.cfdp_tree.proofs.tree_store.TreeStoreFilestore.unstage.Goals as goal
 
 -- a run of no blocks is apart from each other one
@@ -27,14 +27,16 @@ module _ (old new : Blocks) (slot after : Slot) (no_blocks : after.contents.run.
 record IsEmptied (arena : Blocks) (after : Slot) : Type 0 where
   blocks : after.contents.run.count ≡ 0
   size : after.contents.size ≡ 0
+  sum : after.contents.sum ≡ 0
   placed : IsPlaced arena after
 
-emptied : (none : Contents) (after : Slot) → none.run.count ≡ 0 → none.size ≡ 0 → after.contents ≡ none → after.place.block ≡ none.run.first → after.place.index ≡ 0 → after.marks.numbers.items ≡ []
-    → (arena : Blocks) → vec_capacity after.marks.numbers ≡ most_marks (length arena) → IsEmptied arena after
-emptied none after blocks size holds block index marks arena memory = record {
+emptied : (none : Contents) (after : Slot) → none.run.count ≡ 0 → none.size ≡ 0 → none.sum ≡ 0 → after.contents ≡ none → after.place.block ≡ none.run.first → after.place.index ≡ 0 → after.blank_from ≡ none.size
+    → (arena : Blocks) → IsEmptied arena after
+emptied none after blocks size sum holds block index blank arena = record {
   blocks = ap (λ (x : Contents). x.run.count) holds ∙ blocks;
   size = ap (λ (x : Contents). x.size) holds ∙ size;
-  placed = slot_starts arena after (block ∙ ap (λ (x : Contents). x.run.first) (sym holds)) index marks memory;
+  sum = ap (λ (x : Contents). x.sum) holds ∙ sum;
+  placed = slot_starts arena after (block ∙ ap (λ (x : Contents). x.run.first) (sym holds)) index (blank ∙ ap (λ (x : Contents). x.size) (sym holds));
 }
 
 pub release-requires : goal.release-requires
@@ -45,12 +47,13 @@ release-requires c = record {
 pub invariant_of-self : goal.invariant_of-self
 invariant_of-self c =
     let arena = c.self.inside.arena in let later = c.release.new.arena in let slot = c.index.result.now in let after = c.hold.new.self in let gone = c.release.ensures in
-    let place = slot_placed _ _ _ _ c.self.invariant _ c.self.view_is c.from-index.result (omega (arith, c.from-index.ensures, c.requires)) c.index_mut.result.now c.index_mut.ensures.value in
-    let memory = memory_stays arena later _ _ gone.capacity c.hold.ensures.memory place.memory in
-    let none = emptied c.empty.result after c.empty.ensures.blocks c.empty.ensures.size c.hold.ensures.contents c.hold.ensures.block c.hold.ensures.index c.hold.ensures.marks later memory in
+    let none = emptied c.empty.result after c.empty.ensures.blocks c.empty.ensures.size c.empty.ensures.sum c.hold.ensures.contents c.hold.ensures.block c.hold.ensures.index c.hold.ensures.blank later in
+    let had = slot_ways _ _ _ _ c.self.invariant _ c.self.view_is c.from-index.result (omega (arith, c.from-index.ensures, c.requires)) slot c.index.ensures in
     slot_store arena later c.self.inside.heads.items c.self.inside.root c.self.inside.slots.items c.self.invariant c.from-index.result (omega (arith, c.from-index.ensures, c.requires)) slot c.index.ensures after
     gone.nodes gone.capacity (spares_none arena later slot.contents.run slot.contents.run after.contents.run none.blocks gone.spares)
-    (none_filled later after.contents none.blocks none.size) none.placed (no_room arena later slot after none.blocks none.size _ _ gone.freed)
+    (none_filled later after.contents none.blocks none.size none.sum) none.placed (no_room arena later slot after none.blocks none.size _ _ gone.freed)
+    c.self.inside.ways.items (ways_none later c.self.inside.ways.items after.contents.run (had.long ∙ sym gone.capacity) none.blocks)
+    (keeps_still arena later c.self.inside.ways.items slot.contents.run slot.contents.run gone.capacity gone.spares)
 
 pub returns-clause-ticks : goal.returns-clause-ticks
 returns-clause-ticks c =
@@ -61,10 +64,8 @@ returns-clause-ticks c =
 pub returns-clause-dropped : goal.returns-clause-dropped
 returns-clause-dropped c =
     let arena = c.self.inside.arena in let later = c.release.new.arena in let slot = c.index.result.now in let after = c.hold.new.self in let gone = c.release.ensures in
-    let place = slot_placed _ _ _ _ c.self.invariant _ c.self.view_is c.from-index.result (omega (arith, c.from-index.ensures, c.requires)) c.index_mut.result.now c.index_mut.ensures.value in
-    let memory = memory_stays arena later _ _ gone.capacity c.hold.ensures.memory place.memory in
-    let none = emptied c.empty.result after c.empty.ensures.blocks c.empty.ensures.size c.hold.ensures.contents c.hold.ensures.block c.hold.ensures.index c.hold.ensures.marks later memory in
+    let none = emptied c.empty.result after c.empty.ensures.blocks c.empty.ensures.size c.empty.ensures.sum c.hold.ensures.contents c.hold.ensures.block c.hold.ensures.index c.hold.ensures.blank later in
     slot_changes arena later c.self.inside.heads.items c.self.inside.root c.self.inside.slots.items c.self.invariant c.from-index.result (omega (arith, c.from-index.ensures, c.requires)) slot c.index.ensures after
     gone.nodes gone.capacity (spares_none arena later slot.contents.run slot.contents.run after.contents.run none.blocks gone.spares)
-    (none_filled later after.contents none.blocks none.size) none.placed (no_room arena later slot after none.blocks none.size _ _ gone.freed)
+    (none_filled later after.contents none.blocks none.size none.sum) none.placed (no_room arena later slot after none.blocks none.size _ _ gone.freed)
     c.args.self.now c.self.view_is c.args.slot c.from-index.ensures [] (none_contents later after.contents none.blocks none.size)

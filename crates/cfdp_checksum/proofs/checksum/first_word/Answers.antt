@@ -1,0 +1,8 @@
+use Rattle.std.proofs.Common.{◌*◌, ◌/◌, ◌^◌, ap, ◌∙◌}
+use Rattle.cfdp_checksum.proofs.ChecksumSteps.{weighed-shifted}
+use Rattle.cfdp_checksum.proofs.checksum.first_word.Goals as goal
+
+pub returns : goal.returns
+returns c =
+    let r = c.requires in
+    ap (λ n. n / 2 ^ (8 * c.args.place)) c.last_word.ensures ∙ weighed-shifted c.args.place c.args.octets.now r.some r.inside r.fits

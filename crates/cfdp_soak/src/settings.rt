@@ -1,0 +1,46 @@
+//! How large the filestores are, and the files that arrive.
+
+use crate::events::Files;
+
+/// How large the filestores of both entities are: too small for all that is asked for.
+#[derive(Clone, Copy)]
+pub enum Setting {
+    /// 160 blocks, and files of at most 8 blocks.
+    Small,
+    /// 400 blocks, and files of at most 75 blocks.
+    Middle,
+    /// 4,096 blocks, and files of at most 150 blocks.
+    Large,
+}
+
+/// All settings, in the order in which they are run.
+pub static SETTINGS: [Setting; 3] = [Setting::Small, Setting::Middle, Setting::Large];
+
+impl Setting {
+    /// How many blocks each filestore has.
+    pub fn blocks(self) -> u32 {
+        match self {
+            Setting::Small => 160,
+            Setting::Middle => 400,
+            Setting::Large => 4_096,
+        }
+    }
+
+    /// The files of transactions.
+    pub fn files(self) -> Files {
+        let piece = match self {
+            Setting::Small => 150,
+            Setting::Middle => 1_500,
+            Setting::Large => 3_000,
+        };
+        Files { piece }
+    }
+
+    /// How many events are handed in: all of them over the small filestores, and a tenth of them over the others.
+    pub fn events(self, events: u64) -> u64 {
+        match self {
+            Setting::Small => events,
+            Setting::Middle | Setting::Large => events / 10,
+        }
+    }
+}

@@ -1,0 +1,18 @@
+use Rattle.std.proofs.Common.{◌≡◌, ◌+◌, ◌-◌, take, ap, ◌∙◌, arith}
+use Rattle.cfdp_checksum.specs.Checksum.{checksum_at}
+use Rattle.cfdp_checksum.proofs.ChecksumSteps.{only-places-count}
+use Rattle.cfdp_tree.specs.Runs.{octets_in}
+use Rattle.cfdp_tree.specs.Contents.{contents_in}
+use Rattle.cfdp_tree.proofs.Filling.{blocks_of-fits}
+use Rattle.cfdp_tree.proofs.contents.Contents.sum_at.Goals as goal
+
+pub sum_of-requires-clause-range : goal.sum_of-requires-clause-range
+sum_of-requires-clause-range c = omega (arith, c.requires.filled.blocks, blocks_of-fits c.args.self.now.size)
+
+pub returns-then-offset-eq0 : goal.returns-then-offset-eq0
+returns-then-offset-eq0 c = c.requires.filled.summed ∙ only-places-count 0 c.args.offset (contents_in c.args.arena.now c.args.self.now) (omega (arith, c.if-offset-eq0.true))
+
+pub returns : goal.returns
+returns c =
+    let old = c.args.self.now in let all : 0 + old.size - 0 ≡ old.size = omega arith in
+    c.sum_of.ensures ∙ ap (λ n. checksum_at c.args.offset (take n (octets_in c.args.arena.now old.run))) all
