@@ -1,6 +1,6 @@
 -- What an event does to the table: its own transaction's entry is carried on or goes, and every other stays as it is.
 use Rattle.std.proofs.Common.{◌≡◌, ◌≢◌, ℕ, length, ◌⊎◌, refl, ap, sym, ◌∙◌, subst}
-use Rattle.std.specs.Prelude.{Bool, false, not, ◌&&◌, ◌==◌, nat_lt, nat_le, Option, Some, None, slice_get, remove}
+use Rattle.std.specs.Prelude.{Bool, false, IsFalse, not, ◌&&◌, ◌==◌, nat_lt, nat_le, Option, Some, None, slice_get, remove}
 use Rattle.std.proofs.lemmas.Bool.{cond_both}
 use mathlib.Core.Logic.{inl, inr}
 use Rattle.cfdp_status.specs.declared.transaction.TransactionId.{TransactionId}
@@ -8,7 +8,7 @@ use Rattle.cfdp_pdus.specs.Values.{MetadataFields}
 use Rattle.cfdp_pdus.specs.declared.header.Header.{Header}
 use Rattle.cfdp_verifier.specs.Verdict.{Verdict, Refuse, Grant, verdict}
 use Rattle.cfdp_transactions.specs.Entry.{Receiving, Refused, Ended, is_executing, Entry, has_file, id_of, name_of}
-use Rattle.cfdp_transactions.specs.Events.{Event, MetadataCame, DataCame, EofCame, Step, Cancel, Check, Take, Reply, about}
+use Rattle.cfdp_transactions.specs.Events.{Event, MetadataCame, DataCame, EofCame, Step, Cancel, Check, Take, Reply, about, is_metadata, is_take}
 use Rattle.cfdp_transactions.specs.World.{World, index_of, entry_of, spare, leases_of, free_slot}
 use Rattle.cfdp_transactions.specs.Admission.{new_entry, refused_entry, proposal_of, judged, is_known_checksum, metadata_came}
 use Rattle.cfdp_transactions.specs.Delivery.{data_came, eof_came, checked}
@@ -24,7 +24,7 @@ use Rattle.cfdp_transactions.proofs.Lookups.{set_other, append_other, remove_oth
 use Rattle.cfdp_transactions.proofs.Change.{Moves}
 use Rattle.cfdp_transactions.proofs.EachEvent.{still, cancelled_moves, taken_table, check_moves, eof_moves, step_moves_in, data_moves}
 
-some_same : (a b : Entry) → Some a ≡ Some b → a ≡ b
+pub some_same : (a b : Entry) → Some a ≡ Some b → a ≡ b
 some_same a b h = cc
 
 -- transactions that are not known ------------------------------------------------------
@@ -45,15 +45,28 @@ module _ (W : World) (id : TransactionId) where
   for_us_others : (h : Header) (a : World × Reply) → entry_of a.0 id ≡ entry_of W id → entry_of (for_us W h a).0 id ≡ entry_of W id
   for_us_others h a same = cond_both (h.destination == W.config.entity) a _ (λ (b : World × Reply). entry_of b.0 id ≡ entry_of W id) (λ _. same) (λ _. refl)
 
-  -- the event of a transaction that is not known adds an entry of its name, or does nothing
-  unknown_others : (event : Event) → id ≢ about event → entry_of W (about event) ≡ None → entry_of (next W event).0 id ≡ entry_of W id
-  unknown_others (MetadataCame h m) ne none = for_us_others h (metadata_came W h m (entry_of W (id_of h))) (rw none (metadata_others h m ne))
-  unknown_others (DataCame h piece) ne none = for_us_others h (data_came W (index_of W (id_of h)) piece (entry_of W (id_of h))) (rw none refl)
-  unknown_others (EofCame h eof) ne none = for_us_others h (eof_came W (index_of W (id_of h)) eof (entry_of W (id_of h))) (rw none refl)
-  unknown_others (Step other) ne none = rw none refl
-  unknown_others (Cancel other) ne none = rw none refl
-  unknown_others (Check other) ne none = rw none refl
-  unknown_others (Take other) ne none = rw none refl
+for_us_same : (W : World) (h : Header) (a : World × Reply) → a.0 ≡ W → (for_us W h a).0 ≡ W
+for_us_same W h a same = cond_both (h.destination == W.config.entity) a _ (λ (b : World × Reply). b.0 ≡ W) (λ _. same) (λ _. refl)
+
+-- the event of a transaction that is not known does nothing, but for its Metadata, which may add an entry of its name
+pub unknown_same : (W : World) (event : Event) → IsFalse (is_metadata event) → entry_of W (about event) ≡ None → (next W event).0 ≡ W
+unknown_same W (MetadataCame h m) other none = absurd cc
+unknown_same W (DataCame h piece) other none = for_us_same W h (data_came W (index_of W (id_of h)) piece (entry_of W (id_of h))) (rw none refl)
+unknown_same W (EofCame h eof) other none = for_us_same W h (eof_came W (index_of W (id_of h)) eof (entry_of W (id_of h))) (rw none refl)
+unknown_same W (Step id) other none = rw none refl
+unknown_same W (Cancel id) other none = rw none refl
+unknown_same W (Check id) other none = rw none refl
+unknown_same W (Take id) other none = rw none refl
+
+unknown_others : (W : World) (id : TransactionId) (event : Event) → id ≢ about event → entry_of W (about event) ≡ None →
+    entry_of (next W event).0 id ≡ entry_of W id
+unknown_others W id (MetadataCame h m) ne none = for_us_others W id h (metadata_came W h m (entry_of W (id_of h))) (rw none (metadata_others W id h m ne))
+unknown_others W id (DataCame h piece) ne none = ap (λ (V : World). entry_of V id) (unknown_same W (DataCame h piece) refl none)
+unknown_others W id (EofCame h eof) ne none = ap (λ (V : World). entry_of V id) (unknown_same W (EofCame h eof) refl none)
+unknown_others W id (Step other) ne none = ap (λ (V : World). entry_of V id) (unknown_same W (Step other) refl none)
+unknown_others W id (Cancel other) ne none = ap (λ (V : World). entry_of V id) (unknown_same W (Cancel other) refl none)
+unknown_others W id (Check other) ne none = ap (λ (V : World). entry_of V id) (unknown_same W (Check other) refl none)
+unknown_others W id (Take other) ne none = ap (λ (V : World). entry_of V id) (unknown_same W (Take other) refl none)
 
 -- transactions in the table --------------------------------------------------------------
 
@@ -74,23 +87,36 @@ module _ (laws : LowerLaws) (W : World) (s : Sound W) where
     | inr gone ↦ inr gone
   ]
 
+  -- every event but a request for the outcome carries it on
+  pub moves_on : (event : Event) (e : Entry) → IsFalse (is_take event) → entry_of W (about event) ≡ Some e →
+      Moves (performs event e.phase) (index_of W (about event)) e W (next W event).0
+  moves_on (MetadataCame h m) e other found =
+      let k = index_of W (id_of h) in
+      for_us_moves k e found h (metadata_came W h m (entry_of W (id_of h))) (at_found false k e (λ o. metadata_came W h m o) found (still false k e W s found))
+  moves_on (DataCame h piece) e other found =
+      let k = index_of W (id_of h) in
+      for_us_moves k e found h (data_came W k piece (entry_of W (id_of h))) (at_found false k e (λ o. data_came W k piece o) found (data_moves laws W k e s found piece))
+  moves_on (EofCame h eof) e other found =
+      let k = index_of W (id_of h) in
+      for_us_moves k e found h (eof_came W k eof (entry_of W (id_of h))) (at_found false k e (λ o. eof_came W k eof o) found (eof_moves laws W k e s found eof))
+  moves_on (Step id) e other found =
+      let k = index_of W id in
+      at_found (is_executing e.phase) k e (λ o. stepped W k o) found (step_moves_in laws W k e s found e.phase refl)
+  moves_on (Cancel id) e other found = let k = index_of W id in at_found false k e (λ o. cancelled W k o) found (cancelled_moves laws W k e s found)
+  moves_on (Check id) e other found = let k = index_of W id in at_found false k e (λ o. checked W k o) found (check_moves laws W k e s found e.phase refl)
+  moves_on (Take id) e other found = absurd cc
+
   fate : (event : Event) (e : Entry) → entry_of W (about event) ≡ Some e → Fate (performs event e.phase) (index_of W (about event)) e (next W event).0
-  fate (MetadataCame h m) e found =
-      let k = index_of W (id_of h) in
-      inl (for_us_moves k e found h (metadata_came W h m (entry_of W (id_of h))) (at_found false k e (λ o. metadata_came W h m o) found (still false k e W s found)))
-  fate (DataCame h piece) e found =
-      let k = index_of W (id_of h) in
-      inl (for_us_moves k e found h (data_came W k piece (entry_of W (id_of h))) (at_found false k e (λ o. data_came W k piece o) found (data_moves laws W k e s found piece)))
-  fate (EofCame h eof) e found =
-      let k = index_of W (id_of h) in
-      inl (for_us_moves k e found h (eof_came W k eof (entry_of W (id_of h))) (at_found false k e (λ o. eof_came W k eof o) found (eof_moves laws W k e s found eof)))
-  fate (Step id) e found = let k = index_of W id in inl (at_found (is_executing e.phase) k e (λ o. stepped W k o) found (step_moves_in laws W k e s found e.phase refl))
-  fate (Cancel id) e found = let k = index_of W id in inl (at_found false k e (λ o. cancelled W k o) found (cancelled_moves laws W k e s found))
-  fate (Check id) e found = let k = index_of W id in inl (at_found false k e (λ o. checked W k o) found (check_moves laws W k e s found e.phase refl))
+  fate (MetadataCame h m) e found = inl (moves_on (MetadataCame h m) e refl found)
+  fate (DataCame h piece) e found = inl (moves_on (DataCame h piece) e refl found)
+  fate (EofCame h eof) e found = inl (moves_on (EofCame h eof) e refl found)
+  fate (Step id) e found = inl (moves_on (Step id) e refl found)
+  fate (Cancel id) e found = inl (moves_on (Cancel id) e refl found)
+  fate (Check id) e found = inl (moves_on (Check id) e refl found)
   fate (Take id) e found = let k = index_of W id in subst (λ (o : Option Entry). Fate false k e (taken_out W k o).0) (sym found) (taken_fate k e found)
 
   -- once it is taken out its name is free
-  gone_unknown : (id : TransactionId) (e now : Entry) → entry_of W id ≡ Some e → slice_get (remove W.table (index_of W id)) (index_of (record W { table = remove W.table (index_of W id) }) id) ≡ Some now → ⊥
+  pub gone_unknown : (id : TransactionId) (e now : Entry) → entry_of W id ≡ Some e → slice_get (remove W.table (index_of W id)) (index_of (record W { table = remove W.table (index_of W id) }) id) ≡ Some now → ⊥
   gone_unknown id e now found after =
       let k = index_of W id in
       let i = index_of (record W { table = remove W.table k }) id in
@@ -100,12 +126,15 @@ module _ (laws : LowerLaws) (W : World) (s : Sound W) where
   moved_name : (event : Event) (e new : Entry) → entry_of W (about event) ≡ Some e → new.header ≡ e.header → name_of new ≡ about event
   moved_name event e new found same = ap id_of same ∙ found_name W.table (about event) e found
 
+  pub moved_here : (event : Event) (e : Entry) → entry_of W (about event) ≡ Some e →
+      (p : Moves (performs event e.phase) (index_of W (about event)) e W (next W event).0) → entry_of (next W event).0 (about event) ≡ Some p.0
+  moved_here event e found p = rw p.1.table (set_own W.table (about event) e p.0 (moved_name event e p.0 found p.1.carried.header) found)
+
   pub next_carried : (event : Event) (e now : Entry) → entry_of W (about event) ≡ Some e → entry_of (next W event).0 (about event) ≡ Some now →
       IsCarriedOn (performs event e.phase) W.filestore (next W event).0.filestore e now
   next_carried event e now found after = elim (fate event e found) [
     | inl p ↦
-        let here : entry_of (next W event).0 (about event) ≡ Some p.0 = rw p.1.table (set_own W.table (about event) e p.0 (moved_name event e p.0 found p.1.carried.header) found) in
-        subst (λ (d : Entry). IsCarriedOn (performs event e.phase) W.filestore (next W event).0.filestore e d) (some_same p.0 now (sym here ∙ after)) p.1.carried
+        subst (λ (d : Entry). IsCarriedOn (performs event e.phase) W.filestore (next W event).0.filestore e d) (some_same p.0 now (sym (moved_here event e found p) ∙ after)) p.1.carried
     | inr gone ↦ absurd (gone_unknown (about event) e now found (rw gone at after))
   ]
 

@@ -23,6 +23,7 @@ pub mod NextWorld
 pub mod Carried
 pub mod Admissions
 pub mod Promise
+pub mod Entries
 pub mod Lengths
 pub mod Outgoing
 pub mod Readable

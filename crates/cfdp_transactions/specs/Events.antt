@@ -4,6 +4,7 @@
 --     Outcome    the Finished PDU, its header, and whether it is sent
 --     Reply
 --     about      whose transaction an event is
+--     is_metadata             a Metadata PDU came
 --     is_take, hands_out      the request for the outcome;  the reply that has one
 --     event_of   the event that a PDU is: none, where it goes toward the sender or the core does not take it
 --     event_at octets         the event of the PDU that they spell, if it is one, or the first fault where they spell none
@@ -30,6 +31,10 @@ about (Step id) = id
 about (Cancel id) = id
 about (Check id) = id
 about (Take id) = id
+
+abbrev pub is_metadata : Event → Bool
+is_metadata (MetadataCame h m) = true
+is_metadata event = false
 
 abbrev pub is_take : Event → Bool
 is_take (Take id) = true

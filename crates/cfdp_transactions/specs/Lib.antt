@@ -14,6 +14,7 @@ pub mod Admission
 pub mod Next
 pub mod Sound
 pub mod Headline
+pub mod Entries
 pub mod Writable
 pub mod ReceivedLaws
 pub mod Pieces

@@ -18,7 +18,7 @@ use crate::{Config, Phase, Reply};
 use cfdp_actions::Filestore;
 use cfdp_pdus::Eof;
 
-/// The EOF of the transaction at a place (§4.6.1). Costs the checksum of what is staged, where all of it is there.
+/// The EOF of the transaction at a place (§4.6.1). If all octets are there, the store is asked for their checksum, once.
 pub(crate) fn eof<S: Filestore>(store: &mut S, books: &mut Books, place: usize, eof: Eof) -> Reply
     requires sound { Sound (world_of (S.state store.old) books.old) }
     requires booked { IsBooked (S.state store.old) books.old }
@@ -77,7 +77,7 @@ fn is_right<S: Filestore>(store: &S, entry: &Entry, sum: u32) -> bool
 }
 
 /// All octets of the file of the transaction at a place are there (§4.6.1): its items are performed from now on where they have
-/// the checksum, and else it ends. Costs the checksum of what is staged.
+/// the checksum, and else it ends. The store is asked for the checksum of what is staged, once.
 pub(crate) fn judge<S: Filestore>(store: &mut S, books: &mut Books, place: usize, sum: u32) -> Reply
     requires sound { Sound (world_of (S.state store.old) books.old) }
     requires booked { IsBooked (S.state store.old) books.old }

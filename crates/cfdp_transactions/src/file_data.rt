@@ -22,7 +22,7 @@ use cfdp_paths::Memory;
 use cfdp_pdus::Piece;
 
 /// File data of the transaction at a place. Where memory is refused, nothing has changed. Costs by its octets and the pieces
-/// that they touch, and, where no octet is missing any more behind an EOF PDU, the checksum of what is staged.
+/// that they touch. If no octet is missing any more after an EOF PDU, the store is asked for the checksum, once.
 pub(crate) fn receive<S: Filestore>(
     store: &mut S,
     books: &mut Books,

@@ -3,6 +3,7 @@
 
 ghost use Rattle.cfdp_transactions.specs.LowerLaws.{LowerLaws};
 ghost use Rattle.cfdp_transactions.specs.Headline.{StartIsSound, NextIsSound, NextIsPromised, Headline};
+ghost use Rattle.cfdp_transactions.specs.Entries.{OnlyMetadataAdds, MetadataAddsItsOwn, OnlyTakeRemoves, TakeRemoves, TakeKeeps, OtherEntriesStay};
 ghost use Rattle.cfdp_transactions.specs.Needs.{StepNeeds, DataNeeds, TakeNeeds, FollowsIsSound, OnlyTakeHandsOut};
 ghost use Rattle.cfdp_transactions.specs.Beside.{DoneIsInstalled, EachKeyIsAPath, FirstIsInstalled, OnlyStepsChange};
 ghost use Rattle.cfdp_transactions.specs.Writable.{OutcomesFit, ReadIsReadable};
@@ -57,6 +58,50 @@ pub fn next_is_promised()
 /// world to the next all that was just said holds.
 pub fn headline()
     ensures { Headline }
+{
+    lower_laws();
+}
+
+/// In a sound world, no event but a Metadata PDU adds a transaction: one that is not known stays so.
+pub fn only_metadata_adds()
+    ensures { OnlyMetadataAdds }
+{
+    lower_laws();
+}
+
+/// In a sound world, a transaction that is known after an event and was not before is the one whose
+/// Metadata PDU came, with that header and that Metadata. So a Metadata PDU adds its own transaction
+/// at most.
+pub fn metadata_adds_its_own()
+    ensures { MetadataAddsItsOwn }
+{
+    lower_laws();
+}
+
+/// In a sound world, a transaction that is known stays so at each event but the request for its own
+/// outcome.
+pub fn only_take_removes()
+    ensures { OnlyTakeRemoves }
+{
+    lower_laws();
+}
+
+/// In a sound world, a transaction that is over is no longer known once its outcome was taken.
+pub fn take_removes()
+    ensures { TakeRemoves }
+{
+    lower_laws();
+}
+
+/// A request for the outcome of a transaction that is live changes nothing.
+pub fn take_keeps()
+    ensures { TakeKeeps }
+{}
+
+/// In a sound world, an event leaves all transactions as they are but its own: each has the same
+/// entry, or none as before.
+pub fn other_entries_stay()
+    ensures { OtherEntriesStay }
 {
     lower_laws();
 }

@@ -33,5 +33,6 @@ pub use config::{Config, ConfigFault};
 pub use event::{Event, NotOurs, event_of, read_event, transaction_of};
 pub use outcome::{Outcome, SharedOutcome};
 pub use phase::Phase;
+pub use ranges::{MOST_GAPS, Range};
 pub use receiver::Core;
 pub use reply::Reply;

@@ -257,9 +257,9 @@ impl<S: Filestore> Core<S> {
     ///
     /// Cost: that of what the event brings. Metadata costs what [`verify`](cfdp_verifier::verify) does and one copy of it.
     /// File data costs its octets and the pieces that they touch, and what the store takes to reach its offset. Where no octet
-    /// is missing any more, the EOF PDU or the file data that came last costs one pass over what is staged. A step costs
-    /// what its request says, and the rename of a directory also a pass over all below it. The outcome costs a copy of the
-    /// requests' names. All else costs a look-up.
+    /// is missing any more, the EOF PDU or the file data that came last asks the store for the checksum of what is staged:
+    /// constant time in a store that keeps it, else one pass. A step costs what its request says, and the rename of a
+    /// directory also a pass over all below it. The outcome costs a copy of the requests' names. All else costs a look-up.
     pub fn apply(&mut self, event: &Event) -> Reply
         ensures follows { Follows self.old.world event.now result self.new.world }
         ensures answered { IsFalse (may_want_memory self.old.takes_no_memory event.now) → IsAnswered result }
