@@ -1,6 +1,6 @@
 -- The outcome that an entity tells of before it is taken can be written, and its Finished PDU has at most 16488 octets.
 use Rattle.std.proofs.Common.{◌≡◌, ℕ, ◌≤◌, List, [], ◌∷◌, length, Bool, true, false, Option, Some, sym, subst, arith}
-use Rattle.std.specs.Prelude.{⊤, None, if◌then◌else◌, remove}
+use Rattle.std.specs.Prelude.{⊤, None, if◌then◌else◌, remove, Result, Ok, Err, IfOk, IfSome}
 use Rattle.std.specs.Option.{option_map}
 use Rattle.std.proofs.lemmas.Bool.{cond_both}
 use Rattle.cfdp_status.specs.declared.transaction.TransactionId.{TransactionId}
@@ -37,6 +37,13 @@ fits_of W k (Some e) fits = fits_by (is_live e.phase) W (record W { table = remo
 -- an outcome can be written
 pub some_fits : (W : World) (id : TransactionId) (o : Outcome) → OnlyWritable W → Some o ≡ outcome_in W id → IsWritable o
 some_fits W id o only some = subst Fits (sym some) (fits_of W (index_of W id) (entry_of W id) (only (Take id ∷ []) (tt, tt)).0)
+
+-- and so can what a call tells of it, where it had memory
+pub told_fits : {E : Type 0} (W : World) (id : TransactionId) (told : Result (Option Outcome) E) → OnlyWritable W →
+    IfOk told (λ o. o ≡ outcome_in W id) → IfOk told (λ o. IfSome o IsWritable)
+told_fits W id (Err why) only same = tt
+told_fits W id (Ok None) only same = tt
+told_fits W id (Ok (Some o)) only same = some_fits W id o only same
 
 -- its length -------------------------------------------------------------------------
 

@@ -9,11 +9,12 @@ ghost use Rattle.cfdp_transactions.specs.Entry.{gaps};
 ghost use Rattle.cfdp_transactions.specs.Engine.{AsksForNone, outcome_in, read_of};
 ghost use Rattle.cfdp_transactions.specs.Events.{about};
 ghost use Rattle.cfdp_transactions.specs.declared.event.Event.{Event as EventOf};
-ghost use Rattle.cfdp_transactions.specs.declared.event.Event.TheVariants.{Data as DataCame, Cancel as CancelCame, Check as CheckCame, Step as StepCame, Take as TakeCame};
+ghost use Rattle.cfdp_transactions.specs.declared.event.Event.TheVariants.{Data as DataCame, Eof as EofCame, Cancel as CancelCame, Check as CheckCame, Step as StepCame, Take as TakeCame};
 ghost use Rattle.cfdp_transactions.specs.Fitting.{OnlyWritable, only_writable_prop};
 ghost use Rattle.cfdp_transactions.specs.Next.{next};
 ghost use Rattle.cfdp_transactions.specs.World.{start};
 ghost use Rattle.cfdp_transactions.specs.Needs.{Follows, may_want_memory};
+ghost use Rattle.cfdp_transactions.specs.Sound.{Sound};
 ghost use Rattle.cfdp_transactions.specs.Writable.{FitsReply, IsReadable, IsWritable, longest_finished};
 ghost use Rattle.cfdp_transactions.specs.Books.{IsAnswered};
 ghost use Rattle.cfdp_entity.specs.Hearing.{IsUnheard, heard};
@@ -22,7 +23,7 @@ ghost use Rattle.cfdp_entity.specs.declared.fault.NotTaken.TheVariants.{Memory a
 
 use crate::{NotHeard, NotTaken};
 use cfdp_paths::Memory;
-use cfdp_pdus::{Header, PduFault, Piece, read_piece};
+use cfdp_pdus::{Eof, Header, PduFault, Piece, read_piece};
 use cfdp_status::TransactionId;
 use cfdp_transactions::{Config, Core, Event, Outcome, Reply, laws, read_event, transaction_of};
 use cfdp_tree::TreeStore;
@@ -56,8 +57,8 @@ impl Entity {
     ///
     /// # Errors
     ///
-    /// [`Memory`] when out of memory. Cost: 128 octets for each block of the filestore, the heads of its index, the
-    /// room of 64 transactions, and with more than 256 blocks 64 lists of marks, together 4 octets for each block.
+    /// [`Memory`] when out of memory. Cost: for each block of the filestore 128 octets, 8 for its index and 6 for the
+    /// ways back from block to block, and the room of 64 transactions.
     pub fn new(alloc: Global, config: Config) -> Result<Entity, Memory>
         ensures { IfOk result (λ entity. entity ≡ start config) }
     {
@@ -74,8 +75,25 @@ impl Entity {
         &self.core
     }
 
-    /// Takes an event, which is lent.
-    fn apply(&mut self, event: &Event) -> Reply
+    /// What is true at all times: the world is sound. Does nothing.
+    pub fn sound(&self)
+        ensures { Sound self.now }
+    {
+        self.core.sound();
+    }
+
+    /// Takes an event, which is lent (CCSDS 727.0-B-5, the procedures at the receiving entity): the reply, and the
+    /// world after it, are those of the table of events. The event is one that may come from a PDU that was read, so
+    /// that each outcome fits a Finished PDU: its header's lengths are 1 to 8 octets and its numbers fit them, an EOF
+    /// PDU's condition code is at most 15, and a request's value has at most 254 octets.
+    ///
+    /// Out of memory the reply is [`Reply::Memory`] and the entity is as before: the event can be handed in again. Only
+    /// a Metadata PDU and a request for an outcome get that reply, and no Metadata PDU that is for another entity, that
+    /// came before, that has more than 64 requests, or that comes while the table is full.
+    ///
+    /// Cost: a Metadata PDU is judged, and copied once. File data costs its octets and the pieces that they touch. A
+    /// step costs what its request says, and an outcome a copy of the requests' names. All else costs a look-up.
+    pub fn apply(&mut self, event: &Event) -> Reply
         requires { IsReadable event.now }
         ensures follows { Follows self.old event.now result self.new }
         ensures fits { FitsReply result }
@@ -85,16 +103,18 @@ impl Entity {
         self.core.apply(event)
     }
 
-    /// The same for an event that is given away: its Metadata is moved into the table, not copied.
-    fn apply_owned(&mut self, event: Event) -> Reply
+    /// The same as [`apply`](Entity::apply), for an event that is given away: its Metadata is moved into the table, not
+    /// copied. Out of memory the event is dropped. Cost: as `apply`, less the copy of the Metadata.
+    pub fn apply_owned(&mut self, event: Event) -> Reply
         requires { IsReadable event }
         ensures follows { Follows self.old event result self.new }
         ensures answered { IsFalse (may_want_memory true event) → IsAnswered result }
+        ensures lean { AsksForNone self.old event → IsAnswered result }
     {
         self.core.apply_owned(event)
     }
 
-    /// Takes an event that never wants memory.
+    /// Takes an event that never asks for memory.
     fn tell(&mut self, event: &Event) -> Reply
         requires readable { IsReadable event.now }
         requires lean { IsFalse (may_want_memory true event.now) }
@@ -103,8 +123,8 @@ impl Entity {
         self.apply(event)
     }
 
-    /// The next item of a transaction is performed (CCSDS 727.0-B-5 §4.9): the file is installed, or a request is performed.
-    /// Takes no memory. Cost: what the request says.
+    /// The next item of a transaction is performed (CCSDS 727.0-B-5 §4.9): the file is installed, or a request is
+    /// performed. Takes no memory. Cost: what the request says.
     pub fn step(&mut self, id: TransactionId) -> Reply
         ensures { next self.old (StepCame id) ≡ (self.new, result) }
     {
@@ -125,12 +145,23 @@ impl Entity {
         self.tell(&Event::Check(id))
     }
 
-    /// Takes a File Data PDU, where its octets lie.
-    fn keep(&mut self, header: &Header, piece: &Piece<'_>) -> Reply
+    /// A File Data PDU came (§5.3), whose octets are lent: they are copied once, into the filestore. The header's
+    /// lengths are 1 to 8 octets, and its numbers fit them. Takes no memory. Cost: the octets and the pieces that they
+    /// touch. Where they are the last that were missing, the checksum of the file is known without another pass.
+    pub fn file_data(&mut self, header: &Header, piece: &Piece<'_>) -> Reply
         requires { IsHeader header.now }
         ensures { next self.old (DataCame header.now piece.now) ≡ (self.new, result) }
     {
         self.core.file_data(header, piece)
+    }
+
+    /// An EOF PDU came (§5.2.2 and §4.6.1). The header's lengths are 1 to 8 octets, and its numbers fit them; the
+    /// condition code is at most 15. Takes no memory. Cost: a look-up.
+    pub fn eof(&mut self, header: &Header, eof: Eof) -> Reply
+        requires { IsReadable (EofCame header.now eof) }
+        ensures { next self.old (EofCame header.now eof) ≡ (self.new, result) }
+    {
+        self.tell(&Event::Eof(*header, eof))
     }
 
     /// Takes a PDU that is no File Data PDU.
@@ -156,9 +187,11 @@ impl Entity {
     ///
     /// # Errors
     ///
-    /// Why the octets bring no event; or want of memory, for a Metadata PDU alone. The entity is as before.
+    /// Why the octets bring no event; or [`PduFault::Memory`] when out of memory, for a Metadata PDU alone. The entity
+    /// is as before.
     ///
-    /// Cost: a pass over the octets, and that of the event. The octets of a File Data PDU are copied once, into the filestore.
+    /// Cost: a pass over the octets, and that of the event. The octets of a File Data PDU are copied once, into the
+    /// filestore.
     pub fn receive(
         &mut self,
         alloc: Global,
@@ -174,7 +207,21 @@ impl Entity {
         if header.toward_sender {
             return Err(NotHeard::NotOurs);
         }
-        Ok((transaction_of(&header), self.keep(&header, &piece)))
+        Ok((transaction_of(&header), self.file_data(&header, &piece)))
+    }
+
+    /// The outcome of a transaction that is over, as it will be handed out: `None` where the transaction is live or not
+    /// known. It fits a Finished PDU, so [`Outcome::octets`] has no length to refuse.
+    ///
+    /// # Errors
+    ///
+    /// [`Memory`] when out of memory, where there is an outcome. Cost: a copy of its requests' names.
+    pub fn outcome(&self, id: TransactionId) -> Result<Option<Outcome>, Memory>
+        ensures outcome { IfOk result (λ outcome. outcome ≡ outcome_in self.now id) }
+        ensures writable { IfOk result (λ outcome. IfSome outcome IsWritable) }
+        ensures lean { IsNone (outcome_in self.now id) → IsOk result }
+    {
+        self.core.outcome(id)
     }
 
     /// The outcome of a transaction, and the octets that are to be sent of it once it is taken: nothing where there is
@@ -199,8 +246,12 @@ impl Entity {
         }
     }
 
-    /// The outcome of a transaction is handed out, which was made before.
-    fn hand_out(&mut self, id: TransactionId, outcome: Outcome) -> Reply
+    /// The outcome of a transaction is handed out, with which it is forgotten (§4.6.1). The outcome was made before, by
+    /// [`outcome`](Entity::outcome): no name of a request is copied once more.
+    ///
+    /// Out of memory the reply is [`Reply::Memory`], the entity is as before, and the outcome is dropped. Cost: a
+    /// look-up, one allocation, the drop of what the table has of the transaction, and a move of the entries after it.
+    pub fn hand_out(&mut self, id: TransactionId, outcome: Outcome) -> Reply
         requires made { outcome_in self.old id ≡ Some outcome }
         ensures follows { Follows self.old (TakeCame id) result self.new }
     {
@@ -215,14 +266,15 @@ impl Entity {
         self.apply(&Event::Take(id))
     }
 
-    /// The outcome of a transaction is taken, with which it is forgotten (CCSDS 727.0-B-5 §4.6.1): the reply, and how many
-    /// octets at the beginning of `out` are the Finished PDU, none where it is not to be sent or there is no outcome. The
-    /// octets behind them are as before. They are at most 16,488.
+    /// The outcome of a transaction is taken, with which it is forgotten (CCSDS 727.0-B-5 §4.6.1): the reply, and how
+    /// many octets at the beginning of `out` are the Finished PDU, none where it is not to be sent or there is no
+    /// outcome. The octets after them are as before. They are at most 16,488.
     ///
     /// # Errors
     ///
-    /// [`NotTaken::TooShort`] where the Finished PDU does not fit in `out`, with its length, and want of memory. Neither comes
-    /// where the transaction is live or not known. The entity and `out` are as before.
+    /// [`NotTaken::TooShort`] where the Finished PDU does not fit in `out`, with its length, and [`NotTaken::Memory`]
+    /// when out of memory. Neither comes where the transaction is live or not known. The entity and `out` are as
+    /// before.
     ///
     /// Cost: one copy of the requests' names into an outcome, and two of its octets.
     pub fn take(
