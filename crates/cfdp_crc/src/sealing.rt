@@ -89,6 +89,7 @@ fn sealed_len(octets: &[u8]) -> Result<Option<u16>, CrcFault>
 #[tactic(auto, unfolding(crate::specs::Seal::sealed_at))]
 pub fn unseal(octets: &mut [u8]) -> Result<usize, CrcFault>
     ensures ok { IfOk result (λ len. unsealed octets.old ≡ Ok (take len octets.new)) }
+    ensures within { IfOk result (λ len. len ≤ length octets.old) }
     ensures err { IfErr result (λ fault. unsealed octets.old ≡ Err fault) }
     ensures unchanged { OnErr result (octets.new ≡ octets.old) }
 {

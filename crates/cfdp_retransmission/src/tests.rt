@@ -9,13 +9,13 @@ use cfdp_directives::Range;
 struct Moment {
     name: &'static str,
     since: u64,
-    count: u32,
+    count: u64,
     now: u64,
     expiry: Expiry,
     after: Timer,
 }
 
-static MOMENTS: [Moment; 8] = [
+static MOMENTS: [Moment; 9] = [
     Moment {
         name: "it has just begun",
         since: 5,
@@ -74,6 +74,17 @@ static MOMENTS: [Moment; 8] = [
         after: Timer { since: 5, count: 2 },
     },
     Moment {
+        name: "it expired as often as can be counted",
+        since: 5,
+        count: u64::MAX,
+        now: 15,
+        expiry: Expiry::Limit,
+        after: Timer {
+            since: 15,
+            count: 0,
+        },
+    },
+    Moment {
         name: "a moment before it began",
         since: 5,
         count: 0,
@@ -99,8 +110,13 @@ fn timers(rt: HostRuntime) {
     for row in &MOMENTS {
         let mut timer = Timer {
             since: row.since,
-            count: row.count.min(1_000),
+            count: row.count,
         };
+        assert!(rt;
+            timer.is_due(10, row.now) == (row.expiry != Expiry::NotDue),
+            "{}: due",
+            row.name
+        );
         assert!(rt;
             timer.expiry(10, 3, row.now) == row.expiry,
             "{}: expiry",
@@ -116,11 +132,31 @@ fn timers(rt: HostRuntime) {
 }
 
 #[test]
-fn a_limit_of_one(rt: HostRuntime) {
-    let mut timer = Timer::start(7);
-    assert!(rt; timer.serve(1, 1, 7) == Expiry::NotDue);
-    assert!(rt; timer.serve(1, 1, 8) == Expiry::Limit);
-    assert!(rt; timer == Timer::start(8));
+fn a_limit_of_at_most_one(rt: HostRuntime) {
+    for limit in [0, 1] {
+        let mut timer = Timer::start(7);
+        assert!(rt;
+            timer.serve(1, limit, 7) == Expiry::NotDue,
+            "limit {limit}: not due"
+        );
+        assert!(rt;
+            timer.serve(1, limit, 8) == Expiry::Limit,
+            "limit {limit}: reached"
+        );
+        assert!(rt; timer == Timer::start(8), "limit {limit}: begun anew");
+    }
+}
+
+#[test]
+fn again_counts_one_more(rt: HostRuntime) {
+    let timer = Timer { since: 5, count: 2 }.again(40);
+    assert!(rt;
+        timer
+            == Timer {
+                since: 40,
+                count: 3
+            }
+    );
 }
 
 /// A sequence from one offset to another, and its PDUs: the scope of each, and how many requests it has.

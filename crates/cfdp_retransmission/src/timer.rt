@@ -1,7 +1,8 @@
 //! A timer that counts how often it expired.
 
-ghost use Rattle.std.specs.Prelude.{◌≡◌, ◌<◌, ◌+◌, ◌^◌};
-ghost use Rattle.cfdp_retransmission.specs.Timers.{after, expiry, restarted};
+ghost use Rattle.std.specs.Prelude.{◌≡◌, ◌<◌, ◌+◌, ◌^◌, nat_le};
+ghost use Rattle.cfdp_retransmission.specs.Timers.{after, expiry, passed, restarted};
+ghost use Rattle.cfdp_retransmission.specs.declared.timer.Expiry.TheVariants.{Again};
 
 /// A timer: the moment from which it runs, and how often it expired in a row. Moments and intervals are in ticks of the caller's clock.
 #[derive(Clone, Copy, Debug, PartialEq, Eq)]
@@ -9,7 +10,7 @@ pub struct Timer {
     /// The moment from which it runs.
     pub since: u64,
     /// How often it expired since something new came.
-    pub count: u32,
+    pub count: u64,
 }
 
 /// Whether a timer has expired at a moment.
@@ -34,40 +35,53 @@ impl Timer {
         }
     }
 
-    /// Whether it has expired at the moment `now`: `interval` ticks after it began or later. The expiry with the number `limit` in a row
-    /// reaches the limit. A moment before the timer began is no fault: it is not due then. In constant time.
-    pub fn expiry(&self, interval: u64, limit: u32, now: u64) -> Expiry
-        requires { self.now.count + 1 < 2 ^ 32 }
-        ensures { result ≡ expiry interval limit now self.now }
+    /// Whether it has expired at the moment `now`: `interval` ticks after it began or later. A moment before it began is no fault: it is
+    /// not due then. In constant time.
+    pub fn is_due(&self, interval: u64, now: u64) -> bool
+        ensures { result ≡ nat_le (self.now.since + interval) now }
     {
-        let is_due = match now.checked_sub(self.since) {
+        match now.checked_sub(self.since) {
             Some(elapsed) => elapsed >= interval,
             None => false,
-        };
-        if !is_due {
+        }
+    }
+
+    /// Whether it has expired at the moment `now`, as [`Timer::is_due`] says. The expiry with the number `limit` in a row reaches the
+    /// limit. In constant time.
+    pub fn expiry(&self, interval: u64, limit: u64, now: u64) -> Expiry
+        ensures { result ≡ expiry interval limit now self.now }
+    {
+        if !self.is_due(interval, now) {
             return Expiry::NotDue;
         }
-        if limit <= self.count + 1 {
+        if limit.saturating_sub(1) <= self.count {
             Expiry::Limit
         } else {
             Expiry::Again
         }
     }
 
+    /// The timer begun anew, with one expiry more in its count. In constant time.
+    pub fn again(&self, now: u64) -> Timer
+        requires { self.now.count + 1 < 2 ^ 64 }
+        ensures { result ≡ passed now self.now Again }
+    {
+        Timer {
+            since: now,
+            count: self.count + 1,
+        }
+    }
+
     /// Serves the timer at the moment `now`, and returns whether it had expired. Then it begins anew, with one expiry more in its count, or
     /// with none where the limit was reached. Otherwise it stays as it is. In constant time.
-    pub fn serve(&mut self, interval: u64, limit: u32, now: u64) -> Expiry
-        requires { self.old.count + 1 < 2 ^ 32 }
+    pub fn serve(&mut self, interval: u64, limit: u64, now: u64) -> Expiry
         ensures expiry { result ≡ expiry interval limit now self.old }
         ensures timer { self.new ≡ after interval limit now self.old }
     {
         let expiry = self.expiry(interval, limit, now);
         match expiry {
             Expiry::NotDue => {}
-            Expiry::Again => {
-                self.since = now;
-                self.count += 1;
-            }
+            Expiry::Again => *self = self.again(now),
             Expiry::Limit => *self = Timer::start(now),
         }
         expiry

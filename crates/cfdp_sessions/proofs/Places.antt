@@ -1,9 +1,11 @@
 -- Where a session is.
-use Rattle.std.proofs.Common.{◌≡◌, ℕ, suc, ◌<◌, ◌≤◌, Bool, true, false, if◌then◌else◌, List, [], ◌∷◌, length, get_or, Option, Some, None, refl, ap, arith}
+use Rattle.std.proofs.Common.{◌≡◌, inl, inr, ℕ, zero, suc, ◌<◌, ◌≤◌, Bool, true, false, if◌then◌else◌, List, [], ◌∷◌, length, get_or, Option, Some, None, refl, sym, ap, ◌∙◌, arith}
 use Rattle.std.specs.Prelude.{slice_get, slice_set, remove}
+use Rattle.std.proofs.lemmas.Bool.{cond-true, cond-false, cases_Bool}
 use Rattle.cfdp_status.specs.declared.transaction.TransactionId.{TransactionId}
 use Rattle.cfdp_leases.specs.Leases.{is_same}
-use Rattle.cfdp_sessions.specs.Sessions.{SessionFields, name_of, found, place_of, replaced, without}
+use Rattle.cfdp_sessions.specs.Sessions.{SessionFields, name_of, found, IsFound, place_of, replaced, without, AreDistinct}
+use Rattle.cfdp_sessions.proofs.Names.{same_self, same_is, found_first, found_either, no_some}
 
 -- by whether the first one has the name
 found_if : (b : Bool) (s : SessionFields) (ss : List SessionFields) (place : ℕ) (rest : Option SessionFields) → rest ≡ slice_get ss place →
@@ -63,3 +65,32 @@ none_if false s ss place rest h e = e (omega (arith, h))
 pub found_none : (ss : List SessionFields) (id : TransactionId) → length ss ≤ place_of ss id → found ss id ≡ None
 found_none [] id h = refl
 found_none (s ∷ ss) id h = none_if (is_same (name_of s) id) s ss (place_of ss id) (found ss id) h (found_none ss id)
+
+-- ---- by index, where the names are distinct
+
+pub some_same : (x s : SessionFields) → Some x ≡ Some s → x ≡ s
+some_same x s e = cc
+
+-- a session at an index is found by its name
+pub found_by_name : (ss : List SessionFields) (i : ℕ) (s : SessionFields) → slice_get ss i ≡ Some s → IsFound ss (name_of s)
+found_by_name [] i s e = absurd cc
+found_by_name (x ∷ xs) zero s e =
+    found_first x xs (name_of s) (ap (λ (t : SessionFields). is_same (name_of t) (name_of s)) (some_same x s e) ∙ same_self (name_of s))
+found_by_name (x ∷ xs) (suc i) s e = found_either x xs (name_of s) (found_by_name xs i s e)
+
+-- and one of the same name that is set there replaces it
+pub set_replaced : (ss : List SessionFields) (i : ℕ) (s new : SessionFields) → AreDistinct ss → slice_get ss i ≡ Some s → name_of s ≡ name_of new →
+    slice_set ss i new ≡ replaced ss new
+set_replaced [] i s new d e same = absurd cc
+set_replaced (x ∷ xs) zero s new d e same =
+    let here : is_same (name_of x) (name_of new) ≡ true =
+    ap (λ (n : TransactionId). is_same n (name_of new)) (ap name_of (some_same x s e) ∙ same) ∙ same_self (name_of new) in
+    sym (cond-true (is_same (name_of x) (name_of new)) (new ∷ xs) (x ∷ replaced xs new) here)
+set_replaced (x ∷ xs) (suc i) s new d e same = elim (cases_Bool (is_same (name_of x) (name_of new))) [
+  | inl here ↦
+      let later = found_by_name xs i s e in
+      absurd (no_some later.0 (sym d.0 ∙ ap (found xs) (same_is (name_of x) (name_of new) here ∙ sym same) ∙ later.1))
+  | inr there ↦
+      ap (λ (ys : List SessionFields). x ∷ ys) (set_replaced xs i s new d.1 e same)
+      ∙ sym (cond-false (is_same (name_of x) (name_of new)) (new ∷ xs) (x ∷ replaced xs new) there)
+]

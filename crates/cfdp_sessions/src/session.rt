@@ -33,7 +33,8 @@ pub enum Stage {
     Waiting,
 }
 
-/// What is kept of one transaction. Contracts see it without where its octets are.
+/// What is kept of one transaction. Contracts see it without where its octets are. What is sent of it always fits its PDUs: its numbers
+/// fit their fields, and its Finished PDU has 16,488 octets at most.
 #[derive(Debug, Drop)]
 pub struct Session {
     /// The header of the PDU that began it; that of its Metadata PDU once that came.
@@ -54,10 +55,14 @@ pub struct Session {
 
 impl Model for Session {
     ghost use Rattle.cfdp_sessions.specs.Sessions.{SessionFields};
+    ghost use Rattle.std.specs.Prelude.{vec_len};
+    ghost use Rattle.cfdp_sessions.specs.Sessions.{IsSessionWith};
 
     ghost Value = { SessionFields };
 
     ghost view = { λ s. record { header = s.header; stage = s.stage; timer = s.timer; alive_at = s.alive_at; cause = s.cause; is_abandoned = s.is_abandoned; finished = s.finished.items } };
+
+    ghost invariant = { λ s. IsSessionWith s.header s.stage s.timer s.cause (vec_len s.finished) };
 }
 
 impl Session {

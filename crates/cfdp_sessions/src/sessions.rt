@@ -1,9 +1,14 @@
 //! The sessions of all transactions.
 
-ghost use Rattle.std.specs.Prelude.{◌≡◌, ◌<◌, ◌++◌, ◌∷◌, [], length, nat_le, IfSome, IfOk, IfNone, Some, None};
-ghost use Rattle.cfdp_sessions.specs.Sessions.{found, place_of, replaced, without};
+ghost use Rattle.std.specs.Prelude.{◌≡◌, ◌<◌, ◌≤◌, ◌++◌, ◌∷◌, [], length, nat_le, slice_get, vec_len};
+ghost use Rattle.std.specs.Prelude.{IfSome, IfOk, IfNone, Some, None, true};
+ghost use Rattle.cfdp_sessions.specs.Sessions.{AreDistinct, IsEnding, SessionFields, found, name_of};
+ghost use Rattle.cfdp_sessions.specs.Sessions.{place_of, replaced, without};
+ghost use Rattle.cfdp_sessions.specs.declared.session.Stage.TheVariants.{Over, Waiting};
+ghost use Rattle.cfdp_transactions.specs.Writable.{longest_finished};
 
-use crate::Session;
+use crate::{Ending, Session, Stage};
+use cfdp_retransmission::Timer;
 use cfdp_status::TransactionId;
 use std::alloc::{AllocError, Global};
 use std::marker::Model;
@@ -11,8 +16,8 @@ use std::marker::Model;
 /// How many sessions there are at most.
 pub const MOST_SESSIONS: usize = 64;
 
-/// At most 64 sessions, in the order in which they began. Contracts see the list of them. Only [`Sessions::new`] takes memory; the octets
-/// of a Finished PDU are taken by whoever makes it.
+/// At most 64 sessions, no two of one name, in the order in which they began. Contracts see the list of them. Only
+/// [`Sessions::new`] takes memory; the octets of a Finished PDU are taken by whoever makes it.
 #[derive(Drop)]
 pub struct Sessions {
     list: Vec<Session>,
@@ -21,13 +26,13 @@ pub struct Sessions {
 impl Model for Sessions {
     ghost use Rattle.std.specs.Prelude.{List, ◌≤◌, length, vec_len};
     ghost use Rattle.std.specs.Vec.{vec_capacity};
-    ghost use Rattle.cfdp_sessions.specs.Sessions.{SessionFields};
+    ghost use Rattle.cfdp_sessions.specs.Sessions.{AreDistinct, SessionFields};
 
     ghost Value = { List SessionFields };
 
     ghost view = { λ s. s.list.items };
 
-    ghost invariant = { λ s. (vec_len s.list ≤ 64) × (64 ≤ vec_capacity s.list) };
+    ghost invariant = { λ s. (vec_len s.list ≤ 64) × (64 ≤ vec_capacity s.list) × AreDistinct s.list.items };
 }
 
 impl Sessions {
@@ -92,9 +97,102 @@ impl Sessions {
         }
     }
 
-    /// Adds a session after the others. Takes no memory.
+    /// The index of a transaction's session, if it has one. Takes no memory. Cost: a pass over the sessions.
+    pub fn find(&self, id: TransactionId) -> Option<usize>
+        ensures some { IfSome result (λ index. found self.now id ≡ slice_get self.now index) }
+        ensures here { IfSome result (λ index. index < length self.now) }
+        ensures none { IfNone result (found self.now id ≡ None) }
+    {
+        let place = self.place(id);
+        if place < self.list.len() {
+            Some(place)
+        } else {
+            None
+        }
+    }
+
+    /// No two sessions have one name. Does nothing.
+    pub fn distinct(&self)
+        ensures { AreDistinct self.now }
+    {
+        let _list = &self.list;
+    }
+
+    /// Gives the session with this index another timer. Takes no memory. In constant time.
+    pub fn set_timer(&mut self, index: usize, timer: Timer)
+        requires here { index < length self.old }
+        requires counted { timer.count ≤ timer.since }
+        ensures { (session : SessionFields) → slice_get self.old index ≡ Some session
+            → self.new ≡ replaced self.old (record session { timer = timer }) }
+    {
+        let session = &mut self.list[index];
+        session.timer = timer;
+    }
+
+    /// Notes when the last Keep Alive PDU of the session with this index was sent. Takes no memory. In constant time.
+    pub fn set_alive_at(&mut self, index: usize, moment: u64)
+        requires here { index < length self.old }
+        ensures { (session : SessionFields) → slice_get self.old index ≡ Some session
+            → self.new ≡ replaced self.old (record session { alive_at = moment }) }
+    {
+        let session = &mut self.list[index];
+        session.alive_at = moment;
+    }
+
+    /// The transaction of the session with this index is over, and is not in the core's table. Takes no memory. In
+    /// constant time.
+    pub fn end(&mut self, index: usize, ending: Ending)
+        requires here { index < length self.old }
+        requires sized { (session : SessionFields) → slice_get self.old index ≡ Some session
+            → IsEnding session.header ending }
+        ensures { (session : SessionFields) → slice_get self.old index ≡ Some session
+            → self.new ≡ replaced self.old (record session { stage = Over ending }) }
+    {
+        let session = &mut self.list[index];
+        session.stage = Stage::Over(ending);
+    }
+
+    /// Notes the condition code, 0 to 15, for which this entity cancelled the transaction of the session with this index.
+    /// Takes no memory. In constant time.
+    pub fn set_cause(&mut self, index: usize, condition: u8)
+        requires here { index < length self.old }
+        requires condition { condition < 16 }
+        ensures { (session : SessionFields) → slice_get self.old index ≡ Some session
+            → self.new ≡ replaced self.old (record session { cause = Some condition }) }
+    {
+        let session = &mut self.list[index];
+        session.cause = Some(condition);
+    }
+
+    /// Notes that the transaction of the session with this index is abandoned. Takes no memory. In constant time.
+    pub fn abandon(&mut self, index: usize)
+        requires here { index < length self.old }
+        ensures { (session : SessionFields) → slice_get self.old index ≡ Some session
+            → self.new ≡ replaced self.old (record session { is_abandoned = true }) }
+    {
+        let session = &mut self.list[index];
+        session.is_abandoned = true;
+    }
+
+    /// The session with this index waits from now on for the acknowledgement of its Finished PDU, whose octets are given.
+    /// Takes no memory. In constant time.
+    pub fn wait(&mut self, index: usize, finished: Vec<u8>, timer: Timer)
+        requires here { index < length self.old }
+        requires short { vec_len finished ≤ longest_finished }
+        requires counted { timer.count ≤ timer.since }
+        ensures { (session : SessionFields) → slice_get self.old index ≡ Some session
+            → self.new ≡ replaced self.old (record session { stage = Waiting; finished = finished.items; timer = timer }) }
+    {
+        let session = &mut self.list[index];
+        session.stage = Stage::Waiting;
+        session.finished = finished;
+        session.timer = timer;
+    }
+
+    /// Adds a session of a new name after the others, where there are fewer than 64. Takes no memory. In constant time.
     pub fn add(&mut self, session: Session)
-        requires { length self.old < 64 }
+        requires room { length self.old < 64 }
+        requires new { found self.old (name_of session) ≡ None }
         ensures { self.new ≡ self.old ++ session ∷ [] }
     {
         self.list.push_reserved(session);
@@ -110,7 +208,8 @@ impl Sessions {
         }
     }
 
-    /// Removes a transaction's session, if it has one, and keeps the order of the others. Takes no memory. Cost: a pass over the sessions.
+    /// Removes a transaction's session, if it has one, and keeps the order of the others. Takes no memory. Cost: a pass
+    /// over the sessions.
     pub fn close(&mut self, id: TransactionId)
         ensures { self.new ≡ without self.old id }
     {

@@ -2,7 +2,7 @@
 
 ghost use Rattle.std.specs.Prelude.{◌<◌};
 
-use crate::{Closed, MOST_SESSIONS, Session, Sessions, Stage};
+use crate::{Closed, Ending, MOST_SESSIONS, Session, Sessions, Stage};
 use cfdp_pdus::Header;
 use cfdp_retransmission::Timer;
 use cfdp_status::TransactionId;
@@ -35,9 +35,9 @@ fn session(alloc: Global, source: u64, number: u64, alive_at: u64) -> Session {
     }
 }
 
-/// Adds a session where there is room.
+/// Adds a session where there is room, and none of its name.
 fn add(sessions: &mut Sessions, session: Session) {
-    if sessions.len() < MOST_SESSIONS {
+    if sessions.len() < MOST_SESSIONS && sessions.find(session.name()).is_none() {
         sessions.add(session);
     }
 }
@@ -108,13 +108,189 @@ fn names_at_their_limits(rt: HostRuntime) -> Result<(), AllocError> {
     Ok(())
 }
 
-#[test]
-fn one_is_replaced(rt: HostRuntime) -> Result<(), AllocError> {
-    let alloc = rt.alloc();
+/// Three sessions of one source, numbered from 0.
+fn three(alloc: Global) -> Result<Sessions, AllocError> {
     let mut sessions = Sessions::new(alloc)?;
     for number in 0..3u64 {
         add(&mut sessions, session(alloc, 1, number, 0));
     }
+    Ok(sessions)
+}
+
+#[test]
+fn finds_the_index(rt: HostRuntime) -> Result<(), AllocError> {
+    let sessions = three(rt.alloc())?;
+    for (number, index) in [(0, 0), (1, 1), (2, 2)] {
+        assert!(&rt;
+            sessions.find(id(1, number)) == Some(index),
+            "number {number}"
+        );
+    }
+    assert!(&rt; sessions.find(id(2, 1)).is_none(), "another source");
+    assert!(&rt; sessions.find(id(1, 3)).is_none(), "another number");
+    Ok(())
+}
+
+/// A call that changes the session with an index.
+#[derive(Clone, Copy)]
+enum Call {
+    Timer,
+    AliveAt,
+    End,
+    Cause,
+    Abandon,
+    Wait,
+}
+
+/// Changes the session of a transaction, if it has one.
+fn change(
+    alloc: Global,
+    sessions: &mut Sessions,
+    id: TransactionId,
+    call: Call,
+) -> Result<(), AllocError> {
+    let Some(index) = sessions.find(id) else {
+        return Ok(());
+    };
+    match call {
+        Call::Timer => sessions.set_timer(index, Timer { since: 5, count: 1 }),
+        Call::AliveAt => sessions.set_alive_at(index, 6),
+        Call::End => sessions.end(index, ENDING),
+        Call::Cause => sessions.set_cause(index, 15),
+        Call::Abandon => sessions.abandon(index),
+        Call::Wait => sessions.wait(
+            index,
+            vec![in alloc; 1, 2, 3]?,
+            Timer { since: 7, count: 0 },
+        ),
+    }
+    Ok(())
+}
+
+const ENDING: Ending = Ending {
+    condition: 15,
+    is_sent: true,
+    at_fault: 0,
+};
+
+/// What a session has beside its header, and how many octets its Finished PDU has.
+#[derive(Clone, Copy, PartialEq, Eq)]
+struct Kept {
+    stage: Stage,
+    timer: Timer,
+    alive_at: u64,
+    cause: Option<u8>,
+    is_abandoned: bool,
+    octets: usize,
+}
+
+const BEFORE: Kept = Kept {
+    stage: Stage::Known,
+    timer: Timer { since: 0, count: 0 },
+    alive_at: 0,
+    cause: None,
+    is_abandoned: false,
+    octets: 0,
+};
+
+fn kept_of(session: &Session) -> Kept {
+    Kept {
+        stage: session.stage,
+        timer: session.timer,
+        alive_at: session.alive_at,
+        cause: session.cause,
+        is_abandoned: session.is_abandoned,
+        octets: session.finished.len(),
+    }
+}
+
+/// A call, and what the session has after it.
+struct Row {
+    name: &'static str,
+    call: Call,
+    after: Kept,
+}
+
+static ROWS: [Row; 6] = [
+    Row {
+        name: "another timer",
+        call: Call::Timer,
+        after: Kept {
+            timer: Timer { since: 5, count: 1 },
+            ..BEFORE
+        },
+    },
+    Row {
+        name: "a Keep Alive PDU was sent",
+        call: Call::AliveAt,
+        after: Kept {
+            alive_at: 6,
+            ..BEFORE
+        },
+    },
+    Row {
+        name: "it is over",
+        call: Call::End,
+        after: Kept {
+            stage: Stage::Over(ENDING),
+            ..BEFORE
+        },
+    },
+    Row {
+        name: "this entity cancelled it",
+        call: Call::Cause,
+        after: Kept {
+            cause: Some(15),
+            ..BEFORE
+        },
+    },
+    Row {
+        name: "it is abandoned",
+        call: Call::Abandon,
+        after: Kept {
+            is_abandoned: true,
+            ..BEFORE
+        },
+    },
+    Row {
+        name: "it waits",
+        call: Call::Wait,
+        after: Kept {
+            stage: Stage::Waiting,
+            timer: Timer { since: 7, count: 0 },
+            octets: 3,
+            ..BEFORE
+        },
+    },
+];
+
+#[test]
+fn one_is_changed(rt: HostRuntime) -> Result<(), AllocError> {
+    let alloc = rt.alloc();
+    for row in &ROWS {
+        let mut sessions = three(alloc)?;
+        change(alloc, &mut sessions, id(1, 1), row.call)?;
+        for (number, expected) in [(0, BEFORE), (1, row.after), (2, BEFORE)] {
+            let found = sessions.get(id(1, number));
+            assert!(&rt;
+                found.is_some_and(|s| kept_of(s) == expected),
+                "{}: number {number}",
+                row.name
+            );
+        }
+        assert!(&rt;
+            has_numbers(&sessions, &[0, 1, 2]),
+            "{}: the same names, in order",
+            row.name
+        );
+    }
+    Ok(())
+}
+
+#[test]
+fn one_is_replaced(rt: HostRuntime) -> Result<(), AllocError> {
+    let alloc = rt.alloc();
+    let mut sessions = three(alloc)?;
     sessions.put(session(alloc, 1, 1, 9));
     sessions.put(session(alloc, 2, 1, 9));
     assert!(&rt;
