@@ -1,8 +1,8 @@
 -- What comes in answer to NAK PDUs completes the file.
-use Rattle.std.specs.Prelude.{if◌then◌else◌, nat_lt, nat_le, ◌==◌, ◌||◌, is_some, slice_get, slice_set}
+use Rattle.std.specs.Prelude.{nat_lt, ◌==◌, is_some, slice_get, slice_set}
 use Rattle.std.specs.List.{AllByRecursion, list_all}
-use Rattle.std.proofs.Common.{◌≡◌, ◌⊎◌, inl, inr, ℕ, zero, suc, ◌+◌, ◌<◌, ◌≤◌, min, Bool, true, false, not, ◌&&◌, List, [], ◌∷◌, length, Option, Some, None, refl, sym, ap, subst, ◌∙◌, arith}
-use Rattle.std.proofs.lemmas.Bool.{cond_both, cond-true, cond-false, cases_Bool, cases_lt, and_from, eq-eqb, ne_eqb, le-ltb}
+use Rattle.std.proofs.Common.{◌≡◌, ◌⊎◌, inl, inr, ℕ, zero, suc, ◌+◌, ◌<◌, ◌≤◌, min, Bool, true, false, List, [], ◌∷◌, length, Option, Some, None, refl, sym, ap, subst, ◌∙◌, arith}
+use Rattle.std.proofs.lemmas.Bool.{cond_both, cond-true, cond-false, cases_lt, and_from, eq-eqb, ne_eqb, le-ltb}
 use Rattle.cfdp_pdus.specs.Values.{FileDataFields}
 use Rattle.cfdp_pdus.specs.declared.eof.Eof.{Eof}
 use Rattle.cfdp_pdus.specs.declared.header.Header.{Header}
@@ -13,12 +13,11 @@ use Rattle.cfdp_transactions.specs.Entry.{Entry, id_of, takes_data}
 use Rattle.cfdp_transactions.specs.Entry as Entries
 use Rattle.cfdp_transactions.specs.Received.{Received, brought, kept_with, pieces, is_whole}
 use Rattle.cfdp_transactions.specs.ReceivedLaws.{octet_at, or_else}
-use Rattle.cfdp_transactions.specs.declared.event.Event.{Event}
 use Rattle.cfdp_transactions.specs.declared.event.Event.TheVariants.{Data as DataCame}
 use Rattle.cfdp_transactions.specs.declared.phase.Phase.{Phase}
-use Rattle.cfdp_transactions.specs.declared.phase.Phase.TheVariants.{Receiving, Awaiting, Executing, Refused, Done, Ended}
+use Rattle.cfdp_transactions.specs.declared.phase.Phase.TheVariants.{Awaiting, Executing, Ended}
 use Rattle.cfdp_transactions.specs.declared.reply.Reply.{Reply}
-use Rattle.cfdp_transactions.specs.Next.{for_us, next, run}
+use Rattle.cfdp_transactions.specs.Next.{next, run}
 use Rattle.cfdp_transactions.specs.World.{World, bound, place_of, entry_of, index_of}
 use Rattle.cfdp_transactions.proofs.Finding.{found_name as entry_name}
 use Rattle.cfdp_transactions.proofs.Lookups.{set_own}

@@ -1,5 +1,5 @@
 -- No two sessions have one name, and none that of a transaction that is closed.
-use Rattle.std.proofs.Common.{◌≡◌, inl, inr, Bool, true, false, List, [], ◌∷◌, ◌++◌, Option, Some, None, refl, sym, ap, subst, ◌∙◌}
+use Rattle.std.proofs.Common.{◌≡◌, inl, inr, true, false, List, [], ◌∷◌, None, refl, sym, ap, subst, ◌∙◌}
 use Rattle.std.proofs.lemmas.Bool.{cases_Bool, or_cases}
 use Rattle.cfdp_status.specs.declared.transaction.TransactionId.{TransactionId}
 use Rattle.cfdp_leases.specs.Leases.{is_same}
@@ -19,7 +19,7 @@ pub record Apart (sessions : List SessionFields) (closed : List TransactionId) :
   pub distinct : AreDistinct sessions
   pub over : (id : TransactionId) → closed_in closed id ≡ true → found sessions id ≡ None
 
-apart_by : (R : State) (t : TransactionId) (p : Turning.Parts) → Shape R t p → Apart R.sessions R.closed.names → Apart p.sessions p.closed.names
+pub apart_by : (R : State) (t : TransactionId) (p : Turning.Parts) → Shape R t p → Apart R.sessions R.closed.names → Apart p.sessions p.closed.names
 apart_by R t p (Keeps a e) apart = subst (λ (q : Turning.Parts). Apart q.sessions q.closed.names) (sym e) apart
 apart_by R t p (Puts s a name e) apart = subst (λ (q : Turning.Parts). Apart q.sessions q.closed.names) (sym e) (record {
   distinct = replaced_distinct R.sessions s apart.distinct;

@@ -8,13 +8,12 @@ use Rattle.cfdp_transactions.specs.declared.event.Event.TheVariants.{Metadata as
 use Rattle.cfdp_transactions.specs.Entry.{id_of}
 use Rattle.cfdp_transactions.specs.World.{World, next_runnable}
 use Rattle.cfdp_transactions.specs.Next.{next, run}
-use Rattle.cfdp_sessions.specs.Sessions.{SessionFields, name_of, found, IsFound, replaced, without, AreDistinct}
+use Rattle.cfdp_sessions.specs.Sessions.{SessionFields, name_of}
 use Rattle.cfdp_sessions.specs.declared.session.Stage.{Stage}
 use Rattle.cfdp_sessions.specs.declared.session.Stage.TheVariants.{Held, Known, Over, Waiting}
 use Rattle.cfdp_receiver.specs.declared.mib.Handler.{Handler}
 use Rattle.cfdp_receiver.specs.declared.mib.Handler.TheVariants as handlers
-use Rattle.cfdp_receiver.specs.declared.mib.Mib.{Mib}
-use Rattle.cfdp_receiver.specs.State.{State, begin, AnswerFields, Input, MetadataPdu, DataPdu, EofPdu, AckPdu, PromptPdu, OtherPdu, Expire, Work, Finish, CancelAsked, ForgetAsked, now_of, session_of, is_closed, is_full, At, At_held, At_receiving, At_awaiting, At_executing, At_over, At_waiting, at_of, session_status, status_of}
+use Rattle.cfdp_receiver.specs.State.{State, Input, MetadataPdu, DataPdu, EofPdu, AckPdu, PromptPdu, OtherPdu, Expire, Work, Finish, CancelAsked, ForgetAsked, now_of, session_of, is_closed, is_full, at_of}
 use Rattle.cfdp_receiver.specs.Due.{Due, Nothing_due, Stage_due, Alive_due, first_due, first_over}
 use Rattle.cfdp_receiver.specs.Handing.{later, metadata_in_stage, metadata_events, where_known, of_session, makes_checks, limit_events, due_events, step_of, take_of, events_of, handed}
 use Rattle.cfdp_receiver.specs.Turning.{after, all_handed}

@@ -1,6 +1,6 @@
 -- A session is known exactly where the core has an entry of its name.
-use Rattle.std.specs.Prelude.{if◌then◌else◌, slice_get, slice_set, remove, is_some, ◌==◌, IsTrue}
-use Rattle.std.proofs.Common.{◌≡◌, ◌≢◌, ◌⊎◌, inl, inr, ℕ, zero, suc, ◌+◌, ◌≤◌, Bool, true, false, not, ◌&&◌, ◌||◌, List, [], ◌∷◌, ◌++◌, length, Option, Some, None, refl, sym, ap, subst, ◌∙◌, arith}
+use Rattle.std.specs.Prelude.{if◌then◌else◌, slice_get, is_some, ◌==◌}
+use Rattle.std.proofs.Common.{◌≡◌, ◌≢◌, inl, inr, ℕ, Bool, true, false, not, ◌&&◌, ◌||◌, List, [], ◌∷◌, ◌++◌, Option, Some, None, refl, sym, ap, subst, ◌∙◌}
 use Rattle.std.specs.List.{AllByRecursion}
 use Rattle.std.proofs.lemmas.Bool.{cond_both, cond-true, cond-false, cases_Bool}
 use Rattle.cfdp_status.specs.declared.transaction.TransactionId.{TransactionId}
@@ -11,30 +11,23 @@ use Rattle.cfdp_directives.specs.declared.ack.Ack.{Ack}
 use Rattle.cfdp_directives.specs.declared.ack.TransactionStatus.TheVariants.{Active}
 use Rattle.cfdp_directives.specs.declared.prompt.Prompt.{Prompt}
 use Rattle.cfdp_pdus.specs.declared.header.Header.{Header}
-use Rattle.cfdp_transactions.specs.Admission.{metadata_came}
-use Rattle.cfdp_transactions.specs.Delivery.{data_came, eof_came, checked}
-use Rattle.cfdp_transactions.specs.Ending.{cancelled, taken_out}
+use Rattle.cfdp_transactions.specs.Ending.{taken_out}
 use Rattle.cfdp_transactions.specs.Execution.{stepped}
-use Rattle.cfdp_transactions.specs.Entry.{Entry, is_live, is_executing, id_of}
-use Rattle.cfdp_transactions.specs.Entry as Entries
+use Rattle.cfdp_transactions.specs.Entry.{Entry, is_live, id_of}
 use Rattle.cfdp_transactions.specs.declared.event.Event.{Event}
 use Rattle.cfdp_transactions.specs.declared.event.Event.TheVariants.{Metadata as MetadataCame, Data as DataCame, Eof as EofCame, Step, Cancel, Check, Take}
 use Rattle.cfdp_transactions.specs.declared.outcome.Outcome.{Outcome}
 use Rattle.cfdp_transactions.specs.declared.phase.Phase.{Phase}
 use Rattle.cfdp_transactions.specs.declared.phase.Phase.TheVariants.{Receiving, Awaiting, Executing, Refused, Done, Ended}
 use Rattle.cfdp_transactions.specs.declared.reply.Reply.{Reply}
-use Rattle.cfdp_transactions.specs.Events.{about}
-use Rattle.cfdp_transactions.specs.LowerLaws.{LowerLaws}
-use Rattle.cfdp_transactions.specs.Next.{for_us, next, run, replies}
-use Rattle.cfdp_transactions.specs.Sound.{EachTwo, Each, Sound}
+use Rattle.cfdp_transactions.specs.Events.{about, is_take}
+use Rattle.cfdp_transactions.specs.Entries.{OnlyTakeRemoves, TakeRemoves}
+use Rattle.cfdp_transactions.specs.Next.{next, run, replies}
+use Rattle.cfdp_transactions.specs.Sound.{Sound}
 use Rattle.cfdp_transactions.specs.World.{World, place_of, entry_of, index_of, next_runnable}
-use Rattle.cfdp_transactions.proofs.Change.{Moves}
-use Rattle.cfdp_transactions.proofs.EachEvent.{cancelled_moves, check_moves, eof_moves, step_moves_in, data_moves}
-use Rattle.cfdp_transactions.proofs.Finding.{found_name as entry_name}
-use Rattle.cfdp_transactions.proofs.Lookups.{set_own, differs}
 use Rattle.cfdp_retransmission.specs.Timers.{restarted, passed}
 use Rattle.cfdp_retransmission.specs.declared.timer.Expiry.TheVariants.{Again}
-use Rattle.cfdp_sessions.specs.Sessions.{SessionFields, name_of, found, replaced, without, AreDistinct}
+use Rattle.cfdp_sessions.specs.Sessions.{SessionFields, name_of, found, without, AreDistinct}
 use Rattle.cfdp_sessions.specs.declared.session.Stage.{Stage}
 use Rattle.cfdp_sessions.specs.declared.session.Stage.TheVariants.{Held, Known, Over as OverStage, Waiting}
 use Rattle.cfdp_sessions.proofs.Names.{same_is, same_self, both_of, found_name, gone, member_found, replaced_self}
@@ -54,93 +47,18 @@ use Rattle.cfdp_receiver.proofs.Limits.{stage_due, alive_due, first_over_is}
 use Rattle.cfdp_receiver.proofs.Sending.{heard_name}
 use Rattle.cfdp_transactions.specs.Headline.{NextIsSound, NextIsPromised}
 
--- ---- an entry stays, but for Take
+-- ---- what the core promises of entries
+
+pub record Laws : Type 0 where
+  pub only_take : OnlyTakeRemoves
+  pub takes : TakeRemoves
 
 abbrev is_there : World → TransactionId → Bool
 is_there W id = is_some (entry_of W id)
 
-there : (W : World) (id : TransactionId) (e : Entry) → entry_of W id ≡ Some e → is_there W id ≡ true
-there W id e here = ap is_some here
-
-moved : (performing : Bool) (W V : World) (id : TransactionId) (e : Entry) → entry_of W id ≡ Some e → Moves performing (index_of W id) e W V → is_there V id ≡ true
-moved performing W V id e here moves =
-    let now = moves.0 in
-    let name : Entries.name_of now ≡ id = ap id_of moves.1.carried.header ∙ entry_name W.table id e here in
-    ap is_some (ap (λ (t : List Entry). slice_get t (place_of id t)) moves.1.table ∙ set_own W.table id e now name here)
-
-ours_there : (W : World) (h : Header) (id : TransactionId) (a : World × Reply) → is_there W id ≡ true → is_there a.0 id ≡ true → is_there (for_us W h a).0 id ≡ true
-ours_there W h id a before now = cond_both (h.destination == W.config.entity) a _ (λ (b : World × Reply). is_there b.0 id ≡ true) (λ _. now) (λ _. before)
-
-abbrev is_take : Event → Bool
-is_take (Take id) = true
-is_take event = false
-
--- by what the entry is
-by_entry : (o : Option Entry) → is_some o ≡ true → (e : Entry) × (o ≡ Some e)
-by_entry None h = absurd cc
-by_entry (Some e) h = (e, refl)
-
-stays_there : LowerLaws → (W : World) (v : Event) → Sound W → is_take v ≡ false → is_there W (about v) ≡ true → is_there (next W v).0 (about v) ≡ true
-stays_there laws W (MetadataCame h m) s kept h0 =
-    let e = by_entry (entry_of W (id_of h)) h0 in
-    ours_there W h (id_of h) (metadata_came W h m (entry_of W (id_of h))) h0 (ap (λ (o : Option Entry). is_there (metadata_came W h m o).0 (id_of h)) e.1 ∙ h0)
-stays_there laws W (DataCame h piece) s kept h0 =
-    let e = by_entry (entry_of W (id_of h)) h0 in
-    let k = index_of W (id_of h) in
-    ours_there W h (id_of h) (data_came W k piece (entry_of W (id_of h))) h0
-    (ap (λ (o : Option Entry). is_there (data_came W k piece o).0 (id_of h)) e.1 ∙ moved false W _ (id_of h) e.0 e.1 (data_moves laws W k e.0 s e.1 piece))
-stays_there laws W (EofCame h eof) s kept h0 =
-    let e = by_entry (entry_of W (id_of h)) h0 in
-    let k = index_of W (id_of h) in
-    ours_there W h (id_of h) (eof_came W k eof (entry_of W (id_of h))) h0
-    (ap (λ (o : Option Entry). is_there (eof_came W k eof o).0 (id_of h)) e.1 ∙ moved false W _ (id_of h) e.0 e.1 (eof_moves laws W k e.0 s e.1 eof))
-stays_there laws W (Step id) s kept h0 =
-    let e = by_entry (entry_of W id) h0 in
-    let k = index_of W id in
-    ap (λ (o : Option Entry). is_there (stepped W k o).0 id) e.1 ∙ moved (is_executing e.0.phase) W _ id e.0 e.1 (step_moves_in laws W k e.0 s e.1 e.0.phase refl)
-stays_there laws W (Cancel id) s kept h0 =
-    let e = by_entry (entry_of W id) h0 in
-    let k = index_of W id in
-    ap (λ (o : Option Entry). is_there (cancelled W k o).0 id) e.1 ∙ moved false W _ id e.0 e.1 (cancelled_moves laws W k e.0 s e.1)
-stays_there laws W (Check id) s kept h0 =
-    let e = by_entry (entry_of W id) h0 in
-    let k = index_of W id in
-    ap (λ (o : Option Entry). is_there (checked W k o).0 id) e.1 ∙ moved false W _ id e.0 e.1 (check_moves laws W k e.0 s e.1 e.0.phase refl)
-stays_there laws W (Take id) s kept h0 = absurd cc
-
--- ---- Take of an entry that is over removes it
-
-not_there : (t : List Entry) (id : TransactionId) → Each (λ e. Entries.name_of e ≢ id) t → slice_get t (place_of id t) ≡ None
-not_there [] id others = refl
-not_there (d ∷ t) id others =
-    ap (λ (b : Bool). slice_get (d ∷ t) (if b then 0 else suc (place_of id t))) (differs (Entries.name_of d) id (others 0 d refl))
-    ∙ not_there t id (λ k e at. others (suc k) e at)
-
-removed_by : (d : Entry) (t : List Entry) (id : TransactionId) → EachTwo (λ a b. Entries.name_of a ≢ Entries.name_of b) (d ∷ t) → (same : Bool) → is_same (Entries.name_of d) id ≡ same →
-    is_some (slice_get (d ∷ t) (if same then 0 else suc (place_of id t))) ≡ true →
-    (is_some (slice_get t (place_of id t)) ≡ true → slice_get (remove t (place_of id t)) (place_of id (remove t (place_of id t))) ≡ None) →
-    slice_get (remove (d ∷ t) (if same then 0 else suc (place_of id t))) (place_of id (remove (d ∷ t) (if same then 0 else suc (place_of id t)))) ≡ None
-removed_by d t id names true is here later =
-    not_there t id (λ k e at q. names 0 (suc k) d e refl at (λ z. absurd cc) (same_is (Entries.name_of d) id is ∙ sym q))
-removed_by d t id names false is here later =
-    ap (λ (b : Bool). slice_get (d ∷ remove t (place_of id t)) (if b then 0 else suc (place_of id (remove t (place_of id t))))) is ∙ later here
-
-less_one : (j k : ℕ) → suc j ≡ suc k → j ≡ k
-less_one j k e = omega (arith, e)
-
-removed : (t : List Entry) (id : TransactionId) → EachTwo (λ d e. Entries.name_of d ≢ Entries.name_of e) t → is_some (slice_get t (place_of id t)) ≡ true →
-    slice_get (remove t (place_of id t)) (place_of id (remove t (place_of id t))) ≡ None
-removed [] id names here = absurd cc
-removed (d ∷ t) id names here =
-    removed_by d t id names (is_same (Entries.name_of d) id) refl here
-    (λ later. removed t id (λ j k a b at bt ne. names (suc j) (suc k) a b at bt (λ e. ne (less_one j k e))) later)
-
-taken_gone : (W : World) (id : TransactionId) (e : Entry) → Sound W → entry_of W id ≡ Some e → is_live e.phase ≡ false → entry_of (next W (Take id)).0 id ≡ None
-taken_gone W id e s here over =
-    let k = index_of W id in
-    ap (λ (o : Option Entry). entry_of (taken_out W k o).0 id) here
-    ∙ ap (λ (a : World × Reply). entry_of a.0 id) (cond-false (is_live e.phase) (W, _) (record W { table = remove W.table k }, _) over)
-    ∙ removed W.table id s.names (ap is_some here)
+-- an entry stays, but for Take
+stays_there : Laws → (W : World) (v : Event) → Sound W → is_take v ≡ false → is_there W (about v) ≡ true → is_there (next W v).0 (about v) ≡ true
+stays_there laws W v s other there = laws.only_take W v (about v) s (λ q. both_of (is_take v) other (ap is_take q)) there
 
 -- ---- what is known, after one input
 
@@ -175,7 +93,7 @@ fits_close : (R : State) (id : TransactionId) (s : SessionFields) (es : List Eve
 fits_close R id s es a d name is = is ∙ ap knows (sym (ap (λ (n : TransactionId). found (without R.sessions n) id) name ∙ gone R.sessions id d))
 
 -- an event of a session that is known leaves its entry there
-known_stays : LowerLaws → (R : State) (s : SessionFields) (stage : Stage) (v : Event) → Sound R.world → s.stage ≡ stage → is_take v ≡ false → about v ≡ name_of s → is_there R.world (name_of s) ≡ is_known s.stage →
+known_stays : Laws → (R : State) (s : SessionFields) (stage : Stage) (v : Event) → Sound R.world → s.stage ≡ stage → is_take v ≡ false → about v ≡ name_of s → is_there R.world (name_of s) ≡ is_known s.stage →
     is_there (run R.world (Handing.where_known stage (v ∷ []))) (name_of s) ≡ is_known s.stage
 known_stays laws R s Known v sound is kept of before =
     let known : is_known s.stage ≡ true = ap is_known is in
@@ -232,7 +150,7 @@ fits_ours : (R : State) (h : Header) (o : Option SessionFields) (es : List Event
 fits_ours R h o es p k f =
     fits_if R (id_of h) (Handing.is_ours R h) es [] p (λ V rs. Turning.keeps R (Turning.quiet (Turning.foreign h))) f (fits_keeps R (id_of h) o (Turning.quiet (Turning.foreign h)) k)
 
-fits_metadata_stage : LowerLaws → (R : State) (h : Header) (m : MetadataFields) (s : SessionFields) (stage : Stage) → Sound R.world → Knows R (id_of h) (Some s) → s.stage ≡ stage →
+fits_metadata_stage : Laws → (R : State) (h : Header) (m : MetadataFields) (s : SessionFields) (stage : Stage) → Sound R.world → Knows R (id_of h) (Some s) → s.stage ≡ stage →
     Fits R (id_of h) (Handing.metadata_in_stage h m s stage) (λ V rs. Turning.metadata_stage R V rs h m s stage)
 fits_metadata_stage laws R h m s (Held eof) sound k is =
     fits_if R (id_of h) h.acknowledged (MetadataCame h m ∷ EofCame s.header eof ∷ []) [] (λ V rs. Turning.joins R V rs h m) (λ V rs. Turning.keeps R (Turning.said s words.Idle))
@@ -248,7 +166,7 @@ fits_metadata_stage laws R h m s Known sound k is =
 fits_metadata_stage laws R h m s (OverStage ending) sound k is = fits_keeps R (id_of h) (Some s) (Turning.said s words.Duplicate) k
 fits_metadata_stage laws R h m s Waiting sound k is = fits_keeps R (id_of h) (Some s) (Turning.said s words.Duplicate) k
 
-fits_metadata : LowerLaws → (R : State) (h : Header) (m : MetadataFields) (o : Option SessionFields) → Sound R.world → Knows R (id_of h) o →
+fits_metadata : Laws → (R : State) (h : Header) (m : MetadataFields) (o : Option SessionFields) → Sound R.world → Knows R (id_of h) o →
     Fits R (id_of h) (Handing.metadata_events R h m o) (λ V rs. Turning.metadata_parts R V rs h m o)
 fits_metadata laws R h m None sound k =
     let away = Turning.said_of h (Turning.turned_away R h) in
@@ -259,7 +177,7 @@ fits_metadata laws R h m None sound k =
 fits_metadata laws R h m (Some s) sound k = fits_metadata_stage laws R h m s s.stage sound k refl
 
 -- an event that a known session hears
-fits_heard : LowerLaws → (R : State) (id : TransactionId) (s : SessionFields) (v : Event) (a : World → List Reply → AnswerFields) → Sound R.world → Knows R id (Some s) → s.stage ≡ Known → is_take v ≡ false → about v ≡ id →
+fits_heard : Laws → (R : State) (id : TransactionId) (s : SessionFields) (v : Event) (a : World → List Reply → AnswerFields) → Sound R.world → Knows R id (Some s) → s.stage ≡ Known → is_take v ≡ false → about v ≡ id →
     Fits R id (v ∷ []) (λ V rs. Turning.puts R (Turning.heard R V s) (a V rs))
 fits_heard laws R id s v a sound k is kept of =
     let name = found_name R.sessions id s k.0 in
@@ -269,14 +187,14 @@ fits_heard laws R id s v a sound k is kept of =
     fits_put R id s (v ∷ []) (λ V rs. Turning.heard R V s) a k.0 (λ V rs. heard_name R V s ∙ name)
     (now ∙ sym known ∙ ap is_known (sym (heard_stage R (run R.world (v ∷ [])) s)))
 
-fits_data_stage : LowerLaws → (R : State) (h : Header) (piece : FileDataFields) (s : SessionFields) (stage : Stage) → Sound R.world → Knows R (id_of h) (Some s) → s.stage ≡ stage →
+fits_data_stage : Laws → (R : State) (h : Header) (piece : FileDataFields) (s : SessionFields) (stage : Stage) → Sound R.world → Knows R (id_of h) (Some s) → s.stage ≡ stage →
     Fits R (id_of h) (Handing.where_known stage (DataCame h piece ∷ [])) (λ V rs. if Turning.is_known stage then Turning.takes_data R V rs h piece s else Turning.keeps R (Turning.said s words.Idle))
 fits_data_stage laws R h piece s (Held eof) sound k is = fits_keeps R (id_of h) (Some s) (Turning.said s words.Idle) k
 fits_data_stage laws R h piece s Known sound k is = fits_heard laws R (id_of h) s (DataCame h piece) (λ V rs. (Turning.takes_data R V rs h piece s).answer) sound k is refl refl
 fits_data_stage laws R h piece s (OverStage ending) sound k is = fits_keeps R (id_of h) (Some s) (Turning.said s words.Idle) k
 fits_data_stage laws R h piece s Waiting sound k is = fits_keeps R (id_of h) (Some s) (Turning.said s words.Idle) k
 
-fits_data : LowerLaws → (R : State) (h : Header) (piece : FileDataFields) (o : Option SessionFields) → Sound R.world → Knows R (id_of h) o →
+fits_data : Laws → (R : State) (h : Header) (piece : FileDataFields) (o : Option SessionFields) → Sound R.world → Knows R (id_of h) o →
     Fits R (id_of h) (Handing.of_session o (DataCame h piece ∷ [])) (λ V rs. Turning.data_parts R V rs h piece o)
 fits_data laws R h piece None sound k = fits_keeps R (id_of h) None silent k
 fits_data laws R h piece (Some s) sound k = fits_data_stage laws R h piece s s.stage sound k refl
@@ -288,7 +206,7 @@ fits_none_if R id false p q hp hq = hq
 fits_over : (R : State) (id : TransactionId) (s new : SessionFields) (a : AnswerFields) → Knows R id (Some s) → name_of new ≡ id → is_known s.stage ≡ is_known new.stage → Fits R id [] (λ V rs. Turning.puts R new a)
 fits_over R id s new a k name same = fits_put R id s [] (λ V rs. new) (λ V rs. a) k.0 (λ V rs. name) (k.1 ∙ same)
 
-fits_eof_stage : LowerLaws → (R : State) (h : Header) (eof : Eof) (s : SessionFields) (stage : Stage) → Sound R.world → Knows R (id_of h) (Some s) → s.stage ≡ stage →
+fits_eof_stage : Laws → (R : State) (h : Header) (eof : Eof) (s : SessionFields) (stage : Stage) → Sound R.world → Knows R (id_of h) (Some s) → s.stage ≡ stage →
     Fits R (id_of h) (Handing.where_known stage (EofCame h eof ∷ [])) (λ V rs. Turning.eof_stage R V rs h eof s stage)
 fits_eof_stage laws R h eof s (Held kept) sound k is =
     fits_none_if R (id_of h) (eof.condition == 0) (Turning.keeps R (Turning.acks_only h eof Active words.Duplicate)) (Turning.puts R (Turning.ended_by h eof s) (Turning.acks_only h eof Active words.Faulted))
@@ -298,7 +216,7 @@ fits_eof_stage laws R h eof s Known sound k is = fits_heard laws R (id_of h) s (
 fits_eof_stage laws R h eof s (OverStage ending) sound k is = fits_keeps R (id_of h) (Some s) silent k
 fits_eof_stage laws R h eof s Waiting sound k is = fits_keeps R (id_of h) (Some s) silent k
 
-fits_eof : LowerLaws → (R : State) (h : Header) (eof : Eof) (o : Option SessionFields) → Sound R.world → Knows R (id_of h) o →
+fits_eof : Laws → (R : State) (h : Header) (eof : Eof) (o : Option SessionFields) → Sound R.world → Knows R (id_of h) o →
     Fits R (id_of h) (Handing.of_session o (EofCame h eof ∷ [])) (λ V rs. Turning.eof_parts R V rs h eof o)
 fits_eof laws R h eof None sound k =
     let kept = Turning.keeps R (Turning.acks_only h eof (status_of R (id_of h)) (Turning.absent R (id_of h))) in
@@ -334,7 +252,7 @@ fits_prompt R h prompt (Some s) k =
     (fits_over R (id_of h) s (Turning.roused R s) (Turning.prompted R h s prompt) k ((roused_is R s).0 ∙ found_name R.sessions (id_of h) s k.0) (roused_is R s).1)
     (fits_keeps R (id_of h) (Some s) silent k)
 
-fits_cancel_stage : LowerLaws → (R : State) (id : TransactionId) (s : SessionFields) (stage : Stage) → Sound R.world → Knows R id (Some s) → s.stage ≡ stage →
+fits_cancel_stage : Laws → (R : State) (id : TransactionId) (s : SessionFields) (stage : Stage) → Sound R.world → Knows R id (Some s) → s.stage ≡ stage →
     Fits R id (Handing.where_known stage (Cancel id ∷ [])) (λ V rs. Turning.cancel_stage R rs s stage)
 fits_cancel_stage laws R id s (Held eof) sound k is = fits_over R id s (Turning.over_here R s 15) silent k (found_name R.sessions id s k.0) (ap is_known is)
 fits_cancel_stage laws R id s Known sound k is =
@@ -343,19 +261,19 @@ fits_cancel_stage laws R id s Known sound k is =
 fits_cancel_stage laws R id s (OverStage ending) sound k is = fits_keeps R id (Some s) silent k
 fits_cancel_stage laws R id s Waiting sound k is = fits_keeps R id (Some s) silent k
 
-fits_cancel : LowerLaws → (R : State) (id : TransactionId) (o : Option SessionFields) → Sound R.world → Knows R id o →
+fits_cancel : Laws → (R : State) (id : TransactionId) (o : Option SessionFields) → Sound R.world → Knows R id o →
     Fits R id (Handing.of_session o (Cancel id ∷ [])) (λ V rs. Turning.cancel_parts R rs id o)
 fits_cancel laws R id None sound k = fits_keeps R id None silent k
 fits_cancel laws R id (Some s) sound k = fits_cancel_stage laws R id s s.stage sound k refl
 
 -- ---- timers
 
-check_stays : LowerLaws → (R : State) (s : SessionFields) (b : Bool) → Sound R.world → is_there R.world (name_of s) ≡ is_known s.stage →
+check_stays : Laws → (R : State) (s : SessionFields) (b : Bool) → Sound R.world → is_there R.world (name_of s) ≡ is_known s.stage →
     is_there (run R.world (Handing.where_known s.stage (if b then Check (name_of s) ∷ [] else []))) (name_of s) ≡ is_known s.stage
 check_stays laws R s true sound before = known_stays laws R s s.stage (Check (name_of s)) sound refl refl refl before
 check_stays laws R s false sound before = none_stays R s s.stage before
 
-limit_stays : LowerLaws → (R : State) (s : SessionFields) (checks : Bool) (how : Handler) → Sound R.world → is_there R.world (name_of s) ≡ is_known s.stage →
+limit_stays : Laws → (R : State) (s : SessionFields) (checks : Bool) (how : Handler) → Sound R.world → is_there R.world (name_of s) ≡ is_known s.stage →
     is_there (run R.world (Handing.where_known s.stage (Handing.limit_events (name_of s) checks how))) (name_of s) ≡ is_known s.stage
 limit_stays laws R s checks handlers.Ignore sound before = none_stays R s s.stage before
 limit_stays laws R s true handlers.Cancel sound before = known_stays laws R s s.stage (Check (name_of s)) sound refl refl refl before
@@ -412,13 +330,13 @@ gives_by R s condition handlers.Abandon (At_awaiting made) es d k is now = fits_
 gives_by R s condition handlers.Abandon At_executing es d k is now = fits_put R (name_of s) s es (λ V rs. record s { is_abandoned = true }) (λ V rs. silent) k.0 (λ V rs. refl) now
 gives_by R s condition handlers.Abandon At_over es d k is now = fits_put R (name_of s) s es (λ V rs. record s { is_abandoned = true }) (λ V rs. silent) k.0 (λ V rs. refl) now
 
-fits_gives_up : LowerLaws → (R : State) (s : SessionFields) (condition : ℕ) (checks : Bool) (how : Handler) (at : At) → Sound R.world → AreDistinct R.sessions → Knows R (name_of s) (Some s) → at_of R.world s ≡ at →
+fits_gives_up : Laws → (R : State) (s : SessionFields) (condition : ℕ) (checks : Bool) (how : Handler) (at : At) → Sound R.world → AreDistinct R.sessions → Knows R (name_of s) (Some s) → at_of R.world s ≡ at →
     Fits R (name_of s) (Handing.where_known s.stage (Handing.limit_events (name_of s) checks how)) (λ V rs. Turning.gives_up R s condition how at)
 fits_gives_up laws R s condition checks how at sound d k is =
     let es = Handing.where_known s.stage (Handing.limit_events (name_of s) checks how) in
     gives_by R s condition how at es d k is (limit_stays laws R s checks how sound k.1)
 
-fits_due : LowerLaws → (R : State) (due : Dues.Due) → Sound R.world → AreDistinct R.sessions → Dues.first_due R R.sessions ≡ due → Knows R (due_name due) (session_of R (due_name due)) →
+fits_due : Laws → (R : State) (due : Dues.Due) → Sound R.world → AreDistinct R.sessions → Dues.first_due R R.sessions ≡ due → Knows R (due_name due) (session_of R (due_name due)) →
     Fits R (due_name due) (Handing.due_events R due) (λ V rs. Turning.due_parts R V due)
 fits_due laws R Dues.Nothing_due sound d is k = fits_keeps R nobody (session_of R nobody) silent k
 fits_due laws R (Dues.Alive_due s) sound d is k =
@@ -436,7 +354,7 @@ fits_due laws R (Dues.Stage_due s true) sound d is k =
 -- ---- outcomes
 
 -- what is over has no entry once it was taken
-phase_over : (phase : Phase) → Dues.is_over (at_phase phase) ≡ true → is_live phase ≡ false
+pub phase_over : (phase : Phase) → Dues.is_over (at_phase phase) ≡ true → is_live phase ≡ false
 phase_over Receiving e = absurd cc
 phase_over (Awaiting made) e = absurd cc
 phase_over (Executing n) e = absurd cc
@@ -444,18 +362,18 @@ phase_over Refused e = refl
 phase_over Done e = refl
 phase_over (Ended condition) e = refl
 
-taken_there : (R : State) (s : SessionFields) (o : Option Entry) → Sound R.world → entry_of R.world (name_of s) ≡ o → Dues.is_over (at_entry o) ≡ true →
+taken_there : Laws → (R : State) (s : SessionFields) (o : Option Entry) → Sound R.world → entry_of R.world (name_of s) ≡ o → Dues.is_over (at_entry o) ≡ true →
     is_there (next R.world (Take (name_of s))).0 (name_of s) ≡ false
-taken_there R s None sound here over = ap (λ (x : Option Entry). is_there (taken_out R.world (index_of R.world (name_of s)) x).0 (name_of s)) here ∙ ap is_some here
-taken_there R s (Some e) sound here over = ap is_some (taken_gone R.world (name_of s) e sound here (phase_over e.phase over))
+taken_there laws R s None sound here over = ap (λ (x : Option Entry). is_there (taken_out R.world (index_of R.world (name_of s)) x).0 (name_of s)) here ∙ ap is_some here
+taken_there laws R s (Some e) sound here over = ap is_some (laws.takes R.world (name_of s) e sound here (phase_over e.phase over))
 
-finish_there : (R : State) (s : SessionFields) (stage : Stage) → Sound R.world → s.stage ≡ stage → is_there R.world (name_of s) ≡ is_known s.stage → Dues.is_over (at_of R.world s) ≡ true →
+finish_there : Laws → (R : State) (s : SessionFields) (stage : Stage) → Sound R.world → s.stage ≡ stage → is_there R.world (name_of s) ≡ is_known s.stage → Dues.is_over (at_of R.world s) ≡ true →
     is_there (run R.world (Handing.where_known stage (Take (name_of s) ∷ []))) (name_of s) ≡ false
-finish_there R s (Held eof) sound is before over = before ∙ ap is_known is
-finish_there R s Known sound is before over =
-    taken_there R s (entry_of R.world (name_of s)) sound refl (ap (λ (stage : Stage). Dues.is_over (at_stage stage (entry_of R.world (name_of s)))) (sym is) ∙ over)
-finish_there R s (OverStage ending) sound is before over = before ∙ ap is_known is
-finish_there R s Waiting sound is before over = before ∙ ap is_known is
+finish_there laws R s (Held eof) sound is before over = before ∙ ap is_known is
+finish_there laws R s Known sound is before over =
+    taken_there laws R s (entry_of R.world (name_of s)) sound refl (ap (λ (stage : Stage). Dues.is_over (at_stage stage (entry_of R.world (name_of s)))) (sym is) ∙ over)
+finish_there laws R s (OverStage ending) sound is before over = before ∙ ap is_known is
+finish_there laws R s Waiting sound is before over = before ∙ ap is_known is
 
 fits_same_if : (R : State) (id : TransactionId) (es : List Event) (b : Bool) (p q : Turning.Parts) → Fits R id es (λ V rs. p) → Fits R id es (λ V rs. q) → Fits R id es (λ V rs. if b then p else q)
 fits_same_if R id es true p q hp hq = hp
@@ -476,13 +394,13 @@ fits_session R s o es d here gone_now =
     )
     )
 
-fits_finish : (R : State) (o : Option SessionFields) → Sound R.world → AreDistinct R.sessions → Dues.first_over R.world R.sessions ≡ o → Knows R (session_name o) (session_of R (session_name o)) →
+fits_finish : Laws → (R : State) (o : Option SessionFields) → Sound R.world → AreDistinct R.sessions → Dues.first_over R.world R.sessions ≡ o → Knows R (session_name o) (session_of R (session_name o)) →
     Fits R (session_name o) (Handing.take_of o) (λ V rs. Turning.finish_parts R o)
-fits_finish R None sound d is k = fits_keeps R nobody (session_of R nobody) silent k
-fits_finish R (Some s) sound d is k =
+fits_finish laws R None sound d is k = fits_keeps R nobody (session_of R nobody) silent k
+fits_finish laws R (Some s) sound d is k =
     let over = first_over_is R.world R.sessions s is in
     let here = member_found R.sessions s d over.0 in
-    fits_session R s (Turning.outcome_for s (entry_of R.world (name_of s))) (Handing.take_of (Some s)) d here (finish_there R s s.stage sound refl (k.1 ∙ ap knows here) over.1)
+    fits_session R s (Turning.outcome_for s (entry_of R.world (name_of s))) (Handing.take_of (Some s)) d here (finish_there laws R s s.stage sound refl (k.1 ∙ ap knows here) over.1)
 
 -- ---- each input, of the transaction that it is about
 
@@ -494,7 +412,7 @@ fits_ours_none : (R : State) (h : Header) (p : Turning.Parts) → AreKnown R →
 fits_ours_none R h p known f =
     fits_none_if R (id_of h) (Handing.is_ours R h) p (Turning.keeps R (Turning.quiet (Turning.foreign h))) f (fits_keeps R (id_of h) (session_of R (id_of h)) silent (refl, known (id_of h)))
 
-fits_touched : LowerLaws → (R : State) (i : Input) → Sound R.world → AreDistinct R.sessions → AreKnown R → is_work i ≡ false → Fits R (touched_in R i) (Handing.events_of R i) (λ V rs. Turning.parts_of R V rs i)
+fits_touched : Laws → (R : State) (i : Input) → Sound R.world → AreDistinct R.sessions → AreKnown R → is_work i ≡ false → Fits R (touched_in R i) (Handing.events_of R i) (λ V rs. Turning.parts_of R V rs i)
 fits_touched laws R (MetadataPdu now h m) sound d known w =
     let o = session_of R (id_of h) in
     fits_ours R h o (Handing.metadata_events R h m o) (λ V rs. Turning.metadata_parts R V rs h m o) (refl, known (id_of h)) (fits_metadata laws R h m o sound (refl, known (id_of h)))
@@ -516,7 +434,7 @@ fits_touched laws R (Expire now) sound d known w =
 fits_touched laws R (Work now) sound d known w = absurd cc
 fits_touched laws R (Finish now) sound d known w =
     let o = Dues.first_over R.world R.sessions in
-    fits_finish R o sound d refl (refl, known (session_name o))
+    fits_finish laws R o sound d refl (refl, known (session_name o))
 fits_touched laws R (CancelAsked now id) sound d known w = fits_cancel laws R id (session_of R id) sound (refl, known id)
 fits_touched laws R ForgetAsked sound d known w = known nobody
 
@@ -584,11 +502,11 @@ not_handed R (CancelAsked now n) id w ne = not_session id (session_of R n) (Canc
 not_handed R ForgetAsked id w ne = tt
 
 -- a step leaves each entry there, and makes none
-step_own : LowerLaws → (W : World) (id : TransactionId) (o : Option Entry) → Sound W → entry_of W id ≡ o → is_there (next W (Step id)).0 id ≡ is_there W id
+step_own : Laws → (W : World) (id : TransactionId) (o : Option Entry) → Sound W → entry_of W id ≡ o → is_there (next W (Step id)).0 id ≡ is_there W id
 step_own laws W id None sound here = ap (λ (x : Option Entry). is_there (stepped W (index_of W id) x).0 id) here
 step_own laws W id (Some e) sound here = stays_there laws W (Step id) sound refl (ap is_some here) ∙ sym (ap is_some here)
 
-step_same : LowerLaws → NextIsPromised → (W : World) (n : Option TransactionId) (id : TransactionId) → Sound W → is_there (run W (Handing.step_of n)) id ≡ is_there W id
+step_same : Laws → NextIsPromised → (W : World) (n : Option TransactionId) (id : TransactionId) → Sound W → is_there (run W (Handing.step_of n)) id ≡ is_there W id
 step_same laws promised W None id sound = refl
 step_same laws promised W (Some n) id sound = elim (cases_Bool (is_same n id)) [
   | inl same ↦ subst (λ (x : TransactionId). is_there (next W (Step n)).0 x ≡ is_there W x) (same_is n id same) (step_own laws W n (entry_of W n) sound refl)
@@ -601,7 +519,7 @@ run_sound : NextIsSound → (W : World) (es : List Event) → Sound W → Sound 
 run_sound next_sound W [] s = s
 run_sound next_sound W (v ∷ vs) s = run_sound next_sound (next W v).0 vs (next_sound W v s)
 
-known_but_work : LowerLaws → NextIsSound → NextIsPromised → (R : State) (i : Input) → Sound R.world → AreDistinct R.sessions → AreKnown R → is_work i ≡ false → AreKnown (Turning.after R i)
+known_but_work : Laws → NextIsSound → NextIsPromised → (R : State) (i : Input) → Sound R.world → AreDistinct R.sessions → AreKnown R → is_work i ≡ false → AreKnown (Turning.after R i)
 known_but_work laws next_sound promised R i sound d known w id =
     let L = Handing.later (now_of i) R in
     elim (cases_Bool (is_same (touched R i) id)) [
@@ -613,7 +531,7 @@ known_but_work laws next_sound promised R i sound d known w id =
           ap is_some entry ∙ known id ∙ ap knows (sym (others_stay R i id other))
     ]
 
-known_after : LowerLaws → NextIsSound → NextIsPromised → (R : State) (i : Input) → Sound R.world → AreDistinct R.sessions → AreKnown R → AreKnown (Turning.after R i)
+pub known_after : Laws → NextIsSound → NextIsPromised → (R : State) (i : Input) → Sound R.world → AreDistinct R.sessions → AreKnown R → AreKnown (Turning.after R i)
 known_after laws next_sound promised R (MetadataPdu now h m) sound d known = known_but_work laws next_sound promised R (MetadataPdu now h m) sound d known refl
 known_after laws next_sound promised R (DataPdu now h piece) sound d known = known_but_work laws next_sound promised R (DataPdu now h piece) sound d known refl
 known_after laws next_sound promised R (EofPdu now h eof) sound d known = known_but_work laws next_sound promised R (EofPdu now h eof) sound d known refl
@@ -626,11 +544,12 @@ known_after laws next_sound promised R (Finish now) sound d known = known_but_wo
 known_after laws next_sound promised R (CancelAsked now id) sound d known = known_but_work laws next_sound promised R (CancelAsked now id) sound d known refl
 known_after laws next_sound promised R ForgetAsked sound d known = known_but_work laws next_sound promised R ForgetAsked sound d known refl
 
-known_all : LowerLaws → NextIsSound → NextIsPromised → (R : State) (inputs : List Input) → Sound R.world → AreDistinct R.sessions → AreKnown R → AreKnown (Turning.after_all R inputs)
+known_all : Laws → NextIsSound → NextIsPromised → (R : State) (inputs : List Input) → Sound R.world → AreDistinct R.sessions → AreKnown R → AreKnown (Turning.after_all R inputs)
 known_all laws next_sound promised R [] sound d known = known
 known_all laws next_sound promised R (i ∷ is) sound d known =
     known_all laws next_sound promised (Turning.after R i) is (run_sound next_sound R.world (Handing.handed R i) sound) (distinct_after R i d) (known_after laws next_sound promised R i sound d known)
 
-pub known_is_entry : LowerLaws → NextIsSound → NextIsPromised → KnownIsEntry
-known_is_entry laws next_sound promised mib W inputs sound none =
+pub known_is_entry : OnlyTakeRemoves → TakeRemoves → NextIsSound → NextIsPromised → KnownIsEntry
+known_is_entry only_take takes next_sound promised mib W inputs sound none =
+    let laws : Laws = record { only_take = only_take; takes = takes } in
     known_all laws next_sound promised (begin mib W) inputs sound tt (λ id. ap (λ (t : List Entry). is_some (slice_get t (place_of id t))) none)

@@ -10,3 +10,17 @@ pub mod Asking
 pub mod Serving
 pub mod Knowing
 pub mod Delivering
+pub mod Turned
+pub mod Moments
+pub mod Giving
+pub mod Small
+pub mod Repeating
+pub mod Kept
+pub mod Asked
+pub mod Endings
+pub mod Concluding
+pub mod Taking
+pub mod Read
+pub mod Whole
+pub mod Calls
+pub mod Written

@@ -1,7 +1,7 @@
 -- How often a Finished PDU is sent.
-use Rattle.std.specs.Prelude.{⊤, if◌then◌else◌}
-use Rattle.std.proofs.Common.{◌≡◌, ◌≢◌, ◌⊎◌, inl, inr, ℕ, ◌+◌, ◌<◌, ◌≤◌, Bool, true, false, not, ◌&&◌, ◌||◌, List, [], ◌∷◌, length, Option, Some, None, refl, sym, ap, subst, ◌∙◌, arith}
-use Rattle.std.proofs.lemmas.Bool.{cond_both, cond-true, cond-false, cases_Bool, and_parts}
+use Rattle.std.specs.Prelude.{if◌then◌else◌}
+use Rattle.std.proofs.Common.{◌≡◌, ◌≢◌, ◌⊎◌, inl, inr, ℕ, ◌+◌, ◌<◌, Bool, true, false, ◌&&◌, List, [], ◌∷◌, length, Option, Some, None, refl, sym, ap, subst, ◌∙◌, arith}
+use Rattle.std.proofs.lemmas.Bool.{cond-true, cond-false, cases_Bool, and_parts}
 use Rattle.cfdp_status.specs.declared.transaction.TransactionId.{TransactionId}
 use Rattle.cfdp_leases.specs.Leases.{is_same}
 use Rattle.cfdp_pdus.specs.Values.{MetadataFields, FileDataFields}
@@ -12,12 +12,12 @@ use Rattle.cfdp_directives.specs.declared.prompt.Prompt.{Prompt}
 use Rattle.cfdp_retransmission.specs.declared.timer.Expiry.{Expiry}
 use Rattle.cfdp_retransmission.specs.declared.timer.Expiry.TheVariants.{NotDue, Again, Limit}
 use Rattle.cfdp_retransmission.specs.Timers.{expiry, passed}
-use Rattle.cfdp_retransmission.proofs.Waiting.{Why, Early, Due, Over, why}
-use Rattle.cfdp_sessions.specs.Sessions.{SessionFields, name_of, found, IsFound, replaced, without, AreDistinct}
+use Rattle.cfdp_retransmission.proofs.Waiting.{Early, Due, Over, why}
+use Rattle.cfdp_sessions.specs.Sessions.{SessionFields, name_of, found, without, AreDistinct}
 use Rattle.cfdp_sessions.specs.declared.session.Stage.{Stage}
 use Rattle.cfdp_sessions.specs.declared.session.Stage.TheVariants.{Held, Known, Over as OverStage, Waiting}
-use Rattle.cfdp_sessions.proofs.Names.{same_self, same_is, both_of, no_some, gone, found_name, IsMember, member_found, replaced_self}
-use Rattle.cfdp_transactions.specs.Entry.{Entry, id_of}
+use Rattle.cfdp_sessions.proofs.Names.{same_is, both_of, gone, found_name, IsMember, member_found, replaced_self}
+use Rattle.cfdp_transactions.specs.Entry.{id_of}
 use Rattle.cfdp_transactions.specs.declared.reply.Reply.{Reply}
 use Rattle.cfdp_transactions.specs.World.{World, entry_of}
 use Rattle.cfdp_transactions.specs.Next.{run, replies}

@@ -6,7 +6,7 @@
 --     fresh m                   the entity with no session
 --     ack, nak, alive           PDUs that are sent, of transaction 1/n
 --     says, replies             an answer that sends nothing: a word of the receiver's own, or the core's
-use Rattle.std.proofs.Common.{ℕ, suc, ◌+◌, ◌-◌, Bool, List, [], ◌∷◌}
+use Rattle.std.proofs.Common.{ℕ, suc, ◌-◌, Bool, List, [], ◌∷◌}
 use Rattle.std.specs.Prelude.{true, false, None, codes, take, drop, length}
 use Rattle.cfdp_status.specs.declared.transaction.TransactionId.{TransactionId}
 use Rattle.cfdp_pdus.specs.Values.{MetadataFields, FileDataFields}

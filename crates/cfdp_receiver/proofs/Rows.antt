@@ -1,6 +1,6 @@
 -- Worked rows: what is answered to each input, computed from the definitions.
-use Rattle.std.proofs.Common.{◌≡◌, ℕ, ◌+◌, ◌*◌, List, [], ◌∷◌, refl, ap, ◌∙◌}
-use Rattle.std.specs.Prelude.{true, false, Some, None, codes, max}
+use Rattle.std.proofs.Common.{◌≡◌, ℕ, ◌+◌, ◌*◌, List, [], ◌∷◌, refl, ap}
+use Rattle.std.specs.Prelude.{true, false, Some, codes, max}
 use Rattle.cfdp_actions.specs.Filestore.{empty_filestore, blocks_of, blocks}
 use Rattle.cfdp_actions.specs.Actions.{Install, Perform, CreateFile, row, free_row, table, create, install}
 use Rattle.cfdp_checksum.specs.Checksum.{weighed_from}
@@ -10,7 +10,7 @@ use Rattle.cfdp_leases.specs.Items.{step_bound}
 use Rattle.cfdp_pdus.specs.Canonical.{finished_field}
 use Rattle.cfdp_pdus.specs.declared.eof.Eof.{Eof}
 use Rattle.cfdp_pdus.specs.declared.header.Header.{Header}
-use Rattle.cfdp_pdus.specs.Values.{MetadataFields, FileDataFields}
+use Rattle.cfdp_pdus.specs.Values.{MetadataFields}
 use Rattle.cfdp_status.specs.declared.action.Action.TheVariants as action
 use Rattle.cfdp_states.specs.Alone.{statuses, steps, peak}
 use Rattle.cfdp_transactions.specs.declared.event.Event.{Event}
@@ -21,7 +21,6 @@ use Rattle.cfdp_transactions.specs.declared.reply.Reply.TheVariants as Reply
 use Rattle.cfdp_transactions.specs.Admission.{new_entry}
 use Rattle.cfdp_transactions.specs.Next.{next, run, replies as replies_of}
 use Rattle.cfdp_transactions.specs.World.{World, start}
-use Rattle.cfdp_transactions.specs.Writable.{finished_octets}
 use Rattle.cfdp_transactions.proofs.Computing.{look_ups}
 use Rattle.cfdp_transactions.proofs.ExampleWords.{config, asks}
 use Rattle.cfdp_receiver.specs.declared.answer.Indication.TheVariants as tells
@@ -29,7 +28,7 @@ use Rattle.cfdp_receiver.specs.declared.answer.Word.TheVariants as words
 use Rattle.cfdp_receiver.specs.declared.mib.Handler.TheVariants as handlers
 use Rattle.cfdp_receiver.specs.declared.mib.Mib.{Mib}
 use Rattle.cfdp_receiver.specs.declared.mib.NakMode.TheVariants as modes
-use Rattle.cfdp_receiver.specs.State.{State, AnswerFields, Input, MetadataPdu, DataPdu, EofPdu, AckPdu, PromptPdu, OtherPdu, Expire, Work, Finish, CancelAsked, ForgetAsked, now_of}
+use Rattle.cfdp_receiver.specs.State.{State, AnswerFields, Input, MetadataPdu, DataPdu, EofPdu, AckPdu, PromptPdu, Expire, Work, Finish, CancelAsked, now_of}
 use Rattle.cfdp_receiver.specs.Handing.{later}
 use Rattle.cfdp_receiver.specs.Turning.{Parts, parts_of, after, all_answers}
 use Rattle.cfdp_receiver.proofs.RowWords.{mib, fresh, header, header_un, id, M, D, E, finished_ack, ack, nak, alive, says, replies, described, segment, pdu_of, ended, nothing}

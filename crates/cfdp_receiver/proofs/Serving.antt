@@ -1,8 +1,7 @@
 -- Each timer that is due is served once.
-use Rattle.std.specs.Prelude.{if◌then◌else◌, slice_get, slice_set, nat_le, nat_lt}
-use Rattle.std.proofs.Common.{◌≡◌, ◌≢◌, ◌⊎◌, inl, inr, ℕ, ◌+◌, ◌-◌, ◌<◌, ◌≤◌, Bool, true, false, not, ◌&&◌, List, [], ◌∷◌, length, Option, Some, None, refl, sym, ap, subst, ◌∙◌, arith}
+use Rattle.std.specs.Prelude.{if◌then◌else◌, nat_le}
+use Rattle.std.proofs.Common.{◌≡◌, ◌≢◌, inl, inr, ℕ, ◌+◌, ◌-◌, ◌≤◌, Bool, true, false, ◌&&◌, List, [], ◌∷◌, Option, Some, None, refl, sym, ap, ◌∙◌, arith}
 use Rattle.std.proofs.lemmas.Bool.{cond_both, cond-true, cond-false, cases_Bool, lt-ltb, lt-leb}
-use Rattle.std.specs.List.{AllByRecursion}
 use Rattle.cfdp_status.specs.declared.transaction.TransactionId.{TransactionId}
 use Rattle.cfdp_leases.specs.Leases.{is_same}
 use Rattle.cfdp_retransmission.specs.Coming.{one_if}
@@ -10,8 +9,8 @@ use Rattle.cfdp_retransmission.specs.declared.timer.Expiry.{Expiry}
 use Rattle.cfdp_retransmission.specs.declared.timer.Expiry.TheVariants.{NotDue, Again, Limit}
 use Rattle.cfdp_retransmission.specs.declared.timer.Timer.{Timer}
 use Rattle.cfdp_retransmission.specs.Timers.{expiry, passed, restarted}
-use Rattle.cfdp_retransmission.proofs.Waiting.{Why, Early, Due, Over, why}
-use Rattle.cfdp_sessions.specs.Sessions.{SessionFields, name_of, found, IsFound, replaced, without, AreDistinct}
+use Rattle.cfdp_retransmission.proofs.Waiting.{Early, Due, Over, why}
+use Rattle.cfdp_sessions.specs.Sessions.{SessionFields, name_of, found, replaced, without, AreDistinct}
 use Rattle.cfdp_sessions.specs.declared.session.Stage.{Stage}
 use Rattle.cfdp_sessions.specs.declared.session.Stage.TheVariants.{Held, Known, Over as OverStage, Waiting}
 use Rattle.cfdp_sessions.proofs.Names.{same_self, same_is, both_of, no_some, IsMember, member_found}
@@ -35,11 +34,12 @@ use Rattle.cfdp_receiver.specs.declared.answer.Became.TheVariants as became
 use Rattle.cfdp_receiver.specs.declared.mib.Handler.{Handler}
 use Rattle.cfdp_receiver.specs.declared.mib.Handler.TheVariants as handlers
 use Rattle.cfdp_receiver.specs.declared.mib.Mib.{Mib}
-use Rattle.cfdp_receiver.specs.State.{State, AnswerFields, At, At_held, At_receiving, At_awaiting, At_executing, At_over, At_waiting, at_phase, at_entry, at_stage, at_of, Expire}
+use Rattle.cfdp_receiver.specs.State.{State, AnswerFields, At, At_held, At_receiving, At_awaiting, At_executing, At_over, At_waiting, at_phase, at_entry, at_stage, at_of}
 use Rattle.cfdp_receiver.specs.Due as Dues
+use Rattle.cfdp_receiver.specs.Due.{IsSet}
 use Rattle.cfdp_receiver.specs.Handing as Handing
 use Rattle.cfdp_receiver.specs.Turning as Turning
-use Rattle.cfdp_receiver.specs.Laws.{due_name, is_due, due_of, timers_due, IsSet, ServedOnce}
+use Rattle.cfdp_receiver.specs.Laws.{is_due, due_of, timers_due, ServedOnce}
 use Rattle.cfdp_receiver.proofs.Limits.{stage_due, alive_due}
 
 -- ---- sums over sessions

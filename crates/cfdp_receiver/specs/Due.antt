@@ -4,8 +4,9 @@
 --     is_alive_due R s          a Keep Alive PDU is due
 --     Due, first_due R ss       the first session with a timer that is due, and which timer: that of its stage comes before Keep Alive
 --     first_over W ss           the first session that is over
+--     IsSet mib                 each interval is at least one tick
 --     fault_at, handler_at      the condition code of a stage's timer at its limit (§5.2.2), and what is done then
-use Rattle.std.specs.Prelude.{ℕ, ◌+◌, Bool, true, false, ◌&&◌, if◌then◌else◌, nat_le, List, [], ◌∷◌, Option, Some, None}
+use Rattle.std.specs.Prelude.{◌≡◌, ℕ, ◌+◌, ◌≤◌, Bool, true, false, ◌&&◌, if◌then◌else◌, nat_le, List, [], ◌∷◌, Option, Some, None}
 use Rattle.cfdp_retransmission.specs.declared.timer.Timer.{Timer}
 use Rattle.cfdp_retransmission.specs.declared.timer.Expiry.{Expiry}
 use Rattle.cfdp_retransmission.specs.declared.timer.Expiry.TheVariants.{NotDue, Again, Limit}
@@ -15,6 +16,14 @@ use Rattle.cfdp_transactions.specs.World.{World}
 use Rattle.cfdp_receiver.specs.declared.mib.Handler.{Handler}
 use Rattle.cfdp_receiver.specs.declared.mib.Mib.{Mib}
 use Rattle.cfdp_receiver.specs.State.{State, At, At_held, At_receiving, At_awaiting, At_executing, At_over, At_waiting, at_of}
+
+-- of every management information base that was checked
+pub record IsSet (mib : Mib) : Type 0 where
+  pub ack : 1 ≤ mib.ack.interval
+  pub nak : 1 ≤ mib.nak.interval
+  pub check : 1 ≤ mib.check.interval
+  pub inactivity : 1 ≤ mib.inactivity.interval
+  pub keep_alive : (interval : ℕ) → mib.keep_alive ≡ Some interval → 1 ≤ interval
 
 -- the core counts the checks that were made, and they are not in a row: so the limit is set by its count
 abbrev pub check_limit : ℕ → ℕ → Timer → ℕ

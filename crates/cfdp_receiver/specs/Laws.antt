@@ -13,7 +13,6 @@
 --     ExactlyMissing            each missing offset once, and no other
 --     FewNakPdus, FewRequests   how many NAK PDUs they are at most;  how many requests
 --     due_of, timers_due        how many timers are due, of a session and of several
---     IsSet mib                 each interval is at least one tick
 --     ServedOnce                at one moment each timer that is due is served once
 --     KnownIsEntry              a session is known exactly where the core has an entry of its name
 --     data_events h ps          the pieces as File Data PDUs of one transaction
@@ -53,7 +52,7 @@ use Rattle.cfdp_transactions.specs.Writable.{finished_octets}
 use Rattle.cfdp_receiver.specs.declared.mib.Handler.TheVariants.{Ignore}
 use Rattle.cfdp_receiver.specs.declared.mib.Mib.{Mib}
 use Rattle.cfdp_receiver.specs.State.{State, begin, Input, MetadataPdu, DataPdu, EofPdu, AckPdu, PromptPdu, OtherPdu, Expire, Work, Finish, CancelAsked, ForgetAsked, now_of, status_of, session_of, is_closed, is_full}
-use Rattle.cfdp_receiver.specs.Due.{Due, Nothing_due, Stage_due, Alive_due, expiry_of, is_alive_due, first_due, first_over}
+use Rattle.cfdp_receiver.specs.Due.{Due, Nothing_due, Stage_due, Alive_due, IsSet, expiry_of, is_alive_due, first_due, first_over}
 use Rattle.cfdp_receiver.specs.Handing.{is_ours, later, handed}
 use Rattle.cfdp_receiver.specs.Turning.{outcome_for, most_requests, sequence, all_of, gaps_after, parts, after, after_all, all_handed, acked}
 
@@ -186,13 +185,6 @@ due_of R s = is_due (expiry_of R s) + one_if (is_alive_due R s)
 abbrev pub timers_due : State → List SessionFields → ℕ
 timers_due R [] = 0
 timers_due R (s ∷ ss) = due_of R s + timers_due R ss
-
-pub record IsSet (mib : Mib) : Type 0 where
-  pub ack : 1 ≤ mib.ack.interval
-  pub nak : 1 ≤ mib.nak.interval
-  pub check : 1 ≤ mib.check.interval
-  pub inactivity : 1 ≤ mib.inactivity.interval
-  pub keep_alive : (interval : ℕ) → mib.keep_alive ≡ Some interval → 1 ≤ interval
 
 -- after as many expiries as timers were due, none is due
 abbrev pub ServedOnce : Type 0

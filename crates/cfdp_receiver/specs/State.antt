@@ -8,7 +8,7 @@
 --     At, at_of W s             how far a transaction is, by its session and the core
 --     status_of R id            what an ACK PDU says of the transaction (§5.2.4)
 --     turned h                  the header of a PDU that is sent: toward the sender, all else as in the PDU that came
-use Rattle.std.specs.Prelude.{ℕ, Bool, true, false, if◌then◌else◌, nat_le, List, [], ◌∷◌, length, Option, Some, None}
+use Rattle.std.specs.Prelude.{ℕ, Bool, true, false, nat_le, List, [], length, Option, Some, None}
 use Rattle.cfdp_status.specs.declared.transaction.TransactionId.{TransactionId}
 use Rattle.cfdp_pdus.specs.Values.{MetadataFields, FileDataFields}
 use Rattle.cfdp_pdus.specs.declared.header.Header.{Header}
@@ -27,6 +27,8 @@ use Rattle.cfdp_transactions.specs.declared.phase.Phase.{Phase}
 use Rattle.cfdp_transactions.specs.declared.phase.Phase.TheVariants.{Receiving, Awaiting, Executing, Refused, Done, Ended}
 use Rattle.cfdp_transactions.specs.Entry.{Entry}
 use Rattle.cfdp_transactions.specs.World.{World, entry_of}
+pub use Rattle.cfdp_receiver.specs.declared.at.At.{At}
+pub use Rattle.cfdp_receiver.specs.declared.at.At.TheVariants.{Held as At_held, Receiving as At_receiving, Awaiting as At_awaiting, Executing as At_executing, Over as At_over, Waiting as At_waiting}
 use Rattle.cfdp_receiver.specs.declared.answer.Became.{Became}
 use Rattle.cfdp_receiver.specs.declared.answer.Indication.{Indication}
 use Rattle.cfdp_receiver.specs.declared.mib.Mib.{Mib}
@@ -87,14 +89,6 @@ is_closed R id = remembers R.closed id
 
 abbrev pub is_full : State → Bool
 is_full R = nat_le 64 (length R.sessions)
-
-pub data At : Type 0 where
-  At_held : At
-  At_receiving : At
-  At_awaiting : (checks : ℕ) → At
-  At_executing : At
-  At_over : At
-  At_waiting : At
 
 abbrev pub at_phase : Phase → At
 at_phase Receiving = At_receiving

@@ -8,7 +8,7 @@
 --     turn R i                  the state after an input, and its answer;  after R i, parts R i
 --     after_all, all_answers    the state after several inputs;  the answers to them
 --     all_handed                all events that they hand to the core
-use Rattle.std.specs.Prelude.{ℕ, ◌+◌, ◌-◌, ◌/◌, max, min, Bool, true, false, not, ◌&&◌, ◌||◌, ◌==◌, if◌then◌else◌, nat_le, List, [], ◌∷◌, ◌++◌, map, length, Option, Some, None}
+use Rattle.std.specs.Prelude.{ℕ, ◌-◌, ◌/◌, max, min, Bool, true, false, not, ◌&&◌, ◌||◌, ◌==◌, if◌then◌else◌, nat_le, List, [], ◌∷◌, ◌++◌, map, length, Option, Some, None}
 use Rattle.std.specs.List.{filter}
 use Rattle.cfdp_status.specs.declared.transaction.TransactionId.{TransactionId}
 use Rattle.cfdp_pdus.specs.Values.{MetadataFields, FileDataFields, FinishedFields}
@@ -39,6 +39,7 @@ use Rattle.cfdp_transactions.specs.World.{World, entry_of, next_runnable}
 use Rattle.cfdp_transactions.specs.Next.{run, replies}
 use Rattle.cfdp_receiver.specs.declared.answer.Became.{Became}
 use Rattle.cfdp_receiver.specs.declared.answer.Became.TheVariants.{Nothing, NotOurs, Said, Replied}
+use Rattle.cfdp_receiver.specs.declared.answer.Conclusion.{Conclusion}
 use Rattle.cfdp_receiver.specs.declared.answer.Indication.{Indication}
 use Rattle.cfdp_receiver.specs.declared.answer.Indication.TheVariants as tells
 use Rattle.cfdp_receiver.specs.declared.answer.Word.{Word}
@@ -319,9 +320,9 @@ fault_told s condition word = record (said s word) { indications = tells.Fault (
 abbrev pub abandoned_told : SessionFields → ℕ → AnswerFields
 abandoned_told s condition = record (said s words.Faulted) { indications = tells.Abandoned (name_of s) condition ∷ [] }
 
--- this entity is at fault
+-- this entity, which is the destination, is at fault
 abbrev pub over_here : State → SessionFields → ℕ → SessionFields
-over_here R s condition = record s { stage = Over (record { condition = condition; is_sent = true; at_fault = R.world.config.entity }) }
+over_here R s condition = record s { stage = Over (record { condition = condition; is_sent = true; at_fault = s.header.destination }) }
 
 abbrev pub gives_up : State → SessionFields → ℕ → Handler → At → Parts
 gives_up R s condition handlers.Ignore at = puts R (record s { timer = restarted R.now }) (fault_told s condition words.Ignored)
@@ -369,12 +370,11 @@ outcome_for s None = stage_outcome s s.stage
 abbrev pub waits : State → SessionFields → Outcome → SessionFields
 waits R s o = record s { stage = Waiting; finished = finished_octets o; timer = restarted R.now }
 
+abbrev pub conclusion_of : Outcome → Conclusion
+conclusion_of o = record { condition = o.finished.condition; incomplete = o.finished.incomplete; file_status = o.finished.file_status }
+
 abbrev pub concluded : SessionFields → Outcome → Word → AnswerFields
-concluded s o word = record (said s word) {
-  indications =
-      tells.TransactionFinished (name_of s)
-      (record { condition = o.finished.condition; incomplete = o.finished.incomplete; file_status = o.finished.file_status }) ∷ [];
-}
+concluded s o word = record (said s word) { indications = tells.TransactionFinished (name_of s) (conclusion_of o) ∷ [] }
 
 abbrev pub sends_it : SessionFields → Outcome → Word → AnswerFields
 sends_it s o word = record (concluded s o word) { finished = finished_octets o ∷ [] }

@@ -110,17 +110,10 @@ pub fn served_once()
 pub fn known_is_entry()
     ensures { KnownIsEntry }
 {
+    cfdp_transactions::laws::only_take_removes();
+    cfdp_transactions::laws::take_removes();
     cfdp_transactions::laws::next_is_sound();
     cfdp_transactions::laws::next_is_promised();
-    cfdp_leases::laws::own_footprint();
-    cfdp_leases::laws::isolation();
-    cfdp_leases::laws::stays_rooted();
-    cfdp_states::laws::growth();
-    cfdp_states::laws::longer_file();
-    cfdp_states::laws::foreign_change_with();
-    cfdp_states::laws::own_step();
-    cfdp_states::laws::enough_room();
-    cfdp_states::laws::any_slot_with();
 }
 
 /// Once every octet that was missing has come, and no piece was passed over, the file of a transaction that waits for it is complete, or its

@@ -1,13 +1,27 @@
-//! A CFDP receiving entity in acknowledged and unacknowledged mode (CCSDS 727.0-B-5, the procedures at the receiving entity): what comes,
-//! what it keeps of each transaction, what it sends and indicates, as definitions, and what is true of them.
+//! A CFDP receiving entity in acknowledged and unacknowledged mode (CCSDS 727.0-B-5, the procedures at the receiving entity).
 //!
-//! `specs/State.antt` has the state and the inputs, `specs/Due.antt` the timers, `specs/Handing.antt` what is handed to the core,
-//! `specs/Turning.antt` what becomes of the sessions and what is answered. [`laws`] says what is true of every list of inputs.
+//! [`Receiver`] takes octets and the present time, and gives PDUs to send, indications and the next deadline. Each of its calls makes one
+//! turn of the definitions: `specs/State.antt` has the state and the inputs, `specs/Heard.antt` which input octets are, `specs/Due.antt` the
+//! timers, `specs/Handing.antt` what is handed to the core, `specs/Turning.antt` what becomes of the sessions and what is answered, and
+//! `specs/Sent.antt` the octets that are sent. [`laws`] says what is true of every list of inputs.
 #![tactic(auto)]
 
 mod answer;
+mod answering;
+mod at;
+mod coming;
 pub mod laws;
+mod machine;
 mod mib;
+mod outcomes;
+mod reading;
+mod receiver;
+mod timing;
+mod writing;
 
 pub use answer::{Became, Conclusion, Described, Indication, Word};
-pub use mib::{Handler, Mib, NakMode, Retries, Watch};
+pub use answering::{Answer, NakSequence};
+pub use at::At;
+pub use mib::{Handler, Mib, MibFault, NakMode, Retries, Watch};
+pub use reading::Dropped;
+pub use receiver::{NotMade, NotWritten, Receiver};

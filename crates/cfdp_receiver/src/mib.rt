@@ -1,5 +1,9 @@
 //! What is left to the management of a receiving entity.
 
+ghost use Rattle.std.specs.Prelude.{◌≡◌, ◌≤◌, IfNone};
+ghost use Rattle.cfdp_receiver.specs.Machine.{IsMib, first_fault};
+ghost use Rattle.cfdp_receiver.specs.Turning.{most_requests};
+
 /// What is done at a fault (CCSDS 727.0-B-5, the fault handling procedures).
 #[derive(Clone, Copy, Debug, PartialEq, Eq)]
 pub enum Handler {
@@ -60,4 +64,49 @@ pub struct Mib {
     pub has_crc: bool,
     /// How many octets a NAK PDU has at most, 72 to 65,535, its CRC included.
     pub longest_nak: u16,
+}
+
+/// Which value of the management information base is out of range.
+#[derive(Clone, Copy, Debug, PartialEq, Eq)]
+pub enum MibFault {
+    /// An interval is 0.
+    Interval,
+    /// A limit is not 1 to 1,000.
+    Limit,
+    /// The longest NAK PDU has fewer than 72 octets.
+    LongestNak,
+}
+
+impl Mib {
+    /// What is wrong with the values, if anything, in the order of [`MibFault`].
+    pub fn fault(&self) -> Option<MibFault>
+        ensures fault { result ≡ first_fault self.now }
+        ensures none { IfNone result (IsMib self.now) }
+    {
+        let watched = self.check.interval == 0 || self.inactivity.interval == 0;
+        if self.ack.interval == 0
+            || self.nak.interval == 0
+            || watched
+            || self.keep_alive == Some(0)
+        {
+            return Some(MibFault::Interval);
+        }
+        let is_limit = |limit: u32| 1 <= limit && limit <= 1_000;
+        if !is_limit(self.ack.limit) || !is_limit(self.nak.limit) {
+            return Some(MibFault::Limit);
+        }
+        if self.longest_nak < 72 {
+            return Some(MibFault::LongestNak);
+        }
+        None
+    }
+
+    /// How many segment requests a NAK PDU has at most: by the longest header of 28 octets, the directive code, a scope of 16 octets,
+    /// requests of 16 octets each and a CRC of 2. There are never more than 34.
+    pub fn most_requests(&self) -> usize
+        ensures { result ≡ most_requests self.now }
+    {
+        let room = usize::from(self.longest_nak).saturating_sub(47) / 16;
+        room.min(34)
+    }
 }

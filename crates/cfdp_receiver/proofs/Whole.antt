@@ -1,0 +1,34 @@
+-- What is true of a receiver at all times stays true.
+use Rattle.std.specs.Prelude.{slice_get, is_some}
+use Rattle.std.proofs.Common.{◌≡◌, List, [], refl, ap, subst}
+use Rattle.cfdp_sessions.specs.Sessions.{AreDistinct}
+use Rattle.cfdp_transactions.specs.Entry.{Entry}
+use Rattle.cfdp_transactions.specs.Headline.{NextIsSound, NextIsPromised}
+use Rattle.cfdp_transactions.specs.Sound.{Sound}
+use Rattle.cfdp_transactions.specs.World.{World, place_of}
+use Rattle.cfdp_receiver.specs.declared.mib.Mib.{Mib}
+use Rattle.cfdp_receiver.specs.State.{State, AnswerFields, Input, begin, now_of}
+use Rattle.cfdp_receiver.specs.Handing as Handing
+use Rattle.cfdp_receiver.specs.Laws.{touched}
+use Rattle.cfdp_receiver.specs.Machine.{MachineFields, AnswerParts, IsWhole, Turns, at_moment}
+use Rattle.cfdp_receiver.specs.Turning as Turning
+use Rattle.cfdp_receiver.proofs.Distinct.{Apart, apart_by}
+use Rattle.cfdp_receiver.proofs.Knowing.{Laws, known_after}
+use Rattle.cfdp_receiver.proofs.Shapes.{shape}
+use Rattle.cfdp_receiver.proofs.Turned.{turned}
+
+pub whole_begin : (mib : Mib) (W : World) → W.table ≡ [] → IsWhole (begin mib W)
+whole_begin mib W none = record { known = λ id. ap (λ (t : List Entry). is_some (slice_get t (place_of id t))) none; over = λ id closed. refl }
+
+pub whole_after : Laws → NextIsSound → NextIsPromised → (R : State) (i : Input) → Sound R.world → AreDistinct R.sessions → IsWhole R →
+    IsWhole (Turning.after R i)
+whole_after laws next_sound promised R i sound distinct whole =
+    let apart : Apart R.sessions R.closed.names = record { distinct = distinct; over = whole.over } in
+    record {
+      known = known_after laws next_sound promised R i sound distinct whole.known;
+      over = (apart_by (Handing.later (now_of i) R) (touched R i) (Turning.parts R i) (shape R i) apart).over;
+    }
+
+pub whole_turn : (M N : MachineFields) (a : AnswerParts) (i : Input) → IsWhole (Turning.after M.state i) →
+    Turns (at_moment (now_of i) M) N a i → IsWhole N.state
+whole_turn M N a i whole t = subst (λ (x : State × AnswerFields). IsWhole x.0) (turned M N a i t) whole

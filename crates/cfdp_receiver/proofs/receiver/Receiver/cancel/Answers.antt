@@ -1,0 +1,22 @@
+use Rattle.std.proofs.Common.{ℕ, refl, ap, ◌∙◌}
+use Rattle.cfdp_receiver.specs.State.{CancelAsked}
+use Rattle.cfdp_receiver.specs.Machine.{Turns, at_moment}
+use Rattle.cfdp_receiver.proofs.Calls.{moved}
+use Rattle.cfdp_receiver.proofs.Turned.{turned}
+use Rattle.cfdp_receiver.proofs.Whole.{whole_turn}
+use Rattle.cfdp_receiver.proofs.receiver.Receiver.cancel.Goals as goal
+use Rattle.cfdp_receiver.proofs.receiver.Receiver.cancel.Goals.{After-cancel}
+
+as_it_came : (c : After-cancel) → Turns (at_moment c.args.now c.args.self.now) c.cancel.new.self c.cancel.result (CancelAsked c.args.now c.args.id)
+as_it_came c =
+    moved c.args.self.now c.later.new.self c.cancel.new.self c.cancel.result c.args.now
+    (λ (n : ℕ). CancelAsked n c.args.id) (λ R x y. refl) (λ R V rs x y. refl)
+    (c.later.ensures ∙ ap (at_moment c.args.now) c.self.view_is) c.cancel.ensures
+
+pub invariant_of-self : goal.invariant_of-self
+invariant_of-self c =
+    whole_turn c.args.self.now c.cancel.new.self c.cancel.result (CancelAsked c.args.now c.args.id)
+    (c.stays_whole.ensures (CancelAsked c.args.now c.args.id)) (as_it_came (goal.at.invariant_of-self c).After-cancel)
+
+pub returns : goal.returns
+returns c = turned c.args.self.now c.cancel.new.self c.cancel.result (CancelAsked c.args.now c.args.id) (as_it_came (goal.at.returns c).After-cancel)

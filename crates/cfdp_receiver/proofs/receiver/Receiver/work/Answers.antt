@@ -1,0 +1,22 @@
+use Rattle.std.proofs.Common.{ℕ, refl, ap, ◌∙◌}
+use Rattle.cfdp_receiver.specs.State.{Work}
+use Rattle.cfdp_receiver.specs.Machine.{Turns, at_moment}
+use Rattle.cfdp_receiver.proofs.Calls.{moved}
+use Rattle.cfdp_receiver.proofs.Turned.{turned}
+use Rattle.cfdp_receiver.proofs.Whole.{whole_turn}
+use Rattle.cfdp_receiver.proofs.receiver.Receiver.work.Goals as goal
+use Rattle.cfdp_receiver.proofs.receiver.Receiver.work.Goals.{After-work}
+
+as_it_came : (c : After-work) → Turns (at_moment c.args.now c.args.self.now) c.work.new.self c.work.result (Work c.args.now)
+as_it_came c =
+    moved c.args.self.now c.later.new.self c.work.new.self c.work.result c.args.now
+    (λ (n : ℕ). Work n) (λ R x y. refl) (λ R V rs x y. refl)
+    (c.later.ensures ∙ ap (at_moment c.args.now) c.self.view_is) c.work.ensures
+
+pub invariant_of-self : goal.invariant_of-self
+invariant_of-self c =
+    whole_turn c.args.self.now c.work.new.self c.work.result (Work c.args.now)
+    (c.stays_whole.ensures (Work c.args.now)) (as_it_came (goal.at.invariant_of-self c).After-work)
+
+pub returns : goal.returns
+returns c = turned c.args.self.now c.work.new.self c.work.result (Work c.args.now) (as_it_came (goal.at.returns c).After-work)

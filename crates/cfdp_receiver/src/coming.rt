@@ -1,0 +1,523 @@
+//! PDUs that come: Metadata, File Data, EOF, ACK and Prompt.
+
+ghost use Rattle.std.specs.Prelude.{◌≡◌, ◌<◌, ◌^◌, ◌∷◌, [], if◌then◌else◌, Bool, true, length, None, IfOk, IfSome, OnErr};
+ghost use Rattle.cfdp_pdus.specs.Bits.{fss};
+ghost use Rattle.cfdp_pdus.specs.Canonical.{IsHeader, IsSizedEof};
+ghost use Rattle.cfdp_directives.specs.Spelling.{IsSizedAck};
+ghost use Rattle.cfdp_sessions.specs.Sessions.{name_of};
+ghost use Rattle.cfdp_sessions.specs.declared.session.Stage.TheVariants.{Held as HeldStage, Known as KnownStage};
+ghost use Rattle.cfdp_transactions.specs.Entry.{id_of};
+ghost use Rattle.cfdp_transactions.specs.declared.event.Event.TheVariants.{Metadata as MetadataCame};
+ghost use Rattle.cfdp_transactions.specs.Next.{next};
+ghost use Rattle.cfdp_transactions.specs.World.{World, entry_of};
+ghost use Rattle.cfdp_transactions.specs.Writable.{IsReadable};
+ghost use Rattle.cfdp_receiver.specs.State.{MetadataPdu, DataPdu, EofPdu, AckPdu, PromptPdu, OtherPdu, at_of, past_status, is_closed, session_of, status_of};
+ghost use Rattle.cfdp_receiver.specs.declared.answer.Indication.TheVariants.{FileSegmentRecv};
+ghost use Rattle.cfdp_receiver.specs.Handing.{is_ours};
+ghost use Rattle.cfdp_receiver.specs.Machine.{AtIndex, IsSessionAt, MachineFields, Turns, answer_in, at_moment, in_world, joined, listed, with_session};
+ghost use Rattle.cfdp_receiver.specs.Laws.{AreKnown};
+ghost use Rattle.cfdp_receiver.specs.Turning.{acked, acks_only, asks_at_once, described, foreign, is_immediate, is_kept_by, progress_at, prompted, quiet, roused, stage_in, takes_prompts};
+
+use crate::answering::{Answer, NakSequence, turned};
+use crate::machine::Machine;
+use crate::{At, Became, Described, Indication, Word};
+use cfdp_directives::{Ack, Prompt, TransactionStatus};
+use cfdp_pdus::{Eof, Header, Metadata, Piece, directive};
+use cfdp_retransmission::Timer;
+use cfdp_sessions::{Ending, Session, Stage};
+use cfdp_status::TransactionId;
+use cfdp_transactions::{Event, Reply, transaction_of};
+use std::alloc::{AllocError, Global};
+
+/// The ACK PDU of an EOF PDU, in acknowledged mode.
+fn acked(header: &Header, condition: u8, status: TransactionStatus) -> Option<(Header, Ack)>
+    requires header { IsHeader header.now }
+    requires condition { condition < 16 }
+    ensures value { listed result ≡ acked header.now condition status }
+    ensures sized { IfSome result (λ a. IsHeader a.0 × IsSizedAck a.1) }
+{
+    if !header.acknowledged {
+        return None;
+    }
+    let ack = Ack {
+        directive: directive::EOF,
+        condition,
+        status,
+    };
+    Some((turned(header), ack))
+}
+
+/// An EOF PDU is acknowledged, and no more.
+fn acks_only(header: &Header, eof: Eof, status: TransactionStatus, word: Word) -> Answer
+    requires header { IsHeader header.now }
+    requires condition { eof.condition < 16 }
+    ensures { (M : MachineFields) → answer_in M result ≡ acks_only header.now eof status word }
+{
+    Answer::said(transaction_of(header), word).with_ack(acked(header, eof.condition, status))
+}
+
+/// File-Segment-Recv, where the core kept the octets of a File Data PDU.
+fn segment_told(id: TransactionId, piece: &Piece<'_>, reply: &Reply) -> Option<Indication>
+    ensures { listed result ≡ (if is_kept_by reply.now then FileSegmentRecv id piece.now.offset (length piece.now.octets) ∷ [] else []) }
+{
+    if matches!(reply, Reply::Stored | Reply::Complete) {
+        let len = piece.octets.len() as u64;
+        Some(Indication::FileSegmentRecv(id, piece.offset, len))
+    } else {
+        None
+    }
+}
+
+/// What a Metadata PDU says of its transaction.
+fn described(id: TransactionId, metadata: &Metadata) -> Indication
+    ensures { result ≡ described id metadata.now }
+{
+    Indication::MetadataRecv(
+        id,
+        Described {
+            size: metadata.size,
+            closure: metadata.closure,
+            checksum_type: metadata.checksum_type,
+        },
+    )
+}
+
+impl Machine {
+    /// The answer to a PDU that is not for the receiver of a file, or for another entity.
+    pub(crate) fn foreign(&self, header: &Header) -> Answer
+        ensures { (M : MachineFields) → answer_in M result ≡ quiet (foreign header.now) }
+    {
+        if header.toward_sender {
+            Answer::quiet(Became::NotOurs)
+        } else {
+            Answer::said(transaction_of(header), Word::NotForUs)
+        }
+    }
+
+    /// A Metadata PDU came (CCSDS 727.0-B-5 §5.2.5).
+    pub(crate) fn metadata(
+        &mut self,
+        alloc: Global,
+        now: u64,
+        header: Header,
+        metadata: Metadata,
+    ) -> Result<Answer, AllocError>
+        requires { IsReadable (MetadataCame header metadata) }
+        ensures ok { IfOk result (λ answer. Turns (at_moment now self.old) self.new answer (MetadataPdu now header metadata)) }
+        ensures unchanged { OnErr result (self.new ≡ self.old) }
+    {
+        if !self.is_ours(&header) {
+            self.later(now);
+            return Ok(self.foreign(&header));
+        }
+        let id = transaction_of(&header);
+        let Some(index) = self.find(id) else {
+            return self.metadata_of_none(alloc, now, header, metadata);
+        };
+        match self.session(index).stage {
+            Stage::Held(eof) if header.acknowledged => {
+                self.joins(alloc, now, index, header, metadata, eof)
+            }
+            Stage::Held(_) => {
+                self.later(now);
+                Ok(Answer::said(id, Word::Idle))
+            }
+            Stage::Known => self.metadata_again(now, index, header, metadata),
+            Stage::Over(_) | Stage::Waiting => {
+                self.later(now);
+                Ok(Answer::said(id, Word::Duplicate))
+            }
+        }
+    }
+
+    /// Hands a Metadata event to the core. Only then is the moment noted.
+    fn hand_metadata(
+        &mut self,
+        now: u64,
+        header: Header,
+        metadata: Metadata,
+    ) -> Result<Reply, AllocError>
+        requires { IsReadable (MetadataCame header metadata) }
+        ensures reply { IfOk result (λ reply. next self.old.state.world (MetadataCame header metadata) ≡ (self.new.state.world, reply)) }
+        ensures moment { IfOk result (λ reply. self.new ≡ in_world self.new.state.world (at_moment now self.old)) }
+        ensures unchanged { OnErr result (self.new ≡ self.old) }
+    {
+        match self.entity.apply_owned(Event::Metadata(header, metadata)) {
+            Reply::Memory => Err(AllocError),
+            reply => {
+                self.later(now);
+                Ok(reply)
+            }
+        }
+    }
+
+    /// The stage of a transaction whose Metadata was handed to the core, which keeps no entry of one with too many requests.
+    fn stage_in(&self, id: TransactionId, is_sent: bool, at_fault: u64) -> Stage
+        ensures { result ≡ stage_in (entry_of self.now.state.world id) is_sent at_fault }
+    {
+        match self.entity.core().phase(id) {
+            Some(_) => Stage::Known,
+            None => Stage::Over(Ending {
+                condition: 4,
+                is_sent,
+                at_fault,
+            }),
+        }
+    }
+
+    /// Metadata of a transaction that has no session.
+    fn metadata_of_none(
+        &mut self,
+        alloc: Global,
+        now: u64,
+        header: Header,
+        metadata: Metadata,
+    ) -> Result<Answer, AllocError>
+        requires ours { is_ours self.old.state header ≡ true }
+        requires none { session_of self.old.state (id_of header) ≡ None }
+        requires readable { IsReadable (MetadataCame header metadata) }
+        ensures ok { IfOk result (λ answer. Turns (at_moment now self.old) self.new answer (MetadataPdu now header metadata)) }
+        ensures unchanged { OnErr result (self.new ≡ self.old) }
+    {
+        let id = transaction_of(&header);
+        let is_closed = self.closed.remembers(id);
+        if is_closed {
+            self.later(now);
+            return Ok(Answer::said(id, Word::Duplicate));
+        }
+        if self.sessions.is_full() {
+            self.later(now);
+            return Ok(Answer::said(id, Word::TableFull));
+        }
+        let told = described(id, &metadata);
+        let is_sent = header.acknowledged || metadata.closure;
+        let reply = self.hand_metadata(now, header, metadata)?;
+        let stage = self.stage_in(id, is_sent, header.destination);
+        let session = self.begun(alloc, header, stage);
+        self.sessions.add(session);
+        Ok(Answer::replied(id, reply).with_indication(Some(told)))
+    }
+
+    /// Metadata of a transaction whose EOF PDU is held.
+    fn joins(
+        &mut self,
+        alloc: Global,
+        now: u64,
+        index: usize,
+        header: Header,
+        metadata: Metadata,
+        eof: Eof,
+    ) -> Result<Answer, AllocError>
+        requires ours { is_ours self.old.state header ≡ true }
+        requires here { IsSessionAt self.old.state (id_of header) index }
+        requires held { AtIndex self.old.state.sessions index (λ s. s.stage ≡ HeldStage eof) }
+        requires acknowledged { header.acknowledged ≡ true }
+        requires readable { IsReadable (MetadataCame header metadata) }
+        ensures ok { IfOk result (λ answer. Turns (at_moment now self.old) self.new answer (MetadataPdu now header metadata)) }
+        ensures unchanged { OnErr result (self.new ≡ self.old) }
+    {
+        let id = transaction_of(&header);
+        let told = described(id, &metadata);
+        let reply = self.hand_metadata(now, header, metadata)?;
+        let first = self.session(index).header;
+        self.entity.eof(&first, eof);
+        let stage = self.stage_in(id, true, header.destination);
+        let session = self.begun(alloc, header, stage);
+        let naks = self.asks_where_awaiting(&session);
+        self.sessions.put(session);
+        Ok(
+            Answer::replied(id, reply)
+                .with_naks(naks)
+                .with_indication(Some(told)),
+        )
+    }
+
+    /// Metadata of a transaction that the core knows.
+    fn metadata_again(
+        &mut self,
+        now: u64,
+        index: usize,
+        header: Header,
+        metadata: Metadata,
+    ) -> Result<Answer, AllocError>
+        requires ours { is_ours self.old.state header ≡ true }
+        requires here { IsSessionAt self.old.state (id_of header) index }
+        requires known { AtIndex self.old.state.sessions index (λ s. s.stage ≡ KnownStage) }
+        requires readable { IsReadable (MetadataCame header metadata) }
+        ensures ok { IfOk result (λ answer. Turns (at_moment now self.old) self.new answer (MetadataPdu now header metadata)) }
+        ensures unchanged { OnErr result (self.new ≡ self.old) }
+    {
+        let id = transaction_of(&header);
+        let before = self.awaited(self.session(index));
+        let reply = self.hand_metadata(now, header, metadata)?;
+        self.hear(index, before);
+        Ok(Answer::replied(id, reply))
+    }
+
+    /// A File Data PDU came (CCSDS 727.0-B-5 §5.3).
+    pub(crate) fn data(&mut self, header: &Header, piece: &Piece<'_>) -> Answer
+        requires { IsHeader header.now }
+        ensures { Turns self.old self.new result (DataPdu self.old.state.now header.now piece.now) }
+    {
+        if !self.is_ours(header) {
+            return self.foreign(header);
+        }
+        let id = transaction_of(header);
+        let Some(index) = self.find(id) else {
+            return Answer::said(id, self.absent(id));
+        };
+        match self.session(index).stage {
+            Stage::Known => self.takes_data(index, header, piece),
+            Stage::Held(_) | Stage::Over(_) | Stage::Waiting => Answer::said(id, Word::Idle),
+        }
+    }
+
+    /// File data of a transaction that the core knows.
+    fn takes_data(&mut self, index: usize, header: &Header, piece: &Piece<'_>) -> Answer
+        requires ours { is_ours self.old.state header.now ≡ true }
+        requires here { IsSessionAt self.old.state (id_of header.now) index }
+        requires known { AtIndex self.old.state.sessions index (λ s. s.stage ≡ KnownStage) }
+        requires header { IsHeader header.now }
+        ensures { Turns self.old self.new result (DataPdu self.old.state.now header.now piece.now) }
+    {
+        if self.is_immediate() && self.session(index).header.acknowledged {
+            return self.takes_at_once(index, header, piece);
+        }
+        let id = transaction_of(header);
+        let before = self.awaited(self.session(index));
+        let reply = self.entity.file_data(header, piece);
+        self.hear(index, before);
+        let told = segment_told(id, piece, &reply);
+        Answer::replied(id, reply).with_indication(told)
+    }
+
+    /// The same where a gap is asked for when it begins.
+    fn takes_at_once(&mut self, index: usize, header: &Header, piece: &Piece<'_>) -> Answer
+        requires ours { is_ours self.old.state header.now ≡ true }
+        requires here { IsSessionAt self.old.state (id_of header.now) index }
+        requires known { AtIndex self.old.state.sessions index (λ s. s.stage ≡ KnownStage) }
+        requires immediate { is_immediate self.old.state.mib.nak_mode ≡ true }
+        requires acknowledged { AtIndex self.old.state.sessions index (λ s. s.header.acknowledged ≡ true) }
+        requires header { IsHeader header.now }
+        ensures { Turns self.old self.new result (DataPdu self.old.state.now header.now piece.now) }
+    {
+        let id = transaction_of(header);
+        let before = self.awaited(self.session(index));
+        let low = self.progress(self.session(index).name());
+        let reply = self.entity.file_data(header, piece);
+        let naks = self.asks_at_once(self.session(index), low);
+        self.hear(index, before);
+        let told = segment_told(id, piece, &reply);
+        Answer::replied(id, reply)
+            .with_naks(naks)
+            .with_indication(told)
+    }
+
+    /// The NAK sequence for a gap that began after all that was there before, while file data is taken and no EOF PDU came.
+    fn asks_at_once(&self, session: &Session, low: u64) -> Option<NakSequence>
+        requires known { session.now.stage ≡ KnownStage }
+        requires immediate { is_immediate self.now.state.mib.nak_mode ≡ true }
+        requires acknowledged { session.now.header.acknowledged ≡ true }
+        ensures { (U : World) → low ≡ progress_at (entry_of U (name_of session.now))
+            → joined result ≡ asks_at_once (record self.now.state { world = U }) self.now.state.world session.now }
+    {
+        if self.at(session) != At::Receiving {
+            return None;
+        }
+        self.sound();
+        let id = session.name();
+        let requests = self.missing_from(id, low)?;
+        if requests.as_slice().is_empty() {
+            return None;
+        }
+        let high = self.entity.core().reach(id)?;
+        Some(self.sequence(session, low, high, requests))
+    }
+
+    /// What an ACK PDU says of a transaction that has no session (CCSDS 727.0-B-5 §5.2.4).
+    fn past_status(&self, id: TransactionId) -> TransactionStatus
+        ensures { result ≡ past_status (is_closed self.now.state id) self.now.state.closed.forgot }
+    {
+        if self.closed.remembers(id) {
+            TransactionStatus::Terminated
+        } else if self.closed.has_forgotten() {
+            TransactionStatus::Undefined
+        } else {
+            TransactionStatus::Unrecognized
+        }
+    }
+
+    /// What an ACK PDU says of a transaction (CCSDS 727.0-B-5 §5.2.4).
+    pub(crate) fn status(&self, id: TransactionId) -> TransactionStatus
+        ensures { result ≡ status_of self.now.state id }
+    {
+        match self.find(id) {
+            Some(_) => TransactionStatus::Active,
+            None => self.past_status(id),
+        }
+    }
+
+    /// An EOF PDU came (CCSDS 727.0-B-5 §5.2.2).
+    pub(crate) fn eof(&mut self, alloc: Global, header: &Header, eof: Eof) -> Answer
+        requires header { IsHeader header.now }
+        requires sized { IsSizedEof header.now.large eof }
+        ensures { Turns self.old self.new result (EofPdu self.old.state.now header.now eof) }
+    {
+        if !self.is_ours(header) {
+            return self.foreign(header);
+        }
+        let Some(index) = self.find(transaction_of(header)) else {
+            return self.eof_of_none(alloc, header, eof);
+        };
+        let active = TransactionStatus::Active;
+        match self.session(index).stage {
+            Stage::Known => self.takes_eof(index, header, eof),
+            Stage::Held(_) if eof.condition == 0 => {
+                acks_only(header, eof, active, Word::Duplicate)
+            }
+            Stage::Held(_) => {
+                let ending = Ending {
+                    condition: eof.condition,
+                    is_sent: true,
+                    at_fault: header.source,
+                };
+                self.sessions.end(index, ending);
+                acks_only(header, eof, active, Word::Faulted)
+            }
+            Stage::Over(_) | Stage::Waiting => acks_only(header, eof, active, Word::Idle),
+        }
+    }
+
+    /// The EOF PDU of a transaction that the core knows.
+    fn takes_eof(&mut self, index: usize, header: &Header, eof: Eof) -> Answer
+        requires ours { is_ours self.old.state header.now ≡ true }
+        requires here { IsSessionAt self.old.state (id_of header.now) index }
+        requires known { AtIndex self.old.state.sessions index (λ s. s.stage ≡ KnownStage) }
+        requires header { IsHeader header.now }
+        requires sized { IsSizedEof header.now.large eof }
+        ensures { Turns self.old self.new result (EofPdu self.old.state.now header.now eof) }
+    {
+        let id = transaction_of(header);
+        let was_receiving = self.at(self.session(index)) == At::Receiving;
+        let before = self.awaited(self.session(index));
+        let reply = self.entity.eof(header, eof);
+        let has_left = was_receiving && self.at(self.session(index)) != At::Receiving;
+        let ack = acked(header, eof.condition, TransactionStatus::Active);
+        let answer = Answer::replied(id, reply).with_ack(ack);
+        if !has_left || eof.condition != 0 {
+            self.hear(index, before);
+            return answer;
+        }
+        let naks = self.asks_where_awaiting(self.session(index));
+        self.hear(index, before);
+        answer
+            .with_naks(naks)
+            .with_indication(Some(Indication::EofRecv(id)))
+    }
+
+    /// The EOF PDU of a transaction that has no session.
+    fn eof_of_none(&mut self, alloc: Global, header: &Header, eof: Eof) -> Answer
+        requires ours { is_ours self.old.state header.now ≡ true }
+        requires none { session_of self.old.state (id_of header.now) ≡ None }
+        requires header { IsHeader header.now }
+        requires sized { IsSizedEof header.now.large eof }
+        ensures { Turns self.old self.new result (EofPdu self.old.state.now header.now eof) }
+    {
+        let id = transaction_of(header);
+        if self.closed.remembers(id) || eof.condition != 0 || !header.acknowledged {
+            return acks_only(header, eof, self.past_status(id), self.absent(id));
+        }
+        if self.sessions.is_full() {
+            return Answer::said(id, Word::TableFull);
+        }
+        let session = self.begun(alloc, *header, Stage::Held(eof));
+        let naks = self.asks(&session);
+        self.sessions.add(session);
+        Answer::said(id, Word::Held)
+            .with_ack(acked(header, eof.condition, TransactionStatus::Active))
+            .with_naks(naks)
+            .with_indication(Some(Indication::EofRecv(id)))
+    }
+
+    /// An ACK PDU came (CCSDS 727.0-B-5 §5.2.4).
+    pub(crate) fn ack(&mut self, header: &Header, ack: Ack) -> Answer
+        ensures { Turns self.old self.new result (AckPdu self.old.state.now header.now ack) }
+    {
+        if !self.is_ours(header) {
+            return self.foreign(header);
+        }
+        let id = transaction_of(header);
+        let Some(index) = self.find(id) else {
+            return Answer::said(id, Word::Idle);
+        };
+        match self.session(index).stage {
+            Stage::Waiting if ack.directive == directive::FINISHED => {
+                self.close(id);
+                Answer::said(id, Word::Acknowledged)
+            }
+            Stage::Held(_) | Stage::Known | Stage::Over(_) | Stage::Waiting => {
+                Answer::said(id, Word::Idle)
+            }
+        }
+    }
+
+    /// A NAK, Keep Alive or Finished PDU came, which goes toward a sender.
+    pub(crate) fn other(&self, header: &Header) -> Answer
+        ensures { Turns self.now self.now result (OtherPdu self.now.state.now header.now) }
+    {
+        if !self.is_ours(header) {
+            return self.foreign(header);
+        }
+        Answer::quiet(Became::NotOurs)
+    }
+
+    /// A Prompt PDU came (CCSDS 727.0-B-5 §5.2.7).
+    pub(crate) fn prompt(&mut self, header: &Header, prompt: Prompt) -> Answer
+        requires { AreKnown self.old.state }
+        ensures { Turns self.old self.new result (PromptPdu self.old.state.now header.now prompt) }
+    {
+        if !self.is_ours(header) {
+            return self.foreign(header);
+        }
+        let id = transaction_of(header);
+        let Some(index) = self.find(id) else {
+            return Answer::said(id, Word::Idle);
+        };
+        let session = self.session(index);
+        if !session.header.acknowledged || !self.at(session).takes_prompts() {
+            return Answer::said(id, Word::Idle);
+        }
+        let answer = self.prompted(header, session, prompt);
+        self.rouse(index);
+        answer
+    }
+
+    /// What a Prompt PDU is answered with: a NAK sequence, or a Keep Alive PDU.
+    fn prompted(&self, header: &Header, session: &Session, prompt: Prompt) -> Answer
+        requires known { AreKnown self.now.state }
+        requires found { session_of self.now.state (name_of session.now) ≡ Some session.now }
+        requires takes { takes_prompts (at_of self.now.state.world session.now) ≡ true }
+        ensures { (M : MachineFields) → answer_in M result ≡ prompted self.now.state header.now session.now prompt }
+    {
+        let answer = Answer::said(transaction_of(header), Word::Answered);
+        match prompt {
+            Prompt::Nak => answer.with_naks(self.asks(session)),
+            Prompt::KeepAlive => {
+                let progress = self.progress(session.name());
+                answer.with_keep_alive(turned(&session.header), progress)
+            }
+        }
+    }
+
+    /// A PDU is a sign of life: the timer of a session begins anew while file data is taken and no EOF PDU came.
+    fn rouse(&mut self, index: usize)
+        requires { index < length self.old.state.sessions }
+        ensures { AtIndex self.old.state.sessions index (λ s. self.new ≡ with_session self.old (roused self.old.state s)) }
+    {
+        self.sound();
+        if self.at(self.session(index)).is_receiving() {
+            let timer = Timer::start(self.latest);
+            self.sessions.set_timer(index, timer);
+        }
+    }
+}

@@ -1,0 +1,208 @@
+//! Items that are performed, outcomes that are taken, and the user's own requests.
+
+ghost use Rattle.std.specs.Prelude.{◌≡◌, ◌<◌, ◌≤◌, length, slice_get, vec_len, Some, None, IfOk, IfSome, IfNone, OnErr};
+ghost use Rattle.cfdp_sessions.specs.declared.session.Stage.TheVariants.{Known as KnownStage, Over as OverStage};
+ghost use Rattle.cfdp_transactions.specs.declared.outcome.Outcome.{Outcome as OutcomeOf};
+ghost use Rattle.cfdp_transactions.specs.Writable.{IsWritable, finished_octets, longest_finished};
+ghost use Rattle.cfdp_receiver.specs.State.{CancelAsked, Finish, ForgetAsked, Work};
+ghost use Rattle.cfdp_receiver.specs.Due.{first_over};
+ghost use Rattle.cfdp_receiver.specs.Laws.{AreKnown};
+ghost use Rattle.cfdp_receiver.specs.Machine.{AtIndex, Concludes, Turns, at_moment, finished_for};
+ghost use Rattle.cfdp_receiver.specs.Turning.{conclusion_of, stage_outcome};
+
+use crate::answering::{Answer, turned};
+use crate::machine::Machine;
+use crate::{At, Conclusion, Indication, Word};
+use cfdp_pdus::Finished;
+use cfdp_retransmission::Timer;
+use cfdp_sessions::{Ending, Session, Stage};
+use cfdp_status::TransactionId;
+use cfdp_transactions::{Outcome, Reply};
+use std::alloc::{AllocError, Global};
+
+/// The outcome of a transaction that is not in the core: nothing was kept of it.
+fn outcome_of_ending(alloc: Global, session: &Session, ending: Ending) -> Outcome
+    requires { session.now.stage ≡ OverStage ending }
+    ensures outcome { result ≡ stage_outcome session.now (OverStage ending) }
+    ensures writable { IsWritable result }
+{
+    Outcome {
+        header: turned(&session.header),
+        finished: Finished {
+            condition: ending.condition,
+            incomplete: true,
+            file_status: 3,
+            responses: Vec::new(alloc),
+            fault: Some(ending.at_fault),
+        },
+        send: ending.is_sent,
+    }
+}
+
+/// How a transaction ended.
+fn conclusion_of(outcome: &Outcome) -> Conclusion
+    ensures { result ≡ conclusion_of outcome.now }
+{
+    Conclusion {
+        condition: outcome.finished.condition,
+        incomplete: outcome.finished.incomplete,
+        file_status: outcome.finished.file_status,
+    }
+}
+
+impl Machine {
+    /// The next item of the first transaction that has one is performed (CCSDS 727.0-B-5, the procedures at the receiving entity).
+    pub(crate) fn work(&mut self) -> Answer
+        ensures { Turns self.old self.new result (Work self.old.state.now) }
+    {
+        let Some(id) = self.entity.core().next_runnable() else {
+            return Answer::nothing();
+        };
+        let reply = self.entity.step(id);
+        Answer::replied(id, reply)
+    }
+
+    /// The index of the first session that is over.
+    pub(crate) fn first_over(&self) -> Option<usize>
+        ensures some { IfSome result (λ index. first_over self.now.state.world self.now.state.sessions ≡ slice_get self.now.state.sessions index) }
+        ensures here { IfSome result (λ index. index < length self.now.state.sessions) }
+        ensures none { IfNone result (first_over self.now.state.world self.now.state.sessions ≡ None) }
+    {
+        for index in 0..self.sessions.len() {
+            if self.at(self.session(index)) == At::Over {
+                return Some(index);
+            }
+        }
+        None
+    }
+
+    /// The outcome of the first transaction that is over is taken.
+    pub(crate) fn finish(&mut self, alloc: Global, now: u64) -> Result<Answer, AllocError>
+        requires { AreKnown self.old.state }
+        ensures ok { IfOk result (λ answer. Turns (at_moment now self.old) self.new answer (Finish now)) }
+        ensures unchanged { OnErr result (self.new ≡ self.old) }
+    {
+        self.sessions.distinct();
+        let Some(index) = self.first_over() else {
+            self.later(now);
+            return Ok(Answer::nothing());
+        };
+        let session = self.session(index);
+        match session.stage {
+            Stage::Known => self.finish_known(alloc, now, index),
+            Stage::Over(ending) => {
+                let outcome = outcome_of_ending(alloc, session, ending);
+                let octets = outcome.octets(alloc)?;
+                let conclusion = conclusion_of(&outcome);
+                self.later(now);
+                Ok(self.conclude(index, outcome.send, conclusion, octets))
+            }
+            Stage::Held(_) | Stage::Waiting => unreachable!(),
+        }
+    }
+
+    /// The outcome of a transaction that the core knows is taken. Where this entity cancelled it, its own condition code goes out.
+    fn finish_known(&mut self, alloc: Global, now: u64, index: usize) -> Result<Answer, AllocError>
+        requires here { index < length self.old.state.sessions }
+        requires over { first_over self.old.state.world self.old.state.sessions ≡ slice_get self.old.state.sessions index }
+        requires stage { AtIndex self.old.state.sessions index (λ s. s.stage ≡ KnownStage) }
+        requires known { AreKnown self.old.state }
+        ensures ok { IfOk result (λ answer. Turns (at_moment now self.old) self.new answer (Finish now)) }
+        ensures unchanged { OnErr result (self.new ≡ self.old) }
+    {
+        self.sessions.distinct();
+        let session = self.session(index);
+        let id = session.name();
+        let Some(mut outcome) = self.entity.outcome(id)? else {
+            unreachable!()
+        };
+        let condition = outcome.finished.condition;
+        outcome.finished.condition = session.cause.unwrap_or(condition);
+        let octets = outcome.octets(alloc)?;
+        let conclusion = conclusion_of(&outcome);
+        let is_sent = outcome.send;
+        outcome.finished.condition = condition;
+        if let Reply::Memory = self.entity.hand_out(id, outcome) {
+            return Err(AllocError);
+        }
+        self.later(now);
+        Ok(self.conclude(index, is_sent, conclusion, octets))
+    }
+
+    /// The outcome of a session's transaction is there: it is indicated and sent, and the session waits or is closed.
+    fn conclude(
+        &mut self,
+        index: usize,
+        is_sent: bool,
+        conclusion: Conclusion,
+        octets: Vec<u8>,
+    ) -> Answer
+        requires here { index < length self.old.state.sessions }
+        requires short { vec_len octets ≤ longest_finished }
+        ensures { (outcome : OutcomeOf) → is_sent ≡ outcome.send → conclusion ≡ conclusion_of outcome → octets.items ≡ finished_octets outcome
+            → AtIndex self.old.state.sessions index (λ s. Concludes self.old self.new result s outcome) }
+    {
+        self.sessions.distinct();
+        let session = self.session(index);
+        let id = session.name();
+        let told = Some(Indication::TransactionFinished(id, conclusion));
+        if session.is_abandoned {
+            self.close(id);
+            return Answer::said(id, Word::Closed);
+        }
+        if !is_sent {
+            self.close(id);
+            return Answer::said(id, Word::Closed).with_indication(told);
+        }
+        if session.header.acknowledged {
+            let timer = Timer::start(self.latest);
+            self.sessions.wait(index, octets, timer);
+            return Answer::said(id, Word::Finished)
+                .with_finished(id)
+                .with_indication(told);
+        }
+        self.close(id);
+        self.concluded = octets;
+        Answer::said(id, Word::Closed)
+            .with_finished(id)
+            .with_indication(told)
+    }
+
+    /// The Finished PDU of a transaction that waits for its acknowledgement, or that was closed last when its outcome was taken.
+    pub(crate) fn finished_octets(&self, id: TransactionId) -> &[u8]
+        ensures { result.now ≡ finished_for self.now id }
+    {
+        match self.sessions.find(id) {
+            Some(index) => &self.session(index).finished,
+            None => &self.concluded,
+        }
+    }
+
+    /// The user cancels a transaction (condition code 15).
+    pub(crate) fn cancel(&mut self, id: TransactionId) -> Answer
+        ensures { Turns self.old self.new result (CancelAsked self.old.state.now id) }
+    {
+        let Some(index) = self.sessions.find(id) else {
+            return Answer::said(id, Word::Unknown);
+        };
+        match self.session(index).stage {
+            Stage::Known => {
+                let reply = self.entity.cancel(id);
+                Answer::replied(id, reply)
+            }
+            Stage::Held(_) => {
+                self.ends_here(index, 15);
+                Answer::said(id, Word::Cancelled)
+            }
+            Stage::Over(_) | Stage::Waiting => Answer::said(id, Word::Idle),
+        }
+    }
+
+    /// The names closed last are forgotten.
+    pub(crate) fn forget(&mut self) -> Answer
+        ensures { Turns self.old self.new result ForgetAsked }
+    {
+        self.closed.clear();
+        Answer::nothing()
+    }
+}

@@ -1,0 +1,342 @@
+//! The receiving entity.
+
+ghost use Rattle.std.specs.Prelude.{◌≡◌, ◌<◌, ◌^◌, ℕ, max, is_some, length, slice_get, take, List, IfErr, IfOk, OnErr, Ok, Some};
+ghost use Rattle.std.specs.Option.{option_copied};
+ghost use Rattle.cfdp_transactions.specs.World.{next_runnable};
+ghost use Rattle.cfdp_pdus.specs.Canonical.{IsHeader, IsSizedEof};
+ghost use Rattle.cfdp_pdus.specs.declared.fault.PduFault.TheVariants.{Memory as NoMemory};
+ghost use Rattle.cfdp_transactions.specs.declared.event.Event.TheVariants.{Metadata as MetadataCame};
+ghost use Rattle.cfdp_transactions.specs.Writable.{IsReadable};
+ghost use Rattle.cfdp_receiver.specs.declared.reading.Dropped.TheVariants.{Pdu as PduDropped};
+ghost use Rattle.cfdp_receiver.specs.State.{AckPdu, CancelAsked, DataPdu, EofPdu, MetadataPdu, OtherPdu, PromptPdu, Expire, Finish, ForgetAsked, Input, Work, begin, session_of, status_of};
+ghost use Rattle.cfdp_receiver.specs.Due.{first_due, first_over};
+ghost use Rattle.cfdp_receiver.specs.Heard.{IsDropped, IsUnread, heard, input_at};
+ghost use Rattle.cfdp_receiver.specs.Machine.{IsNotMade, IsWhole, answer_in, has_come, is_any_due};
+ghost use Rattle.cfdp_receiver.specs.Sent.{IsNotWritten, as_sent, crc_len, longest_sealed, pdus_of};
+ghost use Rattle.cfdp_receiver.specs.Turning.{after, turn};
+
+use crate::answering::Answer;
+use crate::machine::Machine;
+use crate::reading::{Directed, Dropped, read_directed};
+use crate::{Mib, MibFault};
+use cfdp_crc::{seal, unseal};
+use cfdp_directives::{Ack, Prompt, TransactionStatus};
+use cfdp_entity::Entity;
+use cfdp_pdus::{Eof, Header, Metadata, PduFault, Piece, read_piece};
+use cfdp_sessions::Session;
+use cfdp_status::TransactionId;
+use std::alloc::{AllocError, Global};
+use std::marker::Model;
+
+/// Why a receiver was not made, in the order of tests. The entity is dropped.
+#[derive(Clone, Copy, Debug, PartialEq, Eq)]
+pub enum NotMade {
+    /// A value of the management information base is out of range.
+    Mib(MibFault),
+    /// The entity has a transaction already.
+    HasTransactions,
+    /// Out of memory.
+    Memory,
+}
+
+/// Why a PDU of an answer was not written.
+#[derive(Clone, Copy, Debug, PartialEq, Eq)]
+pub enum NotWritten {
+    /// The answer has fewer PDUs.
+    NoMore,
+    /// The buffer is too short for the PDU. [`Receiver::longest`] octets are always enough.
+    TooShort,
+}
+
+/// A receiving entity in acknowledged and unacknowledged mode (CCSDS 727.0-B-5, the procedures at the receiving entity): octets and the
+/// present time go in; PDUs to send, indications and the next deadline come out. It has no socket, no clock and no thread.
+///
+/// A driver hands in what comes, by [`Receiver::receive`], or that time has passed, by [`Receiver::expire`]; then calls
+/// [`Receiver::work`] while [`Receiver::has_work`], and [`Receiver::finish`] while [`Receiver::has_outcome`]. It writes the PDUs of
+/// each answer before the next input, and sleeps until [`Receiver::deadline`].
+///
+/// Contracts see its state, of which each call makes one turn; no two of its sessions have one name, a session is known exactly where the
+/// core has an entry, and no transaction that is closed and remembered has a session.
+#[derive(Drop)]
+pub struct Receiver {
+    machine: Machine,
+}
+
+impl Model for Receiver {
+    ghost use Rattle.std.specs.Coded.{codes};
+    ghost use Rattle.cfdp_transactions.specs.Engine.{nodes_code};
+    ghost use Rattle.cfdp_receiver.specs.Machine.{IsWhole, MachineFields};
+
+    ghost Value = { MachineFields };
+
+    ghost coded = { Prim.hlevel (codes, nodes_code) };
+
+    ghost view = { λ r. r.machine };
+
+    ghost invariant = { λ r. IsWhole r.machine.state };
+}
+
+/// The most octets of a Finished PDU with its CRC.
+const LONGEST_FINISHED: usize = 16_490;
+
+impl Receiver {
+    /// A receiver without sessions, over an entity without transactions. Its filestore may hold files.
+    ///
+    /// # Errors
+    ///
+    /// The first of: [`NotMade::Mib`], [`NotMade::HasTransactions`], and [`NotMade::Memory`] when out of memory. Cost: the memory of 64
+    /// sessions and of 256 names, which is all that it takes but for Metadata PDUs and outcomes.
+    pub fn new(alloc: Global, mib: Mib, entity: Entity) -> Result<Receiver, NotMade>
+        ensures ok { IfOk result (λ receiver. receiver.state ≡ begin mib entity) }
+        ensures err { IfErr result (IsNotMade mib entity) }
+    {
+        if let Some(fault) = mib.fault() {
+            return Err(NotMade::Mib(fault));
+        }
+        if entity.core().transaction_at(0).is_some() {
+            return Err(NotMade::HasTransactions);
+        }
+        match Machine::new(alloc, mib, entity) {
+            Ok(machine) => Ok(Receiver { machine }),
+            Err(_) => Err(NotMade::Memory),
+        }
+    }
+
+    /// What is true at all times stays true at each input. Does nothing.
+    fn stays_whole(&self)
+        ensures { (input : Input) → IsWhole (after self.now.state input) }
+    {
+        cfdp_transactions::laws::only_take_removes();
+        cfdp_transactions::laws::take_removes();
+        cfdp_transactions::laws::next_is_sound();
+        cfdp_transactions::laws::next_is_promised();
+        self.machine.entity.sound();
+        self.machine.sessions.distinct();
+    }
+
+    /// The octets of a PDU came. They are scratch afterwards: a CRC is taken off in place.
+    ///
+    /// # Errors
+    ///
+    /// Why they were dropped; or out of memory, for a Metadata PDU alone. The receiver is as before.
+    ///
+    /// Cost: a pass over the octets of a PDU with a CRC, a pass over at most 64 sessions and, for a transaction without one, over at most 256
+    /// names, and that of the event.
+    pub fn receive(&mut self, alloc: Global, now: u64, octets: &mut [u8]) -> Result<Answer, Dropped>
+        ensures ok { IfOk result (λ answer. (input : Input) × (heard now octets.old ≡ Ok input) × (turn self.old.state input ≡ (self.new.state, answer_in self.new answer))) }
+        ensures err { IfErr result (IsDropped now octets.old) }
+        ensures unchanged { OnErr result (self.new ≡ self.old) }
+    {
+        let len = unseal(octets)?;
+        self.hear(alloc, now, &octets[..len])
+    }
+
+    /// The octets of a PDU without a CRC came.
+    fn hear(&mut self, alloc: Global, now: u64, octets: &[u8]) -> Result<Answer, Dropped>
+        ensures ok { IfOk result (λ answer. (input : Input) × (input_at now octets.now ≡ Ok input) × (turn self.old.state input ≡ (self.new.state, answer_in self.new answer))) }
+        ensures err { IfErr result (IsUnread now octets.now) }
+        ensures unchanged { OnErr result (self.new ≡ self.old) }
+    {
+        if let Some((header, piece)) = read_piece(octets) {
+            return Ok(self.hear_data(now, &header, &piece));
+        }
+        match read_directed(alloc, octets)? {
+            Directed::Metadata(header, metadata) => {
+                self.hear_metadata(alloc, now, header, metadata)
+            }
+            Directed::Eof(header, eof) => Ok(self.hear_eof(alloc, now, &header, eof)),
+            Directed::Ack(header, ack) => Ok(self.hear_ack(now, &header, ack)),
+            Directed::Prompt(header, prompt) => Ok(self.hear_prompt(now, &header, prompt)),
+            Directed::Other(header) => Ok(self.hear_other(now, &header)),
+        }
+    }
+
+    /// A Metadata PDU came.
+    fn hear_metadata(
+        &mut self,
+        alloc: Global,
+        now: u64,
+        header: Header,
+        metadata: Metadata,
+    ) -> Result<Answer, Dropped>
+        requires { IsReadable (MetadataCame header metadata) }
+        ensures ok { IfOk result (λ answer. turn self.old.state (MetadataPdu now header metadata) ≡ (self.new.state, answer_in self.new answer)) }
+        ensures err { IfErr result (λ why. why ≡ PduDropped NoMemory) }
+        ensures unchanged { OnErr result (self.new ≡ self.old) }
+    {
+        self.stays_whole();
+        match self.machine.metadata(alloc, now, header, metadata) {
+            Ok(answer) => Ok(answer),
+            Err(_) => Err(Dropped::Pdu(PduFault::Memory)),
+        }
+    }
+
+    /// A File Data PDU came.
+    fn hear_data(&mut self, now: u64, header: &Header, piece: &Piece<'_>) -> Answer
+        requires { IsHeader header.now }
+        ensures { turn self.old.state (DataPdu now header.now piece.now) ≡ (self.new.state, answer_in self.new result) }
+    {
+        self.stays_whole();
+        self.machine.later(now);
+        self.machine.data(header, piece)
+    }
+
+    /// An EOF PDU came.
+    fn hear_eof(&mut self, alloc: Global, now: u64, header: &Header, eof: Eof) -> Answer
+        requires header { IsHeader header.now }
+        requires sized { IsSizedEof header.now.large eof }
+        ensures { turn self.old.state (EofPdu now header.now eof) ≡ (self.new.state, answer_in self.new result) }
+    {
+        self.stays_whole();
+        self.machine.later(now);
+        self.machine.eof(alloc, header, eof)
+    }
+
+    /// An ACK PDU came.
+    fn hear_ack(&mut self, now: u64, header: &Header, ack: Ack) -> Answer
+        ensures { turn self.old.state (AckPdu now header.now ack) ≡ (self.new.state, answer_in self.new result) }
+    {
+        self.stays_whole();
+        self.machine.later(now);
+        self.machine.ack(header, ack)
+    }
+
+    /// A Prompt PDU came.
+    fn hear_prompt(&mut self, now: u64, header: &Header, prompt: Prompt) -> Answer
+        ensures { turn self.old.state (PromptPdu now header.now prompt) ≡ (self.new.state, answer_in self.new result) }
+    {
+        self.stays_whole();
+        self.machine.later(now);
+        self.machine.prompt(header, prompt)
+    }
+
+    /// A NAK, Keep Alive or Finished PDU came.
+    fn hear_other(&mut self, now: u64, header: &Header) -> Answer
+        ensures { turn self.old.state (OtherPdu now header.now) ≡ (self.new.state, answer_in self.new result) }
+    {
+        self.stays_whole();
+        self.machine.later(now);
+        self.machine.other(header)
+    }
+
+    /// Time has passed: the first timer that is due is served, of the first session that has one. Takes no memory. Cost: a pass over the
+    /// sessions, and of a NAK sequence its gaps.
+    pub fn expire(&mut self, now: u64) -> Answer
+        ensures { turn self.old.state (Expire now) ≡ (self.new.state, answer_in self.new result) }
+    {
+        self.stays_whole();
+        self.machine.later(now);
+        self.machine.expire()
+    }
+
+    /// The next item of the first transaction that has one is performed: the file is installed, or a request is performed. Takes no memory.
+    /// Cost: what the request says.
+    pub fn work(&mut self, now: u64) -> Answer
+        ensures { turn self.old.state (Work now) ≡ (self.new.state, answer_in self.new result) }
+    {
+        self.stays_whole();
+        self.machine.later(now);
+        self.machine.work()
+    }
+
+    /// The outcome of the first transaction that is over is taken, indicated, and its Finished PDU sent where it is to be.
+    ///
+    /// # Errors
+    ///
+    /// [`AllocError`] when out of memory: the receiver is as before, and the call can be made again. Cost: a pass over the sessions, a copy
+    /// of the requests' names, and the octets of the PDU.
+    pub fn finish(&mut self, alloc: Global, now: u64) -> Result<Answer, AllocError>
+        ensures ok { IfOk result (λ answer. turn self.old.state (Finish now) ≡ (self.new.state, answer_in self.new answer)) }
+        ensures unchanged { OnErr result (self.new ≡ self.old) }
+    {
+        self.stays_whole();
+        self.machine.finish(alloc, now)
+    }
+
+    /// The user cancels a transaction (condition code 15). Takes no memory.
+    pub fn cancel(&mut self, now: u64, id: TransactionId) -> Answer
+        ensures { turn self.old.state (CancelAsked now id) ≡ (self.new.state, answer_in self.new result) }
+    {
+        self.stays_whole();
+        self.machine.later(now);
+        self.machine.cancel(id)
+    }
+
+    /// The names of the transactions that were closed last are forgotten, for a sender whose transaction sequence numbers begin anew. A
+    /// Metadata PDU of one of them that comes once more begins it anew then. Takes no memory.
+    pub fn forget_closed(&mut self) -> Answer
+        ensures { turn self.old.state ForgetAsked ≡ (self.new.state, answer_in self.new result) }
+    {
+        self.stays_whole();
+        self.machine.forget()
+    }
+
+    /// The moment from which on a timer is due: `None` where none runs, or where it is due after the greatest moment. Takes no memory. Cost: a
+    /// pass over the sessions.
+    pub fn deadline(&self) -> Option<u64>
+        ensures { (now : ℕ) → now < 2 ^ 64 → has_come result now ≡ is_any_due (first_due (record self.now.state { now = now }) self.now.state.sessions) }
+    {
+        self.machine.deadline()
+    }
+
+    /// Whether a transaction has an item to be performed. Cost: a pass over the core's table.
+    pub fn has_work(&self) -> bool
+        ensures { result ≡ is_some (next_runnable self.now.state.world.table) }
+    {
+        self.machine.entity.core().next_runnable().is_some()
+    }
+
+    /// Whether a transaction is over whose outcome was not taken. Cost: a pass over the sessions.
+    pub fn has_outcome(&self) -> bool
+        ensures { result ≡ is_some (first_over self.now.state.world self.now.state.sessions) }
+    {
+        self.machine.first_over().is_some()
+    }
+
+    /// What an ACK PDU says of a transaction (CCSDS 727.0-B-5 §5.2.4). Cost: a pass over the sessions, or over the names closed last.
+    pub fn status(&self, id: TransactionId) -> TransactionStatus
+        ensures { result ≡ status_of self.now.state id }
+    {
+        self.machine.status(id)
+    }
+
+    /// What is kept of a transaction beside the core, if it has a session. Cost: a pass over the sessions.
+    pub fn session(&self, id: TransactionId) -> Option<&Session>
+        ensures { option_copied result ≡ session_of self.now.state id }
+    {
+        self.machine.sessions.get(id)
+    }
+
+    /// The entity, for what it tells of transactions, and for its filestore. Costs nothing.
+    pub fn entity(&self) -> &Entity
+        ensures { result.now ≡ self.now.state.world }
+    {
+        &self.machine.entity
+    }
+
+    /// How many octets a PDU that [`Receiver::write`] writes has at most.
+    pub fn longest(&self) -> usize
+        ensures { result ≡ max longest_sealed self.now.state.mib.longest_nak }
+    {
+        LONGEST_FINISHED.max(usize::from(self.machine.mib.longest_nak))
+    }
+
+    /// Writes the PDU with this number of an answer, counted from 0, to the front of a buffer, and returns its length in octets. It has a CRC
+    /// where the management information base says so. The answer is that of the last input. Takes no memory. Cost: the octets.
+    ///
+    /// # Errors
+    ///
+    /// [`NotWritten::NoMore`] where the answer has no such PDU, else [`NotWritten::TooShort`] where the buffer has no room for it.
+    pub fn write(&self, answer: &Answer, number: usize, out: &mut [u8]) -> Result<usize, NotWritten>
+        ensures ok { IfOk result (λ len. (octets : List ℕ) × (slice_get (pdus_of self.now answer.now) number ≡ Some octets) × (as_sent self.now.state.mib octets ≡ take len out.new)) }
+        ensures err { IfErr result (IsNotWritten (crc_len self.now.state.mib) (slice_get (pdus_of self.now answer.now) number) (length out.old)) }
+        ensures unchanged { OnErr result (out.new ≡ out.old) }
+    {
+        if !self.machine.mib.has_crc {
+            return self.machine.put(answer, number, out);
+        }
+        let room = out.len().saturating_sub(2);
+        let len = self.machine.put(answer, number, &mut out[..room])?;
+        Ok(seal(out, len).unwrap_or(len))
+    }
+}
