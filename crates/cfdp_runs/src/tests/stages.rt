@@ -1,0 +1,54 @@
+//! Each input at each stage of a transaction: what is sent and indicated, what became of the input, and how far the
+//! transaction is then. The modules below have the cases; what is due is what `docs/FORMATS.md` says of the inputs of
+//! the receiver.
+
+mod begun;
+mod ended;
+mod limits;
+
+use super::actor::{Actor, Input};
+use std::alloc::{AllocError, Global};
+use std::process::Abort;
+
+/// An input, the text of what is answered, and how far the transaction is then.
+type Case = (Input, &'static str, &'static str);
+
+/// A stage: what leads to it, whether that is in acknowledged mode, and what each input does there.
+struct Scene {
+    name: &'static str,
+    is_acknowledged: bool,
+    before: &'static [Input],
+    cases: &'static [Case],
+}
+
+/// A receiver with the transaction at a stage.
+fn at_stage(alloc: Global, scene: &Scene) -> Result<Option<Actor>, AllocError> {
+    let Some(mut actor) = Actor::new(alloc, scene.is_acknowledged, 0)? else {
+        return Ok(None);
+    };
+    for earlier in scene.before {
+        actor.take(alloc, *earlier)?;
+    }
+    Ok(Some(actor))
+}
+
+/// Each input has its text at a stage, and leads where it has to.
+fn all_hold<R: Abort + Print>(rt: &R, alloc: Global, scene: &Scene) -> Result<(), AllocError> {
+    let name = scene.name;
+    for (number, (input, text, after)) in scene.cases.iter().enumerate() {
+        let Some(mut actor) = at_stage(alloc, scene)? else {
+            assert!(rt; false, "{name}: no receiver");
+            continue;
+        };
+        assert_eq!(rt; actor.stage(), name, "the stage before case {number}");
+        actor.take(alloc, *input)?;
+        let written = str::from_utf8(&actor.text).unwrap_or("no text");
+        assert_eq!(rt; written, *text, "{name}: case {number}");
+        assert_eq!(rt;
+            actor.stage(),
+            *after,
+            "{name}: the stage after case {number}"
+        );
+    }
+    Ok(())
+}

@@ -1,0 +1,367 @@
+//! Stages after the file is whole, or after the transaction ended.
+
+use super::{Input, Scene, all_hold};
+use std::alloc::AllocError;
+
+static EXECUTING: Scene = Scene {
+    name: "executing",
+    is_acknowledged: true,
+    before: &[Input::Metadata, Input::AllData, Input::Eof],
+    cases: &[
+        (Input::Metadata, "1/5 duplicate\n", "executing"),
+        (Input::Data, "1/5 idle\n", "executing"),
+        (
+            Input::Eof,
+            "\
+            send 28000300010502064001\n\
+            1/5 duplicate\n",
+            "executing",
+        ),
+        (
+            Input::EofCancel,
+            "\
+            send 280003000105020640f1\n\
+            1/5 faulted 15\n",
+            "over",
+        ),
+        (Input::AckEof, "1/5 idle\n", "executing"),
+        (Input::AckFinished, "1/5 idle\n", "executing"),
+        (Input::Time(&[15]), "", "executing"),
+        (Input::Time(&[25]), "", "executing"),
+        (Input::Time(&[1000]), "", "executing"),
+        (Input::Work, "1/5 installed\n", "over"),
+        (Input::Finish, "", "executing"),
+        (Input::PromptNak, "1/5 idle\n", "executing"),
+        (Input::PromptKeepAlive, "1/5 idle\n", "executing"),
+        (Input::Nak, "pdu not-ours\n", "executing"),
+        (Input::KeepAlive, "pdu not-ours\n", "executing"),
+        (Input::Finished, "pdu not-ours\n", "executing"),
+        (Input::Cancel, "1/5 cancelled\n", "over"),
+    ],
+};
+
+static ENDED: Scene = Scene {
+    name: "over",
+    is_acknowledged: true,
+    before: &[Input::Metadata, Input::Cancel],
+    cases: &[
+        (Input::Metadata, "1/5 duplicate\n", "over"),
+        (Input::Data, "1/5 idle\n", "over"),
+        (
+            Input::Eof,
+            "\
+            send 28000300010502064001\n\
+            1/5 idle\n",
+            "over",
+        ),
+        (
+            Input::EofCancel,
+            "\
+            send 280003000105020640f1\n\
+            1/5 idle\n",
+            "over",
+        ),
+        (Input::AckEof, "1/5 idle\n", "over"),
+        (Input::AckFinished, "1/5 idle\n", "over"),
+        (Input::Time(&[15]), "", "over"),
+        (Input::Time(&[105]), "", "over"),
+        (Input::Time(&[1000]), "", "over"),
+        (Input::Work, "", "over"),
+        (
+            Input::Finish,
+            "\
+            send 2800050001050205f4060102\n\
+            tell finished 1/5 15 incomplete 0\n\
+            1/5 finished\n",
+            "waiting",
+        ),
+        (Input::PromptNak, "1/5 idle\n", "over"),
+        (Input::PromptKeepAlive, "1/5 idle\n", "over"),
+        (Input::Nak, "pdu not-ours\n", "over"),
+        (Input::KeepAlive, "pdu not-ours\n", "over"),
+        (Input::Finished, "pdu not-ours\n", "over"),
+        (Input::Cancel, "1/5 idle\n", "over"),
+    ],
+};
+
+static DONE: Scene = Scene {
+    name: "over",
+    is_acknowledged: true,
+    before: &[Input::Metadata, Input::AllData, Input::Eof, Input::Work],
+    cases: &[
+        (Input::Metadata, "1/5 duplicate\n", "over"),
+        (Input::Data, "1/5 idle\n", "over"),
+        (
+            Input::Eof,
+            "\
+            send 28000300010502064001\n\
+            1/5 idle\n",
+            "over",
+        ),
+        (
+            Input::EofCancel,
+            "\
+            send 280003000105020640f1\n\
+            1/5 idle\n",
+            "over",
+        ),
+        (Input::AckEof, "1/5 idle\n", "over"),
+        (Input::AckFinished, "1/5 idle\n", "over"),
+        (Input::Time(&[15]), "", "over"),
+        (Input::Time(&[105]), "", "over"),
+        (Input::Time(&[1000]), "", "over"),
+        (Input::Work, "", "over"),
+        (
+            Input::Finish,
+            "\
+            send 280002000105020502\n\
+            tell finished 1/5 0 complete 2\n\
+            1/5 finished\n",
+            "waiting",
+        ),
+        (Input::PromptNak, "1/5 idle\n", "over"),
+        (Input::PromptKeepAlive, "1/5 idle\n", "over"),
+        (Input::Nak, "pdu not-ours\n", "over"),
+        (Input::KeepAlive, "pdu not-ours\n", "over"),
+        (Input::Finished, "pdu not-ours\n", "over"),
+        (Input::Cancel, "1/5 idle\n", "over"),
+    ],
+};
+
+static FAULTED: Scene = Scene {
+    name: "over",
+    is_acknowledged: true,
+    before: &[Input::Metadata, Input::Time(&[105])],
+    cases: &[
+        (Input::Metadata, "1/5 duplicate\n", "over"),
+        (Input::Data, "1/5 idle\n", "over"),
+        (
+            Input::Eof,
+            "\
+            send 28000300010502064001\n\
+            1/5 idle\n",
+            "over",
+        ),
+        (
+            Input::EofCancel,
+            "\
+            send 280003000105020640f1\n\
+            1/5 idle\n",
+            "over",
+        ),
+        (Input::AckEof, "1/5 idle\n", "over"),
+        (Input::AckFinished, "1/5 idle\n", "over"),
+        (Input::Time(&[115]), "", "over"),
+        (Input::Time(&[1000]), "", "over"),
+        (Input::Work, "", "over"),
+        (
+            Input::Finish,
+            "\
+            send 280005000105020584060102\n\
+            tell finished 1/5 8 incomplete 0\n\
+            1/5 finished\n",
+            "waiting",
+        ),
+        (Input::PromptNak, "1/5 idle\n", "over"),
+        (Input::PromptKeepAlive, "1/5 idle\n", "over"),
+        (Input::Nak, "pdu not-ours\n", "over"),
+        (Input::KeepAlive, "pdu not-ours\n", "over"),
+        (Input::Finished, "pdu not-ours\n", "over"),
+        (Input::Cancel, "1/5 idle\n", "over"),
+    ],
+};
+
+static HELD_AND_CANCELLED: Scene = Scene {
+    name: "over",
+    is_acknowledged: true,
+    before: &[Input::Eof, Input::Cancel],
+    cases: &[
+        (Input::Metadata, "1/5 duplicate\n", "over"),
+        (Input::Data, "1/5 idle\n", "over"),
+        (
+            Input::Eof,
+            "\
+            send 28000300010502064001\n\
+            1/5 idle\n",
+            "over",
+        ),
+        (
+            Input::EofCancel,
+            "\
+            send 280003000105020640f1\n\
+            1/5 idle\n",
+            "over",
+        ),
+        (Input::AckEof, "1/5 idle\n", "over"),
+        (Input::AckFinished, "1/5 idle\n", "over"),
+        (Input::Time(&[15]), "", "over"),
+        (Input::Time(&[105]), "", "over"),
+        (Input::Time(&[1000]), "", "over"),
+        (Input::Work, "", "over"),
+        (
+            Input::Finish,
+            "\
+            send 2800050001050205f7060102\n\
+            tell finished 1/5 15 incomplete 3\n\
+            1/5 finished\n",
+            "waiting",
+        ),
+        (Input::PromptNak, "1/5 idle\n", "over"),
+        (Input::PromptKeepAlive, "1/5 idle\n", "over"),
+        (Input::Nak, "pdu not-ours\n", "over"),
+        (Input::KeepAlive, "pdu not-ours\n", "over"),
+        (Input::Finished, "pdu not-ours\n", "over"),
+        (Input::Cancel, "1/5 idle\n", "over"),
+    ],
+};
+
+static DONE_UNACKNOWLEDGED: Scene = Scene {
+    name: "over",
+    is_acknowledged: false,
+    before: &[Input::Metadata, Input::AllData, Input::Eof, Input::Work],
+    cases: &[
+        (Input::Metadata, "1/5 duplicate\n", "over"),
+        (Input::Data, "1/5 idle\n", "over"),
+        (Input::Eof, "1/5 idle\n", "over"),
+        (Input::EofCancel, "1/5 idle\n", "over"),
+        (
+            Input::Finish,
+            "\
+            send 2c0002000105020502\n\
+            tell finished 1/5 0 complete 2\n\
+            1/5 closed\n",
+            "closed",
+        ),
+    ],
+};
+
+static WAITING: Scene = Scene {
+    name: "waiting",
+    is_acknowledged: true,
+    before: &[
+        Input::Metadata,
+        Input::AllData,
+        Input::Eof,
+        Input::Work,
+        Input::Finish,
+    ],
+    cases: &[
+        (Input::Metadata, "1/5 duplicate\n", "waiting"),
+        (Input::Data, "1/5 idle\n", "waiting"),
+        (
+            Input::Eof,
+            "\
+            send 28000300010502064001\n\
+            1/5 idle\n",
+            "waiting",
+        ),
+        (
+            Input::EofCancel,
+            "\
+            send 280003000105020640f1\n\
+            1/5 idle\n",
+            "waiting",
+        ),
+        (Input::AckEof, "1/5 idle\n", "waiting"),
+        (Input::AckFinished, "1/5 acknowledged\n", "closed"),
+        (Input::Time(&[14]), "", "waiting"),
+        (
+            Input::Time(&[15]),
+            "\
+            send 280002000105020502\n\
+            1/5 expired\n",
+            "waiting",
+        ),
+        (
+            Input::Time(&[15, 25]),
+            "\
+            send 280002000105020502\n\
+            1/5 expired\n",
+            "waiting",
+        ),
+        (Input::Time(&[15, 25, 34]), "", "waiting"),
+        (
+            Input::Time(&[15, 25, 35]),
+            "\
+            tell fault 1/5 1\n\
+            1/5 faulted\n",
+            "closed",
+        ),
+        (Input::Work, "", "waiting"),
+        (Input::Finish, "", "waiting"),
+        (Input::PromptNak, "1/5 idle\n", "waiting"),
+        (Input::PromptKeepAlive, "1/5 idle\n", "waiting"),
+        (Input::Nak, "pdu not-ours\n", "waiting"),
+        (Input::KeepAlive, "pdu not-ours\n", "waiting"),
+        (Input::Finished, "pdu not-ours\n", "waiting"),
+        (Input::Cancel, "1/5 idle\n", "waiting"),
+    ],
+};
+
+static CLOSED: Scene = Scene {
+    name: "closed",
+    is_acknowledged: true,
+    before: &[
+        Input::Metadata,
+        Input::AllData,
+        Input::Eof,
+        Input::Work,
+        Input::Finish,
+        Input::AckFinished,
+    ],
+    cases: &[
+        (Input::Metadata, "1/5 duplicate\n", "closed"),
+        (Input::Data, "1/5 idle\n", "closed"),
+        (
+            Input::Eof,
+            "\
+            send 28000300010502064002\n\
+            1/5 idle\n",
+            "closed",
+        ),
+        (
+            Input::EofCancel,
+            "\
+            send 280003000105020640f2\n\
+            1/5 idle\n",
+            "closed",
+        ),
+        (Input::AckEof, "1/5 idle\n", "closed"),
+        (Input::AckFinished, "1/5 idle\n", "closed"),
+        (Input::Time(&[15]), "", "closed"),
+        (Input::Time(&[1000]), "", "closed"),
+        (Input::Work, "", "closed"),
+        (Input::Finish, "", "closed"),
+        (Input::Forget, "", "undefined"),
+        (Input::PromptNak, "1/5 idle\n", "closed"),
+        (Input::PromptKeepAlive, "1/5 idle\n", "closed"),
+        (Input::Nak, "pdu not-ours\n", "closed"),
+        (Input::KeepAlive, "pdu not-ours\n", "closed"),
+        (Input::Finished, "pdu not-ours\n", "closed"),
+        (Input::Cancel, "1/5 unknown\n", "closed"),
+    ],
+};
+
+#[test]
+fn executing(rt: HostRuntime) -> Result<(), AllocError> {
+    all_hold(&rt, rt.alloc(), &EXECUTING)
+}
+
+#[test]
+fn over(rt: HostRuntime) -> Result<(), AllocError> {
+    all_hold(&rt, rt.alloc(), &ENDED)?;
+    all_hold(&rt, rt.alloc(), &DONE)?;
+    all_hold(&rt, rt.alloc(), &FAULTED)?;
+    all_hold(&rt, rt.alloc(), &HELD_AND_CANCELLED)?;
+    all_hold(&rt, rt.alloc(), &DONE_UNACKNOWLEDGED)
+}
+
+#[test]
+fn waiting(rt: HostRuntime) -> Result<(), AllocError> {
+    all_hold(&rt, rt.alloc(), &WAITING)
+}
+
+#[test]
+fn closed(rt: HostRuntime) -> Result<(), AllocError> {
+    all_hold(&rt, rt.alloc(), &CLOSED)
+}

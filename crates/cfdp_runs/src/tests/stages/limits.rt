@@ -1,0 +1,200 @@
+//! A table that is full, and names that are remembered or forgotten.
+
+use super::{Input, Scene, all_hold};
+use std::alloc::AllocError;
+
+static FORGOTTEN: Scene = Scene {
+    name: "undefined",
+    is_acknowledged: true,
+    before: &[
+        Input::Metadata,
+        Input::Cancel,
+        Input::Finish,
+        Input::AckFinished,
+        Input::Forget,
+    ],
+    cases: &[
+        (
+            Input::Metadata,
+            "\
+            tell metadata 1/5\n\
+            1/5 admitted blocks 2 steps 2\n",
+            "receiving",
+        ),
+        (Input::Data, "1/5 unknown\n", "undefined"),
+        (
+            Input::Eof,
+            "\
+            send 28000300010502064001\n\
+            send 2800190001050208000000000000000f0000000000000000000000000000000f\n\
+            tell eof 1/5\n\
+            1/5 held\n",
+            "held",
+        ),
+        (
+            Input::EofCancel,
+            "\
+            send 280003000105020640f0\n\
+            1/5 unknown\n",
+            "undefined",
+        ),
+        (Input::AckFinished, "1/5 idle\n", "undefined"),
+        (Input::PromptNak, "1/5 idle\n", "undefined"),
+        (Input::Cancel, "1/5 unknown\n", "undefined"),
+    ],
+};
+
+static REMEMBERED: Scene = Scene {
+    name: "closed",
+    is_acknowledged: true,
+    before: &[
+        Input::Metadata,
+        Input::Cancel,
+        Input::Finish,
+        Input::AckFinished,
+        Input::Closed(255),
+    ],
+    cases: &[
+        (Input::Metadata, "1/5 duplicate\n", "closed"),
+        (
+            Input::Eof,
+            "\
+            send 28000300010502064002\n\
+            1/5 idle\n",
+            "closed",
+        ),
+    ],
+};
+
+static DROPPED: Scene = Scene {
+    name: "undefined",
+    is_acknowledged: true,
+    before: &[
+        Input::Metadata,
+        Input::Cancel,
+        Input::Finish,
+        Input::AckFinished,
+        Input::Closed(256),
+    ],
+    cases: &[
+        (
+            Input::Metadata,
+            "\
+            tell metadata 1/5\n\
+            1/5 admitted blocks 2 steps 2\n",
+            "receiving",
+        ),
+        (
+            Input::EofCancel,
+            "\
+            send 280003000105020640f0\n\
+            1/5 unknown\n",
+            "undefined",
+        ),
+    ],
+};
+
+static FULL: Scene = Scene {
+    name: "none",
+    is_acknowledged: true,
+    before: &[Input::Others(64)],
+    cases: &[
+        (Input::Metadata, "1/5 table-full\n", "none"),
+        (Input::Data, "1/5 unknown\n", "none"),
+        (Input::Eof, "1/5 table-full\n", "none"),
+        (
+            Input::EofCancel,
+            "\
+            send 280003000105020640f3\n\
+            1/5 unknown\n",
+            "none",
+        ),
+        (Input::AckEof, "1/5 idle\n", "none"),
+        (Input::PromptNak, "1/5 idle\n", "none"),
+        (Input::Cancel, "1/5 unknown\n", "none"),
+    ],
+};
+
+static FULL_BUT_FOR_ONE: Scene = Scene {
+    name: "none",
+    is_acknowledged: true,
+    before: &[Input::Others(63)],
+    cases: &[
+        (
+            Input::Metadata,
+            "\
+            tell metadata 1/5\n\
+            1/5 admitted blocks 2 steps 2\n",
+            "receiving",
+        ),
+        (
+            Input::Eof,
+            "\
+            send 28000300010502064001\n\
+            send 2800190001050208000000000000000f0000000000000000000000000000000f\n\
+            tell eof 1/5\n\
+            1/5 held\n",
+            "held",
+        ),
+    ],
+};
+
+static FULL_WITH_IT: Scene = Scene {
+    name: "held",
+    is_acknowledged: true,
+    before: &[Input::Eof, Input::Others(63)],
+    cases: &[
+        (
+            Input::Metadata,
+            "\
+            send 2800110001050208000000000000000f000000000000000f\n\
+            tell metadata 1/5\n\
+            1/5 admitted blocks 2 steps 2\n",
+            "awaiting",
+        ),
+        (
+            Input::Eof,
+            "\
+            send 28000300010502064001\n\
+            1/5 duplicate\n",
+            "held",
+        ),
+    ],
+};
+
+static FULL_AND_CLOSED: Scene = Scene {
+    name: "closed",
+    is_acknowledged: true,
+    before: &[
+        Input::Metadata,
+        Input::Cancel,
+        Input::Finish,
+        Input::AckFinished,
+        Input::Others(64),
+    ],
+    cases: &[
+        (Input::Metadata, "1/5 duplicate\n", "closed"),
+        (
+            Input::Eof,
+            "\
+            send 28000300010502064002\n\
+            1/5 idle\n",
+            "closed",
+        ),
+    ],
+};
+
+#[test]
+fn names(rt: HostRuntime) -> Result<(), AllocError> {
+    all_hold(&rt, rt.alloc(), &FORGOTTEN)?;
+    all_hold(&rt, rt.alloc(), &REMEMBERED)?;
+    all_hold(&rt, rt.alloc(), &DROPPED)
+}
+
+#[test]
+fn a_full_table(rt: HostRuntime) -> Result<(), AllocError> {
+    all_hold(&rt, rt.alloc(), &FULL)?;
+    all_hold(&rt, rt.alloc(), &FULL_BUT_FOR_ONE)?;
+    all_hold(&rt, rt.alloc(), &FULL_WITH_IT)?;
+    all_hold(&rt, rt.alloc(), &FULL_AND_CLOSED)
+}
