@@ -9,8 +9,6 @@ mod crc;
 pub mod laws;
 mod sealing;
 mod table;
-#[cfg(test)]
-mod tests;
 
 pub use crc::crc16;
 pub use sealing::{CrcFault, SealFault, seal, unseal};

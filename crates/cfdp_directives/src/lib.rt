@@ -16,8 +16,6 @@ mod nak;
 mod prompt;
 mod put;
 mod read;
-#[cfg(test)]
-mod tests;
 
 pub use ack::{Ack, TransactionStatus, put_ack, write_ack};
 pub use keep_alive::{KeepAlive, put_keep_alive, write_keep_alive};

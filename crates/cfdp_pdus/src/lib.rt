@@ -27,8 +27,6 @@ mod number;
 mod pdu;
 mod put;
 mod read;
-#[cfg(test)]
-mod tests;
 
 pub use buffer::{put_header, put_number, put_octets};
 pub use cfdp_checksum::modular_checksum;

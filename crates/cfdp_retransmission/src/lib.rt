@@ -7,8 +7,6 @@
 
 pub mod laws;
 mod naks;
-#[cfg(test)]
-mod tests;
 mod timer;
 
 pub use naks::{NakPart, next_nak};

@@ -5,8 +5,6 @@
 mod closed;
 mod session;
 mod sessions;
-#[cfg(test)]
-mod tests;
 
 pub use closed::{Closed, MOST_CLOSED};
 pub use session::{Ending, Session, Stage};

@@ -15,8 +15,6 @@ mod names;
 mod request;
 mod response;
 mod room;
-#[cfg(test)]
-mod tests;
 
 pub use fault::TlvFault;
 pub use field::{FILESTORE_REQUEST, FILESTORE_RESPONSE, MAX_VALUE_LEN, Tlv, read_lv, read_tlv};

@@ -2,7 +2,7 @@
 
 ghost use Rattle.std.specs.Prelude.{◌<◌};
 
-use crate::{Closed, Ending, MOST_SESSIONS, Session, Sessions, Stage};
+use cfdp_sessions::{Closed, Ending, MOST_SESSIONS, Session, Sessions, Stage};
 use cfdp_pdus::Header;
 use cfdp_retransmission::Timer;
 use cfdp_status::TransactionId;

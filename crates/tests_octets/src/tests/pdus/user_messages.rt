@@ -1,6 +1,6 @@
 //! The messages to user of worked PDUs.
 
-use crate::*;
+use cfdp_pdus::*;
 
 /// A PDU, and its messages to user.
 struct Row {

@@ -8,7 +8,7 @@ ghost use Rattle.cfdp_pdus.specs.Bits.{fss};
 ghost use Rattle.cfdp_pdus.specs.Canonical.{IsHeader};
 ghost use Rattle.cfdp_directives.specs.Spelling.{IsSizedRange};
 
-use crate::*;
+use cfdp_directives::*;
 use cfdp_pdus::{Header, PduFault, WriteFault, directive};
 use std::alloc::{AllocError, Global};
 use std::process::Abort;

@@ -5,7 +5,7 @@ mod user_messages;
 ghost use Rattle.std.specs.Prelude.{◌<◌, ◌^◌, IfSome};
 ghost use Rattle.cfdp_pdus.specs.Canonical.{IsHeader};
 
-use crate::*;
+use cfdp_pdus::*;
 use cfdp_status::{Action, Status};
 use cfdp_tlv::{FilestoreRequest, FilestoreResponse};
 use std::alloc::Global;

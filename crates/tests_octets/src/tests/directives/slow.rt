@@ -3,7 +3,7 @@
 ghost use Rattle.std.specs.Prelude.{◌≡◌};
 ghost use Rattle.cfdp_pdus.specs.Bits.{fss};
 
-use crate::*;
+use cfdp_directives::*;
 use cfdp_pdus::{Header, PduFault};
 
 // The octet at an offset; 0 past the end.

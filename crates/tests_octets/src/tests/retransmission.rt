@@ -2,7 +2,7 @@
 
 ghost use Rattle.std.specs.Prelude.{◌<◌, ◌+◌, ◌^◌, ◌≤◌};
 
-use crate::{Expiry, NakPart, Timer, next_nak};
+use cfdp_retransmission::{Expiry, NakPart, Timer, next_nak};
 use cfdp_directives::Range;
 
 /// A timer of 10 ticks with the limit 3, and what it is at a moment.

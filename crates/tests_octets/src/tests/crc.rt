@@ -2,7 +2,7 @@
 
 ghost use Rattle.std.specs.Prelude.{◌<◌};
 
-use crate::{CrcFault, SealFault, crc16, seal, unseal};
+use cfdp_crc::{CrcFault, SealFault, crc16, seal, unseal};
 use std::process::Abort;
 
 /// A PDU without a CRC, and the same PDU with its CRC.

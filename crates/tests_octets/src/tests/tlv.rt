@@ -1,6 +1,6 @@
 //! Filestore requests and responses of worked transactions, read and written with ample memory.
 
-use crate::*;
+use cfdp_tlv::*;
 use cfdp_status::{Action, Status};
 use std::alloc::Global;
 use std::process::Abort;

@@ -4,7 +4,7 @@ ghost use Rattle.std.specs.Prelude.{◌<◌};
 ghost use Rattle.cfdp_pdus.specs.Canonical.{IsHeader};
 
 use super::{sized, sized_range};
-use crate::*;
+use cfdp_directives::*;
 use cfdp_pdus::{Header, WriteFault, directive};
 use std::alloc::{AllocError, Global};
 

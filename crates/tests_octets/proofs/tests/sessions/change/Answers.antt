@@ -1,6 +1,6 @@
 use Rattle.std.proofs.Common.{ℕ, zero, suc, ◌^◌, ◌<◌, arith}
 use Rattle.std.proofs.Math.Nat.{pow-suc}
-use Rattle.cfdp_sessions.proofs.tests.change.Goals as goal
+use Rattle.tests_octets.proofs.tests.sessions.change.Goals as goal
 
 positive : (n : ℕ) → 0 < 256 ^ n
 positive zero = omega arith
