@@ -45,14 +45,19 @@ pub fn id(number: u64) -> TransactionId {
     TransactionId { source: 1, number }
 }
 
+/// Whether its PDUs are in acknowledged mode: two of three are.
+pub fn is_acknowledged(number: u64) -> bool {
+    number % 3 != 0
+}
+
 /// The header of its PDUs.
 fn header(number: u64) -> Header {
     Header {
         toward_sender: false,
-        acknowledged: false,
-        large: false,
-        id_len: 1,
-        number_len: 1,
+        acknowledged: is_acknowledged(number),
+        large: true,
+        id_len: 8,
+        number_len: 8,
         source: 1,
         number,
         destination: 2,
@@ -151,7 +156,7 @@ fn is_open(alloc: Global, store: &ListStore, name: &[u8]) -> Result<bool, Memory
 
 impl Random {
     /// The number of a transaction, rather one of a few, so that these get on.
-    fn number(&mut self) -> u64 {
+    pub fn number(&mut self) -> u64 {
         let most = if self.is_one_in(8) { TRANSACTIONS } else { 10 };
         self.below(most)
     }
@@ -187,7 +192,7 @@ impl Random {
     }
 
     /// A Metadata PDU: three in four have a file, and most have a few requests.
-    fn metadata(
+    pub fn metadata(
         &mut self,
         alloc: Global,
         store: &ListStore,
@@ -219,14 +224,14 @@ impl Random {
     }
 
     /// A File Data PDU with some piece of the file.
-    fn data(&mut self, alloc: Global, files: Files, number: u64) -> Result<Event, Memory> {
+    pub fn data(&mut self, alloc: Global, files: Files, number: u64) -> Result<Event, Memory> {
         let offset = files.piece.saturating_mul(self.below(6));
         let octets = files.octets(alloc, number, offset, files.piece)?;
         Ok(Event::Data(header(number), FileData { offset, octets }))
     }
 
     /// An EOF PDU: 15 in 16 without an error, and 15 in 16 of all with the right checksum.
-    fn eof(&mut self, alloc: Global, files: Files, number: u64) -> Result<Event, Memory> {
+    pub fn eof(&mut self, alloc: Global, files: Files, number: u64) -> Result<Event, Memory> {
         let size = files.size(number);
         let checksum = modular_checksum(&files.octets(alloc, number, 0, size)?);
         let eof = Eof {

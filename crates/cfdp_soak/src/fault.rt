@@ -1,5 +1,7 @@
 //! Why a soak ends before its last event.
 
+use cfdp_pdus::WriteFault;
+use cfdp_receiver::Word;
 use std::alloc::AllocError;
 use thiserror::Error;
 
@@ -20,6 +22,16 @@ pub enum Wrong {
     Octets,
     #[error("not each kind of reply came")]
     Tame,
+    #[error("the receiver was not made")]
+    Receiver,
+    #[error("a PDU that was written was dropped")]
+    Dropped,
+    #[error("a PDU of an answer was not written")]
+    Unwritten,
+    #[error("a transaction is in different phases")]
+    Phases,
+    #[error("the receiver did not have each word: {0:?}")]
+    Word(Word),
 }
 
 /// Why a soak ends before its last event.
@@ -29,6 +41,15 @@ pub enum Fault {
     Wrong(Wrong),
     /// There was no memory, or nothing could be printed.
     Memory,
+}
+
+impl From<WriteFault> for Fault {
+    fn from(fault: WriteFault) -> Fault {
+        match fault {
+            WriteFault::Memory => Fault::Memory,
+            WriteFault::TooLong => Fault::Wrong(Wrong::Unwritten),
+        }
+    }
 }
 
 impl From<AllocError> for Fault {

@@ -3,17 +3,26 @@
 //!
 //! After each event both entities have given the same reply, no step has failed, and in each the spare blocks are those
 //! that are free, less what is granted to live transactions and not yet taken. After each thousandth, and after the
-//! last, both have the same files and directories, and the same octets in each file. Where it is otherwise the program
-//! says so, with the number of the event, and its exit status is 1. How often each kind of reply came is told on
-//! standard error, in a line for each of the three sizes.
+//! last, both have the same files and directories, and the same octets in each file.
+//!
+//! Then a receiver in acknowledged and unacknowledged mode, over a filestore of 160 blocks inside an arena, gets EVENTS
+//! inputs: PDUs as octets, timers, items, outcomes, cancels. Beside it an entity over a plain list gets each event that
+//! the receiver hands on, and the two are compared in the same way.
+//!
+//! Where it is otherwise the program says so, with the number of the event, and its exit status is 1. How often each
+//! kind of reply came is printed on standard error, in a line for each run.
 #![tactic(auto)]
 
 mod counts;
 mod events;
 mod fault;
+mod inputs;
 mod pair;
 mod random;
+mod receiving;
 mod settings;
+mod twin;
+mod words;
 
 use counts::Counts;
 use events::Files;
@@ -39,7 +48,33 @@ fn main(rt: HostRuntime) -> ExitCode {
             return ExitCode::from(1);
         }
     }
-    ExitCode::SUCCESS
+    if receives_well(&rt, events, seed) {
+        ExitCode::SUCCESS
+    } else {
+        ExitCode::from(1)
+    }
+}
+
+/// Whether all is as it has to be at a receiver. Prints how it ended.
+fn receives_well<R: AllocGlobal + Eprint + Print>(rt: &R, inputs: u64, seed: u64) -> bool {
+    let (ran, handed_in, counts) = receiving::run(rt.alloc(), inputs, seed);
+    let _ = eprintln!(rt; "receiver: {counts}");
+    match ran {
+        Ok(()) => {
+            let _ = println!(rt;
+                "receiver, {inputs} inputs: each reply and both filestores are equal"
+            );
+            true
+        }
+        Err(Fault::Memory) => {
+            let _ = eprintln!(rt; "cfdp_soak: out of memory");
+            false
+        }
+        Err(Fault::Wrong(wrong)) => {
+            let _ = println!(rt; "receiver, input {handed_in}: {wrong}");
+            false
+        }
+    }
 }
 
 /// Whether all is as it has to be over filestores of one size. Prints how it ended.

@@ -25,7 +25,7 @@ fn protected(alloc: Global) -> Result<Protected, Memory> {
 }
 
 /// The configuration of both: entity 2, a cap of the octets of the longest file, and two checks.
-fn config(alloc: Global, setting: Setting) -> Result<Config, Fault> {
+pub fn config(alloc: Global, setting: Setting) -> Result<Config, Fault> {
     let longest = setting.files().longest();
     let protected = protected(alloc)?;
     let config = Config::new(2, setting.blocks(), longest, 2, 16, protected);
@@ -94,26 +94,24 @@ impl Pair {
         Ok(reply)
     }
 
-    /// Compares both filestores: their listings, and the octets of each file.
+    /// Compares both filestores.
     pub fn compare(&self, alloc: Global) -> Result<(), Fault> {
-        let listed = self.list.store().listing(alloc)?;
-        if self.tree.store().listing(alloc)? != listed {
-            return Err(Fault::Wrong(Wrong::Listings));
-        }
-        for entry in &listed {
-            self.compare_octets(alloc, &entry.path)?;
-        }
-        Ok(())
+        compare_stores(alloc, self.tree.store(), self.list.store())
     }
+}
 
-    /// Compares the octets of the file at a path, if there is one.
-    fn compare_octets(&self, alloc: Global, path: &Path) -> Result<(), Fault> {
-        let octets = octets_at(alloc, self.list.store(), path)?;
-        if octets_at(alloc, self.tree.store(), path)? != octets {
+/// Compares two filestores: their listings, and the octets of each file.
+pub fn compare_stores(alloc: Global, tree: &TreeStore, list: &ListStore) -> Result<(), Fault> {
+    let listed = list.listing(alloc)?;
+    if tree.listing(alloc)? != listed {
+        return Err(Fault::Wrong(Wrong::Listings));
+    }
+    for entry in &listed {
+        if octets_at(alloc, tree, &entry.path)? != octets_at(alloc, list, &entry.path)? {
             return Err(Fault::Wrong(Wrong::Octets));
         }
-        Ok(())
     }
+    Ok(())
 }
 
 /// The octets of the file at a path; `None` if there is no file.
@@ -136,7 +134,8 @@ fn tree(alloc: Global, setting: Setting) -> Result<Core<TreeStore>, Fault> {
     Ok(Core::new(alloc, config, store)?)
 }
 
-fn list(alloc: Global, setting: Setting) -> Result<Core<ListStore>, Fault> {
+/// The entity over a plain list.
+pub fn list(alloc: Global, setting: Setting) -> Result<Core<ListStore>, Fault> {
     let config = config(alloc, setting)?;
     let store = ListStore::new(alloc, config.blocks())?;
     Ok(Core::new(alloc, config, store)?)

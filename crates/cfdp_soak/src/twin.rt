@@ -1,0 +1,344 @@
+//! A receiver over a filestore inside an arena, and beside it a core over a plain list that gets each event that the
+//! receiver hands on, by the table of inputs in docs/FORMATS.md.
+ghost use Rattle.std.specs.Prelude.{◌≡◌, true};
+ghost use Rattle.cfdp_pdus.specs.Canonical.{IsHeader};
+
+use crate::counts::Counts;
+use crate::events::{id, is_acknowledged};
+use crate::fault::{Fault, Wrong};
+use crate::inputs::{Directed, Input, Lines};
+use crate::pair::{compare_stores, config, list};
+use crate::random::Random;
+use crate::settings::Setting;
+use crate::words::Words;
+use cfdp_actions::ListStore;
+use cfdp_directives::{Ack, Prompt, TransactionStatus, write_ack, write_prompt};
+use cfdp_entity::Entity;
+use cfdp_pdus::{Eof, Header, directive, write_eof, write_file_data, write_metadata};
+use cfdp_receiver::{
+    Answer, Became, Handler, Mib, NakMode, NotMade, NotWritten, Receiver, Retries, Watch, Word,
+};
+use cfdp_sessions::Stage;
+use cfdp_status::TransactionId;
+use cfdp_transactions::{Core, Event, Phase, Reply, transaction_of};
+use std::alloc::Global;
+
+/// More PDUs than an input may be answered by.
+const MANY: usize = 64;
+
+/// A receiver, and a core beside it.
+#[derive(Drop)]
+pub struct Twin {
+    receiver: Receiver,
+    list: Core<ListStore>,
+    /// For a PDU that is sent.
+    room: Vec<u8>,
+    /// The present moment.
+    now: u64,
+    pub words: Words,
+    pub counts: Counts,
+}
+
+/// A timer of 20 ticks, and what is done at its third expiry.
+fn retries(at_limit: Handler) -> Retries {
+    Retries {
+        interval: 20,
+        limit: 3,
+        at_limit,
+    }
+}
+
+/// What the management of the receiver sets: of each fault handler one.
+fn mib() -> Mib {
+    Mib {
+        ack: retries(Handler::Abandon),
+        nak: retries(Handler::Cancel),
+        check: Watch {
+            interval: 30,
+            at_limit: Handler::Cancel,
+        },
+        inactivity: Watch {
+            interval: 200,
+            at_limit: Handler::Ignore,
+        },
+        keep_alive: Some(90),
+        nak_mode: NakMode::Immediate,
+        has_crc: false,
+        longest_nak: 100,
+    }
+}
+
+/// The header of a transaction's PDUs.
+fn header(number: u64, is_acknowledged: bool) -> Header
+    ensures header { IsHeader result }
+    ensures large { result.large ≡ true }
+{
+    Header {
+        toward_sender: false,
+        acknowledged: is_acknowledged,
+        large: true,
+        id_len: 8,
+        number_len: 8,
+        source: 1,
+        number,
+        destination: 2,
+    }
+}
+
+/// The header of the PDUs of a transaction by its name.
+fn header_of(id: TransactionId) -> Header
+    ensures header { IsHeader result }
+    ensures large { result.large ≡ true }
+{
+    header(id.number, is_acknowledged(id.number))
+}
+
+/// The transaction of an event that a PDU carries.
+fn about(event: &Event) -> TransactionId {
+    match event {
+        Event::Metadata(header, _) | Event::Data(header, _) | Event::Eof(header, _) => {
+            transaction_of(header)
+        }
+        Event::Step(id) | Event::Cancel(id) | Event::Check(id) | Event::Take(id) => *id,
+    }
+}
+
+/// The octets of the PDU that carries an event.
+fn octets_of(alloc: Global, event: &Event) -> Result<Vec<u8>, Fault> {
+    let header = header_of(about(event));
+    let mut octets = Vec::new(alloc);
+    match event {
+        Event::Metadata(_, metadata) => write_metadata(&header, metadata, &mut octets)?,
+        Event::Data(_, data) => write_file_data(&header, data, &mut octets)?,
+        Event::Eof(_, eof) => write_eof(&header, eof, &mut octets)?,
+        Event::Step(_) | Event::Cancel(_) | Event::Check(_) | Event::Take(_) => (),
+    }
+    Ok(octets)
+}
+
+/// The octets of another PDU.
+fn directive_octets(
+    alloc: Global,
+    id: TransactionId,
+    directed: Directed,
+) -> Result<Vec<u8>, Fault> {
+    let mut header = header_of(id);
+    let mut octets = Vec::new(alloc);
+    match directed {
+        Directed::Acknowledgement => {
+            let ack = Ack {
+                directive: directive::FINISHED,
+                condition: 0,
+                status: TransactionStatus::Terminated,
+            };
+            write_ack(&header, ack, &mut octets)?;
+        }
+        Directed::NakPrompt => write_prompt(&header, Prompt::Nak, &mut octets)?,
+        Directed::KeepAlivePrompt => write_prompt(&header, Prompt::KeepAlive, &mut octets)?,
+        Directed::ToSender => {
+            header.toward_sender = true;
+            write_prompt(&header, Prompt::Nak, &mut octets)?;
+        }
+        Directed::Elsewhere => {
+            header.destination = 3;
+            write_prompt(&header, Prompt::Nak, &mut octets)?;
+        }
+    }
+    Ok(octets)
+}
+
+impl Twin {
+    /// Both have just begun.
+    pub fn new(alloc: Global, setting: Setting) -> Result<Twin, Fault> {
+        let entity = Entity::new(alloc, config(alloc, setting)?)?;
+        let receiver = match Receiver::new(alloc, mib(), entity) {
+            Ok(receiver) => receiver,
+            Err(NotMade::Memory) => return Err(Fault::Memory),
+            Err(_) => return Err(Fault::Wrong(Wrong::Receiver)),
+        };
+        let room = vec![in alloc; 0u8; receiver.longest()]?;
+        Ok(Twin {
+            receiver,
+            list: list(alloc, setting)?,
+            room,
+            now: 0,
+            words: Words::new(),
+            counts: Counts::new(),
+        })
+    }
+
+    /// The core over a plain list.
+    pub fn list(&self) -> &Core<ListStore> {
+        &self.list
+    }
+
+    /// Time passes: some ticks, or until the deadline.
+    fn wait(&mut self, random: &mut Random, input: &Input) {
+        let deadline = self.receiver.deadline().unwrap_or(self.now);
+        self.now = if matches!(input, Input::Expire) && random.is_one_in(2) {
+            self.now.max(deadline)
+        } else {
+            self.now.saturating_add(random.below(2))
+        };
+    }
+
+    /// Hands an input to the receiver, and its events to the core beside it, and compares what is said of them.
+    pub fn turn(
+        &mut self,
+        alloc: Global,
+        random: &mut Random,
+        lines: &mut Lines,
+        input: Input,
+    ) -> Result<(), Fault> {
+        self.wait(random, &input);
+        let answer = match &input {
+            Input::Event(event) => self.hear(alloc, event)?,
+            Input::Directive(id, directed) => {
+                let mut octets = directive_octets(alloc, *id, *directed)?;
+                self.receive(alloc, &mut octets)?
+            }
+            Input::Expire => self.expire(),
+            Input::Work => self.work()?,
+            Input::Finish => self.finish(alloc)?,
+            Input::Cancel(id) => self.cancel(*id)?,
+            Input::Forget => self.receiver.forget_closed(),
+        };
+        self.send(&answer)?;
+        let id = match answer.became() {
+            Became::Nothing | Became::NotOurs => return Ok(()),
+            Became::Said(id, word) => {
+                self.words.count(*word);
+                *id
+            }
+            Became::Replied(id, reply) => {
+                self.counts.count(reply);
+                *id
+            }
+        };
+        if self.receiver.status(id) == TransactionStatus::Terminated && random.is_one_in(2) {
+            lines.end(id);
+        }
+        self.compare(id)
+    }
+
+    /// Hands in a PDU that was written.
+    fn receive(&mut self, alloc: Global, octets: &mut [u8]) -> Result<Answer, Fault> {
+        match self.receiver.receive(alloc, self.now, octets) {
+            Ok(answer) => Ok(answer),
+            Err(_) => Err(Fault::Wrong(Wrong::Dropped)),
+        }
+    }
+
+    /// The EOF PDU of a transaction that is held, with its header.
+    fn held(&self, id: TransactionId) -> Option<(Header, Eof)> {
+        let session = self.receiver.session(id)?;
+        match session.stage {
+            Stage::Held(eof) => Some((session.header, eof)),
+            _ => None,
+        }
+    }
+
+    /// A PDU with an event comes. An EOF PDU that is held comes after its Metadata.
+    fn hear(&mut self, alloc: Global, event: &Event) -> Result<Answer, Fault> {
+        let held = self.held(about(event));
+        let mut octets = octets_of(alloc, event)?;
+        let answer = self.receive(alloc, &mut octets)?;
+        if let Became::Replied(_, reply) = answer.became() {
+            self.follow(event, reply)?;
+            if let (Event::Metadata(..), Some((header, eof))) = (event, held) {
+                let _reply = self.list.apply(&Event::Eof(header, eof));
+            }
+        }
+        Ok(answer)
+    }
+
+    /// The core beside the receiver gets the event that was handed on, and replies the same.
+    fn follow(&mut self, event: &Event, reply: &Reply) -> Result<(), Fault> {
+        if self.list.apply(event).same(reply) {
+            Ok(())
+        } else {
+            Err(Fault::Wrong(Wrong::Replies))
+        }
+    }
+
+    /// A timer may be due. In unacknowledged mode an expiry after the EOF PDU is a check; else a fault is a cancel.
+    fn expire(&mut self) -> Answer {
+        let answer = self.receiver.expire(self.now);
+        let Became::Said(id, word) = answer.became() else {
+            return answer;
+        };
+        let Some(phase) = self.list.phase(*id) else {
+            return answer;
+        };
+        let is_check = !is_acknowledged(id.number) && matches!(phase, Phase::Awaiting(_));
+        let event = match word {
+            Word::Expired | Word::Faulted if is_check => Event::Check(*id),
+            Word::Faulted if phase.is_live() => Event::Cancel(*id),
+            _ => return answer,
+        };
+        let _reply = self.list.apply(&event);
+        answer
+    }
+
+    /// An item is performed.
+    fn work(&mut self) -> Result<Answer, Fault> {
+        let answer = self.receiver.work(self.now);
+        if let Became::Replied(id, reply) = answer.became() {
+            self.follow(&Event::Step(*id), reply)?;
+        }
+        Ok(answer)
+    }
+
+    /// An outcome is taken: where the core has it, from there too.
+    fn finish(&mut self, alloc: Global) -> Result<Answer, Fault> {
+        let answer = self.receiver.finish(alloc, self.now)?;
+        if let Became::Said(id, _) = answer.became() {
+            if self.list.phase(*id).is_some() {
+                let _reply = self.list.apply(&Event::Take(*id));
+            }
+        }
+        Ok(answer)
+    }
+
+    /// The user cancels a transaction.
+    fn cancel(&mut self, id: TransactionId) -> Result<Answer, Fault> {
+        let answer = self.receiver.cancel(self.now, id);
+        if let Became::Replied(_, reply) = answer.became() {
+            self.follow(&Event::Cancel(id), reply)?;
+        }
+        Ok(answer)
+    }
+
+    /// Writes all PDUs of an answer.
+    fn send(&mut self, answer: &Answer) -> Result<(), Fault> {
+        for number in 0..MANY {
+            match self.receiver.write(answer, number, &mut self.room) {
+                Ok(_) => (),
+                Err(NotWritten::NoMore) => return Ok(()),
+                Err(NotWritten::TooShort) => break,
+            }
+        }
+        Err(Fault::Wrong(Wrong::Unwritten))
+    }
+
+    /// A transaction is equally far in both cores, and both have as many spare blocks.
+    fn compare(&self, id: TransactionId) -> Result<(), Fault> {
+        let core = self.receiver.entity().core();
+        if core.phase(id) != self.list.phase(id) {
+            return Err(Fault::Wrong(Wrong::Phases));
+        }
+        if core.spare() != self.list.spare() {
+            return Err(Fault::Wrong(Wrong::Spare));
+        }
+        Ok(())
+    }
+
+    /// Compares both filestores.
+    pub fn compare_stores(&self, alloc: Global) -> Result<(), Fault> {
+        compare_stores(
+            alloc,
+            self.receiver.entity().core().store(),
+            self.list.store(),
+        )
+    }
+}
