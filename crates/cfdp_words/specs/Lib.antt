@@ -1,0 +1,4 @@
+pub mod Names
+pub mod Style
+pub mod Codes
+pub mod Shown
