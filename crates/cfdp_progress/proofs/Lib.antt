@@ -1,0 +1,10 @@
+pub mod Configured
+pub mod Apart
+pub mod Pieces
+pub mod Turns
+pub mod Runs
+pub mod Openings
+pub mod Rounds
+pub mod Reached
+pub mod Rows
+pub mod Closing

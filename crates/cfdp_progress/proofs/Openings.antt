@@ -1,0 +1,227 @@
+-- What begins a round: the NAK PDUs of the answer ask for what the transaction lacks.
+use Rattle.std.specs.Prelude.{◌==◌, nat_le}
+use Rattle.std.specs.List.{filter, flat_map}
+use Rattle.std.proofs.Common.{◌≡◌, ℕ, ◌+◌, ◌≤◌, Bool, true, false, not, ◌&&◌, ◌||◌, List, [], ◌∷◌, ◌++◌, map, Option, Some, refl, sym, ap, subst, ◌∙◌, arith}
+use Rattle.std.proofs.lemmas.Bool.{cond-true, and_from, eq-eqb, le-leb}
+use Rattle.cfdp_status.specs.declared.transaction.TransactionId.{TransactionId}
+use Rattle.cfdp_leases.specs.Leases.{is_same}
+use Rattle.cfdp_pdus.specs.Values.{MetadataFields}
+use Rattle.cfdp_pdus.specs.declared.eof.Eof.{Eof}
+use Rattle.cfdp_pdus.specs.declared.header.Header.{Header}
+use Rattle.cfdp_directives.specs.Reading.{NakFields}
+use Rattle.cfdp_retransmission.specs.Coming.{asked}
+use Rattle.cfdp_retransmission.specs.Naks.{Range, Nak, naks}
+use Rattle.cfdp_retransmission.specs.Timers.{expiry, passed, restarted}
+use Rattle.cfdp_retransmission.specs.declared.timer.Expiry.TheVariants.{NotDue, Again, Limit}
+use Rattle.cfdp_retransmission.specs.declared.timer.Timer.{Timer}
+use Rattle.cfdp_retransmission.proofs.Waiting.{Early, Due, Over, why}
+use Rattle.cfdp_sessions.specs.Sessions.{SessionFields, name_of, found, replaced, AreDistinct}
+use Rattle.cfdp_sessions.specs.declared.session.Stage.{Stage}
+use Rattle.cfdp_sessions.specs.declared.session.Stage.TheVariants.{Known}
+use Rattle.cfdp_sessions.proofs.Names.{same_self, found_name, replaced_self}
+use Rattle.cfdp_sessions.proofs.Places.{some_same}
+use Rattle.cfdp_transactions.specs.Entry.{Entry, id_of, gaps, gaps_in, reach, reach_in, awaited}
+use Rattle.cfdp_transactions.specs.Received.{gaps_below}
+use Rattle.cfdp_transactions.specs.declared.phase.Phase.{Phase}
+use Rattle.cfdp_transactions.specs.declared.phase.Phase.TheVariants.{Awaiting}
+use Rattle.cfdp_transactions.specs.Next.{run, replies}
+use Rattle.cfdp_transactions.specs.World.{World, entry_of}
+use Rattle.cfdp_receiver.specs.declared.answer.Word.TheVariants as words
+use Rattle.cfdp_receiver.specs.declared.mib.Mib.{Mib}
+use Rattle.cfdp_receiver.specs.declared.at.At.{At}
+use Rattle.cfdp_receiver.specs.declared.at.At.TheVariants.{Awaiting as At_awaiting}
+use Rattle.cfdp_receiver.specs.State.{State, AnswerFields, Input, MetadataPdu, DataPdu, EofPdu, AckPdu, PromptPdu, OtherPdu, Expire, Work, Finish, CancelAsked, ForgetAsked, session_of, at_of, turned}
+use Rattle.cfdp_receiver.specs.Due as Dues
+use Rattle.cfdp_receiver.specs.Handing as Handing
+use Rattle.cfdp_receiver.specs.Turning as Turning
+use Rattle.cfdp_receiver.specs.Laws.{requests_of}
+use Rattle.cfdp_receiver.proofs.Limits.{stage_due, is_it}
+use Rattle.cfdp_receiver.proofs.Sending.{heard_name}
+use Rattle.cfdp_progress.specs.Awaiting.{EntryAwaits, TransactionAwaits}
+use Rattle.cfdp_progress.specs.NakRounds.{IsServed, EofOpens, MetadataOpens, Opens}
+use Rattle.cfdp_progress.proofs.Turns.{Before, at_is, at_in, asks_none, heard_is}
+use Rattle.cfdp_progress.proofs.Runs.{before_of}
+
+-- ---- the requests of a sequence for its gaps
+
+abbrev with_header : Header → Nak → NakFields
+with_header h nak = record { header = turned h; scope = nak.scope; requests = nak.requests }
+
+requests_are : (h : Header) (xs : List Nak) → requests_of (map (with_header h) xs) ≡ flat_map (λ (n : Nak). n.requests) xs
+requests_are h [] = refl
+requests_are h (x ∷ xs) = ap (λ (rest : List Range). x.requests ++ rest) (requests_are h xs)
+
+from_zero : (xs : List Range) → filter (λ (g : Range). nat_le 0 g.0) xs ≡ xs
+from_zero [] = refl
+from_zero (x ∷ xs) =
+    cond-true (nat_le 0 x.0) (x ∷ filter (λ (g : Range). nat_le 0 g.0) xs) (filter (λ (g : Range). nat_le 0 g.0) xs) (le-leb 0 x.0 (omega arith))
+    ∙ ap (λ (rest : List Range). x ∷ rest) (from_zero xs)
+
+abbrev Requests : ℕ → ℕ → List Range → List Range
+Requests most high found = flat_map (λ (n : Nak). n.requests) (naks most 0 high found)
+
+sequence_asks : (mib : Mib) (h : Header) (e : Entry) (eof : Eof) (checks : ℕ) → e.phase ≡ Awaiting checks → e.eof ≡ Some eof →
+    requests_of (Turning.sequence mib h 0 (reach e) (Turning.gaps_after 0 e)) ≡ asked (Turning.most_requests mib) eof.size e.received
+sequence_asks mib h e eof checks phase came =
+    let most = Turning.most_requests mib in
+    requests_are h (naks most 0 (reach e) (Turning.gaps_after 0 e))
+    ∙ ap (Requests most (reach e)) (from_zero (gaps e))
+    ∙ ap (λ (p : Phase). Requests most (reach_in p e) (gaps_in p e)) phase
+    ∙ ap (λ (o : Option Eof). Requests most (awaited o) (gaps_below (awaited o) e.received)) came
+
+asks_is : (mib : Mib) (V : World) (s : SessionFields) (id : TransactionId) (e : Entry) → s.stage ≡ Known → name_of s ≡ id → entry_of V id ≡ Some e →
+    Turning.asks mib V s ≡ Turning.sequence mib s.header 0 (reach e) (Turning.gaps_after 0 e)
+asks_is mib V s id e known name here =
+    ap (λ (stage : Stage). Turning.asks_stage mib s.header 0 stage (entry_of V (name_of s))) known
+    ∙ ap (λ (n : TransactionId). Turning.asks_entry mib s.header 0 (entry_of V n)) name
+    ∙ ap (Turning.asks_entry mib s.header 0) here
+
+-- ---- after what begins a round
+
+pub record Opened (R : State) (i : Input) (id : TransactionId) (e : Entry) (eof : Eof) (count : ℕ) : Type 0 where
+  pub session : SessionFields
+  pub before : Before (Turning.after R i) id e eof session
+  pub asks : requests_of (Turning.parts R i).answer.naks ≡ asked (Turning.most_requests R.mib) eof.size e.received
+  pub few : session.timer.count ≤ count
+
+-- ---- the NAK timer
+
+served_is : (R : State) (id : TransactionId) (e : Entry) (eof : Eof) (s : SessionFields) (moment : ℕ) (limit : Bool) → AreDistinct R.sessions → Before R id e eof s → (served : IsServed R id moment limit) → s ≡ served.session
+served_is R id e eof s moment limit d b served =
+    let L = Handing.later moment R in
+    is_it R id s served.session d b.here (stage_due L R.sessions served.session limit served.due).0 (ap (λ (n : TransactionId). is_same n id) served.named ∙ same_self id)
+
+pub open_expire : (R : State) (id : TransactionId) (e : Entry) (eof : Eof) (s : SessionFields) (moment : ℕ) → AreDistinct R.sessions → Before R id e eof s → IsServed R id moment false →
+    Opened R (Expire moment) id e eof (s.timer.count + 1)
+open_expire R id e eof s moment d b served =
+    let i = Expire moment in
+    let L = Handing.later moment R in
+    let it = served_is R id e eof s moment false d b served in
+    let name = found_name R.sessions id s b.here in
+    let due : Dues.first_due L R.sessions ≡ Dues.Stage_due s false = served.due ∙ ap (λ (y : SessionFields). Dues.Stage_due y false) (sym it) in
+    let U = run R.world (Handing.handed R i) in
+    let none : Handing.handed R i ≡ [] = ap (Handing.due_events L) due ∙ asks_none L s b.acknowledged in
+    let world : U ≡ R.world = ap (run R.world) none in
+    let new : SessionFields = record s { timer = passed L.now s.timer Again } in
+    let ss : (Turning.after R i).sessions ≡ replaced R.sessions new = ap (λ (x : Dues.Due). (Turning.due_parts L U x).sessions) due in
+    let here : found (Turning.after R i).sessions id ≡ Some new = ap (λ (xs : List SessionFields). found xs id) ss ∙ replaced_self R.sessions new id (s, b.here) name in
+    let core : EntryAwaits U id e eof = subst (λ (V : World). EntryAwaits V id e eof) (sym world) b.core in
+    let sent : (Turning.parts R i).answer.naks ≡ Turning.sequence R.mib s.header 0 (reach e) (Turning.gaps_after 0 e) =
+    ap (λ (x : Dues.Due). (Turning.due_parts L U x).answer.naks) due
+    ∙ ap (λ (at : At). (Turning.repeats L U s at).naks) (at_is R id e eof s b)
+    ∙ ap (λ (a : AnswerFields). a.naks) (cond-true s.header.acknowledged (record (Turning.said s words.Expired) { naks = Turning.asks R.mib U s }) (Turning.said s words.Expired) b.acknowledged)
+    ∙ asks_is R.mib U s id e b.known name core.here in
+    record {
+      session = new;
+      before = record { here = here; known = b.known; acknowledged = b.acknowledged; core = core };
+      asks = ap requests_of sent ∙ sequence_asks R.mib s.header e eof b.core.checks b.core.phase b.core.came;
+      few = omega arith;
+    }
+
+pub full_of : (interval limit now : ℕ) (timer : Timer) → expiry interval limit now timer ≡ Limit → limit ≤ timer.count + 1
+full_of interval limit now timer limited = elim (why interval limit now timer) [
+  | Early e ↦ let never : NotDue ≡ Limit = sym e ∙ limited in absurd cc
+  | Due e due room ↦ let never : Again ≡ Limit = sym e ∙ limited in absurd cc
+  | Over e due full ↦ full
+]
+
+-- at its limit it has counted that far
+pub limit_is_full : (R : State) (id : TransactionId) (e : Entry) (eof : Eof) (s : SessionFields) (moment : ℕ) → AreDistinct R.sessions → Before R id e eof s → IsServed R id moment true → R.mib.nak.limit ≤ s.timer.count + 1
+limit_is_full R id e eof s moment d b served =
+    let L = Handing.later moment R in
+    let it = served_is R id e eof s moment true d b served in
+    let terms : Dues.terms_at R.mib R.world.config.checks s.header.acknowledged s.timer (at_of R.world s) ≡ Some (R.mib.nak.interval, R.mib.nak.limit) =
+    ap (λ (a : Bool). Dues.terms_at R.mib R.world.config.checks a s.timer (at_of R.world s)) b.acknowledged
+    ∙ ap (Dues.terms_at R.mib R.world.config.checks true s.timer) (at_is R id e eof s b) in
+    let reached : Dues.expiry_of L s ≡ Limit = ap (Dues.expiry_of L) it ∙ (stage_due L R.sessions served.session true served.due).1 in
+    full_of R.mib.nak.interval R.mib.nak.limit L.now s.timer (sym (ap (Dues.expiry_by L.now s.timer) terms) ∙ reached)
+
+-- ---- the EOF PDU, or the Metadata PDU after it
+
+open_eof : (R : State) (id : TransactionId) (moment : ℕ) (h : Header) (came : Eof) (e : Entry) (eof : Eof) → EofOpens R id h came → TransactionAwaits (Turning.after R (EofPdu moment h came)) id e eof →
+    Opened R (EofPdu moment h came) id e eof 0
+open_eof R id moment h came e eof r awaits =
+    let i = EofPdu moment h came in
+    let L = Handing.later moment R in
+    let U = run R.world (Handing.handed R i) in
+    let rs = replies R.world (Handing.handed R i) in
+    let s = r.session in
+    let t = Turning.heard L U s in
+    let is = heard_is L U s in
+    let core = awaits.core in
+    let name = found_name R.sessions id s r.here in
+    let own : session_of L (id_of h) ≡ Some s = ap (found R.sessions) r.named ∙ r.here in
+    let parts : Turning.parts R i ≡ Turning.eof_stage L U rs h came s Known =
+    cond-true (Handing.is_ours L h) (Turning.eof_parts L U rs h came (session_of L (id_of h))) (Turning.keeps L (Turning.quiet (Turning.foreign h))) r.ours
+    ∙ ap (Turning.eof_parts L U rs h came) own
+    ∙ ap (Turning.eof_stage L U rs h came s) r.known in
+    let here : found (Turning.after R i).sessions id ≡ Some t =
+    ap (λ (p : Turning.Parts). found p.sessions id) parts ∙ replaced_self R.sessions t id (s, r.here) (heard_name L U s ∙ name) in
+    let it : awaits.session ≡ t = some_same awaits.session t (sym awaits.here ∙ here) in
+    let mode : s.header.acknowledged ≡ true = ap (λ (x : Header). x.acknowledged) (sym is.1) ∙ ap (λ (y : SessionFields). y.header.acknowledged) (sym it) ∙ awaits.acknowledged in
+    let waits : at_of U s ≡ At_awaiting core.checks = at_in U s id e core.checks r.known name core.here core.phase in
+    let left : (Turning.left_receiving L U s && (came.condition == 0)) ≡ true =
+    and_from (Turning.left_receiving L U s) (came.condition == 0)
+    (and_from (Dues.is_receiving_at (at_of R.world s)) (not (Dues.is_receiving_at (at_of U s))) (ap Dues.is_receiving_at r.receiving) (ap (λ (at : At). not (Dues.is_receiving_at at)) waits))
+    (eq-eqb came.condition 0 r.no_error) in
+    let sent : (Turning.parts R i).answer.naks ≡ Turning.sequence R.mib s.header 0 (reach e) (Turning.gaps_after 0 e) =
+    ap (λ (p : Turning.Parts). p.answer.naks) parts
+    ∙ cond-true (Turning.left_receiving L U s && (came.condition == 0)) (Turning.asks_where_awaiting R.mib U s) [] left
+    ∙ cond-true (s.header.acknowledged && Turning.is_awaiting_at (at_of U s)) (Turning.asks R.mib U s) [] (and_from s.header.acknowledged (Turning.is_awaiting_at (at_of U s)) mode (ap Turning.is_awaiting_at waits))
+    ∙ asks_is R.mib U s id e r.known name core.here in
+    let news : Turning.is_news R.world U s ≡ true =
+    ap (λ (at : At). not (Turning.is_awaiting_at at && Turning.is_awaiting_at (at_of U s)) || not (Turning.same_ranges (Turning.gaps_at (entry_of R.world (name_of s))) (Turning.gaps_at (entry_of U (name_of s))))) r.receiving in
+    let fresh : t.timer.count ≡ 0 = ap (λ (y : SessionFields). y.timer.count) (cond-true (Turning.is_news R.world U s) (record s { timer = restarted L.now }) s news) in
+    let count : awaits.session.timer.count ≡ 0 = ap (λ (y : SessionFields). y.timer.count) it ∙ fresh in
+    record {
+      session = awaits.session;
+      before = before_of (Turning.after R i) id e eof awaits;
+      asks = ap requests_of sent ∙ sequence_asks R.mib s.header e eof core.checks core.phase core.came;
+      few = omega (arith, count);
+    }
+
+open_metadata : (R : State) (id : TransactionId) (moment : ℕ) (h : Header) (m : MetadataFields) (e : Entry) (eof : Eof) → MetadataOpens R id h → TransactionAwaits (Turning.after R (MetadataPdu moment h m)) id e eof →
+    Opened R (MetadataPdu moment h m) id e eof 0
+open_metadata R id moment h m e eof r awaits =
+    let i = MetadataPdu moment h m in
+    let L = Handing.later moment R in
+    let U = run R.world (Handing.handed R i) in
+    let rs = replies R.world (Handing.handed R i) in
+    let s = r.session in
+    let t = Turning.begun L h (Turning.stage_in (entry_of U (id_of h)) true h.destination) in
+    let core = awaits.core in
+    let own : session_of L (id_of h) ≡ Some s = ap (found R.sessions) r.named ∙ r.here in
+    let parts : Turning.parts R i ≡ Turning.joins L U rs h m =
+    cond-true (Handing.is_ours L h) (Turning.metadata_parts L U rs h m (session_of L (id_of h))) (Turning.keeps L (Turning.quiet (Turning.foreign h))) r.ours
+    ∙ ap (Turning.metadata_parts L U rs h m) own
+    ∙ ap (Turning.metadata_stage L U rs h m s) r.held
+    ∙ cond-true h.acknowledged (Turning.joins L U rs h m) (Turning.keeps L (Turning.said s words.Idle)) r.mode in
+    let here : found (Turning.after R i).sessions id ≡ Some t =
+    ap (λ (p : Turning.Parts). found p.sessions id) parts ∙ replaced_self R.sessions t id (s, r.here) r.named in
+    let it : awaits.session ≡ t = some_same awaits.session t (sym awaits.here ∙ here) in
+    let known : t.stage ≡ Known = ap (λ (y : SessionFields). y.stage) (sym it) ∙ awaits.known in
+    let waits : at_of U t ≡ At_awaiting core.checks = at_in U t id e core.checks known r.named core.here core.phase in
+    let sent : (Turning.parts R i).answer.naks ≡ Turning.sequence R.mib h 0 (reach e) (Turning.gaps_after 0 e) =
+    ap (λ (p : Turning.Parts). p.answer.naks) parts
+    ∙ cond-true (h.acknowledged && Turning.is_awaiting_at (at_of U t)) (Turning.asks R.mib U t) [] (and_from h.acknowledged (Turning.is_awaiting_at (at_of U t)) r.mode (ap Turning.is_awaiting_at waits))
+    ∙ asks_is R.mib U t id e known r.named core.here in
+    let count : awaits.session.timer.count ≡ 0 = ap (λ (y : SessionFields). y.timer.count) it in
+    record {
+      session = awaits.session;
+      before = before_of (Turning.after R i) id e eof awaits;
+      asks = ap requests_of sent ∙ sequence_asks R.mib h e eof core.checks core.phase core.came;
+      few = omega (arith, count);
+    }
+
+pub open_first : (R : State) (id : TransactionId) (i : Input) (e : Entry) (eof : Eof) → Opens R id i → TransactionAwaits (Turning.after R i) id e eof → Opened R i id e eof 0
+open_first R id (EofPdu moment h came) e eof opens awaits = open_eof R id moment h came e eof opens awaits
+open_first R id (MetadataPdu moment h m) e eof opens awaits = open_metadata R id moment h m e eof opens awaits
+open_first R id (DataPdu moment h piece) e eof opens awaits = elim opens [ ]
+open_first R id (AckPdu moment h ack) e eof opens awaits = elim opens [ ]
+open_first R id (PromptPdu moment h prompt) e eof opens awaits = elim opens [ ]
+open_first R id (OtherPdu moment h) e eof opens awaits = elim opens [ ]
+open_first R id (Expire moment) e eof opens awaits = elim opens [ ]
+open_first R id (Work moment) e eof opens awaits = elim opens [ ]
+open_first R id (Finish moment) e eof opens awaits = elim opens [ ]
+open_first R id (CancelAsked moment n) e eof opens awaits = elim opens [ ]
+open_first R id ForgetAsked e eof opens awaits = elim opens [ ]

@@ -1,0 +1,87 @@
+-- Rounds in which a Finished PDU is sent and acknowledged, over a channel that loses PDUs (CCSDS 727.0-B-5, the positive acknowledgement
+-- procedures).
+--     acknowledges R id i       an ACK PDU of the transaction's Finished PDU
+--     is_acknowledged R id inputs       one of the inputs is that
+--     is_resent R id i          the ACK timer of its session is served
+--     AreUnserved R id inputs   it is not, as long as the session waits
+--     IsAnswered R id is_lost rest      the Finished PDU was sent, and `rest` comes with its acknowledgement, unless one of the two PDUs is lost
+--     FinishedRound, AreFinishedRounds  rounds that begin when the ACK timer is served, as long as the session waits
+--     WasClosed R inputs id     after some of the inputs the session is closed
+--     ClosedAfterLosses         after one round more than PDUs are lost
+use Rattle.std.specs.Prelude.{◌≡◌, ⊤, ◌⊎◌, ℕ, ◌+◌, ◌<◌, Bool, true, false, ◌&&◌, ◌||◌, ◌==◌, List, [], ◌∷◌, ◌++◌, length, Some, None}
+use Rattle.std.specs.List.{AllByRecursion, flat_map}
+use Rattle.cfdp_status.specs.declared.transaction.TransactionId.{TransactionId}
+use Rattle.cfdp_leases.specs.Leases.{is_same}
+use Rattle.cfdp_retransmission.specs.Coming.{one_if}
+use Rattle.cfdp_sessions.specs.Sessions.{SessionFields, name_of, AreDistinct}
+use Rattle.cfdp_sessions.specs.declared.session.Stage.TheVariants.{Waiting}
+use Rattle.cfdp_transactions.specs.Entry.{id_of}
+use Rattle.cfdp_receiver.specs.State.{State, Input, AckPdu, Expire, session_of, is_closed}
+use Rattle.cfdp_receiver.specs.Due.{Due, Stage_due, first_due}
+use Rattle.cfdp_receiver.specs.Handing.{is_ours, later}
+use Rattle.cfdp_receiver.specs.Turning.{after, after_all}
+use Rattle.cfdp_receiver.specs.Laws.{waits_in}
+use Rattle.cfdp_progress.specs.NakRounds.{IsServed}
+
+-- directive code 5: Finished
+abbrev pub acknowledges : State → TransactionId → Input → Bool
+acknowledges R id (AckPdu now h ack) = is_ours R h && (is_same (id_of h) id && (ack.directive == 5))
+acknowledges R id i = false
+
+abbrev pub is_acknowledged : State → TransactionId → List Input → Bool
+is_acknowledged R id [] = false
+is_acknowledged R id (i ∷ is) = acknowledges R id i || is_acknowledged (after R i) id is
+
+abbrev pub is_of : TransactionId → Due → Bool
+is_of id (Stage_due s is_at_limit) = is_same (name_of s) id
+is_of id due = false
+
+abbrev pub is_resent : State → TransactionId → Input → Bool
+is_resent R id (Expire now) = is_of id (first_due (later now R) R.sessions)
+is_resent R id i = false
+
+abbrev pub AreUnserved : State → TransactionId → List Input → Type 0
+AreUnserved R id [] = ⊤
+AreUnserved R id (i ∷ is) = (waits_in (session_of R id) ≡ true → is_resent R id i ≡ false) × AreUnserved (after R i) id is
+
+-- R is the state after the input whose answer had the Finished PDU
+pub record IsAnswered (R : State) (id : TransactionId) (is_lost : Bool) (rest : List Input) : Type 0 where
+  pub comes : is_lost ≡ false → is_acknowledged R id rest ≡ true
+  pub once : AreUnserved R id rest
+
+pub record FinishedRound : Type 0 where
+  pub moment : ℕ
+  pub is_at_limit : Bool  -- the expiry reaches the ACK limit
+  pub is_lost : Bool  -- the Finished PDU, or its acknowledgement
+  pub rest : List Input
+
+abbrev pub finished_inputs : FinishedRound → List Input
+finished_inputs round = Expire round.moment ∷ round.rest
+
+pub record IsFinishedRound (R : State) (id : TransactionId) (round : FinishedRound) : Type 0 where
+  pub served : IsServed R id round.moment round.is_at_limit
+  pub answered : IsAnswered (after R (Expire round.moment)) id round.is_lost round.rest
+
+abbrev pub AreFinishedRounds : State → TransactionId → List FinishedRound → Type 0
+AreFinishedRounds R id [] = ⊤
+AreFinishedRounds R id (round ∷ rounds) =
+    (waits_in (session_of R id) ≡ true → IsFinishedRound R id round) × AreFinishedRounds (after_all R (finished_inputs round)) id rounds
+
+abbrev pub rounds_lost : List FinishedRound → ℕ
+rounds_lost [] = 0
+rounds_lost (round ∷ rounds) = one_if round.is_lost + rounds_lost rounds
+
+pub record WasClosed (R : State) (inputs : List Input) (id : TransactionId) : Type 0 where
+  pub front : List Input
+  pub back : List Input
+  pub parts : inputs ≡ front ++ back
+  pub gone : session_of (after_all R front) id ≡ None
+  pub remembered : is_closed (after_all R front) id ≡ true
+
+-- the Finished PDU was sent, in the first round. The ACK limit is above what is lost; or each later round begins below it
+abbrev pub ClosedAfterLosses : Type 0
+ClosedAfterLosses =
+    (R : State) (id : TransactionId) (session : SessionFields) (is_lost : Bool) (rest : List Input) (rounds : List FinishedRound) → AreDistinct R.sessions →
+    session_of R id ≡ Some session → session.stage ≡ Waiting → IsAnswered R id is_lost rest → AreFinishedRounds (after_all R rest) id rounds →
+    AllByRecursion (λ round. round.is_at_limit ≡ false) rounds ⊎ (session.timer.count + one_if is_lost + rounds_lost rounds < R.mib.ack.limit) →
+    one_if is_lost + rounds_lost rounds < 1 + length rounds → WasClosed R (rest ++ flat_map finished_inputs rounds) id

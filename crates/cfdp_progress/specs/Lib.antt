@@ -1,0 +1,3 @@
+pub mod Awaiting
+pub mod NakRounds
+pub mod Closing

@@ -1,0 +1,154 @@
+-- Rounds of a receiver's turns: it asks for what is missing, a sender answers in the order of the requests, and a channel loses pieces.
+--     asks_again R id i         the NAK timer of its session is served below the limit, so NAK PDUs are sent
+--     IsAskedOnce R id inputs   this does not happen, as long as it waits
+--     heard_requests            the requests of NAK PDUs that the sender gets, or that are lost
+--     AreAnswered R id requests sent rest   what is sent answers the requests in order, and `rest` comes, with the pieces that are not lost
+--     IsServed R id moment is_at_limit  the timer of the transaction's session is the first that is due
+--     NakRound                  a round that begins when the NAK timer is served
+--     AreNakRounds R id rounds  each of several is one, as long as the transaction waits for octets
+--     Opens R id i              the EOF PDU comes while file data is taken; or the Metadata PDU, where the EOF PDU came before it
+--     FirstRound, IsFirstRound  the round that begins so, because octets are missing
+--     lost_of, all_lost         how much is lost in a round, and in several: pieces, and NAK PDUs
+--     AreBelow rounds           the timer is below its limit when each of them begins
+--     WholeAfterRounds, WholeAfterLosses    after one round more than was lost, and the spare one, the file was delivered
+use Rattle.std.specs.Prelude.{◌≡◌, ⊤, ◌⊎◌, ℕ, ◌+◌, ◌≤◌, ◌<◌, Bool, true, false, List, [], ◌∷◌, ◌++◌, length, Some}
+use Rattle.std.specs.List.{AllByRecursion, flat_map}
+use Rattle.cfdp_status.specs.declared.transaction.TransactionId.{TransactionId}
+use Rattle.cfdp_leases.specs.Leases.{is_same}
+use Rattle.cfdp_pdus.specs.declared.eof.Eof.{Eof}
+use Rattle.cfdp_pdus.specs.declared.header.Header.{Header}
+use Rattle.cfdp_directives.specs.Reading.{NakFields}
+use Rattle.cfdp_retransmission.specs.Naks.{Range}
+use Rattle.cfdp_retransmission.specs.Rounds.{Sending, AnswersInOrder, arrived, lost, spare_round}
+use Rattle.cfdp_sessions.specs.Sessions.{SessionFields, name_of, AreDistinct}
+use Rattle.cfdp_sessions.specs.declared.session.Stage.TheVariants.{Held, Known}
+use Rattle.cfdp_transactions.specs.Entry.{Entry, id_of}
+use Rattle.cfdp_transactions.specs.Sound.{Sound}
+use Rattle.cfdp_receiver.specs.declared.at.At.TheVariants.{Receiving as At_receiving}
+use Rattle.cfdp_receiver.specs.State.{State, Input, MetadataPdu, EofPdu, Expire, session_of, at_of}
+use Rattle.cfdp_receiver.specs.Due.{Due, Stage_due, first_due}
+use Rattle.cfdp_receiver.specs.Handing.{is_ours, later}
+use Rattle.cfdp_receiver.specs.Turning.{most_requests, parts, after, after_all}
+use Rattle.cfdp_receiver.specs.Laws.{requests_of}
+use Rattle.cfdp_progress.specs.Awaiting.{awaits_octets, TransactionAwaits, GoesOn, pieces_in, WasDelivered}
+
+abbrev pub is_asking : TransactionId → Due → Bool
+is_asking id (Stage_due s false) = is_same (name_of s) id
+is_asking id due = false
+
+-- its NAK timer is served below the limit
+abbrev pub asks_again : State → TransactionId → Input → Bool
+asks_again R id (Expire now) = is_asking id (first_due (later now R) R.sessions)
+asks_again R id i = false
+
+-- not before the next round, as long as it waits
+abbrev pub IsAskedOnce : State → TransactionId → List Input → Type 0
+IsAskedOnce R id [] = ⊤
+IsAskedOnce R id (i ∷ is) = (awaits_octets R id ≡ true → asks_again R id i ≡ false) × IsAskedOnce (after R i) id is
+
+-- what the sender is asked for: nothing, where it does not get the NAK PDUs
+abbrev pub heard_requests : Bool → List NakFields → List Range
+heard_requests true naks = requests_of naks
+heard_requests false naks = []
+
+-- R is the state after the input whose answer had the requests
+pub record AreAnswered (R : State) (id : TransactionId) (requests : List Range) (sent : List Sending) (rest : List Input) : Type 0 where
+  pub in_order : AnswersInOrder requests sent
+  pub come : pieces_in R id rest ≡ arrived sent
+  pub goes_on : GoesOn R id rest
+  pub once : IsAskedOnce R id rest
+
+-- ---- a round that an expiry begins
+
+pub record IsServed (R : State) (id : TransactionId) (moment : ℕ) (is_at_limit : Bool) : Type 0 where
+  pub session : SessionFields
+  pub due : first_due (later moment R) R.sessions ≡ Stage_due session is_at_limit
+  pub named : name_of session ≡ id
+
+pub record NakRound : Type 0 where
+  pub moment : ℕ
+  pub is_at_limit : Bool  -- the expiry reaches the NAK limit
+  pub is_heard : Bool  -- the sender gets the NAK PDUs
+  pub sent : List Sending
+  pub rest : List Input
+
+abbrev pub round_inputs : NakRound → List Input
+round_inputs round = Expire round.moment ∷ round.rest
+
+pub record IsNakRound (R : State) (id : TransactionId) (round : NakRound) : Type 0 where
+  pub served : IsServed R id round.moment round.is_at_limit
+  pub answered : AreAnswered (after R (Expire round.moment)) id (heard_requests round.is_heard (parts R (Expire round.moment)).answer.naks) round.sent round.rest
+
+abbrev pub AreNakRounds : State → TransactionId → List NakRound → Type 0
+AreNakRounds R id [] = ⊤
+AreNakRounds R id (round ∷ rounds) = (awaits_octets R id ≡ true → IsNakRound R id round) × AreNakRounds (after_all R (round_inputs round)) id rounds
+
+abbrev pub AreBelow : List NakRound → Type 0
+AreBelow rounds = AllByRecursion (λ round. round.is_at_limit ≡ false) rounds
+
+-- NAK PDUs that are lost together count as one
+abbrev pub lost_of : Bool → List Sending → ℕ
+lost_of true sent = lost sent
+lost_of false sent = 1
+
+abbrev pub all_lost : List NakRound → ℕ
+all_lost [] = 0
+all_lost (round ∷ rounds) = lost_of round.is_heard round.sent + all_lost rounds
+
+abbrev pub all_inputs : List NakRound → List Input
+all_inputs rounds = flat_map round_inputs rounds
+
+-- from a moment at which the transaction waits
+abbrev pub WholeAfterRounds : Type 0
+WholeAfterRounds =
+    (R : State) (id : TransactionId) (rounds : List NakRound) (entry : Entry) (eof : Eof) → Sound R.world → AreDistinct R.sessions → 1 ≤ most_requests R.mib →
+    TransactionAwaits R id entry eof → AreNakRounds R id rounds → AreBelow rounds → all_lost rounds + spare_round entry.received < length rounds →
+    WasDelivered R (all_inputs rounds) id
+
+-- ---- the round in which octets are asked for first
+
+-- the EOF PDU comes while file data is taken
+pub record EofOpens (R : State) (id : TransactionId) (header : Header) (eof : Eof) : Type 0 where
+  pub ours : is_ours R header ≡ true
+  pub named : id_of header ≡ id
+  pub no_error : eof.condition ≡ 0
+  pub session : SessionFields
+  pub here : session_of R id ≡ Some session
+  pub known : session.stage ≡ Known
+  pub receiving : at_of R.world session ≡ At_receiving
+
+-- the Metadata PDU comes, and the EOF PDU came before it
+pub record MetadataOpens (R : State) (id : TransactionId) (header : Header) : Type 0 where
+  pub ours : is_ours R header ≡ true
+  pub named : id_of header ≡ id
+  pub mode : header.acknowledged ≡ true
+  pub session : SessionFields
+  pub here : session_of R id ≡ Some session
+  pub eof : Eof
+  pub held : session.stage ≡ Held eof
+
+abbrev pub Opens : State → TransactionId → Input → Type 0
+Opens R id (EofPdu now header eof) = EofOpens R id header eof
+Opens R id (MetadataPdu now header metadata) = MetadataOpens R id header
+Opens R id i = ⊥
+
+pub record FirstRound : Type 0 where
+  pub opening : Input
+  pub is_heard : Bool
+  pub sent : List Sending
+  pub rest : List Input
+
+-- `entry` and `eof` are those after the input that opens it
+pub record IsFirstRound (R : State) (id : TransactionId) (round : FirstRound) (entry : Entry) (eof : Eof) : Type 0 where
+  pub opens : Opens R id round.opening
+  pub awaits : TransactionAwaits (after R round.opening) id entry eof
+  pub answered : AreAnswered (after R round.opening) id (heard_requests round.is_heard (parts R round.opening).answer.naks) round.sent round.rest
+
+-- the NAK limit is above what is lost; or each later round begins below it, as where it is ignored
+abbrev pub WholeAfterLosses : Type 0
+WholeAfterLosses =
+    (R : State) (id : TransactionId) (first : FirstRound) (rounds : List NakRound) (entry : Entry) (eof : Eof) → Sound R.world → AreDistinct R.sessions →
+    1 ≤ most_requests R.mib → IsFirstRound R id first entry eof → AreNakRounds (after_all R (first.opening ∷ first.rest)) id rounds →
+    AreBelow rounds ⊎ (lost_of first.is_heard first.sent + all_lost rounds + spare_round entry.received < R.mib.nak.limit) →
+    lost_of first.is_heard first.sent + all_lost rounds + spare_round entry.received < 1 + length rounds →
+    WasDelivered R (first.opening ∷ first.rest ++ all_inputs rounds) id

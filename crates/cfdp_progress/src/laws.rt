@@ -1,0 +1,64 @@
+//! What is true of a transaction that waits for octets, whatever else comes. These functions do nothing: their contracts are the laws.
+
+ghost use Rattle.cfdp_progress.specs.Awaiting.{AwaitingAwaits, AnsweredTurns, StaysDelivered};
+ghost use Rattle.cfdp_progress.specs.Closing.{ClosedAfterLosses};
+ghost use Rattle.cfdp_progress.specs.NakRounds.{WholeAfterRounds, WholeAfterLosses};
+
+/// What an entry in Awaiting is, over an entity that began without transactions and whatever came: its session is known, its EOF PDU came with a
+/// size that its file may have, and octets below that size are missing.
+pub fn awaiting_awaits()
+    ensures { AwaitingAwaits }
+{
+    cfdp_transactions::laws::take_removes();
+    cfdp_transactions::laws::next_is_sound();
+    cfdp_transactions::laws::next_is_promised();
+    cfdp_receiver::laws::known_is_entry();
+}
+
+/// A file waits for octets, and inputs come. Neither its sender nor the user cancels it, and its NAK limit is not reached, or is ignored. Once
+/// every octet that was missing has come, and no piece was passed over, the file is complete, or its checksum is wrong: after some of the
+/// inputs, at the latest after all of them.
+pub fn answered_turns()
+    ensures { AnsweredTurns }
+{
+    cfdp_transactions::laws::next_is_sound();
+    cfdp_transactions::laws::next_is_promised();
+    cfdp_retransmission::laws::answered_is_whole();
+}
+
+/// The entry stays so while each input is a File Data PDU or touches another transaction, and no item of this one is performed.
+pub fn stays_delivered()
+    ensures { StaysDelivered }
+{
+    cfdp_transactions::laws::next_is_sound();
+    cfdp_transactions::laws::next_is_promised();
+}
+
+/// A file waits for octets. A round begins when its NAK timer expires below the limit: NAK PDUs ask for what is missing, a sender answers them in
+/// the order of their requests, and a channel loses pieces, or the NAK PDUs. After one round more than is lost in all, the file is complete,
+/// or its checksum is wrong. One round more is needed where 32 parts are there without the octet at offset 0.
+pub fn whole_after_rounds()
+    ensures { WholeAfterRounds }
+{
+    cfdp_transactions::laws::next_is_sound();
+    cfdp_transactions::laws::next_is_promised();
+    cfdp_retransmission::laws::whole_after_losses();
+}
+
+/// The same from the first NAK PDUs on. They are sent when the EOF PDU comes and octets are missing, or when the Metadata PDU comes after it. If
+/// the NAK limit is above what is lost in all, and the spare round, then it is not reached before the file is delivered.
+pub fn whole_after_losses()
+    ensures { WholeAfterLosses }
+{
+    cfdp_transactions::laws::next_is_sound();
+    cfdp_transactions::laws::next_is_promised();
+    cfdp_retransmission::laws::whole_after_losses();
+}
+
+/// A Finished PDU was sent, and its session waits for the acknowledgement. A round begins when its ACK timer expires below the limit, so that the
+/// same octets are sent again. The sender acknowledges each Finished PDU that it gets. After one round more than PDUs are lost, the first one
+/// included, the session is closed, and its name is remembered. If the ACK limit is above what is lost, and the timer had counted none before, then
+/// it is not reached.
+pub fn closed_after_losses()
+    ensures { ClosedAfterLosses }
+{}
