@@ -53,13 +53,15 @@ not_session id (Some s) es h = not_known id s.stage es h
 pub other_than : (n id : TransactionId) → is_same n id ≡ false → id ≢ n
 other_than n id other e = both_of (is_same n id) other (ap (is_same n) e ∙ same_self n)
 
-not_metadata_stage : (id : TransactionId) (h : Header) (m : MetadataFields) (s : SessionFields) (stage : Stage) → id ≢ id_of h → name_of s ≡ id_of h → NotAbout id (Handing.metadata_in_stage h m s stage)
+not_metadata_stage : (id : TransactionId) (h : Header) (m : MetadataFields) (s : SessionFields) (stage : Stage) → id ≢ id_of h → name_of s ≡ id_of h →
+    NotAbout id (Handing.metadata_in_stage h m s stage)
 not_metadata_stage id h m s (Held eof) ne name = not_if id h.acknowledged (MetadataCame h m ∷ EofCame s.header eof ∷ []) [] (ne, ((λ e. ne (e ∙ name)), tt)) tt
 not_metadata_stage id h m s Known ne name = (ne, tt)
 not_metadata_stage id h m s (OverStage ending) ne name = tt
 not_metadata_stage id h m s Waiting ne name = tt
 
-not_metadata : (R : State) (id : TransactionId) (h : Header) (m : MetadataFields) (o : Option SessionFields) → id ≢ id_of h → session_of R (id_of h) ≡ o → NotAbout id (Handing.metadata_events R h m o)
+not_metadata : (R : State) (id : TransactionId) (h : Header) (m : MetadataFields) (o : Option SessionFields) → id ≢ id_of h → session_of R (id_of h) ≡ o →
+    NotAbout id (Handing.metadata_events R h m o)
 not_metadata R id h m None ne here = not_if id (is_closed R (id_of h) || is_full R) [] (MetadataCame h m ∷ []) tt (ne, tt)
 not_metadata R id h m (Some s) ne here = not_metadata_stage id h m s s.stage ne (found_name R.sessions (id_of h) s here)
 
@@ -73,9 +75,11 @@ not_limit id n false handlers.Abandon ne = (ne, tt)
 not_due : (R : State) (id : TransactionId) (due : Dues.Due) → id ≢ due_name due → NotAbout id (Handing.due_events R due)
 not_due R id Dues.Nothing_due ne = tt
 not_due R id (Dues.Alive_due s) ne = tt
-not_due R id (Dues.Stage_due s false) ne = not_known id s.stage _ (not_if id (Handing.makes_checks s.header.acknowledged (at_of R.world s)) (Check (name_of s) ∷ []) [] (ne, tt) tt)
+not_due R id (Dues.Stage_due s false) ne =
+    not_known id s.stage _ (not_if id (Handing.makes_checks s.header.acknowledged (at_of R.world s)) (Check (name_of s) ∷ []) [] (ne, tt) tt)
 not_due R id (Dues.Stage_due s true) ne =
-    not_known id s.stage _ (not_limit id (name_of s) (Handing.makes_checks s.header.acknowledged (at_of R.world s)) (Dues.handler_at R.mib s.header.acknowledged (at_of R.world s)) ne)
+    not_known id s.stage _ (not_limit id (name_of s) (Handing.makes_checks s.header.acknowledged (at_of R.world s))
+    (Dues.handler_at R.mib s.header.acknowledged (at_of R.world s)) ne)
 
 not_take : (id : TransactionId) (o : Option SessionFields) → id ≢ session_name o → NotAbout id (Handing.take_of o)
 not_take id None ne = tt
@@ -117,7 +121,8 @@ never_both Done x a = absurd cc
 never_both (Ended condition) x a = absurd cc
 
 -- no item of an entry that waits for octets is next
-pub none_runs : (W : World) (id : TransactionId) (entry : Entry) → Sound W → entry_of W id ≡ Some entry → is_awaiting entry.phase ≡ true → next_runnable W.table ≡ Some id → ⊥
+pub none_runs : (W : World) (id : TransactionId) (entry : Entry) → Sound W → entry_of W id ≡ Some entry → is_awaiting entry.phase ≡ true →
+    next_runnable W.table ≡ Some id → ⊥
 none_runs W id entry sound here awaits h =
     let r = runs_of W.table id h in
     let k = index_of W id in
@@ -126,7 +131,8 @@ none_runs W id entry sound here awaits h =
           let it : r.entry ≡ entry = get_same W.table r.place k r.entry entry r.there here (eqb-true r.place k same) in
           never_both entry.phase (ap (λ (x : Entry). is_executing x.phase) (sym it) ∙ r.runs) awaits
       | inr other ↦
-          sound.names r.place k r.entry entry r.there here (λ e. both_of (r.place == k) other (eq-eqb r.place k e)) (r.named ∙ sym (entry_name W.table id entry here))
+          sound.names r.place k r.entry entry r.there here (λ e. both_of (r.place == k) other (eq-eqb r.place k e))
+          (r.named ∙ sym (entry_name W.table id entry here))
     ]
 
 -- ---- each input
@@ -136,9 +142,14 @@ is_work (Work now) = true
 is_work i = false
 
 not_handed : (R : State) (i : Input) (id : TransactionId) → is_work i ≡ false → id ≢ touched_in R i → NotAbout id (Handing.events_of R i)
-not_handed R (MetadataPdu now h m) id w ne = not_if id (Handing.is_ours R h) (Handing.metadata_events R h m (session_of R (id_of h))) [] (not_metadata R id h m (session_of R (id_of h)) ne refl) tt
-not_handed R (DataPdu now h piece) id w ne = not_if id (Handing.is_ours R h) (Handing.of_session (session_of R (id_of h)) (DataCame h piece ∷ [])) [] (not_session id (session_of R (id_of h)) (DataCame h piece ∷ []) (ne, tt)) tt
-not_handed R (EofPdu now h eof) id w ne = not_if id (Handing.is_ours R h) (Handing.of_session (session_of R (id_of h)) (EofCame h eof ∷ [])) [] (not_session id (session_of R (id_of h)) (EofCame h eof ∷ []) (ne, tt)) tt
+not_handed R (MetadataPdu now h m) id w ne =
+    not_if id (Handing.is_ours R h) (Handing.metadata_events R h m (session_of R (id_of h))) [] (not_metadata R id h m (session_of R (id_of h)) ne refl) tt
+not_handed R (DataPdu now h piece) id w ne =
+    not_if id (Handing.is_ours R h) (Handing.of_session (session_of R (id_of h)) (DataCame h piece ∷ [])) []
+    (not_session id (session_of R (id_of h)) (DataCame h piece ∷ []) (ne, tt)) tt
+not_handed R (EofPdu now h eof) id w ne =
+    not_if id (Handing.is_ours R h) (Handing.of_session (session_of R (id_of h)) (EofCame h eof ∷ [])) []
+    (not_session id (session_of R (id_of h)) (EofCame h eof ∷ []) (ne, tt)) tt
 not_handed R (AckPdu now h ack) id w ne = tt
 not_handed R (PromptPdu now h prompt) id w ne = tt
 not_handed R (OtherPdu now h) id w ne = tt
@@ -148,13 +159,15 @@ not_handed R (Finish now) id w ne = not_take id (Dues.first_over R.world R.sessi
 not_handed R (CancelAsked now n) id w ne = not_session id (session_of R n) (Cancel n ∷ []) (ne, tt)
 not_handed R ForgetAsked id w ne = tt
 
-pub entry_stays : NextIsSound → NextIsPromised → (R : State) (i : Input) (id : TransactionId) → Sound R.world → is_work i ≡ false → is_same (touched R i) id ≡ false →
+pub entry_stays : NextIsSound → NextIsPromised → (R : State) (i : Input) (id : TransactionId) → Sound R.world → is_work i ≡ false →
+    is_same (touched R i) id ≡ false →
     entry_of (Turning.after R i).world id ≡ entry_of R.world id
 entry_stays next_sound promised R i id sound w other =
     entries_stay next_sound promised R.world (Handing.handed R i) id sound (not_handed (Handing.later (now_of i) R) i id w (other_than (touched R i) id other))
 
 -- of an item that is performed for another transaction
-pub work_stays : NextIsSound → NextIsPromised → (R : State) (moment : ℕ) (id : TransactionId) → Sound R.world → (next_runnable R.world.table ≡ Some id → ⊥) →
+pub work_stays : NextIsSound → NextIsPromised → (R : State) (moment : ℕ) (id : TransactionId) → Sound R.world →
+    (next_runnable R.world.table ≡ Some id → ⊥) →
     entry_of (Turning.after R (Work moment)).world id ≡ entry_of R.world id
 work_stays next_sound promised R moment id sound w =
     entries_stay next_sound promised R.world (Handing.handed R (Work moment)) id sound (not_step id (next_runnable R.world.table) w)

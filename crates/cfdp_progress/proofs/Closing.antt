@@ -35,7 +35,7 @@ use Rattle.cfdp_receiver.proofs.Distinct.{distinct_after}
 use Rattle.cfdp_receiver.proofs.Limits.{stage_due, alive_due, first_over_is, is_it, at_waiting}
 use Rattle.cfdp_receiver.proofs.Shapes.{others_stay}
 use Rattle.cfdp_progress.specs.NakRounds.{IsServed}
-use Rattle.cfdp_progress.specs.Closing.{acknowledges, is_acknowledged, is_of, is_resent, AreUnserved, FinishedRound, finished_inputs, AreFinishedRounds, rounds_lost, WasClosed, ClosedAfterLosses}
+use Rattle.cfdp_progress.specs.Closing.{acknowledges, is_acknowledged, is_timer_of, is_sent_again, IsSentOnce, FinishedRound, finished_inputs, AreFinishedRounds, rounds_lost, WasClosed, ClosedAfterLosses}
 use Rattle.cfdp_progress.proofs.Openings.{full_of}
 use Rattle.cfdp_progress.proofs.Runs.{distinct_all, mib_all}
 
@@ -54,41 +54,49 @@ kept_if id s true p q hp hq = hp
 kept_if id s false p q hp hq = hq
 
 -- a PDU: by what becomes of it where the session is found
-pdu_kept : (R L : State) (h : Header) (s : SessionFields) (parts : Option SessionFields → Turning.Parts) → L.sessions ≡ R.sessions → session_of R (id_of h) ≡ Some s → Kept (id_of h) s (parts (Some s)) →
+pdu_kept : (R L : State) (h : Header) (s : SessionFields) (parts : Option SessionFields → Turning.Parts) → L.sessions ≡ R.sessions →
+    session_of R (id_of h) ≡ Some s → Kept (id_of h) s (parts (Some s)) →
     Kept (id_of h) s (Turning.where_ours L h (parts (session_of R (id_of h))))
 pdu_kept R L h s parts same here kept =
     kept_if (id_of h) s (Handing.is_ours L h) (parts (session_of R (id_of h))) (Turning.keeps L (Turning.quiet (Turning.foreign h)))
     (subst (λ (o : Option SessionFields). Kept (id_of h) s (parts o)) (sym here) kept)
     (ap (λ (ss : List SessionFields). found ss (id_of h)) same ∙ here)
 
-kept_metadata : (R L : State) (U : World) (rs : List Reply) (h : Header) (m : MetadataFields) (s : SessionFields) (stage : Stage) → L.sessions ≡ R.sessions → session_of R (id_of h) ≡ Some s → stage ≡ Waiting →
+kept_metadata : (R L : State) (U : World) (rs : List Reply) (h : Header) (m : MetadataFields) (s : SessionFields) (stage : Stage) →
+    L.sessions ≡ R.sessions → session_of R (id_of h) ≡ Some s → stage ≡ Waiting →
     Kept (id_of h) s (Turning.metadata_stage L U rs h m s stage)
 kept_metadata R L U rs h m s (Held eof) same here w = absurd cc
 kept_metadata R L U rs h m s Known same here w = absurd cc
 kept_metadata R L U rs h m s (OverStage ending) same here w = absurd cc
 kept_metadata R L U rs h m s Waiting same here w = ap (λ (ss : List SessionFields). found ss (id_of h)) same ∙ here
 
-kept_eof : (R L : State) (U : World) (rs : List Reply) (h : Header) (eof : Eof) (s : SessionFields) (stage : Stage) → L.sessions ≡ R.sessions → session_of R (id_of h) ≡ Some s → stage ≡ Waiting →
+kept_eof : (R L : State) (U : World) (rs : List Reply) (h : Header) (eof : Eof) (s : SessionFields) (stage : Stage) → L.sessions ≡ R.sessions →
+    session_of R (id_of h) ≡ Some s → stage ≡ Waiting →
     Kept (id_of h) s (Turning.eof_stage L U rs h eof s stage)
 kept_eof R L U rs h eof s (Held held) same here w = absurd cc
 kept_eof R L U rs h eof s Known same here w = absurd cc
 kept_eof R L U rs h eof s (OverStage ending) same here w = absurd cc
 kept_eof R L U rs h eof s Waiting same here w = ap (λ (ss : List SessionFields). found ss (id_of h)) same ∙ here
 
-kept_data : (R L : State) (U : World) (rs : List Reply) (h : Header) (piece : FileDataFields) (s : SessionFields) → L.sessions ≡ R.sessions → session_of R (id_of h) ≡ Some s → s.stage ≡ Waiting →
+kept_data : (R L : State) (U : World) (rs : List Reply) (h : Header) (piece : FileDataFields) (s : SessionFields) → L.sessions ≡ R.sessions →
+    session_of R (id_of h) ≡ Some s → s.stage ≡ Waiting →
     Kept (id_of h) s (Turning.data_parts L U rs h piece (Some s))
 kept_data R L U rs h piece s same here w =
-    subst (Kept (id_of h) s) (sym (cond-false (Turning.is_known s.stage) (Turning.takes_data L U rs h piece s) (Turning.keeps L (Turning.said s words.Idle)) (ap Turning.is_known w)))
+    subst (Kept (id_of h) s) (sym
+    (cond-false (Turning.is_known s.stage) (Turning.takes_data L U rs h piece s) (Turning.keeps L (Turning.said s words.Idle)) (ap Turning.is_known w)))
     (ap (λ (ss : List SessionFields). found ss (id_of h)) same ∙ here)
 
-kept_prompt : (R L : State) (h : Header) (prompt : Prompt) (s : SessionFields) → L.sessions ≡ R.sessions → session_of R (id_of h) ≡ Some s → s.stage ≡ Waiting → Kept (id_of h) s (Turning.prompt_parts L h prompt (Some s))
+kept_prompt : (R L : State) (h : Header) (prompt : Prompt) (s : SessionFields) → L.sessions ≡ R.sessions → session_of R (id_of h) ≡ Some s →
+    s.stage ≡ Waiting → Kept (id_of h) s (Turning.prompt_parts L h prompt (Some s))
 kept_prompt R L h prompt s same here w =
     let takes = Turning.takes_prompts (at_of L.world s) in
     subst (Kept (id_of h) s)
-    (sym (cond-false (s.header.acknowledged && takes) (Turning.puts L (Turning.roused L s) (Turning.prompted L h s prompt)) (Turning.keeps L (Turning.said_of h words.Idle)) (and_right s.header.acknowledged takes (ap Turning.takes_prompts (at_waiting L.world s w)))))
+    (sym (cond-false (s.header.acknowledged && takes) (Turning.puts L (Turning.roused L s) (Turning.prompted L h s prompt))
+    (Turning.keeps L (Turning.said_of h words.Idle)) (and_right s.header.acknowledged takes (ap Turning.takes_prompts (at_waiting L.world s w)))))
     (ap (λ (ss : List SessionFields). found ss (id_of h)) same ∙ here)
 
-kept_cancel : (R L : State) (rs : List Reply) (id : TransactionId) (s : SessionFields) (stage : Stage) → L.sessions ≡ R.sessions → session_of R id ≡ Some s → stage ≡ Waiting → Kept id s (Turning.cancel_stage L rs s stage)
+kept_cancel : (R L : State) (rs : List Reply) (id : TransactionId) (s : SessionFields) (stage : Stage) → L.sessions ≡ R.sessions →
+    session_of R id ≡ Some s → stage ≡ Waiting → Kept id s (Turning.cancel_stage L rs s stage)
 kept_cancel R L rs id s (Held eof) same here w = absurd cc
 kept_cancel R L rs id s Known same here w = absurd cc
 kept_cancel R L rs id s (OverStage ending) same here w = absurd cc
@@ -99,7 +107,8 @@ kept_cancel R L rs id s Waiting same here w = ap (λ (ss : List SessionFields). 
 remembers_it : (c : ClosedFields) (id : TransactionId) → remembers (with_name c id) id ≡ true
 remembers_it c id = or_left (is_same id id) (list_any (λ (name : TransactionId). is_same name id) (take 255 c.names)) (same_self id)
 
-own_ack : (R : State) (now : ℕ) (h : Header) (ack : Ack) (s : SessionFields) → AreDistinct R.sessions → session_of R (id_of h) ≡ Some s → s.stage ≡ Waiting → Turned R (AckPdu now h ack) (id_of h) s
+own_ack : (R : State) (now : ℕ) (h : Header) (ack : Ack) (s : SessionFields) → AreDistinct R.sessions → session_of R (id_of h) ≡ Some s →
+    s.stage ≡ Waiting → Turned R (AckPdu now h ack) (id_of h) s
 own_ack R now h ack s d here w =
     let i = AckPdu now h ack in
     let L = Handing.later now R in
@@ -112,7 +121,8 @@ own_ack R now h ack s d here w =
     let own = Turning.ack_parts L h ack (session_of L id) in
     let staged : own ≡ (if five then closing else idle) = ap (Turning.ack_parts L h ack) here ∙ ap (Turning.ack_stage L h ack s) w in
     elim (cases_Bool ours) [
-      | inr foreign ↦ Stays (ap (λ (p : Turning.Parts). found p.sessions id) (cond-false ours own quiet foreign) ∙ here) (and_left ours (is_same id id && five) foreign)
+      | inr foreign ↦ Stays (ap (λ (p : Turning.Parts). found p.sessions id) (cond-false ours own quiet foreign) ∙ here)
+          (and_left ours (is_same id id && five) foreign)
       | inl mine ↦ elim (cases_Bool five) [
         | inr other ↦
             Stays (ap (λ (p : Turning.Parts). found p.sessions id) (cond-true ours own quiet mine ∙ staged ∙ cond-false five closing idle other) ∙ here)
@@ -120,18 +130,22 @@ own_ack R now h ack s d here w =
         | inl finished ↦
             let parts : Turning.parts R i ≡ closing = cond-true ours own quiet mine ∙ staged ∙ cond-true five closing idle finished in
             let name = found_name R.sessions id s here in
-            Closes (ap (λ (p : Turning.Parts). found p.sessions id) parts ∙ ap (λ (n : TransactionId). found (without R.sessions n) id) name ∙ gone R.sessions id d)
-            (ap (λ (p : Turning.Parts). remembers p.closed id) parts ∙ ap (λ (n : TransactionId). remembers (with_name R.closed n) id) name ∙ remembers_it R.closed id)
+            Closes (ap (λ (p : Turning.Parts). found p.sessions id) parts ∙ ap (λ (n : TransactionId). found (without R.sessions n) id) name
+            ∙ gone R.sessions id d)
+            (ap (λ (p : Turning.Parts). remembers p.closed id) parts ∙ ap (λ (n : TransactionId). remembers (with_name R.closed n) id) name
+            ∙ remembers_it R.closed id)
       ]
     ]
 
 -- ---- each input
 
-other_turned : (R : State) (i : Input) (id : TransactionId) (s : SessionFields) → session_of R id ≡ Some s → is_same (touched R i) id ≡ false → acknowledges R id i ≡ false → Turned R i id s
+other_turned : (R : State) (i : Input) (id : TransactionId) (s : SessionFields) → session_of R id ≡ Some s → is_same (touched R i) id ≡ false →
+    acknowledges R id i ≡ false → Turned R i id s
 other_turned R i id s here other none = Stays (others_stay R i id other ∙ here) none
 
 -- a PDU of its own, or of another transaction
-pdu_turned : (R : State) (i : Input) (h : Header) (id : TransactionId) (s : SessionFields) → session_of R id ≡ Some s → touched R i ≡ id_of h → acknowledges R id i ≡ false →
+pdu_turned : (R : State) (i : Input) (h : Header) (id : TransactionId) (s : SessionFields) → session_of R id ≡ Some s → touched R i ≡ id_of h →
+    acknowledges R id i ≡ false →
     (session_of R (id_of h) ≡ Some s → session_of (Turning.after R i) (id_of h) ≡ Some s) → Turned R i id s
 pdu_turned R i h id s here of none own = elim (cases_Bool (is_same (id_of h) id)) [
   | inl same ↦
@@ -146,8 +160,9 @@ not_alive R s w due =
     let both = (and_parts (s.header.acknowledged && receiving) (Dues.has_passed R.mib.keep_alive R.now s.alive_at) due).0 in
     both_of receiving (ap Dues.is_receiving_at (at_waiting R.world s w)) (and_parts s.header.acknowledged receiving both).1
 
-due_kept : (R : State) (now : ℕ) (U : World) (id : TransactionId) (s : SessionFields) (due : Dues.Due) → AreDistinct R.sessions → session_of R id ≡ Some s → s.stage ≡ Waiting → Dues.first_due (Handing.later now R) R.sessions ≡ due →
-    is_same (due_name due) id ≡ true → is_of id due ≡ false → Kept id s (Turning.due_parts (Handing.later now R) U due)
+due_kept : (R : State) (now : ℕ) (U : World) (id : TransactionId) (s : SessionFields) (due : Dues.Due) → AreDistinct R.sessions → session_of R id ≡ Some s →
+    s.stage ≡ Waiting → Dues.first_due (Handing.later now R) R.sessions ≡ due →
+    is_same (due_name due) id ≡ true → is_timer_of id due ≡ false → Kept id s (Turning.due_parts (Handing.later now R) U due)
 due_kept R now U id s Dues.Nothing_due d here w is same none = here
 due_kept R now U id s (Dues.Alive_due t) d here w is same none =
     let L = Handing.later now R in
@@ -156,7 +171,8 @@ due_kept R now U id s (Dues.Alive_due t) d here w is same none =
     absurd (not_alive L t (ap (λ (y : SessionFields). y.stage) (sym it) ∙ w) alive.1)
 due_kept R now U id s (Dues.Stage_due t limit) d here w is same none = absurd (both_of (is_same (name_of t) id) none same)
 
-finish_kept : (R : State) (now : ℕ) (id : TransactionId) (s : SessionFields) (o : Option SessionFields) → AreDistinct R.sessions → session_of R id ≡ Some s → s.stage ≡ Waiting → Dues.first_over R.world R.sessions ≡ o →
+finish_kept : (R : State) (now : ℕ) (id : TransactionId) (s : SessionFields) (o : Option SessionFields) → AreDistinct R.sessions →
+    session_of R id ≡ Some s → s.stage ≡ Waiting → Dues.first_over R.world R.sessions ≡ o →
     is_same (session_name o) id ≡ true → Kept id s (Turning.finish_parts (Handing.later now R) o)
 finish_kept R now id s None d here w is same = here
 finish_kept R now id s (Some t) d here w is same =
@@ -165,13 +181,15 @@ finish_kept R now id s (Some t) d here w is same =
     let waiting : Dues.is_over (at_of R.world t) ≡ false = ap Dues.is_over (at_waiting R.world t (ap (λ (y : SessionFields). y.stage) (sym it) ∙ w)) in
     absurd (both_of (Dues.is_over (at_of R.world t)) waiting over.1)
 
-turn_of : (R : State) (i : Input) (id : TransactionId) (s : SessionFields) → AreDistinct R.sessions → session_of R id ≡ Some s → s.stage ≡ Waiting → is_resent R id i ≡ false → Turned R i id s
+turn_of : (R : State) (i : Input) (id : TransactionId) (s : SessionFields) → AreDistinct R.sessions → session_of R id ≡ Some s → s.stage ≡ Waiting →
+    is_sent_again R id i ≡ false → Turned R i id s
 turn_of R (MetadataPdu now h m) id s d here w none =
     let i = MetadataPdu now h m in
     let L = Handing.later now R in
     let U = run R.world (Handing.handed R i) in
     let rs = replies R.world (Handing.handed R i) in
-    pdu_turned R i h id s here refl refl (λ own. pdu_kept R L h s (Turning.metadata_parts L U rs h m) refl own (kept_metadata R L U rs h m s s.stage refl own w))
+    pdu_turned R i h id s here refl refl
+    (λ own. pdu_kept R L h s (Turning.metadata_parts L U rs h m) refl own (kept_metadata R L U rs h m s s.stage refl own w))
 turn_of R (DataPdu now h piece) id s d here w none =
     let i = DataPdu now h piece in
     let L = Handing.later now R in
@@ -191,7 +209,8 @@ turn_of R (AckPdu now h ack) id s d here w none =
       | inl same ↦
           let it = same_is (id_of h) id same in
           subst (λ (n : TransactionId). Turned R i n s) it (own_ack R now h ack s d (ap (found R.sessions) it ∙ here) w)
-      | inr other ↦ other_turned R i id s here other (and_right (Handing.is_ours R h) (is_same (id_of h) id && five) (and_left (is_same (id_of h) id) five other))
+      | inr other ↦ other_turned R i id s here other
+          (and_right (Handing.is_ours R h) (is_same (id_of h) id && five) (and_left (is_same (id_of h) id) five other))
     ]
 turn_of R (PromptPdu now h prompt) id s d here w none =
     let i = PromptPdu now h prompt in
@@ -235,7 +254,8 @@ still_waits : (R : State) (id : TransactionId) (s : SessionFields) → session_o
 still_waits R id s here w = ap waits_in here ∙ ap is_waiting w
 
 closed_later : (R : State) (i : Input) (is : List Input) (id : TransactionId) → WasClosed (Turning.after R i) is id → WasClosed R (i ∷ is) id
-closed_later R i is id w = record { front = i ∷ w.front; back = w.back; parts = ap (λ (xs : List Input). i ∷ xs) w.parts; gone = w.gone; remembered = w.remembered }
+closed_later R i is id w =
+    record { front = i ∷ w.front; back = w.back; parts = ap (λ (xs : List Input). i ∷ xs) w.parts; gone = w.gone; remembered = w.remembered }
 
 closed_after : (R : State) (xs ys : List Input) (id : TransactionId) → WasClosed (Turning.after_all R xs) ys id → WasClosed R (xs ++ ys) id
 closed_after R [] ys id w = w
@@ -247,7 +267,14 @@ joined (x ∷ xs) ys zs = ap (λ (ws : List Input). x ∷ ws) (joined xs ys zs)
 
 closed_before : (R : State) (xs ys : List Input) (id : TransactionId) → WasClosed R xs id → WasClosed R (xs ++ ys) id
 closed_before R xs ys id w =
-    record { front = w.front; back = w.back ++ ys; parts = ap (λ (ws : List Input). ws ++ ys) w.parts ∙ joined w.front w.back ys; gone = w.gone; remembered = w.remembered }
+    record {
+      front = w.front;
+      back = w.back ++ ys;
+      parts = ap (λ (ws : List Input). ws ++ ys) w.parts ∙ joined w.front w.back ys;
+      gone = w.gone;
+      remembered =
+          w.remembered;
+    }
 
 or_none : (a b : Bool) → a ≡ false → b ≡ false → (a || b) ≡ false
 or_none true b h k = absurd cc
@@ -257,7 +284,8 @@ or_none false b h k = k
 abbrev Over : State → List Input → TransactionId → SessionFields → Type 0
 Over R inputs id s = WasClosed R inputs id ⊎ ((session_of (Turning.after_all R inputs) id ≡ Some s) × (is_acknowledged R id inputs ≡ false))
 
-over : (R : State) (inputs : List Input) (id : TransactionId) (s : SessionFields) → AreDistinct R.sessions → session_of R id ≡ Some s → s.stage ≡ Waiting → AreUnserved R id inputs → Over R inputs id s
+over : (R : State) (inputs : List Input) (id : TransactionId) (s : SessionFields) → AreDistinct R.sessions → session_of R id ≡ Some s → s.stage ≡ Waiting →
+    IsSentOnce R id inputs → Over R inputs id s
 over R [] id s d here w none = inr (here, refl)
 over R (i ∷ is) id s d here w none = elim (turn_of R i id s d here w (none.0 (still_waits R id s here w))) [
   | Closes no_session remembered ↦ inl (record { front = i ∷ []; back = is; parts = refl; gone = no_session; remembered = remembered })
@@ -269,16 +297,20 @@ over R (i ∷ is) id s d here w none = elim (turn_of R i id s d here w (none.0 (
 
 -- ---- its timer
 
-terms_waiting : (R : State) (acknowledged : Bool) (s : SessionFields) → Dues.terms_at R.mib R.world.config.checks acknowledged s.timer At_waiting ≡ Some (R.mib.ack.interval, R.mib.ack.limit)
+terms_waiting : (R : State) (acknowledged : Bool) (s : SessionFields) →
+    Dues.terms_at R.mib R.world.config.checks acknowledged s.timer At_waiting ≡ Some (R.mib.ack.interval, R.mib.ack.limit)
 terms_waiting R true s = refl
 terms_waiting R false s = refl
 
-served_is : (R : State) (id : TransactionId) (s : SessionFields) (moment : ℕ) (limit : Bool) → AreDistinct R.sessions → session_of R id ≡ Some s → (served : IsServed R id moment limit) → s ≡ served.session
+served_is : (R : State) (id : TransactionId) (s : SessionFields) (moment : ℕ) (limit : Bool) → AreDistinct R.sessions → session_of R id ≡ Some s →
+    (served : IsServed R id moment limit) → s ≡ served.session
 served_is R id s moment limit d here served =
     let L = Handing.later moment R in
-    is_it R id s served.session d here (stage_due L R.sessions served.session limit served.due).0 (ap (λ (n : TransactionId). is_same n id) served.named ∙ same_self id)
+    is_it R id s served.session d here (stage_due L R.sessions served.session limit served.due).0
+    (ap (λ (n : TransactionId). is_same n id) served.named ∙ same_self id)
 
-ack_is_full : (R : State) (id : TransactionId) (s : SessionFields) (moment : ℕ) → AreDistinct R.sessions → session_of R id ≡ Some s → s.stage ≡ Waiting → IsServed R id moment true → R.mib.ack.limit ≤ s.timer.count + 1
+ack_is_full : (R : State) (id : TransactionId) (s : SessionFields) (moment : ℕ) → AreDistinct R.sessions → session_of R id ≡ Some s → s.stage ≡ Waiting →
+    IsServed R id moment true → R.mib.ack.limit ≤ s.timer.count + 1
 ack_is_full R id s moment d here w served =
     let L = Handing.later moment R in
     let it = served_is R id s moment true d here served in
@@ -288,7 +320,8 @@ ack_is_full R id s moment d here w served =
     full_of R.mib.ack.interval R.mib.ack.limit L.now s.timer (sym (ap (Dues.expiry_by L.now s.timer) terms) ∙ reached)
 
 -- below its limit the Finished PDU is sent again
-resent : (R : State) (id : TransactionId) (s : SessionFields) (moment : ℕ) → AreDistinct R.sessions → session_of R id ≡ Some s → IsServed R id moment false →
+resent : (R : State) (id : TransactionId) (s : SessionFields) (moment : ℕ) → AreDistinct R.sessions → session_of R id ≡ Some s →
+    IsServed R id moment false →
     session_of (Turning.after R (Expire moment)) id ≡ Some (record s { timer = passed (Handing.later moment R).now s.timer Again })
 resent R id s moment d here served =
     let i = Expire moment in
@@ -308,7 +341,8 @@ AreLow rounds = AllByRecursion (λ round. round.is_at_limit ≡ false) rounds
 abbrev Safe : ℕ → ℕ → List FinishedRound → Type 0
 Safe limit count rounds = AreLow rounds ⊎ (count + 1 + rounds_lost rounds < limit)
 
-is_low : (R : State) (id : TransactionId) (s : SessionFields) (round : FinishedRound) (rounds : List FinishedRound) → AreDistinct R.sessions → session_of R id ≡ Some s → s.stage ≡ Waiting → Safe R.mib.ack.limit s.timer.count (round ∷ rounds) →
+is_low : (R : State) (id : TransactionId) (s : SessionFields) (round : FinishedRound) (rounds : List FinishedRound) → AreDistinct R.sessions →
+    session_of R id ≡ Some s → s.stage ≡ Waiting → Safe R.mib.ack.limit s.timer.count (round ∷ rounds) →
     IsServed R id round.moment round.is_at_limit → round.is_at_limit ≡ false
 is_low R id s round rounds d here w (inl low) served = low.0
 is_low R id s round rounds d here w (inr room) served = elim (cases_Bool round.is_at_limit) [
@@ -316,16 +350,19 @@ is_low R id s round rounds d here w (inr room) served = elim (cases_Bool round.i
   | inr low ↦ low
 ]
 
-safe_rest : (limit count : ℕ) (round : FinishedRound) (rounds : List FinishedRound) → Safe limit count (round ∷ rounds) → round.is_lost ≡ true → Safe limit (count + 1) rounds
+safe_rest : (limit count : ℕ) (round : FinishedRound) (rounds : List FinishedRound) → Safe limit count (round ∷ rounds) → round.is_lost ≡ true →
+    Safe limit (count + 1) rounds
 safe_rest limit count round rounds (inl low) lost = inl low.1
 safe_rest limit count round rounds (inr room) lost = inr (omega (arith, room, ap one_if lost))
 
 -- what was not acknowledged was lost
-is_lost_by : (R : State) (id : TransactionId) (lost : Bool) (rest : List Input) → (lost ≡ false → is_acknowledged R id rest ≡ true) → is_acknowledged R id rest ≡ false → lost ≡ true
+is_lost_by : (R : State) (id : TransactionId) (lost : Bool) (rest : List Input) → (lost ≡ false → is_acknowledged R id rest ≡ true) →
+    is_acknowledged R id rest ≡ false → lost ≡ true
 is_lost_by R id true rest comes none = refl
 is_lost_by R id false rest comes none = absurd (both_of (is_acknowledged R id rest) none (comes refl))
 
-rounds_close : (mib : Mib) (R : State) (id : TransactionId) (s : SessionFields) (rounds : List FinishedRound) → R.mib ≡ mib → AreDistinct R.sessions → session_of R id ≡ Some s → s.stage ≡ Waiting → AreFinishedRounds R id rounds →
+rounds_close : (mib : Mib) (R : State) (id : TransactionId) (s : SessionFields) (rounds : List FinishedRound) → R.mib ≡ mib → AreDistinct R.sessions →
+    session_of R id ≡ Some s → s.stage ≡ Waiting → AreFinishedRounds R id rounds →
     Safe mib.ack.limit s.timer.count rounds → rounds_lost rounds < length rounds → WasClosed R (flat_map finished_inputs rounds) id
 rounds_close mib R id s [] same d here w are safe enough = absurd (omega (arith, enough))
 rounds_close mib R id s (round ∷ rounds) same d here w are safe enough =
@@ -342,10 +379,12 @@ rounds_close mib R id s (round ∷ rounds) same d here w are safe enough =
       | inr left ↦
           let lost = is_lost_by N id round.is_lost round.rest is.answered.comes left.1 in
           closed_after R (finished_inputs round) (flat_map finished_inputs rounds) id
-          (rounds_close mib M id new rounds (mib_all N round.rest ∙ same) (distinct_all N round.rest apart) left.0 w are.1 (safe_rest mib.ack.limit s.timer.count round rounds safe lost) (omega (arith, enough, ap one_if lost)))
+          (rounds_close mib M id new rounds (mib_all N round.rest ∙ same) (distinct_all N round.rest apart) left.0 w are.1
+          (safe_rest mib.ack.limit s.timer.count round rounds safe lost) (omega (arith, enough, ap one_if lost)))
     ]
 
-safe_first : (limit count : ℕ) (lost : Bool) (rounds : List FinishedRound) → AreLow rounds ⊎ (count + one_if lost + rounds_lost rounds < limit) → lost ≡ true → Safe limit count rounds
+safe_first : (limit count : ℕ) (lost : Bool) (rounds : List FinishedRound) → AreLow rounds ⊎ (count + one_if lost + rounds_lost rounds < limit) →
+    lost ≡ true → Safe limit count rounds
 safe_first limit count lost rounds (inl low) is = inl low
 safe_first limit count lost rounds (inr room) is = inr (omega (arith, room, ap one_if is))
 
@@ -355,5 +394,6 @@ closed_after_losses R id s is_lost rest rounds d here w answered are low enough 
   | inr left ↦
       let lost = is_lost_by R id is_lost rest answered.comes left.1 in
       closed_after R rest (flat_map finished_inputs rounds) id
-      (rounds_close R.mib (Turning.after_all R rest) id s rounds (mib_all R rest) (distinct_all R rest d) left.0 w are (safe_first R.mib.ack.limit s.timer.count is_lost rounds low lost) (omega (arith, enough, ap one_if lost)))
+      (rounds_close R.mib (Turning.after_all R rest) id s rounds (mib_all R rest) (distinct_all R rest d) left.0 w are
+      (safe_first R.mib.ack.limit s.timer.count is_lost rounds low lost) (omega (arith, enough, ap one_if lost)))
 ]

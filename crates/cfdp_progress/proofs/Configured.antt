@@ -61,7 +61,8 @@ data_same W k piece (Some e) =
     (λ _. cond_both (length piece.octets == 0) _ _ S (λ _. refl)
     (λ _. cond_both (nat_lt (limit e.phase W.config e) (piece.offset + length piece.octets)) _ _ S (λ _. refl)
     (λ _. cond_both (nat_lt 32 (pieces (kept_with e.received piece.offset piece.octets))) _ _ S (λ _. refl)
-    (λ _. stored_same e.phase (stores W k e (kept_with e.received piece.offset piece.octets)) k (storing W.filestore e (kept_with e.received piece.offset piece.octets))))))
+    (λ _. stored_same e.phase (stores W k e (kept_with e.received piece.offset piece.octets)) k
+    (storing W.filestore e (kept_with e.received piece.offset piece.octets))))))
     (λ _. refl)
 
 eof_same : (W : World) (k : ℕ) (eof : Eof) (o : Option Entry) → Same W.config (eof_came W k eof o)

@@ -86,12 +86,15 @@ pub record Opened (R : State) (i : Input) (id : TransactionId) (e : Entry) (eof 
 
 -- ---- the NAK timer
 
-served_is : (R : State) (id : TransactionId) (e : Entry) (eof : Eof) (s : SessionFields) (moment : ℕ) (limit : Bool) → AreDistinct R.sessions → Before R id e eof s → (served : IsServed R id moment limit) → s ≡ served.session
+served_is : (R : State) (id : TransactionId) (e : Entry) (eof : Eof) (s : SessionFields) (moment : ℕ) (limit : Bool) → AreDistinct R.sessions →
+    Before R id e eof s → (served : IsServed R id moment limit) → s ≡ served.session
 served_is R id e eof s moment limit d b served =
     let L = Handing.later moment R in
-    is_it R id s served.session d b.here (stage_due L R.sessions served.session limit served.due).0 (ap (λ (n : TransactionId). is_same n id) served.named ∙ same_self id)
+    is_it R id s served.session d b.here (stage_due L R.sessions served.session limit served.due).0
+    (ap (λ (n : TransactionId). is_same n id) served.named ∙ same_self id)
 
-pub open_expire : (R : State) (id : TransactionId) (e : Entry) (eof : Eof) (s : SessionFields) (moment : ℕ) → AreDistinct R.sessions → Before R id e eof s → IsServed R id moment false →
+pub open_expire : (R : State) (id : TransactionId) (e : Entry) (eof : Eof) (s : SessionFields) (moment : ℕ) → AreDistinct R.sessions → Before R id e eof s →
+    IsServed R id moment false →
     Opened R (Expire moment) id e eof (s.timer.count + 1)
 open_expire R id e eof s moment d b served =
     let i = Expire moment in
@@ -104,12 +107,14 @@ open_expire R id e eof s moment d b served =
     let world : U ≡ R.world = ap (run R.world) none in
     let new : SessionFields = record s { timer = passed L.now s.timer Again } in
     let ss : (Turning.after R i).sessions ≡ replaced R.sessions new = ap (λ (x : Dues.Due). (Turning.due_parts L U x).sessions) due in
-    let here : found (Turning.after R i).sessions id ≡ Some new = ap (λ (xs : List SessionFields). found xs id) ss ∙ replaced_self R.sessions new id (s, b.here) name in
+    let here : found (Turning.after R i).sessions id ≡ Some new =
+    ap (λ (xs : List SessionFields). found xs id) ss ∙ replaced_self R.sessions new id (s, b.here) name in
     let core : EntryAwaits U id e eof = subst (λ (V : World). EntryAwaits V id e eof) (sym world) b.core in
     let sent : (Turning.parts R i).answer.naks ≡ Turning.sequence R.mib s.header 0 (reach e) (Turning.gaps_after 0 e) =
     ap (λ (x : Dues.Due). (Turning.due_parts L U x).answer.naks) due
     ∙ ap (λ (at : At). (Turning.repeats L U s at).naks) (at_is R id e eof s b)
-    ∙ ap (λ (a : AnswerFields). a.naks) (cond-true s.header.acknowledged (record (Turning.said s words.Expired) { naks = Turning.asks R.mib U s }) (Turning.said s words.Expired) b.acknowledged)
+    ∙ ap (λ (a : AnswerFields). a.naks)
+    (cond-true s.header.acknowledged (record (Turning.said s words.Expired) { naks = Turning.asks R.mib U s }) (Turning.said s words.Expired) b.acknowledged)
     ∙ asks_is R.mib U s id e b.known name core.here in
     record {
       session = new;
@@ -126,7 +131,8 @@ full_of interval limit now timer limited = elim (why interval limit now timer) [
 ]
 
 -- at its limit it has counted that far
-pub limit_is_full : (R : State) (id : TransactionId) (e : Entry) (eof : Eof) (s : SessionFields) (moment : ℕ) → AreDistinct R.sessions → Before R id e eof s → IsServed R id moment true → R.mib.nak.limit ≤ s.timer.count + 1
+pub limit_is_full : (R : State) (id : TransactionId) (e : Entry) (eof : Eof) (s : SessionFields) (moment : ℕ) → AreDistinct R.sessions →
+    Before R id e eof s → IsServed R id moment true → R.mib.nak.limit ≤ s.timer.count + 1
 limit_is_full R id e eof s moment d b served =
     let L = Handing.later moment R in
     let it = served_is R id e eof s moment true d b served in
@@ -138,7 +144,8 @@ limit_is_full R id e eof s moment d b served =
 
 -- ---- the EOF PDU, or the Metadata PDU after it
 
-open_eof : (R : State) (id : TransactionId) (moment : ℕ) (h : Header) (came : Eof) (e : Entry) (eof : Eof) → EofOpens R id h came → TransactionAwaits (Turning.after R (EofPdu moment h came)) id e eof →
+open_eof : (R : State) (id : TransactionId) (moment : ℕ) (h : Header) (came : Eof) (e : Entry) (eof : Eof) → EofOpens R id h came →
+    TransactionAwaits (Turning.after R (EofPdu moment h came)) id e eof →
     Opened R (EofPdu moment h came) id e eof 0
 open_eof R id moment h came e eof r awaits =
     let i = EofPdu moment h came in
@@ -158,20 +165,25 @@ open_eof R id moment h came e eof r awaits =
     let here : found (Turning.after R i).sessions id ≡ Some t =
     ap (λ (p : Turning.Parts). found p.sessions id) parts ∙ replaced_self R.sessions t id (s, r.here) (heard_name L U s ∙ name) in
     let it : awaits.session ≡ t = some_same awaits.session t (sym awaits.here ∙ here) in
-    let mode : s.header.acknowledged ≡ true = ap (λ (x : Header). x.acknowledged) (sym is.1) ∙ ap (λ (y : SessionFields). y.header.acknowledged) (sym it) ∙ awaits.acknowledged in
+    let mode : s.header.acknowledged ≡ true =
+    ap (λ (x : Header). x.acknowledged) (sym is.1) ∙ ap (λ (y : SessionFields). y.header.acknowledged) (sym it) ∙ awaits.acknowledged in
     let waits : at_of U s ≡ At_awaiting core.checks = at_in U s id e core.checks r.known name core.here core.phase in
     let left : (Turning.left_receiving L U s && (came.condition == 0)) ≡ true =
     and_from (Turning.left_receiving L U s) (came.condition == 0)
-    (and_from (Dues.is_receiving_at (at_of R.world s)) (not (Dues.is_receiving_at (at_of U s))) (ap Dues.is_receiving_at r.receiving) (ap (λ (at : At). not (Dues.is_receiving_at at)) waits))
+    (and_from (Dues.is_receiving_at (at_of R.world s)) (not (Dues.is_receiving_at (at_of U s))) (ap Dues.is_receiving_at r.receiving)
+    (ap (λ (at : At). not (Dues.is_receiving_at at)) waits))
     (eq-eqb came.condition 0 r.no_error) in
     let sent : (Turning.parts R i).answer.naks ≡ Turning.sequence R.mib s.header 0 (reach e) (Turning.gaps_after 0 e) =
     ap (λ (p : Turning.Parts). p.answer.naks) parts
     ∙ cond-true (Turning.left_receiving L U s && (came.condition == 0)) (Turning.asks_where_awaiting R.mib U s) [] left
-    ∙ cond-true (s.header.acknowledged && Turning.is_awaiting_at (at_of U s)) (Turning.asks R.mib U s) [] (and_from s.header.acknowledged (Turning.is_awaiting_at (at_of U s)) mode (ap Turning.is_awaiting_at waits))
+    ∙ cond-true (s.header.acknowledged && Turning.is_awaiting_at (at_of U s)) (Turning.asks R.mib U s) []
+    (and_from s.header.acknowledged (Turning.is_awaiting_at (at_of U s)) mode (ap Turning.is_awaiting_at waits))
     ∙ asks_is R.mib U s id e r.known name core.here in
     let news : Turning.is_news R.world U s ≡ true =
-    ap (λ (at : At). not (Turning.is_awaiting_at at && Turning.is_awaiting_at (at_of U s)) || not (Turning.same_ranges (Turning.gaps_at (entry_of R.world (name_of s))) (Turning.gaps_at (entry_of U (name_of s))))) r.receiving in
-    let fresh : t.timer.count ≡ 0 = ap (λ (y : SessionFields). y.timer.count) (cond-true (Turning.is_news R.world U s) (record s { timer = restarted L.now }) s news) in
+    ap (λ (at : At). not (Turning.is_awaiting_at at && Turning.is_awaiting_at (at_of U s)) || not
+    (Turning.same_ranges (Turning.gaps_at (entry_of R.world (name_of s))) (Turning.gaps_at (entry_of U (name_of s))))) r.receiving in
+    let fresh : t.timer.count ≡ 0 =
+    ap (λ (y : SessionFields). y.timer.count) (cond-true (Turning.is_news R.world U s) (record s { timer = restarted L.now }) s news) in
     let count : awaits.session.timer.count ≡ 0 = ap (λ (y : SessionFields). y.timer.count) it ∙ fresh in
     record {
       session = awaits.session;
@@ -180,7 +192,8 @@ open_eof R id moment h came e eof r awaits =
       few = omega (arith, count);
     }
 
-open_metadata : (R : State) (id : TransactionId) (moment : ℕ) (h : Header) (m : MetadataFields) (e : Entry) (eof : Eof) → MetadataOpens R id h → TransactionAwaits (Turning.after R (MetadataPdu moment h m)) id e eof →
+open_metadata : (R : State) (id : TransactionId) (moment : ℕ) (h : Header) (m : MetadataFields) (e : Entry) (eof : Eof) → MetadataOpens R id h →
+    TransactionAwaits (Turning.after R (MetadataPdu moment h m)) id e eof →
     Opened R (MetadataPdu moment h m) id e eof 0
 open_metadata R id moment h m e eof r awaits =
     let i = MetadataPdu moment h m in
@@ -203,7 +216,8 @@ open_metadata R id moment h m e eof r awaits =
     let waits : at_of U t ≡ At_awaiting core.checks = at_in U t id e core.checks known r.named core.here core.phase in
     let sent : (Turning.parts R i).answer.naks ≡ Turning.sequence R.mib h 0 (reach e) (Turning.gaps_after 0 e) =
     ap (λ (p : Turning.Parts). p.answer.naks) parts
-    ∙ cond-true (h.acknowledged && Turning.is_awaiting_at (at_of U t)) (Turning.asks R.mib U t) [] (and_from h.acknowledged (Turning.is_awaiting_at (at_of U t)) r.mode (ap Turning.is_awaiting_at waits))
+    ∙ cond-true (h.acknowledged && Turning.is_awaiting_at (at_of U t)) (Turning.asks R.mib U t) []
+    (and_from h.acknowledged (Turning.is_awaiting_at (at_of U t)) r.mode (ap Turning.is_awaiting_at waits))
     ∙ asks_is R.mib U t id e known r.named core.here in
     let count : awaits.session.timer.count ≡ 0 = ap (λ (y : SessionFields). y.timer.count) it in
     record {
@@ -213,7 +227,8 @@ open_metadata R id moment h m e eof r awaits =
       few = omega (arith, count);
     }
 
-pub open_first : (R : State) (id : TransactionId) (i : Input) (e : Entry) (eof : Eof) → Opens R id i → TransactionAwaits (Turning.after R i) id e eof → Opened R i id e eof 0
+pub open_first : (R : State) (id : TransactionId) (i : Input) (e : Entry) (eof : Eof) → Opens R id i → TransactionAwaits (Turning.after R i) id e eof →
+    Opened R i id e eof 0
 open_first R id (EofPdu moment h came) e eof opens awaits = open_eof R id moment h came e eof opens awaits
 open_first R id (MetadataPdu moment h m) e eof opens awaits = open_metadata R id moment h m e eof opens awaits
 open_first R id (DataPdu moment h piece) e eof opens awaits = elim opens [ ]

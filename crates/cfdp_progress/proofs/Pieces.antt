@@ -49,7 +49,8 @@ pub data Comes (V : World) (id : TransactionId) (eof : Eof) (received : Received
   Is_over : (delivered : IsDelivered V id) → Comes V id eof received
 
 -- an entry that is put in its place
-placed : (W V : World) (id : TransactionId) (e new : Entry) → entry_of W id ≡ Some e → Entries.name_of new ≡ id → V.table ≡ slice_set W.table (index_of W id) new → entry_of V id ≡ Some new
+placed : (W V : World) (id : TransactionId) (e new : Entry) → entry_of W id ≡ Some e → Entries.name_of new ≡ id →
+    V.table ≡ slice_set W.table (index_of W id) new → entry_of V id ≡ Some new
 placed W V id e new here name table = ap (λ (t : List Entry). slice_get t (place_of id t)) table ∙ set_own W.table id e new name here
 
 -- all octets are there
@@ -59,8 +60,10 @@ whole_comes W V id eof e new received here name table =
     let k = index_of W id in
     let right : Entry = turned new (Executing 0) new.eof true in
     let wrong : Entry = ended V.filestore new 5 in
-    let again : (other : Entry) → slice_set V.table k other ≡ slice_set W.table k other = λ other. ap (λ (t : List Entry). slice_set t k other) table ∙ set_set_same W.table k new other in
-    cond_both (is_right_checksum new eof.checksum) (turns V k new (Executing 0) new.eof true, _) (ends V k new 5, _) (λ (a : World × Reply). Comes a.0 id eof received)
+    let again : (other : Entry) → slice_set V.table k other ≡ slice_set W.table k other =
+    λ other. ap (λ (t : List Entry). slice_set t k other) table ∙ set_set_same W.table k new other in
+    cond_both (is_right_checksum new eof.checksum) (turns V k new (Executing 0) new.eof true, _) (ends V k new 5, _)
+    (λ (a : World × Reply). Comes a.0 id eof received)
     (λ r. Is_over (record { entry = right; here = placed W (turns V k new (Executing 0) new.eof true) id e right here name (again right); phase = inl refl }))
     (λ r. Is_over (record { entry = wrong; here = placed W (ends V k new 5) id e wrong here name (again wrong); phase = inr refl }))
 
@@ -72,7 +75,15 @@ stored_comes W id eof e received a =
     let new : Entry = storing W.filestore e received in
     let name : Entries.name_of new ≡ id = entry_name W.table id e a.here in
     let waits : is_whole eof.size received ≡ false → Comes V id eof received =
-    λ short. Goes_on new (record { checks = a.checks; here = placed W V id e new a.here name refl; phase = a.phase; came = a.came; within = a.within; short = short }) refl in
+    λ short. Goes_on new (record {
+      checks = a.checks;
+      here = placed W V id e new a.here name refl;
+      phase = a.phase;
+      came = a.came;
+      within = a.within;
+      short =
+          short;
+    }) refl in
     let both : Comes (after_eof (Some eof) V k new).0 id eof received =
     cond_both (is_whole eof.size received) (whole V k new eof.checksum) (V, _) (λ (b : World × Reply). Comes b.0 id eof received)
     (λ w. whole_comes W V id eof e new received a.here name refl) waits in
@@ -80,7 +91,8 @@ stored_comes W id eof e received a =
     (subst (λ (o : Option Eof). Comes (after_eof o V k new).0 id eof received) (sym a.came) both)
 
 -- nothing of it is kept, or nothing is there to be kept
-same_comes : (W : World) (id : TransactionId) (eof : Eof) (e : Entry) (received : Received) → EntryAwaits W id e eof → e.received ≡ received → Comes W id eof received
+same_comes : (W : World) (id : TransactionId) (eof : Eof) (e : Entry) (received : Received) → EntryAwaits W id e eof → e.received ≡ received →
+    Comes W id eof received
 same_comes W id eof e received a same = Goes_on e a same
 
 keep_none : (rs : Received) (at : ℕ) → rs ≡ keep rs (at, [])
@@ -98,7 +110,8 @@ some_comes W id eof e at x xs a within =
     ap (λ (p : Phase). limit p W.config e) a.phase ∙ ap (λ (o : Option Eof). min (bound W.config e.metadata) (awaited o)) a.came in
     let last = stored e.phase (stores W k e received) k (storing W.filestore e received) in
     subst P (sym (cond-false (length (x ∷ xs) == 0) (W, _) _ (ne_eqb (length (x ∷ xs)) 0 (λ z. absurd (omega (arith, z)))))) (
-    subst P (sym (cond-false (nat_lt (limit e.phase W.config e) end) (ends W k e 6, _) _ (le-ltb (limit e.phase W.config e) end (omega (arith, top, within, a.within))))) (
+    subst P (sym (cond-false (nat_lt (limit e.phase W.config e) end) (ends W k e 6, _) _
+    (le-ltb (limit e.phase W.config e) end (omega (arith, top, within, a.within))))) (
     elim (cases_lt 32 (pieces received)) [
       | inl many ↦
           let over = lt-ltb 32 (pieces received) many in
@@ -107,7 +120,8 @@ some_comes W id eof e at x xs a within =
       | inr few ↦
           let under = le-ltb 32 (pieces received) few in
           subst P (sym (cond-false (nat_lt 32 (pieces received)) (W, _) last under)) (
-          subst (λ (q : Received). Comes last.0 id eof q) (sym (cond-false (nat_lt 32 (pieces received)) e.received received under)) (stored_comes W id eof e received a)
+          subst (λ (q : Received). Comes last.0 id eof q) (sym (cond-false (nat_lt 32 (pieces received)) e.received received under))
+          (stored_comes W id eof e received a)
           )
     ]
     )
@@ -127,6 +141,8 @@ comes W h eof e piece ours a within =
     let kept = keep e.received (piece.offset, piece.octets) in
     let taken : takes_data e.phase ≡ true = ap takes_data a.phase in
     let known : Comes (data_came W k piece (Some e)).0 id eof kept =
-    subst (λ (b : World × Reply). Comes b.0 id eof kept) (sym (cond-true (takes_data e.phase) (data_at W k e piece) (W, _) taken)) (data_by W id eof e piece.offset piece.octets a within) in
-    subst (λ (b : World × Reply). Comes b.0 id eof kept) (sym (cond-true (h.destination == W.config.entity) (data_came W k piece (entry_of W (id_of h))) (W, _) (eq-eqb h.destination W.config.entity ours)))
+    subst (λ (b : World × Reply). Comes b.0 id eof kept) (sym (cond-true (takes_data e.phase) (data_at W k e piece) (W, _) taken))
+    (data_by W id eof e piece.offset piece.octets a within) in
+    subst (λ (b : World × Reply). Comes b.0 id eof kept)
+    (sym (cond-true (h.destination == W.config.entity) (data_came W k piece (entry_of W (id_of h))) (W, _) (eq-eqb h.destination W.config.entity ours)))
     (subst (λ (o : Option Entry). Comes (data_came W k piece o).0 id eof kept) (sym a.here) known)

@@ -68,7 +68,13 @@ joined [] ys zs = refl
 joined (x ∷ xs) ys zs = ap (λ (ws : List Input). x ∷ ws) (joined xs ys zs)
 
 pub was_before : (R : State) (xs ys : List Input) (id : TransactionId) → WasDelivered R xs id → WasDelivered R (xs ++ ys) id
-was_before R xs ys id w = record { front = w.front; back = w.back ++ ys; parts = ap (λ (ws : List Input). ws ++ ys) w.parts ∙ joined w.front w.back ys; delivered = w.delivered }
+was_before R xs ys id w = record {
+  front = w.front;
+  back = w.back ++ ys;
+  parts =
+      ap (λ (ws : List Input). ws ++ ys) w.parts ∙ joined w.front w.back ys;
+  delivered = w.delivered;
+}
 
 -- ---- what comes
 
@@ -94,7 +100,8 @@ pub record Left (R : State) (inputs : List Input) (id : TransactionId) (eof : Eo
   pub kept : entry.received ≡ received
   pub few : IsAskedOnce R id inputs → session.timer.count ≤ count
 
-pub over_inputs : NextIsSound → NextIsPromised → (R : State) (inputs : List Input) (id : TransactionId) (e : Entry) (eof : Eof) (s : SessionFields) → Sound R.world → AreDistinct R.sessions → Before R id e eof s → GoesOn R id inputs →
+pub over_inputs : NextIsSound → NextIsPromised → (R : State) (inputs : List Input) (id : TransactionId) (e : Entry) (eof : Eof) (s : SessionFields) →
+    Sound R.world → AreDistinct R.sessions → Before R id e eof s → GoesOn R id inputs →
     Within eof.size (pieces_in R id inputs) → WasDelivered R inputs id ⊎ Left R inputs id eof (keep_all e.received (pieces_in R id inputs)) s.timer.count
 over_inputs next_sound promised R [] id e eof s sound d b on within = inr (record { entry = e; session = s; before = b; kept = refl; few = λ q. omega arith })
 over_inputs next_sound promised R (i ∷ is) id e eof s sound d b on within =
@@ -104,14 +111,16 @@ over_inputs next_sound promised R (i ∷ is) id e eof s sound d b on within =
     elim (step next_sound promised R i id e eof s sound d b (on.0 awaits) fits.0) [
       | Still new core kept t here known acknowledged few ↦
           let more : Before N id new eof t = record { here = here; known = known; acknowledged = acknowledged; core = core } in
-          elim (over_inputs next_sound promised N is id new eof t (run_sound next_sound R.world (Handing.handed R i) sound) (distinct_after R i d) more on.1 fits.1) [
+          elim (over_inputs next_sound promised N is id new eof t (run_sound next_sound R.world (Handing.handed R i) sound)
+          (distinct_after R i d) more on.1 fits.1) [
             | inl was ↦ inl (was_later R i is id was)
             | inr left ↦
                 inr (record {
                   entry = left.entry;
                   session = left.session;
                   before = left.before;
-                  kept = left.kept ∙ ap (λ (rs : Received). keep_all rs (pieces_in N id is)) kept ∙ sym (keep_both e.received (piece_in R id i) (pieces_in N id is));
+                  kept = left.kept ∙ ap (λ (rs : Received). keep_all rs (pieces_in N id is)) kept ∙ sym
+                      (keep_both e.received (piece_in R id i) (pieces_in N id is));
                   few = λ once. omega (arith, left.few once.1, few (once.0 awaits));
                 })
           ]
@@ -135,7 +144,8 @@ whole_where_all size rs fits all =
       | inl short ↦ absurd (both_of (is_some (octet_at rs (length rs))) (past rs (length rs) (omega arith)) (all (length rs) short))
       | inr enough ↦ enough
     ] in
-    and_from (length rs == size) (list_all is_some rs) (eq-eqb (length rs) size (omega (arith, fits, long))) (all_there rs (λ i low. all i (omega (arith, low, fits))))
+    and_from (length rs == size) (list_all is_some rs) (eq-eqb (length rs) size (omega (arith, fits, long)))
+    (all_there rs (λ i low. all i (omega (arith, low, fits))))
 
 there_or_not : (o : Option ℕ) → (o ≡ None → ⊥) → is_some o ≡ true
 there_or_not None h = absurd (h refl)
@@ -189,7 +199,8 @@ data_same : (R : State) (now : ℕ) (h : Header) (piece : FileDataFields) → Is
 data_same R now h piece d =
     let L = Handing.later now R in
     let es = Handing.of_session (session_of L (id_of h)) (DataCame h piece ∷ []) in
-    cond_both (Handing.is_ours L h) es [] (λ (vs : List Event). run R.world vs ≡ R.world) (λ q. session_same R.world (session_of L (id_of h)) (DataCame h piece) (idle_same R.world h piece d)) (λ q. refl)
+    cond_both (Handing.is_ours L h) es [] (λ (vs : List Event). run R.world vs ≡ R.world)
+    (λ q. session_same R.world (session_of L (id_of h)) (DataCame h piece) (idle_same R.world h piece d)) (λ q. refl)
 
 delivered_same : (V W : World) (id : TransactionId) → entry_of V id ≡ entry_of W id → IsDelivered W id → IsDelivered V id
 delivered_same V W id same d = record { entry = d.entry; here = same ∙ d.here; phase = d.phase }
@@ -201,10 +212,12 @@ not_true false h = refl
 not_named : (id : TransactionId) (o : Option TransactionId) → not (is_named id o) ≡ true → o ≡ Some id → ⊥
 not_named id o h e = both_of (is_named id o) (not_true (is_named id o) h) (ap (is_named id) e ∙ same_self id)
 
-stays_one : NextIsSound → NextIsPromised → (R : State) (i : Input) (id : TransactionId) → Sound R.world → IsDelivered R.world id → is_work i ≡ false → is_same (touched R i) id ≡ false → IsDelivered (after R i).world id
+stays_one : NextIsSound → NextIsPromised → (R : State) (i : Input) (id : TransactionId) → Sound R.world → IsDelivered R.world id → is_work i ≡ false →
+    is_same (touched R i) id ≡ false → IsDelivered (after R i).world id
 stays_one next_sound promised R i id sound d w other = delivered_same (after R i).world R.world id (entry_stays next_sound promised R i id sound w other) d
 
-stays_step : NextIsSound → NextIsPromised → (R : State) (i : Input) (id : TransactionId) → Sound R.world → IsDelivered R.world id → is_kept_apart R id i ≡ true → IsDelivered (after R i).world id
+stays_step : NextIsSound → NextIsPromised → (R : State) (i : Input) (id : TransactionId) → Sound R.world → IsDelivered R.world id →
+    is_kept_apart R id i ≡ true → IsDelivered (after R i).world id
 stays_step next_sound promised R (DataPdu now h piece) id sound d apart = elim (cases_Bool (is_same (id_of h) id)) [
   | inl same ↦
       let it = same_is (id_of h) id same in
@@ -214,20 +227,30 @@ stays_step next_sound promised R (DataPdu now h piece) id sound d apart = elim (
 ]
 stays_step next_sound promised R (Work now) id sound d apart =
     delivered_same (after R (Work now)).world R.world id (work_stays next_sound promised R now id sound (not_named id (next_runnable R.world.table) apart)) d
-stays_step next_sound promised R (MetadataPdu now h m) id sound d apart = stays_one next_sound promised R (MetadataPdu now h m) id sound d refl (not_true (is_same (touched R (MetadataPdu now h m)) id) apart)
-stays_step next_sound promised R (EofPdu now h eof) id sound d apart = stays_one next_sound promised R (EofPdu now h eof) id sound d refl (not_true (is_same (touched R (EofPdu now h eof)) id) apart)
-stays_step next_sound promised R (AckPdu now h ack) id sound d apart = stays_one next_sound promised R (AckPdu now h ack) id sound d refl (not_true (is_same (touched R (AckPdu now h ack)) id) apart)
-stays_step next_sound promised R (PromptPdu now h prompt) id sound d apart = stays_one next_sound promised R (PromptPdu now h prompt) id sound d refl (not_true (is_same (touched R (PromptPdu now h prompt)) id) apart)
-stays_step next_sound promised R (OtherPdu now h) id sound d apart = stays_one next_sound promised R (OtherPdu now h) id sound d refl (not_true (is_same (touched R (OtherPdu now h)) id) apart)
-stays_step next_sound promised R (Expire now) id sound d apart = stays_one next_sound promised R (Expire now) id sound d refl (not_true (is_same (touched R (Expire now)) id) apart)
-stays_step next_sound promised R (Finish now) id sound d apart = stays_one next_sound promised R (Finish now) id sound d refl (not_true (is_same (touched R (Finish now)) id) apart)
-stays_step next_sound promised R (CancelAsked now n) id sound d apart = stays_one next_sound promised R (CancelAsked now n) id sound d refl (not_true (is_same (touched R (CancelAsked now n)) id) apart)
+stays_step next_sound promised R (MetadataPdu now h m) id sound d apart =
+    stays_one next_sound promised R (MetadataPdu now h m) id sound d refl (not_true (is_same (touched R (MetadataPdu now h m)) id) apart)
+stays_step next_sound promised R (EofPdu now h eof) id sound d apart =
+    stays_one next_sound promised R (EofPdu now h eof) id sound d refl (not_true (is_same (touched R (EofPdu now h eof)) id) apart)
+stays_step next_sound promised R (AckPdu now h ack) id sound d apart =
+    stays_one next_sound promised R (AckPdu now h ack) id sound d refl (not_true (is_same (touched R (AckPdu now h ack)) id) apart)
+stays_step next_sound promised R (PromptPdu now h prompt) id sound d apart =
+    stays_one next_sound promised R (PromptPdu now h prompt) id sound d refl (not_true (is_same (touched R (PromptPdu now h prompt)) id) apart)
+stays_step next_sound promised R (OtherPdu now h) id sound d apart =
+    stays_one next_sound promised R (OtherPdu now h) id sound d refl (not_true (is_same (touched R (OtherPdu now h)) id) apart)
+stays_step next_sound promised R (Expire now) id sound d apart =
+    stays_one next_sound promised R (Expire now) id sound d refl (not_true (is_same (touched R (Expire now)) id) apart)
+stays_step next_sound promised R (Finish now) id sound d apart =
+    stays_one next_sound promised R (Finish now) id sound d refl (not_true (is_same (touched R (Finish now)) id) apart)
+stays_step next_sound promised R (CancelAsked now n) id sound d apart =
+    stays_one next_sound promised R (CancelAsked now n) id sound d refl (not_true (is_same (touched R (CancelAsked now n)) id) apart)
 stays_step next_sound promised R ForgetAsked id sound d apart = d
 
-stays_all : NextIsSound → NextIsPromised → (R : State) (inputs : List Input) (id : TransactionId) → Sound R.world → IsDelivered R.world id → AreKeptApart R id inputs → IsDelivered (after_all R inputs).world id
+stays_all : NextIsSound → NextIsPromised → (R : State) (inputs : List Input) (id : TransactionId) → Sound R.world → IsDelivered R.world id →
+    AreKeptApart R id inputs → IsDelivered (after_all R inputs).world id
 stays_all next_sound promised R [] id sound d apart = d
 stays_all next_sound promised R (i ∷ is) id sound d apart =
-    stays_all next_sound promised (after R i) is id (run_sound next_sound R.world (Handing.handed R i) sound) (stays_step next_sound promised R i id sound d apart.0) apart.1
+    stays_all next_sound promised (after R i) is id (run_sound next_sound R.world (Handing.handed R i) sound)
+    (stays_step next_sound promised R i id sound d apart.0) apart.1
 
 apart_after : (R : State) (xs ys : List Input) (id : TransactionId) → AreKeptApart R id (xs ++ ys) → AreKeptApart (after_all R xs) id ys
 apart_after R [] ys id apart = apart

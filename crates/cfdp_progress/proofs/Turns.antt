@@ -58,8 +58,10 @@ use Rattle.cfdp_progress.proofs.Pieces.{Comes, Goes_on, Is_over, comes}
 -- the transaction goes on waiting, and its timer has counted no more than before, where it was not served below the limit; or its file is
 -- delivered
 pub data Goes (V : World) (ss : List SessionFields) (id : TransactionId) (eof : Eof) (received : Received) (count : ℕ) (again : Bool) : Type 0 where
-  Still : (after : Entry) → (awaits : EntryAwaits V id after eof) → (kept : after.received ≡ received) → (s : SessionFields) → (here : found ss id ≡ Some s) →
-      (known : s.stage ≡ Known) → (acknowledged : s.header.acknowledged ≡ true) → (few : again ≡ false → s.timer.count ≤ count) → Goes V ss id eof received count again
+  Still : (after : Entry) → (awaits : EntryAwaits V id after eof) → (kept : after.received ≡ received) → (s : SessionFields) →
+      (here : found ss id ≡ Some s) →
+      (known : s.stage ≡ Known) → (acknowledged : s.header.acknowledged ≡ true) → (few : again ≡ false → s.timer.count ≤ count) →
+      Goes V ss id eof received count again
   Is_done : (delivered : IsDelivered V id) → Goes V ss id eof received count again
 
 -- the world stays, and the session but for its timer
@@ -78,32 +80,39 @@ pub record Before (R : State) (id : TransactionId) (e : Entry) (eof : Eof) (s : 
   pub acknowledged : s.header.acknowledged ≡ true
   pub core : EntryAwaits R.world id e eof
 
-quiet_goes : (R : State) (id : TransactionId) (e : Entry) (eof : Eof) (s : SessionFields) (again : Bool) (V : World) (ss : List SessionFields) → Before R id e eof s →
+quiet_goes : (R : State) (id : TransactionId) (e : Entry) (eof : Eof) (s : SessionFields) (again : Bool) (V : World) (ss : List SessionFields) →
+    Before R id e eof s →
     Quiet R.world id s again V ss → Goes V ss id eof e.received s.timer.count again
 quiet_goes R id e eof s again V ss b q =
-    Still e (subst (λ (U : World). EntryAwaits U id e eof) (sym q.world) b.core) refl q.session q.here (q.stage ∙ b.known) (ap (λ (h : Header). h.acknowledged) q.header ∙ b.acknowledged) q.few
+    Still e (subst (λ (U : World). EntryAwaits U id e eof) (sym q.world) b.core) refl q.session q.here (q.stage ∙ b.known)
+    (ap (λ (h : Header). h.acknowledged) q.header ∙ b.acknowledged) q.few
 
 kept_quiet : (R : State) (id : TransactionId) (s : SessionFields) (again : Bool) → session_of R id ≡ Some s → Quiet R.world id s again R.world R.sessions
 kept_quiet R id s again here = record { world = refl; session = s; here = here; stage = refl; header = refl; few = λ q. omega arith }
 
-put_quiet : (R : State) (id : TransactionId) (s t : SessionFields) (again : Bool) (V : World) → session_of R id ≡ Some s → V ≡ R.world → t.stage ≡ s.stage → t.header ≡ s.header → (again ≡ false → t.timer.count ≤ s.timer.count) →
+put_quiet : (R : State) (id : TransactionId) (s t : SessionFields) (again : Bool) (V : World) → session_of R id ≡ Some s → V ≡ R.world → t.stage ≡ s.stage →
+    t.header ≡ s.header → (again ≡ false → t.timer.count ≤ s.timer.count) →
     Quiet R.world id s again V (replaced R.sessions t)
 put_quiet R id s t again V here world stage header few =
     let name : name_of t ≡ id = ap id_of header ∙ found_name R.sessions id s here in
     record { world = world; session = t; here = replaced_self R.sessions t id (s, here) name; stage = stage; header = header; few = few }
 
-quiet_if : (R : State) (id : TransactionId) (s : SessionFields) (again b : Bool) (es : List Event) (p q : Turning.Parts) → Quiet R.world id s again (run R.world es) p.sessions →
+quiet_if : (R : State) (id : TransactionId) (s : SessionFields) (again b : Bool) (es : List Event) (p q : Turning.Parts) →
+    Quiet R.world id s again (run R.world es) p.sessions →
     Quiet R.world id s again R.world q.sessions → Quiet R.world id s again (run R.world (if b then es else [])) (if b then p else q).sessions
 quiet_if R id s again true es p q hp hq = hp
 quiet_if R id s again false es p q hp hq = hq
 
 -- what a session hears
-pub heard_is : (R : State) (V : World) (s : SessionFields) → ((Turning.heard R V s).stage ≡ s.stage) × ((Turning.heard R V s).header ≡ s.header) × ((Turning.heard R V s).timer.count ≤ s.timer.count)
+pub heard_is : (R : State) (V : World) (s : SessionFields) →
+    ((Turning.heard R V s).stage ≡ s.stage) × ((Turning.heard R V s).header ≡ s.header) × ((Turning.heard R V s).timer.count ≤ s.timer.count)
 heard_is R V s =
-    cond_both (Turning.is_news R.world V s) (record s { timer = restarted R.now }) s (λ (t : SessionFields). (t.stage ≡ s.stage) × (t.header ≡ s.header) × (t.timer.count ≤ s.timer.count))
+    cond_both (Turning.is_news R.world V s) (record s { timer = restarted R.now }) s
+    (λ (t : SessionFields). (t.stage ≡ s.stage) × (t.header ≡ s.header) × (t.timer.count ≤ s.timer.count))
     (λ e. (refl, refl, omega arith)) (λ e. (refl, refl, omega arith))
 
-heard_quiet : (R L : State) (U V : World) (id : TransactionId) (s : SessionFields) (again : Bool) → session_of R id ≡ Some s → V ≡ R.world → Quiet R.world id s again V (replaced R.sessions (Turning.heard L U s))
+heard_quiet : (R L : State) (U V : World) (id : TransactionId) (s : SessionFields) (again : Bool) → session_of R id ≡ Some s → V ≡ R.world →
+    Quiet R.world id s again V (replaced R.sessions (Turning.heard L U s))
 heard_quiet R L U V id s again here world =
     let h = heard_is L U s in
     put_quiet R id s (Turning.heard L U s) again V here world h.0 h.1 (λ q. h.2)
@@ -116,7 +125,8 @@ unmoved_metadata W h m e here =
     cond_both (h.destination == W.config.entity) (metadata_came W h m (entry_of W (id_of h))) (W, Reply.NotForUs) (λ (a : World × Reply). a.0 ≡ W)
     (λ q. ap (λ (o : Option Entry). (metadata_came W h m o).0) here) (λ q. refl)
 
-unmoved_eof : (W : World) (h : Header) (eof other : Eof) (e : Entry) → EntryAwaits W (id_of h) e eof → other.condition ≡ 0 → (next W (EofCame h other)).0 ≡ W
+unmoved_eof : (W : World) (h : Header) (eof other : Eof) (e : Entry) → EntryAwaits W (id_of h) e eof → other.condition ≡ 0 →
+    (next W (EofCame h other)).0 ≡ W
 unmoved_eof W h eof other e a none =
     let k = index_of W (id_of h) in
     let live : not (is_live e.phase) ≡ false = ap (λ (p : Phase). not (is_live p)) a.phase in
@@ -133,11 +143,14 @@ unmoved_eof W h eof other e a none =
     (λ q. ap (λ (o : Option Entry). (eof_came W k other o).0) a.here ∙ same) (λ q. refl)
 
 -- by the session that is found, which is known
-abbrev QuietBy : State → TransactionId → SessionFields → (Option SessionFields → List Event) → (Option SessionFields → List SessionFields) → Option SessionFields → Type 0
+abbrev QuietBy : State → TransactionId → SessionFields → (Option SessionFields → List Event) → (Option SessionFields → List SessionFields) →
+    Option SessionFields → Type 0
 QuietBy R id s es ss o = Quiet R.world id s false (run R.world (es o)) (ss o)
 
-quiet_metadata_stage : (R L : State) (U : World) (rs : List Reply) (h : Header) (m : MetadataFields) (e : Entry) (s : SessionFields) (stage : Stage) → session_of R (id_of h) ≡ Some s → entry_of R.world (id_of h) ≡ Some e → L.sessions ≡ R.sessions →
-    stage ≡ Known → Quiet R.world (id_of h) s false (run R.world (Handing.metadata_in_stage h m s stage)) (Turning.metadata_stage L U rs h m s stage).sessions
+quiet_metadata_stage : (R L : State) (U : World) (rs : List Reply) (h : Header) (m : MetadataFields) (e : Entry) (s : SessionFields) (stage : Stage) →
+    session_of R (id_of h) ≡ Some s → entry_of R.world (id_of h) ≡ Some e → L.sessions ≡ R.sessions →
+    stage ≡ Known →
+    Quiet R.world (id_of h) s false (run R.world (Handing.metadata_in_stage h m s stage)) (Turning.metadata_stage L U rs h m s stage).sessions
 quiet_metadata_stage R L U rs h m e s (Held eof) here there same k = absurd cc
 quiet_metadata_stage R L U rs h m e s Known here there same k =
     subst (λ (ss : List SessionFields). Quiet R.world (id_of h) s false (next R.world (MetadataCame h m)).0 (replaced ss (Turning.heard L U s))) (sym same)
@@ -152,12 +165,15 @@ quiet_metadata R now h m e eof s b =
     let L = Handing.later now R in
     let U = run R.world (Handing.handed R i) in
     let rs = replies R.world (Handing.handed R i) in
-    quiet_if R (id_of h) s false (Handing.is_ours L h) (Handing.metadata_events L h m (session_of L (id_of h))) (Turning.metadata_parts L U rs h m (session_of L (id_of h))) (Turning.keeps L (Turning.quiet (Turning.foreign h)))
-    (subst (λ (o : Option SessionFields). Quiet R.world (id_of h) s false (run R.world (Handing.metadata_events L h m o)) (Turning.metadata_parts L U rs h m o).sessions) (sym b.here)
+    quiet_if R (id_of h) s false (Handing.is_ours L h) (Handing.metadata_events L h m (session_of L (id_of h)))
+    (Turning.metadata_parts L U rs h m (session_of L (id_of h))) (Turning.keeps L (Turning.quiet (Turning.foreign h)))
+    (subst (λ (o : Option SessionFields). Quiet R.world (id_of h) s false (run R.world (Handing.metadata_events L h m o))
+    (Turning.metadata_parts L U rs h m o).sessions) (sym b.here)
     (quiet_metadata_stage R L U rs h m e s s.stage b.here b.core.here refl b.known))
     (kept_quiet R (id_of h) s false b.here)
 
-quiet_eof_stage : (R L : State) (U : World) (rs : List Reply) (h : Header) (other eof : Eof) (e : Entry) (s : SessionFields) (stage : Stage) → session_of R (id_of h) ≡ Some s → EntryAwaits R.world (id_of h) e eof →
+quiet_eof_stage : (R L : State) (U : World) (rs : List Reply) (h : Header) (other eof : Eof) (e : Entry) (s : SessionFields) (stage : Stage) →
+    session_of R (id_of h) ≡ Some s → EntryAwaits R.world (id_of h) e eof →
     other.condition ≡ 0 → L.sessions ≡ R.sessions → stage ≡ Known →
     Quiet R.world (id_of h) s false (run R.world (Handing.where_known stage (EofCame h other ∷ []))) (Turning.eof_stage L U rs h other s stage).sessions
 quiet_eof_stage R L U rs h other eof e s (Held held) here a none same k = absurd cc
@@ -167,26 +183,32 @@ quiet_eof_stage R L U rs h other eof e s Known here a none same k =
 quiet_eof_stage R L U rs h other eof e s (OverStage ending) here a none same k = absurd cc
 quiet_eof_stage R L U rs h other eof e s Waiting here a none same k = absurd cc
 
-quiet_eof : (R : State) (now : ℕ) (h : Header) (other : Eof) (e : Entry) (eof : Eof) (s : SessionFields) → Before R (id_of h) e eof s → other.condition ≡ 0 →
+quiet_eof : (R : State) (now : ℕ) (h : Header) (other : Eof) (e : Entry) (eof : Eof) (s : SessionFields) → Before R (id_of h) e eof s →
+    other.condition ≡ 0 →
     Quiet R.world (id_of h) s false (Turning.after R (EofPdu now h other)).world (Turning.after R (EofPdu now h other)).sessions
 quiet_eof R now h other e eof s b none =
     let i = EofPdu now h other in
     let L = Handing.later now R in
     let U = run R.world (Handing.handed R i) in
     let rs = replies R.world (Handing.handed R i) in
-    quiet_if R (id_of h) s false (Handing.is_ours L h) (Handing.of_session (session_of L (id_of h)) (EofCame h other ∷ [])) (Turning.eof_parts L U rs h other (session_of L (id_of h))) (Turning.keeps L (Turning.quiet (Turning.foreign h)))
-    (subst (λ (o : Option SessionFields). Quiet R.world (id_of h) s false (run R.world (Handing.of_session o (EofCame h other ∷ []))) (Turning.eof_parts L U rs h other o).sessions) (sym b.here)
+    quiet_if R (id_of h) s false (Handing.is_ours L h) (Handing.of_session (session_of L (id_of h)) (EofCame h other ∷ []))
+    (Turning.eof_parts L U rs h other (session_of L (id_of h))) (Turning.keeps L (Turning.quiet (Turning.foreign h)))
+    (subst (λ (o : Option SessionFields). Quiet R.world (id_of h) s false (run R.world (Handing.of_session o (EofCame h other ∷ [])))
+    (Turning.eof_parts L U rs h other o).sessions) (sym b.here)
     (quiet_eof_stage R L U rs h other eof e s s.stage b.here b.core none refl b.known))
     (kept_quiet R (id_of h) s false b.here)
 
-quiet_ack_stage : (R L : State) (h : Header) (ack : Ack) (s : SessionFields) (stage : Stage) → session_of R (id_of h) ≡ Some s → L.sessions ≡ R.sessions → stage ≡ Known →
+quiet_ack_stage : (R L : State) (h : Header) (ack : Ack) (s : SessionFields) (stage : Stage) → session_of R (id_of h) ≡ Some s → L.sessions ≡ R.sessions →
+    stage ≡ Known →
     Quiet R.world (id_of h) s false R.world (Turning.ack_stage L h ack s stage).sessions
 quiet_ack_stage R L h ack s (Held held) here same k = absurd cc
-quiet_ack_stage R L h ack s Known here same k = subst (λ (ss : List SessionFields). Quiet R.world (id_of h) s false R.world ss) (sym same) (kept_quiet R (id_of h) s false here)
+quiet_ack_stage R L h ack s Known here same k =
+    subst (λ (ss : List SessionFields). Quiet R.world (id_of h) s false R.world ss) (sym same) (kept_quiet R (id_of h) s false here)
 quiet_ack_stage R L h ack s (OverStage ending) here same k = absurd cc
 quiet_ack_stage R L h ack s Waiting here same k = absurd cc
 
-quiet_none_if : (R : State) (id : TransactionId) (s : SessionFields) (again b : Bool) (p q : Turning.Parts) → Quiet R.world id s again R.world p.sessions → Quiet R.world id s again R.world q.sessions →
+quiet_none_if : (R : State) (id : TransactionId) (s : SessionFields) (again b : Bool) (p q : Turning.Parts) → Quiet R.world id s again R.world p.sessions →
+    Quiet R.world id s again R.world q.sessions →
     Quiet R.world id s again R.world (if b then p else q).sessions
 quiet_none_if R id s again true p q hp hq = hp
 quiet_none_if R id s again false p q hp hq = hq
@@ -195,13 +217,17 @@ quiet_ack : (R : State) (now : ℕ) (h : Header) (ack : Ack) (s : SessionFields)
     Quiet R.world (id_of h) s false R.world (Turning.after R (AckPdu now h ack)).sessions
 quiet_ack R now h ack s here known =
     let L = Handing.later now R in
-    quiet_none_if R (id_of h) s false (Handing.is_ours L h) (Turning.ack_parts L h ack (session_of L (id_of h))) (Turning.keeps L (Turning.quiet (Turning.foreign h)))
-    (subst (λ (o : Option SessionFields). Quiet R.world (id_of h) s false R.world (Turning.ack_parts L h ack o).sessions) (sym here) (quiet_ack_stage R L h ack s s.stage here refl known))
+    quiet_none_if R (id_of h) s false (Handing.is_ours L h) (Turning.ack_parts L h ack (session_of L (id_of h)))
+    (Turning.keeps L (Turning.quiet (Turning.foreign h)))
+    (subst (λ (o : Option SessionFields). Quiet R.world (id_of h) s false R.world (Turning.ack_parts L h ack o).sessions) (sym here)
+    (quiet_ack_stage R L h ack s s.stage here refl known))
     (kept_quiet R (id_of h) s false here)
 
-roused_is : (R : State) (s : SessionFields) → ((Turning.roused R s).stage ≡ s.stage) × ((Turning.roused R s).header ≡ s.header) × ((Turning.roused R s).timer.count ≤ s.timer.count)
+roused_is : (R : State) (s : SessionFields) →
+    ((Turning.roused R s).stage ≡ s.stage) × ((Turning.roused R s).header ≡ s.header) × ((Turning.roused R s).timer.count ≤ s.timer.count)
 roused_is R s =
-    cond_both (Dues.is_receiving_at (at_of R.world s)) (record s { timer = restarted R.now }) s (λ (t : SessionFields). (t.stage ≡ s.stage) × (t.header ≡ s.header) × (t.timer.count ≤ s.timer.count))
+    cond_both (Dues.is_receiving_at (at_of R.world s)) (record s { timer = restarted R.now }) s
+    (λ (t : SessionFields). (t.stage ≡ s.stage) × (t.header ≡ s.header) × (t.timer.count ≤ s.timer.count))
     (λ e. (refl, refl, omega arith)) (λ e. (refl, refl, omega arith))
 
 quiet_prompt : (R : State) (now : ℕ) (h : Header) (prompt : Prompt) (s : SessionFields) → session_of R (id_of h) ≡ Some s →
@@ -212,25 +238,31 @@ quiet_prompt R now h prompt s here =
     let takes = s.header.acknowledged && Turning.takes_prompts (at_of L.world s) in
     let put = Turning.puts L (Turning.roused L s) (Turning.prompted L h s prompt) in
     let idle = Turning.keeps L (Turning.said_of h words.Idle) in
-    quiet_none_if R (id_of h) s false (Handing.is_ours L h) (Turning.prompt_parts L h prompt (session_of L (id_of h))) (Turning.keeps L (Turning.quiet (Turning.foreign h)))
+    quiet_none_if R (id_of h) s false (Handing.is_ours L h) (Turning.prompt_parts L h prompt (session_of L (id_of h)))
+    (Turning.keeps L (Turning.quiet (Turning.foreign h)))
     (subst (λ (o : Option SessionFields). Quiet R.world (id_of h) s false R.world (Turning.prompt_parts L h prompt o).sessions) (sym here)
     (quiet_none_if R (id_of h) s false takes put idle
     (put_quiet R (id_of h) s (Turning.roused L s) false R.world here refl r.0 r.1 (λ q. r.2)) (kept_quiet R (id_of h) s false here)))
     (kept_quiet R (id_of h) s false here)
 
-quiet_other : (R : State) (now : ℕ) (h : Header) (s : SessionFields) → session_of R (id_of h) ≡ Some s → Quiet R.world (id_of h) s false R.world (Turning.after R (OtherPdu now h)).sessions
+quiet_other : (R : State) (now : ℕ) (h : Header) (s : SessionFields) → session_of R (id_of h) ≡ Some s →
+    Quiet R.world (id_of h) s false R.world (Turning.after R (OtherPdu now h)).sessions
 quiet_other R now h s here =
     let L = Handing.later now R in
-    quiet_none_if R (id_of h) s false (Handing.is_ours L h) (Turning.keeps L (Turning.quiet became.NotOurs)) (Turning.keeps L (Turning.quiet (Turning.foreign h)))
+    quiet_none_if R (id_of h) s false (Handing.is_ours L h) (Turning.keeps L (Turning.quiet became.NotOurs))
+    (Turning.keeps L (Turning.quiet (Turning.foreign h)))
     (kept_quiet R (id_of h) s false here) (kept_quiet R (id_of h) s false here)
 
 -- ---- its timer
 
-pub at_in : (W : World) (s : SessionFields) (id : TransactionId) (e : Entry) (checks : ℕ) → s.stage ≡ Known → name_of s ≡ id → entry_of W id ≡ Some e → e.phase ≡ Awaiting checks → at_of W s ≡ At_awaiting checks
+pub at_in : (W : World) (s : SessionFields) (id : TransactionId) (e : Entry) (checks : ℕ) → s.stage ≡ Known → name_of s ≡ id → entry_of W id ≡ Some e →
+    e.phase ≡ Awaiting checks → at_of W s ≡ At_awaiting checks
 at_in W s id e checks known name here phase =
-    ap (λ (stage : Stage). at_stage stage (entry_of W (name_of s))) known ∙ ap (λ (n : TransactionId). at_entry (entry_of W n)) name ∙ ap at_entry here ∙ ap at_phase phase
+    ap (λ (stage : Stage). at_stage stage (entry_of W (name_of s))) known ∙ ap (λ (n : TransactionId). at_entry (entry_of W n)) name ∙ ap at_entry here
+    ∙ ap at_phase phase
 
-pub at_is : (R : State) (id : TransactionId) (e : Entry) (eof : Eof) (s : SessionFields) (b : Before R id e eof s) → at_of R.world s ≡ At_awaiting b.core.checks
+pub at_is : (R : State) (id : TransactionId) (e : Entry) (eof : Eof) (s : SessionFields) (b : Before R id e eof s) →
+    at_of R.world s ≡ At_awaiting b.core.checks
 at_is R id e eof s b = at_in R.world s id e b.core.checks b.known (found_name R.sessions id s b.here) b.core.here b.core.phase
 
 pub none_known : (stage : Stage) → Handing.where_known stage [] ≡ []
@@ -242,7 +274,8 @@ none_known Waiting = refl
 -- below the limit nothing is handed on
 pub asks_none : (R : State) (s : SessionFields) → s.header.acknowledged ≡ true → Handing.due_events R (Dues.Stage_due s false) ≡ []
 asks_none R s mode =
-    ap (λ (b : Bool). Handing.where_known s.stage (if b then Check (name_of s) ∷ [] else [])) (acknowledged_none s.header.acknowledged (at_of R.world s) mode) ∙ none_known s.stage
+    ap (λ (b : Bool). Handing.where_known s.stage (if b then Check (name_of s) ∷ [] else []))
+    (acknowledged_none s.header.acknowledged (at_of R.world s) mode) ∙ none_known s.stage
 
 ignored_by : (h : Handler) → is_ignoring h ≡ true → h ≡ handlers.Ignore
 ignored_by handlers.Ignore e = refl
@@ -254,57 +287,68 @@ is_ignored true true s e = refl
 is_ignored true false s e = absurd cc
 is_ignored false ignoring s e = absurd cc
 
-handler_is : (R : State) (id : TransactionId) (e : Entry) (eof : Eof) (s : SessionFields) → Before R id e eof s → Dues.handler_at R.mib s.header.acknowledged (at_of R.world s) ≡ R.mib.nak.at_limit
+handler_is : (R : State) (id : TransactionId) (e : Entry) (eof : Eof) (s : SessionFields) → Before R id e eof s →
+    Dues.handler_at R.mib s.header.acknowledged (at_of R.world s) ≡ R.mib.nak.at_limit
 handler_is R id e eof s b =
     ap (λ (a : Bool). Dues.handler_at R.mib a (at_of R.world s)) b.acknowledged ∙ ap (Dues.handler_at R.mib true) (at_is R id e eof s b)
 
-quiet_ignored : (R L : State) (id : TransactionId) (s : SessionFields) (again : Bool) (condition : ℕ) (checks : Bool) (at : At) (how : Handler) → session_of R id ≡ Some s → L.sessions ≡ R.sessions → how ≡ handlers.Ignore →
-    Quiet R.world id s again (run R.world (Handing.where_known s.stage (Handing.limit_events (name_of s) checks how))) (Turning.gives_up L s condition how at).sessions
+quiet_ignored : (R L : State) (id : TransactionId) (s : SessionFields) (again : Bool) (condition : ℕ) (checks : Bool) (at : At) (how : Handler) →
+    session_of R id ≡ Some s → L.sessions ≡ R.sessions → how ≡ handlers.Ignore →
+    Quiet R.world id s again (run R.world (Handing.where_known s.stage (Handing.limit_events (name_of s) checks how)))
+    (Turning.gives_up L s condition how at).sessions
 quiet_ignored R L id s again condition checks at how here same ignored =
     let t : SessionFields = record s { timer = restarted L.now } in
     let V = run R.world (Handing.where_known s.stage (Handing.limit_events (name_of s) checks handlers.Ignore)) in
     let world : V ≡ R.world = ap (run R.world) (none_known s.stage) in
     let put : Quiet R.world id s again V (replaced R.sessions t) = put_quiet R id s t again V here world refl refl (λ q. omega arith) in
-    subst (λ (h : Handler). Quiet R.world id s again (run R.world (Handing.where_known s.stage (Handing.limit_events (name_of s) checks h))) (Turning.gives_up L s condition h at).sessions) (sym ignored)
+    subst (λ (h : Handler). Quiet R.world id s again (run R.world (Handing.where_known s.stage (Handing.limit_events (name_of s) checks h)))
+    (Turning.gives_up L s condition h at).sessions) (sym ignored)
     (subst (λ (ss : List SessionFields). Quiet R.world id s again V (replaced ss t)) (sym same) put)
 
 abbrev QuietDue : State → ℕ → World → TransactionId → SessionFields → Dues.Due → Type 0
 QuietDue R now U id s due =
     Quiet R.world id s (is_asking id due) (run R.world (Handing.due_events (Handing.later now R) due)) (Turning.due_parts (Handing.later now R) U due).sessions
 
-quiet_due : (R : State) (now : ℕ) (U : World) (id : TransactionId) (e : Entry) (eof : Eof) (s : SessionFields) (due : Dues.Due) → AreDistinct R.sessions → Before R id e eof s →
+quiet_due : (R : State) (now : ℕ) (U : World) (id : TransactionId) (e : Entry) (eof : Eof) (s : SessionFields) (due : Dues.Due) → AreDistinct R.sessions →
+    Before R id e eof s →
     Dues.first_due (Handing.later now R) R.sessions ≡ due → is_same (due_name due) id ≡ true → is_given_up R.mib id due ≡ false → QuietDue R now U id s due
 quiet_due R now U id e eof s Dues.Nothing_due d b is same up = kept_quiet R id s false b.here
 quiet_due R now U id e eof s (Dues.Alive_due t) d b is same up =
     let L = Handing.later now R in
     let it : s ≡ t = is_it R id s t d b.here (alive_due L R.sessions t is).0 same in
-    subst (λ (y : SessionFields). QuietDue R now U id s (Dues.Alive_due y)) it (put_quiet R id s (record s { alive_at = L.now }) false R.world b.here refl refl refl (λ q. omega arith))
+    subst (λ (y : SessionFields). QuietDue R now U id s (Dues.Alive_due y)) it
+    (put_quiet R id s (record s { alive_at = L.now }) false R.world b.here refl refl refl (λ q. omega arith))
 quiet_due R now U id e eof s (Dues.Stage_due t false) d b is same up =
     let L = Handing.later now R in
     let it : s ≡ t = is_it R id s t d b.here (stage_due L R.sessions t false is).0 same in
     let V = run R.world (Handing.due_events L (Dues.Stage_due s false)) in
     let asks : is_same (name_of s) id ≡ true = ap (λ (y : SessionFields). is_same (name_of y) id) it ∙ same in
     subst (λ (y : SessionFields). QuietDue R now U id s (Dues.Stage_due y false)) it
-    (put_quiet R id s (record s { timer = passed L.now s.timer Again }) (is_same (name_of s) id) V b.here (ap (run R.world) (asks_none L s b.acknowledged)) refl refl
+    (put_quiet R id s (record s { timer = passed L.now s.timer Again }) (is_same (name_of s) id) V b.here
+    (ap (run R.world) (asks_none L s b.acknowledged)) refl refl
     (λ q. absurd (both_of (is_same (name_of s) id) q asks)))
 quiet_due R now U id e eof s (Dues.Stage_due t true) d b is same up =
     let L = Handing.later now R in
     let it : s ≡ t = is_it R id s t d b.here (stage_due L R.sessions t true is).0 same in
     let at = at_of R.world s in
-    let ignored : R.mib.nak.at_limit ≡ handlers.Ignore = ignored_by R.mib.nak.at_limit (is_ignored (is_same (name_of t) id) (is_ignoring R.mib.nak.at_limit) same up) in
+    let ignored : R.mib.nak.at_limit ≡ handlers.Ignore =
+    ignored_by R.mib.nak.at_limit (is_ignored (is_same (name_of t) id) (is_ignoring R.mib.nak.at_limit) same up) in
     subst (λ (y : SessionFields). QuietDue R now U id s (Dues.Stage_due y true)) it
-    (quiet_ignored R L id s false (Dues.fault_at s.header.acknowledged at) (Handing.makes_checks s.header.acknowledged at) at (Dues.handler_at R.mib s.header.acknowledged at) b.here refl
+    (quiet_ignored R L id s false (Dues.fault_at s.header.acknowledged at) (Handing.makes_checks s.header.acknowledged at) at
+    (Dues.handler_at R.mib s.header.acknowledged at) b.here refl
     (handler_is R id e eof s b ∙ ignored))
 
 -- an entry that waits for octets is not over
-quiet_finish : (R : State) (now : ℕ) (id : TransactionId) (e : Entry) (eof : Eof) (s : SessionFields) (o : Option SessionFields) → AreDistinct R.sessions → Before R id e eof s →
+quiet_finish : (R : State) (now : ℕ) (id : TransactionId) (e : Entry) (eof : Eof) (s : SessionFields) (o : Option SessionFields) → AreDistinct R.sessions →
+    Before R id e eof s →
     Dues.first_over R.world R.sessions ≡ o → is_same (session_name o) id ≡ true →
     Quiet R.world id s false (run R.world (Handing.take_of o)) (Turning.finish_parts (Handing.later now R) o).sessions
 quiet_finish R now id e eof s None d b is same = kept_quiet R id s false b.here
 quiet_finish R now id e eof s (Some t) d b is same =
     let over = first_over_is R.world R.sessions t is in
     let it : s ≡ t = is_it R id s t d b.here over.0 same in
-    let waits : Dues.is_over (at_of R.world t) ≡ false = ap (λ (y : SessionFields). Dues.is_over (at_of R.world y)) (sym it) ∙ ap Dues.is_over (at_is R id e eof s b) in
+    let waits : Dues.is_over (at_of R.world t) ≡ false =
+    ap (λ (y : SessionFields). Dues.is_over (at_of R.world y)) (sym it) ∙ ap Dues.is_over (at_is R id e eof s b) in
     absurd (both_of (Dues.is_over (at_of R.world t)) waits over.1)
 
 -- ---- a piece of its file
@@ -315,13 +359,16 @@ Pieced R i id eof received count = Goes (Turning.after R i).world (Turning.after
 is_ours_is : (R : State) (h : Header) → Handing.is_ours R h ≡ true → h.destination ≡ R.world.config.entity
 is_ours_is R h ours = eqb-true h.destination R.world.config.entity (and_parts (not h.toward_sender) (h.destination == R.world.config.entity) ours).1
 
-piece_comes : (V : World) (ss : List SessionFields) (id : TransactionId) (eof : Eof) (received : Received) (s t : SessionFields) → found ss id ≡ Some t → t.stage ≡ Known → t.header.acknowledged ≡ true →
+piece_comes : (V : World) (ss : List SessionFields) (id : TransactionId) (eof : Eof) (received : Received) (s t : SessionFields) → found ss id ≡ Some t →
+    t.stage ≡ Known → t.header.acknowledged ≡ true →
     t.timer.count ≤ s.timer.count → Comes V id eof received → Goes V ss id eof received s.timer.count false
 piece_comes V ss id eof received s t here known acknowledged few (Goes_on after awaits kept) = Still after awaits kept t here known acknowledged (λ q. few)
 piece_comes V ss id eof received s t here known acknowledged few (Is_over delivered) = Is_done delivered
 
-data_ours : (R : State) (now : ℕ) (h : Header) (piece : FileDataFields) (e : Entry) (eof : Eof) (s : SessionFields) → Before R (id_of h) e eof s → Handing.is_ours R h ≡ true →
-    piece.offset + length piece.octets ≤ eof.size → Pieced R (DataPdu now h piece) (id_of h) eof (keep e.received (piece.offset, piece.octets)) s.timer.count
+data_ours : (R : State) (now : ℕ) (h : Header) (piece : FileDataFields) (e : Entry) (eof : Eof) (s : SessionFields) → Before R (id_of h) e eof s →
+    Handing.is_ours R h ≡ true →
+    piece.offset + length piece.octets ≤ eof.size →
+    Pieced R (DataPdu now h piece) (id_of h) eof (keep e.received (piece.offset, piece.octets)) s.timer.count
 data_ours R now h piece e eof s b ours within =
     let i = DataPdu now h piece in
     let L = Handing.later now R in
@@ -335,16 +382,22 @@ data_ours R now h piece e eof s b ours within =
     ∙ ap (λ (o : Option SessionFields). Handing.of_session o (DataCame h piece ∷ [])) b.here
     ∙ ap (λ (stage : Stage). Handing.where_known stage (DataCame h piece ∷ [])) b.known in
     let ss : (Turning.after R i).sessions ≡ replaced R.sessions t =
-    ap (λ (p : Turning.Parts). p.sessions) (cond-true (Handing.is_ours L h) (Turning.data_parts L U rs h piece (session_of L id)) (Turning.keeps L (Turning.quiet (Turning.foreign h))) ours)
+    ap (λ (p : Turning.Parts). p.sessions)
+    (cond-true (Handing.is_ours L h) (Turning.data_parts L U rs h piece (session_of L id)) (Turning.keeps L (Turning.quiet (Turning.foreign h))) ours)
     ∙ ap (λ (o : Option SessionFields). (Turning.data_parts L U rs h piece o).sessions) b.here
-    ∙ ap (λ (p : Turning.Parts). p.sessions) (cond-true (Turning.is_known s.stage) (Turning.takes_data L U rs h piece s) (Turning.keeps L (Turning.said s words.Idle)) (ap Turning.is_known b.known)) in
+    ∙ ap (λ (p : Turning.Parts). p.sessions)
+    (cond-true (Turning.is_known s.stage) (Turning.takes_data L U rs h piece s) (Turning.keeps L (Turning.said s words.Idle)) (ap Turning.is_known b.known)) in
     let name : name_of t ≡ id = heard_name L U s ∙ found_name R.sessions id s b.here in
-    let here : found (Turning.after R i).sessions id ≡ Some t = ap (λ (xs : List SessionFields). found xs id) ss ∙ replaced_self R.sessions t id (s, b.here) name in
-    piece_comes (Turning.after R i).world (Turning.after R i).sessions id eof (keep e.received (piece.offset, piece.octets)) s t here (is.0 ∙ b.known) (ap (λ (x : Header). x.acknowledged) is.1 ∙ b.acknowledged) is.2
-    (subst (λ (vs : List Event). Comes (run R.world vs) id eof (keep e.received (piece.offset, piece.octets))) (sym es) (comes R.world h eof e piece (is_ours_is R h ours) b.core within))
+    let here : found (Turning.after R i).sessions id ≡ Some t =
+    ap (λ (xs : List SessionFields). found xs id) ss ∙ replaced_self R.sessions t id (s, b.here) name in
+    piece_comes (Turning.after R i).world (Turning.after R i).sessions id eof (keep e.received (piece.offset, piece.octets)) s t here (is.0 ∙ b.known)
+    (ap (λ (x : Header). x.acknowledged) is.1 ∙ b.acknowledged) is.2
+    (subst (λ (vs : List Event). Comes (run R.world vs) id eof (keep e.received (piece.offset, piece.octets))) (sym es)
+    (comes R.world h eof e piece (is_ours_is R h ours) b.core within))
 
 -- it goes toward the sender, or to another entity
-data_foreign : (R : State) (now : ℕ) (h : Header) (piece : FileDataFields) (e : Entry) (eof : Eof) (s : SessionFields) → Before R (id_of h) e eof s → Handing.is_ours R h ≡ false →
+data_foreign : (R : State) (now : ℕ) (h : Header) (piece : FileDataFields) (e : Entry) (eof : Eof) (s : SessionFields) → Before R (id_of h) e eof s →
+    Handing.is_ours R h ≡ false →
     Pieced R (DataPdu now h piece) (id_of h) eof e.received s.timer.count
 data_foreign R now h piece e eof s b foreign =
     let i = DataPdu now h piece in
@@ -354,13 +407,23 @@ data_foreign R now h piece e eof s b foreign =
     let rs = replies R.world (Handing.handed R i) in
     let es : Handing.handed R i ≡ [] = cond-false (Handing.is_ours L h) (Handing.of_session (session_of L id) (DataCame h piece ∷ [])) [] foreign in
     let ss : (Turning.after R i).sessions ≡ R.sessions =
-    ap (λ (p : Turning.Parts). p.sessions) (cond-false (Handing.is_ours L h) (Turning.data_parts L U rs h piece (session_of L id)) (Turning.keeps L (Turning.quiet (Turning.foreign h))) foreign) in
+    ap (λ (p : Turning.Parts). p.sessions)
+    (cond-false (Handing.is_ours L h) (Turning.data_parts L U rs h piece (session_of L id)) (Turning.keeps L (Turning.quiet (Turning.foreign h))) foreign) in
     quiet_goes R id e eof s false (Turning.after R i).world (Turning.after R i).sessions b
-    (record { world = ap (run R.world) es; session = s; here = ap (λ (xs : List SessionFields). found xs id) ss ∙ b.here; stage = refl; header = refl; few = λ q. omega arith })
+    (record {
+      world = ap (run R.world) es;
+      session = s;
+      here = ap (λ (xs : List SessionFields). found xs id) ss ∙ b.here;
+      stage = refl;
+      header = refl;
+      few =
+          λ q. omega arith;
+    })
 
 -- ---- what touches other transactions
 
-awaits_still : (W V : World) (id : TransactionId) (e : Entry) (eof : Eof) → V.config ≡ W.config → entry_of V id ≡ entry_of W id → EntryAwaits W id e eof → EntryAwaits V id e eof
+awaits_still : (W V : World) (id : TransactionId) (e : Entry) (eof : Eof) → V.config ≡ W.config → entry_of V id ≡ entry_of W id → EntryAwaits W id e eof →
+    EntryAwaits V id e eof
 awaits_still W V id e eof config entry a = record {
   checks = a.checks;
   here = entry ∙ a.here;
@@ -370,14 +433,17 @@ awaits_still W V id e eof config entry a = record {
   short = a.short;
 }
 
-runs_not : (R : State) (id : TransactionId) (e : Entry) (eof : Eof) (s : SessionFields) → Sound R.world → Before R id e eof s → next_runnable R.world.table ≡ Some id → ⊥
+runs_not : (R : State) (id : TransactionId) (e : Entry) (eof : Eof) (s : SessionFields) → Sound R.world → Before R id e eof s →
+    next_runnable R.world.table ≡ Some id → ⊥
 runs_not R id e eof s sound b = none_runs R.world id e sound b.core.here (ap is_awaiting b.core.phase)
 
-other_goes : NextIsSound → NextIsPromised → (R : State) (i : Input) (id : TransactionId) (e : Entry) (eof : Eof) (s : SessionFields) (again : Bool) → Sound R.world → Before R id e eof s → is_work i ≡ false → is_same (touched R i) id ≡ false →
+other_goes : NextIsSound → NextIsPromised → (R : State) (i : Input) (id : TransactionId) (e : Entry) (eof : Eof) (s : SessionFields) (again : Bool) →
+    Sound R.world → Before R id e eof s → is_work i ≡ false → is_same (touched R i) id ≡ false →
     Goes (Turning.after R i).world (Turning.after R i).sessions id eof e.received s.timer.count again
 other_goes next_sound promised R i id e eof s again sound b w other =
     let entry = entry_stays next_sound promised R i id sound w other in
-    Still e (awaits_still R.world (Turning.after R i).world id e eof (run_config R.world (Handing.handed R i)) entry b.core) refl s (others_stay R i id other ∙ b.here) b.known b.acknowledged (λ q. omega arith)
+    Still e (awaits_still R.world (Turning.after R i).world id e eof (run_config R.world (Handing.handed R i)) entry b.core) refl s
+    (others_stay R i id other ∙ b.here) b.known b.acknowledged (λ q. omega arith)
 
 -- ---- each input
 
@@ -385,10 +451,12 @@ abbrev Within : ℕ → List Piece → Type 0
 Within size ps = AllByRecursion (λ p. p.0 + length p.1 ≤ size) ps
 
 abbrev Stepped : State → Input → TransactionId → Entry → Eof → SessionFields → Type 0
-Stepped R i id e eof s = Goes (Turning.after R i).world (Turning.after R i).sessions id eof (keep_all e.received (piece_in R id i)) s.timer.count (asks_again R id i)
+Stepped R i id e eof s = Goes (Turning.after R i).world (Turning.after R i).sessions id eof (keep_all e.received (piece_in R id i)) s.timer.count
+    (asks_again R id i)
 
 -- a PDU of its own, or of another transaction
-pdu_goes : NextIsSound → NextIsPromised → (R : State) (i : Input) (h : Header) (id : TransactionId) (e : Entry) (eof : Eof) (s : SessionFields) → Sound R.world → Before R id e eof s → is_work i ≡ false → touched R i ≡ id_of h →
+pdu_goes : NextIsSound → NextIsPromised → (R : State) (i : Input) (h : Header) (id : TransactionId) (e : Entry) (eof : Eof) (s : SessionFields) →
+    Sound R.world → Before R id e eof s → is_work i ≡ false → touched R i ≡ id_of h →
     (is_same (id_of h) id ≡ true → Before R (id_of h) e eof s → Quiet R.world (id_of h) s false (Turning.after R i).world (Turning.after R i).sessions) →
     Goes (Turning.after R i).world (Turning.after R i).sessions id eof e.received s.timer.count false
 pdu_goes next_sound promised R i h id e eof s sound b w of quiet = elim (cases_Bool (is_same (id_of h) id)) [
@@ -405,7 +473,9 @@ no_error true true s e = refl
 no_error true false s e = absurd cc
 no_error false right s e = absurd cc
 
-data_goes : NextIsSound → NextIsPromised → (R : State) (now : ℕ) (h : Header) (piece : FileDataFields) (id : TransactionId) (e : Entry) (eof : Eof) (s : SessionFields) → Sound R.world → Before R id e eof s →
+data_goes : NextIsSound → NextIsPromised →
+    (R : State) (now : ℕ) (h : Header) (piece : FileDataFields) (id : TransactionId) (e : Entry) (eof : Eof) (s : SessionFields) → Sound R.world →
+    Before R id e eof s →
     Within eof.size (piece_in R id (DataPdu now h piece)) → Stepped R (DataPdu now h piece) id e eof s
 data_goes next_sound promised R now h piece id e eof s sound b within =
     let i = DataPdu now h piece in
@@ -421,16 +491,20 @@ data_goes next_sound promised R now h piece id e eof s sound b within =
                 let one : piece_in R id i ≡ p ∷ [] = cond-true (ours && is_same (id_of h) id) (p ∷ []) [] (and_from ours (is_same (id_of h) id) mine same) in
                 let fits = (subst (Within eof.size) one within).0 in
                 subst G (sym one)
-                (subst (λ (n : TransactionId). Goes (Turning.after R i).world (Turning.after R i).sessions n eof (keep e.received p) s.timer.count false) it (data_ours R now h piece e eof s own mine fits))
+                (subst (λ (n : TransactionId). Goes (Turning.after R i).world (Turning.after R i).sessions n eof (keep e.received p) s.timer.count false) it
+                (data_ours R now h piece e eof s own mine fits))
             | inr foreign ↦
                 subst G (sym (cond-false (ours && is_same (id_of h) id) (p ∷ []) [] (and_left ours (is_same (id_of h) id) foreign)))
-                (subst (λ (n : TransactionId). Goes (Turning.after R i).world (Turning.after R i).sessions n eof e.received s.timer.count false) it (data_foreign R now h piece e eof s own foreign))
+                (subst (λ (n : TransactionId). Goes (Turning.after R i).world (Turning.after R i).sessions n eof e.received s.timer.count false) it
+                (data_foreign R now h piece e eof s own foreign))
           ]
       | inr other ↦
-          subst G (sym (cond-false (ours && is_same (id_of h) id) (p ∷ []) [] (and_right ours (is_same (id_of h) id) other))) (other_goes next_sound promised R i id e eof s false sound b refl other)
+          subst G (sym (cond-false (ours && is_same (id_of h) id) (p ∷ []) [] (and_right ours (is_same (id_of h) id) other)))
+          (other_goes next_sound promised R i id e eof s false sound b refl other)
     ]
 
-expire_goes : NextIsSound → NextIsPromised → (R : State) (now : ℕ) (id : TransactionId) (e : Entry) (eof : Eof) (s : SessionFields) → Sound R.world → AreDistinct R.sessions → Before R id e eof s →
+expire_goes : NextIsSound → NextIsPromised → (R : State) (now : ℕ) (id : TransactionId) (e : Entry) (eof : Eof) (s : SessionFields) → Sound R.world →
+    AreDistinct R.sessions → Before R id e eof s →
     breaks_off R id (Expire now) ≡ false → Stepped R (Expire now) id e eof s
 expire_goes next_sound promised R now id e eof s sound d b on =
     let i = Expire now in
@@ -438,11 +512,13 @@ expire_goes next_sound promised R now id e eof s sound d b on =
     let due = Dues.first_due L L.sessions in
     elim (cases_Bool (is_same (due_name due) id)) [
       | inl same ↦
-          quiet_goes R id e eof s (is_asking id due) (Turning.after R i).world (Turning.after R i).sessions b (quiet_due R now (run R.world (Handing.handed R i)) id e eof s due d b refl same on)
+          quiet_goes R id e eof s (is_asking id due) (Turning.after R i).world (Turning.after R i).sessions b
+          (quiet_due R now (run R.world (Handing.handed R i)) id e eof s due d b refl same on)
       | inr other ↦ other_goes next_sound promised R i id e eof s (is_asking id due) sound b refl other
     ]
 
-finish_goes : NextIsSound → NextIsPromised → (R : State) (now : ℕ) (id : TransactionId) (e : Entry) (eof : Eof) (s : SessionFields) → Sound R.world → AreDistinct R.sessions → Before R id e eof s → Stepped R (Finish now) id e eof s
+finish_goes : NextIsSound → NextIsPromised → (R : State) (now : ℕ) (id : TransactionId) (e : Entry) (eof : Eof) (s : SessionFields) → Sound R.world →
+    AreDistinct R.sessions → Before R id e eof s → Stepped R (Finish now) id e eof s
 finish_goes next_sound promised R now id e eof s sound d b =
     let i = Finish now in
     let o = Dues.first_over R.world R.sessions in
@@ -451,7 +527,8 @@ finish_goes next_sound promised R now id e eof s sound d b =
       | inr other ↦ other_goes next_sound promised R i id e eof s false sound b refl other
     ]
 
-pub step : NextIsSound → NextIsPromised → (R : State) (i : Input) (id : TransactionId) (e : Entry) (eof : Eof) (s : SessionFields) → Sound R.world → AreDistinct R.sessions → Before R id e eof s → breaks_off R id i ≡ false →
+pub step : NextIsSound → NextIsPromised → (R : State) (i : Input) (id : TransactionId) (e : Entry) (eof : Eof) (s : SessionFields) → Sound R.world →
+    AreDistinct R.sessions → Before R id e eof s → breaks_off R id i ≡ false →
     Within eof.size (piece_in R id i) → Stepped R i id e eof s
 step next_sound promised R (MetadataPdu now h m) id e eof s sound d b on within =
     pdu_goes next_sound promised R (MetadataPdu now h m) h id e eof s sound b refl refl (λ same own. quiet_metadata R now h m e eof s own)
@@ -469,7 +546,9 @@ step next_sound promised R (Expire now) id e eof s sound d b on within = expire_
 step next_sound promised R (Work now) id e eof s sound d b on within =
     let V = (Turning.after R (Work now)).world in
     let entry = work_stays next_sound promised R now id sound (runs_not R id e eof s sound b) in
-    Still e (awaits_still R.world V id e eof (run_config R.world (Handing.handed R (Work now))) entry b.core) refl s b.here b.known b.acknowledged (λ q. omega arith)
+    Still e (awaits_still R.world V id e eof (run_config R.world (Handing.handed R (Work now))) entry b.core) refl s b.here b.known b.acknowledged
+    (λ q. omega arith)
 step next_sound promised R (Finish now) id e eof s sound d b on within = finish_goes next_sound promised R now id e eof s sound d b
-step next_sound promised R (CancelAsked now n) id e eof s sound d b on within = other_goes next_sound promised R (CancelAsked now n) id e eof s false sound b refl on
+step next_sound promised R (CancelAsked now n) id e eof s sound d b on within =
+    other_goes next_sound promised R (CancelAsked now n) id e eof s false sound b refl on
 step next_sound promised R ForgetAsked id e eof s sound d b on within = quiet_goes R id e eof s false R.world R.sessions b (kept_quiet R id s false b.here)

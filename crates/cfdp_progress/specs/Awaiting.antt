@@ -77,7 +77,8 @@ GoesOn R id [] = ⊤
 GoesOn R id (i ∷ is) = (awaits_octets R id ≡ true → breaks_off R id i ≡ false) × GoesOn (after R i) id is
 
 abbrev pub piece_in : State → TransactionId → Input → List Piece
-piece_in R id (DataPdu now h piece) = if is_ours R h && is_same (id_of h) id then (piece.offset, piece.octets) ∷ [] else []
+piece_in R id (DataPdu now h piece) =
+    if is_ours R h && is_same (id_of h) id then (piece.offset, piece.octets) ∷ [] else []
 piece_in R id i = []
 
 abbrev pub pieces_in : State → TransactionId → List Input → List Piece
@@ -101,9 +102,11 @@ pub record WasDelivered (R : State) (inputs : List Input) (id : TransactionId) :
 -- none of the pieces ends after the file does
 abbrev pub AnsweredTurns : Type 0
 AnsweredTurns =
-    (R : State) (inputs : List Input) (id : TransactionId) (entry : Entry) (eof : Eof) → Sound R.world → AreDistinct R.sessions →
-    TransactionAwaits R id entry eof → GoesOn R id inputs → AllByRecursion (λ p. p.0 + length p.1 ≤ eof.size) (pieces_in R id inputs) →
-    AreKept entry.received (pieces_in R id inputs) → Answers eof.size entry.received (pieces_in R id inputs) → WasDelivered R inputs id
+    (R : State) (inputs : List Input) (id : TransactionId) (entry : Entry) (eof : Eof) →
+    Sound R.world → AreDistinct R.sessions → TransactionAwaits R id entry eof → GoesOn R id inputs →
+    AllByRecursion (λ p. p.0 + length p.1 ≤ eof.size) (pieces_in R id inputs) →
+    AreKept entry.received (pieces_in R id inputs) → Answers eof.size entry.received (pieces_in R id inputs) →
+    WasDelivered R inputs id
 
 abbrev pub is_named : TransactionId → Option TransactionId → Bool
 is_named id None = false
@@ -120,13 +123,14 @@ AreKeptApart R id (i ∷ is) = (is_kept_apart R id i ≡ true) × AreKeptApart (
 
 abbrev pub StaysDelivered : Type 0
 StaysDelivered =
-    (R : State) (inputs : List Input) (id : TransactionId) → Sound R.world → WasDelivered R inputs id → AreKeptApart R id inputs →
-    IsDelivered (after_all R inputs).world id
+    (R : State) (inputs : List Input) (id : TransactionId) →
+    Sound R.world → WasDelivered R inputs id → AreKeptApart R id inputs → IsDelivered (after_all R inputs).world id
 
 -- over an entity that begins without transactions
 abbrev pub AwaitingAwaits : Type 0
 AwaitingAwaits =
-    (mib : Mib) (W : World) (inputs : List Input) (id : TransactionId) (session : SessionFields) (entry : Entry) (checks : ℕ) → Sound W → W.table ≡ [] →
+    (mib : Mib) (W : World) (inputs : List Input) (id : TransactionId) (session : SessionFields) (entry : Entry) (checks : ℕ) →
+    Sound W → W.table ≡ [] →
     session_of (after_all (begin mib W) inputs) id ≡ Some session → session.header.acknowledged ≡ true →
     entry_of (after_all (begin mib W) inputs).world id ≡ Some entry → entry.phase ≡ Awaiting checks →
     (eof : Eof) × TransactionAwaits (after_all (begin mib W) inputs) id entry eof

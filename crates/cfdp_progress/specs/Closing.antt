@@ -1,13 +1,13 @@
--- Rounds in which a Finished PDU is sent and acknowledged, over a channel that loses PDUs (CCSDS 727.0-B-5, the positive acknowledgement
--- procedures).
+-- Rounds in which a Finished PDU is sent and acknowledged, and a channel loses PDUs (CCSDS 727.0-B-5, the positive
+-- acknowledgement procedures).
 --     acknowledges R id i       an ACK PDU of the transaction's Finished PDU
 --     is_acknowledged R id inputs       one of the inputs is that
---     is_resent R id i          the ACK timer of its session is served
---     AreUnserved R id inputs   it is not, as long as the session waits
---     IsAnswered R id is_lost rest      the Finished PDU was sent, and `rest` comes with its acknowledgement, unless one of the two PDUs is lost
+--     is_sent_again R id i      the ACK timer of its session is served
+--     IsSentOnce R id inputs    it is not, as long as the session waits
+--     IsAcknowledgedUnless is_lost R id rest    a Finished PDU was sent; its acknowledgement comes in `rest`, unless it is lost
 --     FinishedRound, AreFinishedRounds  rounds that begin when the ACK timer is served, as long as the session waits
 --     WasClosed R inputs id     after some of the inputs the session is closed
---     ClosedAfterLosses         after one round more than PDUs are lost
+--     ClosedAfterLosses         so it is after one round more than were lost
 use Rattle.std.specs.Prelude.{◌≡◌, ⊤, ◌⊎◌, ℕ, ◌+◌, ◌<◌, Bool, true, false, ◌&&◌, ◌||◌, ◌==◌, List, [], ◌∷◌, ◌++◌, length, Some, None}
 use Rattle.std.specs.List.{AllByRecursion, flat_map}
 use Rattle.cfdp_status.specs.declared.transaction.TransactionId.{TransactionId}
@@ -32,22 +32,23 @@ abbrev pub is_acknowledged : State → TransactionId → List Input → Bool
 is_acknowledged R id [] = false
 is_acknowledged R id (i ∷ is) = acknowledges R id i || is_acknowledged (after R i) id is
 
-abbrev pub is_of : TransactionId → Due → Bool
-is_of id (Stage_due s is_at_limit) = is_same (name_of s) id
-is_of id due = false
+abbrev pub is_timer_of : TransactionId → Due → Bool
+is_timer_of id (Stage_due s is_at_limit) = is_same (name_of s) id
+is_timer_of id due = false
 
-abbrev pub is_resent : State → TransactionId → Input → Bool
-is_resent R id (Expire now) = is_of id (first_due (later now R) R.sessions)
-is_resent R id i = false
+abbrev pub is_sent_again : State → TransactionId → Input → Bool
+is_sent_again R id (Expire now) = is_timer_of id (first_due (later now R) R.sessions)
+is_sent_again R id i = false
 
-abbrev pub AreUnserved : State → TransactionId → List Input → Type 0
-AreUnserved R id [] = ⊤
-AreUnserved R id (i ∷ is) = (waits_in (session_of R id) ≡ true → is_resent R id i ≡ false) × AreUnserved (after R i) id is
+abbrev pub IsSentOnce : State → TransactionId → List Input → Type 0
+IsSentOnce R id [] = ⊤
+IsSentOnce R id (i ∷ is) =
+    (waits_in (session_of R id) ≡ true → is_sent_again R id i ≡ false) × IsSentOnce (after R i) id is
 
 -- R is the state after the input whose answer had the Finished PDU
-pub record IsAnswered (R : State) (id : TransactionId) (is_lost : Bool) (rest : List Input) : Type 0 where
+pub record IsAcknowledgedUnless (is_lost : Bool) (R : State) (id : TransactionId) (rest : List Input) : Type 0 where
   pub comes : is_lost ≡ false → is_acknowledged R id rest ≡ true
-  pub once : AreUnserved R id rest
+  pub once : IsSentOnce R id rest
 
 pub record FinishedRound : Type 0 where
   pub moment : ℕ
@@ -60,12 +61,13 @@ finished_inputs round = Expire round.moment ∷ round.rest
 
 pub record IsFinishedRound (R : State) (id : TransactionId) (round : FinishedRound) : Type 0 where
   pub served : IsServed R id round.moment round.is_at_limit
-  pub answered : IsAnswered (after R (Expire round.moment)) id round.is_lost round.rest
+  pub answered : IsAcknowledgedUnless round.is_lost (after R (Expire round.moment)) id round.rest
 
 abbrev pub AreFinishedRounds : State → TransactionId → List FinishedRound → Type 0
 AreFinishedRounds R id [] = ⊤
 AreFinishedRounds R id (round ∷ rounds) =
-    (waits_in (session_of R id) ≡ true → IsFinishedRound R id round) × AreFinishedRounds (after_all R (finished_inputs round)) id rounds
+    (waits_in (session_of R id) ≡ true → IsFinishedRound R id round)
+    × AreFinishedRounds (after_all R (finished_inputs round)) id rounds
 
 abbrev pub rounds_lost : List FinishedRound → ℕ
 rounds_lost [] = 0
@@ -78,10 +80,13 @@ pub record WasClosed (R : State) (inputs : List Input) (id : TransactionId) : Ty
   pub gone : session_of (after_all R front) id ≡ None
   pub remembered : is_closed (after_all R front) id ≡ true
 
--- the Finished PDU was sent, in the first round. The ACK limit is above what is lost; or each later round begins below it
+-- the Finished PDU was sent, and the first round is under way. The ACK limit is above what is lost; or each later round
+-- begins below it
 abbrev pub ClosedAfterLosses : Type 0
 ClosedAfterLosses =
-    (R : State) (id : TransactionId) (session : SessionFields) (is_lost : Bool) (rest : List Input) (rounds : List FinishedRound) → AreDistinct R.sessions →
-    session_of R id ≡ Some session → session.stage ≡ Waiting → IsAnswered R id is_lost rest → AreFinishedRounds (after_all R rest) id rounds →
-    AllByRecursion (λ round. round.is_at_limit ≡ false) rounds ⊎ (session.timer.count + one_if is_lost + rounds_lost rounds < R.mib.ack.limit) →
+    (R : State) (id : TransactionId) (session : SessionFields) (is_lost : Bool) (rest : List Input) (rounds : List FinishedRound) →
+    AreDistinct R.sessions → session_of R id ≡ Some session → session.stage ≡ Waiting →
+    IsAcknowledgedUnless is_lost R id rest → AreFinishedRounds (after_all R rest) id rounds →
+    AllByRecursion (λ round. round.is_at_limit ≡ false) rounds
+    ⊎ (session.timer.count + one_if is_lost + rounds_lost rounds < R.mib.ack.limit) →
     one_if is_lost + rounds_lost rounds < 1 + length rounds → WasClosed R (rest ++ flat_map finished_inputs rounds) id

@@ -1,16 +1,19 @@
--- Rounds of a receiver's turns: it asks for what is missing, a sender answers in the order of the requests, and a channel loses pieces.
+-- Rounds of a receiver's turns: it asks for what is missing, a sender answers in the order of the requests, and a channel
+-- loses pieces and NAK PDUs (CCSDS 727.0-B-5 §4.6.4, the lost segment procedures).
 --     asks_again R id i         the NAK timer of its session is served below the limit, so NAK PDUs are sent
 --     IsAskedOnce R id inputs   this does not happen, as long as it waits
---     heard_requests            the requests of NAK PDUs that the sender gets, or that are lost
---     AreAnswered R id requests sent rest   what is sent answers the requests in order, and `rest` comes, with the pieces that are not lost
+--     heard_requests            the requests of NAK PDUs that the sender gets: none, where they are lost
+--     AreAnswered R id requests sent rest   what is sent answers the requests in order, and what is not lost comes in `rest`
 --     IsServed R id moment is_at_limit  the timer of the transaction's session is the first that is due
 --     NakRound                  a round that begins when the NAK timer is served
 --     AreNakRounds R id rounds  each of several is one, as long as the transaction waits for octets
---     Opens R id i              the EOF PDU comes while file data is taken; or the Metadata PDU, where the EOF PDU came before it
---     FirstRound, IsFirstRound  the round that begins so, because octets are missing
---     lost_of, all_lost         how much is lost in a round, and in several: pieces, and NAK PDUs
 --     AreBelow rounds           the timer is below its limit when each of them begins
---     WholeAfterRounds, WholeAfterLosses    after one round more than was lost, and the spare one, the file was delivered
+--     lost_of, all_lost         how much is lost in a round, and in several: pieces, and NAK PDUs
+--     DeliveredAfterRounds      after one round more than was lost, and the spare one, the file was delivered
+--     Opens R id i              the EOF PDU comes, or the Metadata PDU where the EOF PDU came before it
+--     FirstRound, IsFirstRound  the round that begins so, where octets are missing
+--     lost_from first rounds    how much is lost in this one and later ones
+--     DeliveredAfterLosses      the same, with this round
 use Rattle.std.specs.Prelude.{◌≡◌, ⊤, ◌⊎◌, ℕ, ◌+◌, ◌≤◌, ◌<◌, Bool, true, false, List, [], ◌∷◌, ◌++◌, length, Some}
 use Rattle.std.specs.List.{AllByRecursion, flat_map}
 use Rattle.cfdp_status.specs.declared.transaction.TransactionId.{TransactionId}
@@ -52,7 +55,8 @@ heard_requests true naks = requests_of naks
 heard_requests false naks = []
 
 -- R is the state after the input whose answer had the requests
-pub record AreAnswered (R : State) (id : TransactionId) (requests : List Range) (sent : List Sending) (rest : List Input) : Type 0 where
+pub record AreAnswered (R : State) (id : TransactionId) (requests : List Range) (sent : List Sending)
+    (rest : List Input) : Type 0 where
   pub in_order : AnswersInOrder requests sent
   pub come : pieces_in R id rest ≡ arrived sent
   pub goes_on : GoesOn R id rest
@@ -77,11 +81,13 @@ round_inputs round = Expire round.moment ∷ round.rest
 
 pub record IsNakRound (R : State) (id : TransactionId) (round : NakRound) : Type 0 where
   pub served : IsServed R id round.moment round.is_at_limit
-  pub answered : AreAnswered (after R (Expire round.moment)) id (heard_requests round.is_heard (parts R (Expire round.moment)).answer.naks) round.sent round.rest
+  pub answered : AreAnswered (after R (Expire round.moment)) id
+      (heard_requests round.is_heard (parts R (Expire round.moment)).answer.naks) round.sent round.rest
 
 abbrev pub AreNakRounds : State → TransactionId → List NakRound → Type 0
 AreNakRounds R id [] = ⊤
-AreNakRounds R id (round ∷ rounds) = (awaits_octets R id ≡ true → IsNakRound R id round) × AreNakRounds (after_all R (round_inputs round)) id rounds
+AreNakRounds R id (round ∷ rounds) =
+    (awaits_octets R id ≡ true → IsNakRound R id round) × AreNakRounds (after_all R (round_inputs round)) id rounds
 
 abbrev pub AreBelow : List NakRound → Type 0
 AreBelow rounds = AllByRecursion (λ round. round.is_at_limit ≡ false) rounds
@@ -99,10 +105,11 @@ abbrev pub all_inputs : List NakRound → List Input
 all_inputs rounds = flat_map round_inputs rounds
 
 -- from a moment at which the transaction waits
-abbrev pub WholeAfterRounds : Type 0
-WholeAfterRounds =
-    (R : State) (id : TransactionId) (rounds : List NakRound) (entry : Entry) (eof : Eof) → Sound R.world → AreDistinct R.sessions → 1 ≤ most_requests R.mib →
-    TransactionAwaits R id entry eof → AreNakRounds R id rounds → AreBelow rounds → all_lost rounds + spare_round entry.received < length rounds →
+abbrev pub DeliveredAfterRounds : Type 0
+DeliveredAfterRounds =
+    (R : State) (id : TransactionId) (rounds : List NakRound) (entry : Entry) (eof : Eof) →
+    Sound R.world → AreDistinct R.sessions → 1 ≤ most_requests R.mib → TransactionAwaits R id entry eof →
+    AreNakRounds R id rounds → AreBelow rounds → all_lost rounds + spare_round entry.received < length rounds →
     WasDelivered R (all_inputs rounds) id
 
 -- ---- the round in which octets are asked for first
@@ -142,13 +149,19 @@ pub record FirstRound : Type 0 where
 pub record IsFirstRound (R : State) (id : TransactionId) (round : FirstRound) (entry : Entry) (eof : Eof) : Type 0 where
   pub opens : Opens R id round.opening
   pub awaits : TransactionAwaits (after R round.opening) id entry eof
-  pub answered : AreAnswered (after R round.opening) id (heard_requests round.is_heard (parts R round.opening).answer.naks) round.sent round.rest
+  pub answered : AreAnswered (after R round.opening) id
+      (heard_requests round.is_heard (parts R round.opening).answer.naks) round.sent round.rest
+
+-- in all rounds
+abbrev pub lost_from : FirstRound → List NakRound → ℕ
+lost_from first rounds = lost_of first.is_heard first.sent + all_lost rounds
 
 -- the NAK limit is above what is lost; or each later round begins below it, as where it is ignored
-abbrev pub WholeAfterLosses : Type 0
-WholeAfterLosses =
-    (R : State) (id : TransactionId) (first : FirstRound) (rounds : List NakRound) (entry : Entry) (eof : Eof) → Sound R.world → AreDistinct R.sessions →
-    1 ≤ most_requests R.mib → IsFirstRound R id first entry eof → AreNakRounds (after_all R (first.opening ∷ first.rest)) id rounds →
-    AreBelow rounds ⊎ (lost_of first.is_heard first.sent + all_lost rounds + spare_round entry.received < R.mib.nak.limit) →
-    lost_of first.is_heard first.sent + all_lost rounds + spare_round entry.received < 1 + length rounds →
+abbrev pub DeliveredAfterLosses : Type 0
+DeliveredAfterLosses =
+    (R : State) (id : TransactionId) (first : FirstRound) (rounds : List NakRound) (entry : Entry) (eof : Eof) →
+    Sound R.world → AreDistinct R.sessions → 1 ≤ most_requests R.mib → IsFirstRound R id first entry eof →
+    AreNakRounds (after_all R (first.opening ∷ first.rest)) id rounds →
+    AreBelow rounds ⊎ (lost_from first rounds + spare_round entry.received < R.mib.nak.limit) →
+    lost_from first rounds + spare_round entry.received < 1 + length rounds →
     WasDelivered R (first.opening ∷ first.rest ++ all_inputs rounds) id

@@ -2,7 +2,7 @@
 
 ghost use Rattle.cfdp_progress.specs.Awaiting.{AwaitingAwaits, AnsweredTurns, StaysDelivered};
 ghost use Rattle.cfdp_progress.specs.Closing.{ClosedAfterLosses};
-ghost use Rattle.cfdp_progress.specs.NakRounds.{WholeAfterRounds, WholeAfterLosses};
+ghost use Rattle.cfdp_progress.specs.NakRounds.{DeliveredAfterRounds, DeliveredAfterLosses};
 
 /// What an entry in Awaiting is, over an entity that began without transactions and whatever came: its session is known, its EOF PDU came with a
 /// size that its file may have, and octets below that size are missing.
@@ -37,8 +37,8 @@ pub fn stays_delivered()
 /// A file waits for octets. A round begins when its NAK timer expires below the limit: NAK PDUs ask for what is missing, a sender answers them in
 /// the order of their requests, and a channel loses pieces, or the NAK PDUs. After one round more than is lost in all, the file is complete,
 /// or its checksum is wrong. One round more is needed where 32 parts are there without the octet at offset 0.
-pub fn whole_after_rounds()
-    ensures { WholeAfterRounds }
+pub fn delivered_after_rounds()
+    ensures { DeliveredAfterRounds }
 {
     cfdp_transactions::laws::next_is_sound();
     cfdp_transactions::laws::next_is_promised();
@@ -47,8 +47,8 @@ pub fn whole_after_rounds()
 
 /// The same from the first NAK PDUs on. They are sent when the EOF PDU comes and octets are missing, or when the Metadata PDU comes after it. If
 /// the NAK limit is above what is lost in all, and the spare round, then it is not reached before the file is delivered.
-pub fn whole_after_losses()
-    ensures { WholeAfterLosses }
+pub fn delivered_after_losses()
+    ensures { DeliveredAfterLosses }
 {
     cfdp_transactions::laws::next_is_sound();
     cfdp_transactions::laws::next_is_promised();

@@ -1,5 +1,0 @@
-use Rattle.cfdp_progress.proofs.Rounds.{whole_after_losses as proved}
-use Rattle.cfdp_progress.proofs.laws.whole_after_losses.Goals as goal
-
-pub returns : goal.returns
-returns c = proved c.next_is_sound.ensures c.next_is_promised.ensures c.whole_after_losses.ensures
