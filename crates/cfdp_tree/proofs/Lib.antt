@@ -10,6 +10,7 @@ pub mod SpareLaws
 pub mod WayLaws
 pub mod SlotPlaces
 pub mod Filling
+pub mod GapLaws
 pub mod ContentsLaws
 pub mod RowLaws
 pub mod TreeLaws

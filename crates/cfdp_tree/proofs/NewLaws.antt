@@ -197,7 +197,7 @@ module _ (n : ℕ) (some : 1 ≤ n) (few : n ≤ 65536) (heads : List Head) (roo
   none_used = omega (arith, no_entries (finite.entries (finite.empty {X = Node} {R = path_cmp})) (sym (len-entries finite.empty) ∙ len-empty path_cmp Node), sum_by-replicate (λ (octets : List ℕ). blocks_of (length octets)) 64 [], no_blocks)
 
   placed : All (IsPlaced arena) slots
-  placed i d less = let slot = fresh i d less in slot_starts arena (get_or slots i d) slot.block slot.index (slot.blank ∙ sym (ap (λ (x : Contents). x.size) slot.contents))
+  placed i d less = let slot = fresh i d less in slot_starts arena (get_or slots i d) slot.block slot.index (slot.blank ∙ sym (ap (λ (x : Contents). x.size) slot.contents)) slot.gap
 
   pub new_store : (ways : List Way) → length ways ≡ n → IsStore arena ways heads root slots
   new_store ways ways_long = record {

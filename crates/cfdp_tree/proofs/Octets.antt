@@ -6,7 +6,7 @@
 --     take_parts, slice_is, slice_join        the first octets in two parts;  a slice, and two of them joined
 --     reached, step_write, step_read, step_copy   how far a walk by blocks has come, and what one block more adds
 --     slice-left, slice-right                 a slice of two lists joined
-use Rattle.std.proofs.Common.{◌≡◌, ℕ, suc, zero, ◌+◌, ◌-◌, ◌*◌, ◌<◌, ◌≤◌, min, max, List, [], ◌∷◌, ◌++◌, length, take, drop, replicate, sym, ap, ◌∙◌, arith, append_assoc, append-nil, length-append, length-drop}
+use Rattle.std.proofs.Common.{◌≡◌, ℕ, suc, zero, ◌+◌, ◌-◌, ◌*◌, ◌<◌, ◌≤◌, min, max, List, [], ◌∷◌, ◌++◌, length, take, drop, replicate, refl, sym, ap, ◌∙◌, arith, append_assoc, append-nil, length-append, length-drop}
 use Rattle.std.proofs.lemmas.List.{take-append-le, drop-append-le, length-take-le, take_at, drop-drop, drop-replicate, take-append-drop, take-take}
 use Rattle.std.proofs.lemmas.Slice.{between_is, take-put_mid}
 use borrow.Rule.Slice.PartMut.{put_mid}
@@ -112,17 +112,6 @@ module _ (at end index start stop : ℕ) (start_is : start ≡ max at (120 * ind
   reached_next : reached at end (index + 1) ≡ stop - at
   reached_next = omega arith
 
-  -- written
-  pub step_write : (old octets : List ℕ) (j : ℕ) → at ≤ length old → end ≡ at + length octets → j ≡ start
-      → overwritten (overwritten old at (take (reached at end index) octets)) j (slice_range octets (start - at) (stop - at)) ≡ overwritten old at (take (reached at end (index + 1)) octets)
-  step_write old octets j within long j_is =
-      let m = start - at in
-      let part = slice_range octets m (stop - at) in
-      ap (λ n. overwritten (overwritten old at (take n octets)) j part) reached_now
-      ∙ overwritten-join old (take m octets) part at j within (omega (arith, length-take-le m octets (omega arith)))
-      ∙ ap (λ xs. overwritten old at xs) (sym (take_parts octets m (stop - at) (omega arith)))
-      ∙ ap (λ n. overwritten old at (take n octets)) (sym reached_next)
-
   -- read
   pub step_read : (all buffer piece : List ℕ) → take (reached at end index) buffer ≡ take (reached at end index) (drop at all) → piece ≡ take (stop - start) (drop start all) → length piece ≡ stop - start → end ≡ at + length buffer
       → take (reached at end (index + 1)) (put_mid (start - at) (stop - at - (start - at)) buffer piece) ≡ take (reached at end (index + 1)) (drop at all)
@@ -140,6 +129,15 @@ module _ (at end index start stop : ℕ) (start_is : start ≡ max at (120 * ind
       ∙ (λ k. take m (drop at all) ++ take (n - m) (sym (drop-drop m at all) k))
       ∙ sym (take_parts (drop at all) m n (omega arith))
       ∙ ap (λ i. take i (drop at all)) (sym reached_next)
+
+-- one part more of some octets is written
+pub step_write : (old octets rest : List ℕ) (at done count j : ℕ) → at ≤ length old → done + count ≤ length octets → rest ≡ drop done octets → j ≡ at + done
+    → overwritten (overwritten old at (take done octets)) j (take count rest) ≡ overwritten old at (take (done + count) octets)
+step_write old octets rest at done count j within long rest_is j_is =
+    let more : take count rest ≡ slice_range octets done (done + count) = ap (take count) rest_is ∙ sym (slice_is octets done (done + count) count refl) in
+    overwritten-join old (take done octets) (take count rest) at j within (omega (arith, j_is, length-take-le done octets (omega (arith, long))))
+    ∙ ap (λ part. overwritten old at (take done octets ++ part)) more
+    ∙ ap (overwritten old at) (sym (take_parts octets done (done + count) (omega arith)))
 
 -- one block more is copied
 pub step_copy : (old source : List ℕ) (at count index n j : ℕ) → at ≤ length old → count ≤ length source → 120 * index < count → n ≡ min 120 (count - index * 120) → j ≡ at + 120 * index

@@ -1,13 +1,18 @@
--- The staged lists of a store, each with the position of its last write, and with the offset of the first octet that was
--- never written, nor any after it.
+-- The staged lists of a store, each with the position of its last write, with an offset from which on no octet was ever
+-- written, and with a gap before it in which none was either.
 --     staged_in slots            the lists
---     IsPlaced arena slot        the position is one of the list's run, and from the offset on there are zeros alone
---     IsFresh slot               the list is empty, and the position and the offset are its beginning
+--     no_gap                     a gap of no offsets
+--     IsBlank octets gap         in the gap there are zeros alone
+--     blank_end slot             the offsets after those of all octets that were written
+--     IsUnwritten octets slot    there are zeros alone there and in the slot's gap
+--     IsPlaced arena slot        the position is one of the list's run, and its octets are zeros where none was written
+--     IsFresh slot               the list is empty, the position and the offset are its beginning, and there is no gap
 --     IsStore arena ways heads root slots     what is true of every store of such parts
-use Rattle.std.specs.Prelude.{◌≡◌, ◌-◌, ◌≤◌, List, All, drop, map, replicate}
+use Rattle.std.specs.Prelude.{◌≡◌, ℕ, ◌-◌, ◌≤◌, List, All, map, replicate, slice_range}
 use Rattle.cfdp_arena.specs.Arena.{Blocks}
 use Rattle.cfdp_ways.specs.declared.way.Way.{Way}
 use Rattle.cfdp_tree.specs.declared.contents.Contents.{Contents}
+use Rattle.cfdp_tree.specs.declared.gap.Gap.{Gap}
 use Rattle.cfdp_tree.specs.declared.slots.Slot.{Slot}
 use Rattle.cfdp_tree.specs.Runs.{IsAt}
 use Rattle.cfdp_tree.specs.Contents.{contents_in}
@@ -18,16 +23,30 @@ use Rattle.cfdp_tree.specs.Kept.{no_contents, IsKept}
 abbrev pub staged_in : List Slot → List Contents
 staged_in slots = map (λ slot. slot.contents) slots
 
+abbrev pub no_gap : Gap
+no_gap = record { from = 0; to = 0 }
+
+pub record IsBlank (octets : List ℕ) (gap : Gap) : Type 0 where
+  pub ordered : gap.from ≤ gap.to
+  pub zeros : slice_range octets gap.from gap.to ≡ replicate (gap.to - gap.from) 0
+
+abbrev pub blank_end : Slot → Gap
+blank_end slot = record { from = slot.blank_from; to = slot.contents.size }
+
+pub record IsUnwritten (octets : List ℕ) (slot : Slot) : Type 0 where
+  pub end : IsBlank octets (blank_end slot)
+  pub gap : IsBlank octets slot.gap
+
 pub record IsPlaced (arena : Blocks) (slot : Slot) : Type 0 where
   pub place : IsAt arena slot.contents.run slot.place
-  pub within : slot.blank_from ≤ slot.contents.size
-  pub blank : drop slot.blank_from (contents_in arena slot.contents) ≡ replicate (slot.contents.size - slot.blank_from) 0
+  pub unwritten : IsUnwritten (contents_in arena slot.contents) slot
 
 pub record IsFresh (slot : Slot) : Type 0 where
   pub contents : slot.contents ≡ no_contents
   pub block : slot.place.block ≡ slot.contents.run.first
   pub index : slot.place.index ≡ 0
   pub blank : slot.blank_from ≡ 0
+  pub gap : slot.gap ≡ no_gap
 
 pub record IsStore (arena : Blocks) (ways : List Way) (heads : Heads) (root : Head) (slots : List Slot) : Type 0 where
   pub kept : IsKept arena ways heads root (staged_in slots)

@@ -1,5 +1,5 @@
 //! The octets of a file or of a staged list.
-ghost use Rattle.std.specs.Prelude.{◌≡◌, ℕ, ◌+◌, ◌*◌, ◌<◌, ◌≤◌, ◌++◌, length, slice_range};
+ghost use Rattle.std.specs.Prelude.{◌≡◌, ℕ, ◌+◌, ◌*◌, ◌/◌, ◌<◌, ◌≤◌, ◌++◌, length, slice_range};
 ghost use Rattle.cfdp_arena.specs.Arena.{free_count};
 ghost use Rattle.cfdp_actions.specs.Filestore.{blocks_of};
 ghost use Rattle.cfdp_actions.specs.Store.{extended, overwritten};
@@ -111,20 +111,19 @@ impl Contents {
     }
 
     /// Overwrites the octets from the offset `at` on, and returns the position of the last block that was written. The
-    /// caller says what the octets that are there add to the checksum. In time linear in the octets; the first block is
-    /// found as by `Run::find`.
+    /// caller says where the first of them is, and what the octets that are there add to the checksum. In time linear in
+    /// the octets.
     pub(crate) fn put(
         &mut self,
         arena: &mut Arena,
-        ways: &[Way],
-        from: Cursor,
+        first: Cursor,
         at: u32,
         octets: &[u8],
         before: u32,
     ) -> Cursor
         requires filled { IsFilled arena.old self.old }
-        requires ways { HasWays arena.old ways.now self.old.run }
-        requires from { IsAt arena.old self.old.run from }
+        requires first { IsAt arena.old self.old.run first }
+        requires index { first.index ≡ at / 120 }
         requires range { at + length octets.now ≤ self.old.size }
         requires before { before ≡ checksum_at at (slice_range (contents_in arena.old self.old) at (at + length octets.now)) }
         ensures filled { IsFilled arena.new self.new }
@@ -139,7 +138,7 @@ impl Contents {
             nth arena.new self.new.run.first k ≡ nth arena.old self.old.run.first k }
         ensures nodes { nodes_in arena.new ≡ nodes_in arena.old }
     {
-        let last = self.run.write(arena, ways, from, at as usize, octets);
+        let last = self.run.write(arena, first, at as usize, octets);
         let after = modular_checksum_at(at as usize, octets);
         self.sum = self.sum.wrapping_sub(before).wrapping_add(after);
         last

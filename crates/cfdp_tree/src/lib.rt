@@ -5,7 +5,8 @@
 //! another run does (`runs`). Octets go into a run, out of it and from run to run by slices of a block, from block to
 //! block with no buffer, and a position in a run is kept as a cursor (`cursor`, `transfer`, `copy`). The octets of a
 //! file or of a staged list are a run that has just the blocks for them (`contents`, `files`, `slots`). Their checksum is
-//! kept with them, and changes with each change of them (`summing`). A block in the middle of a run is found by the ways
+//! kept with them, and changes with each change of them (`summing`); octets of a staged list that were never written are
+//! known to be zeros, and are not read for it (`gap`). A block in the middle of a run is found by the ways
 //! back beside the arena (`cursor`, `cfdp_ways`). A file or a directory is a node, one block with its name and its links
 //! (`rows`, `nodes`). Nodes are found by their directory and their name (`index`, `lookup`), and each directory has a
 //! list of its entries (`entries`), by which what is below a path is walked over (`walk`) and told in path order
@@ -22,6 +23,7 @@ mod cursor;
 mod entries;
 mod files;
 mod found;
+mod gap;
 mod header;
 mod index;
 mod install;

@@ -3,7 +3,7 @@ ghost use Rattle.std.specs.Prelude.{◌≡◌, ◌+◌, ◌≤◌, length, slice
 ghost use Rattle.cfdp_arena.specs.Blocks.{with_part};
 ghost use Rattle.cfdp_tree.specs.Block.{payload};
 
-use crate::header::HEADER_OCTETS;
+use crate::header::{HEADER_OCTETS, PAYLOAD_OCTETS};
 use cfdp_arena::Block;
 
 /// Puts octets into a block's payload from the place `at` in it on. The rest of the block stays.
@@ -11,6 +11,11 @@ pub(crate) fn put_part(block: &mut Block, at: usize, part: &[u8])
     requires within { at + length part.now ≤ 120 }
     ensures { block.new ≡ with_part block.old at part.now }
 {
+    if part.len() == PAYLOAD_OCTETS {
+        // The compiler knows the length of a whole payload, and copies it by vectors.
+        block[HEADER_OCTETS..].copy_from_slice(part);
+        return;
+    }
     let start = HEADER_OCTETS + at;
     block[start..start + part.len()].copy_from_slice(part);
 }

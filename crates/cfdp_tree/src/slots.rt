@@ -1,5 +1,5 @@
-//! A staged list with the position of its last write, and with how far it was ever written.
-ghost use Rattle.std.specs.Prelude.{◌≡◌, ◌+◌, ◌/◌, ◌≤◌, length, slice_range};
+//! A staged list with the position of its last write, and with what of it was never written.
+ghost use Rattle.std.specs.Prelude.{◌≡◌, ℕ, ◌+◌, ◌/◌, ◌≤◌, List, length, slice_range};
 ghost use Rattle.cfdp_arena.specs.Arena.{free_count};
 ghost use Rattle.cfdp_actions.specs.Filestore.{blocks_of};
 ghost use Rattle.cfdp_actions.specs.Store.{extended, overwritten};
@@ -8,20 +8,22 @@ ghost use Rattle.cfdp_tree.specs.Nodes.{nodes_in};
 ghost use Rattle.cfdp_tree.specs.Runs.{Spares};
 ghost use Rattle.cfdp_tree.specs.Ways.{HasWays, KeepsWays};
 ghost use Rattle.cfdp_tree.specs.Contents.{IsFilled, contents_in};
-ghost use Rattle.cfdp_tree.specs.Slots.{IsPlaced, IsFresh};
+ghost use Rattle.cfdp_tree.specs.Slots.{no_gap, IsBlank, IsUnwritten, IsPlaced, IsFresh};
 
 use crate::contents::Contents;
+use crate::gap::Gap;
 use crate::header::PAYLOAD_OCTETS;
 use cfdp_arena::Arena;
 use cfdp_ways::{Cursor, Way};
 
-/// A staged list, the position of its block that was last written, and an offset from which on no octet was ever written:
-/// there are zeros from there on.
+/// A staged list, the position of its block that was last written, an offset from which on no octet was ever written, and
+/// a gap before that offset in which none was either: there are zeros.
 #[derive(Clone, Copy)]
 pub(crate) struct Slot {
     pub(crate) contents: Contents,
     pub(crate) place: Cursor,
     pub(crate) blank_from: usize,
+    pub(crate) gap: Gap,
 }
 
 impl Slot {
@@ -34,6 +36,7 @@ impl Slot {
             contents,
             place: contents.run.start(),
             blank_from: 0,
+            gap: Gap::empty(),
         }
     }
 
@@ -44,10 +47,12 @@ impl Slot {
         ensures block { self.new.place.block ≡ contents.run.first }
         ensures index { self.new.place.index ≡ 0 }
         ensures blank { self.new.blank_from ≡ contents.size }
+        ensures gap { self.new.gap ≡ no_gap }
     {
         self.contents = contents;
         self.place = contents.run.start();
         self.blank_from = contents.size as usize;
+        self.gap = Gap::empty();
     }
 
     /// Adds zeros at the end, up to the size, which is at most that of 65,536 blocks. In time linear in the blocks that
@@ -77,20 +82,25 @@ impl Slot {
         }
     }
 
-    /// What some octets add to the list's checksum: nothing if they were never written, so that octets in order are not
-    /// read before they are written. The slot's position is that of the first of them. In time linear in the octets.
-    fn sum_there(&self, arena: &Arena, at: u32, len: usize) -> u32
+    /// What the octets from the offset `at` up to `end` add to the list's checksum. They add nothing if they are in the gap
+    /// or after all that were written, so octets that come in order, in reverse or with neighbours swapped are not read
+    /// before they are written: then in constant time, and otherwise in time linear in the octets. The slot's position is
+    /// that of the first of them.
+    fn sum_there(&self, arena: &Arena, at: u32, end: usize) -> u32
         requires filled { IsFilled arena.now self.now.contents }
         requires placed { IsPlaced arena.now self.now }
         requires index { self.now.place.index ≡ at / 120 }
-        requires range { at + len ≤ self.now.contents.size }
-        ensures { result ≡ checksum_at at (slice_range (contents_in arena.now self.now.contents) at (at + len)) }
+        requires ordered { at ≤ end }
+        requires range { end ≤ self.now.contents.size }
+        ensures { result ≡ checksum_at at (slice_range (contents_in arena.now self.now.contents) at end) }
     {
         let start = at as usize;
-        if self.blank_from <= start {
+        if self.blank_from <= start || self.gap.covers(start, end) {
             return 0;
         }
-        self.contents.run.sum_of(arena, self.place, start, len, at)
+        self.contents
+            .run
+            .sum_of(arena, self.place, start, end - start, at)
     }
 
     /// Overwrites the octets from the offset `at` on. In time linear in the octets. The first block is found from that
@@ -113,14 +123,27 @@ impl Slot {
         ensures ways { HasWays arena.new ways.now self.new.contents.run }
         ensures other_ways { KeepsWays arena.old arena.new ways.now ways.now self.old.contents.run }
     {
+        let end = at as usize + octets.len();
         let index = at / PAYLOAD_OCTETS as u32;
         self.place = self.contents.run.find(arena, ways, self.place, index);
-        let before = self.sum_there(arena, at, octets.len());
-        self.place = self
-            .contents
-            .put(arena, ways, self.place, at, octets, before);
-        let end = at as usize + octets.len();
+        let before = self.sum_there(arena, at, end);
+        self.place = self.contents.put(arena, self.place, at, octets, before);
+        self.gap = self.gap_after(at as usize, end);
         self.blank_from = self.blank_from.max(end);
+    }
+
+    /// The gap once octets are written from the offset `at` up to `end`: what is left of it, or what was never written
+    /// between the octets before them and them, whichever is longer.
+    fn gap_after(&self, at: usize, end: usize) -> Gap
+        requires ordered { self.now.gap.from ≤ self.now.gap.to }
+        ensures { (octets part : List ℕ) → length octets ≡ self.now.contents.size → at + length part ≡ end
+            → end ≤ length octets → IsUnwritten octets self.now → IsBlank (overwritten octets at part) result }
+    {
+        let skipped = Gap {
+            from: self.blank_from,
+            to: at.max(self.blank_from),
+        };
+        self.gap.without(at, end).longer(skipped)
     }
 
     /// Fills the buffer with the octets from the offset `at` on. In time linear in the octets; the first block is found

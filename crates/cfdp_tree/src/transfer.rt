@@ -1,5 +1,5 @@
 //! Octets into a run and out of it, by slices of a block.
-ghost use Rattle.std.specs.Prelude.{◌≡◌, ℕ, ◌+◌, ◌*◌, ◌<◌, ◌≤◌, length, slice_range};
+ghost use Rattle.std.specs.Prelude.{◌≡◌, ℕ, ◌+◌, ◌*◌, ◌/◌, ◌<◌, ◌≤◌, length, slice_range};
 ghost use Rattle.cfdp_arena.specs.Arena.{free_count};
 ghost use Rattle.cfdp_actions.specs.Store.{overwritten};
 ghost use Rattle.cfdp_tree.specs.Nodes.{nodes_in};
@@ -45,19 +45,12 @@ impl Run {
     }
 
     /// Overwrites the octets of the run from the offset `at` on, and returns the position of the last block that was
-    /// written, from which the octets after them are found at once. In time linear in the octets; the first block is
-    /// found as by `find`.
-    pub(crate) fn write(
-        &self,
-        arena: &mut Arena,
-        ways: &[Way],
-        from: Cursor,
-        at: usize,
-        octets: &[u8],
-    ) -> Cursor
+    /// written, from which the octets after them are found at once. The block of the first octet is handed in. In time
+    /// linear in the octets.
+    pub(crate) fn write(&self, arena: &mut Arena, first: Cursor, at: usize, octets: &[u8]) -> Cursor
         requires held { IsHeld arena.old self.now }
-        requires ways { HasWays arena.old ways.now self.now }
-        requires from { IsAt arena.old self.now from }
+        requires first { IsAt arena.old self.now first }
+        requires index { first.index ≡ at / 120 }
         requires range { at + length octets.now ≤ 120 * self.now.count }
         ensures held { IsHeld arena.new self.now }
         ensures octets { octets_in arena.new self.now ≡ overwritten (octets_in arena.old self.now) at octets.now }
@@ -68,18 +61,17 @@ impl Run {
         ensures others { OthersStay arena.old arena.new self.now }
         ensures nodes { nodes_in arena.new ≡ nodes_in arena.old }
     {
-        let end = at + octets.len();
-        let begin = at / PAYLOAD_OCTETS;
-        let mut cursor = self.find(arena, ways, from, begin as u32);
-        let mut last = cursor;
-        for index in begin..(end + PAYLOAD_OCTETS - 1) / PAYLOAD_OCTETS {
-            let block_start = index * PAYLOAD_OCTETS;
-            let start = at.max(block_start);
-            let stop = end.min(block_start + PAYLOAD_OCTETS);
-            let part = &octets[start - at..stop - at];
-            self.put_in(arena, &cursor, start - block_start, part);
+        let mut place = at % PAYLOAD_OCTETS;
+        let mut rest = octets;
+        let mut cursor = first;
+        let mut last = first;
+        'parts: while !rest.is_empty() {
+            let (part, more) = rest.split_at(rest.len().min(PAYLOAD_OCTETS - place));
+            self.put_in(arena, &cursor, place, part);
             last = cursor;
             cursor = self.after(arena, &cursor);
+            rest = more;
+            place = 0;
         }
         last
     }

@@ -30,7 +30,7 @@ use std::marker::Model;
 /// checksum of a file's octets, and the octets of files and of staged lists, 120 in each block. Beside the arena are the
 /// ways back from block to block, one for each block ([`Way`]), the heads of the index's lists, one for each block, the
 /// head of the list of the root's entries, and 64 slots, each with the size, the checksum, the first and the last block
-/// of a staged list, where it was last written, and how far it was ever written. [`TreeStore::new`] takes the memory of
+/// of a staged list, where it was last written, and what of it was never written. [`TreeStore::new`] takes the memory of
 /// all of these, and none of them grows after it. `listing` and `standing` take memory for what they return, and no
 /// other call takes any.
 ///
@@ -41,8 +41,10 @@ use std::marker::Model;
 /// `remove`, `unstage` and `install` over a file give back the blocks that are dropped as one, in constant time;
 /// `stage_extend` fills those that it takes with zeros. `read`, `read_staged`, `stage_put`, `append` and `replace` copy
 /// the octets that they are asked for by slices of a block; `append` and `replace` from block to block with no buffer.
-/// `stage_put` sums what it writes, and what it overwrites unless nothing was written there or after it; `append` sums
-/// the second file unless the first one's size is a multiple of 4.
+/// `stage_put` sums what it writes. It sums what it overwrites too, unless that comes after all that was written, or in
+/// the gap that the slot keeps: the longest one that was left out before later octets. So octets that come in order, in
+/// reverse or with neighbours swapped are summed once. `append` sums the second file unless the first one's size is a
+/// multiple of 4.
 /// `read`, `read_staged` and `stage_put` find the offset in at most 3 steps for each binary digit of the number of
 /// blocks, so 48 in a file of 65,536 blocks, in whatever order its octets came and are read. `deepest` and `standing` go
 /// through what is at and below the path, `listing` through everything but the octets, and `next_entry` through the

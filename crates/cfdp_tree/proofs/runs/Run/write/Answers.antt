@@ -1,5 +1,5 @@
-use Rattle.std.proofs.Common.{◌+◌, ◌-◌, ◌*◌, length, refl, sym, ap, ◌∙◌, arith}
-use Rattle.std.specs.Prelude.{slice_range}
+use Rattle.std.proofs.Common.{◌≡◌, ◌<◌, ◌≤◌, ℕ, ◌+◌, ◌-◌, ◌*◌, length, take, drop, sym, ap, ◌∙◌, arith, length-drop}
+use Rattle.std.proofs.lemmas.List.{drop-drop}
 use Rattle.cfdp_actions.specs.Store.{overwritten}
 use Rattle.cfdp_tree.specs.Runs.{octets_in}
 use Rattle.cfdp_tree.proofs.Octets.{step_write}
@@ -7,28 +7,31 @@ use Rattle.cfdp_tree.proofs.RunLaws.{length-run}
 use Rattle.cfdp_tree.proofs.HeldLaws.{others_then}
 use Rattle.cfdp_tree.proofs.runs.Run.write.Goals as goal
 
-pub loop-index-preserved : goal.loop-index-preserved
-loop-index-preserved c =
-    let l = c.loop-index in let inv = l.invariant in let a = c.args.arena.now in let run = c.args.self.now in let at = c.args.at in
-    let start = c.max-start.result in let stop = c.min-stop.result in
-    let part = slice_range c.args.octets.now (start - at) (stop - at) in
+pub parts-preserved : goal.parts-preserved
+parts-preserved c =
+    let l = c.parts in let inv = l.invariant in let a = c.args.arena.now in let run = c.args.self.now in let at = c.args.at in let octets = c.args.octets.now in
+    let put = c.put_in.ensures in let count = c.min.result in let parts = c.split_at.ensures in
+    let done = length octets - length l.rest.now in
+    let some : 0 < length l.rest.now = grind (arith, c.is_empty.ensures, c.parts-test.true) in
+    let left : length c.split_at.result.1.now ≡ length l.rest.now - count = ap length parts.back ∙ length-drop count l.rest.now in
+    let fewer : count ≤ length l.rest.now = omega (arith, c.min.ensures) in
+    let later : done + count ≡ length octets - length c.split_at.result.1.now = omega (arith, left, fewer, inv.fewer) in
     record {
-      held = c.put_in.ensures.held;
-      octets = c.put_in.ensures.octets
-          ∙ (λ k. overwritten (inv.octets k) (120 * inv.index k + (start - l.index * 120)) part)
-          ∙ step_write at (at + length c.args.octets.now) l.index start stop (omega arith) (omega arith) (omega arith) (omega arith) (omega arith)
-          (octets_in a run) c.args.octets.now (120 * l.index + (start - l.index * 120))
-          (omega (arith, length-run a run.first 0 run.count run.first c.requires.held.parts)) refl (omega arith);
+      held = put.held;
+      fewer = omega (arith, left, inv.fewer);
+      rest = parts.back ∙ ap (drop count) inv.rest ∙ drop-drop count done octets ∙ ap (λ n. drop n octets) later;
+      octets = put.octets
+          ∙ (λ k. overwritten (inv.octets k) (120 * l.cursor.index + l.place) (parts.front k))
+          ∙ step_write (octets_in a run) octets l.rest.now at done count (120 * l.cursor.index + l.place)
+          (omega (arith, length-run a run.first 0 run.count run.first c.requires.held.parts, c.requires.range)) (omega (arith, fewer, inv.fewer)) inv.rest (inv.next some)
+          ∙ ap (λ n. overwritten (octets_in a run) at (take n octets)) later;
       place = c.after-cursor.ensures.place;
-      index = c.after-cursor.ensures.index ∙ ap (λ n. n + 1) inv.index;
-      last = (inv.place.0, inv.place.1 ∙ sym (c.put_in.ensures.places l.cursor.index inv.place.0));
-      free = c.put_in.ensures.free ∙ inv.free;
-      size = c.put_in.ensures.size ∙ inv.size;
-      others = others_then a l.arena c.put_in.new.arena run inv.others c.put_in.ensures.others;
-      places = (λ k within. c.put_in.ensures.places k within ∙ inv.places k within);
-      nodes = c.put_in.ensures.nodes ∙ inv.nodes;
+      inside = omega arith;
+      next = (λ more. omega (arith, more, left, c.min.ensures, inv.next some, inv.inside, inv.fewer, c.after-cursor.ensures.index));
+      last = (inv.place.0, inv.place.1 ∙ sym (put.places l.cursor.index inv.place.0));
+      free = put.free ∙ inv.free;
+      size = put.size ∙ inv.size;
+      others = others_then a l.arena c.put_in.new.arena run inv.others put.others;
+      places = (λ k within. put.places k within ∙ inv.places k within);
+      nodes = put.nodes ∙ inv.nodes;
     }
-
-pub after-cursor-requires-clause-place : goal.after-cursor-requires-clause-place
-after-cursor-requires-clause-place c =
-    let l = c.loop-index in let at = l.invariant.place in (at.0, at.1 ∙ sym (c.put_in.ensures.places l.cursor.index at.0))

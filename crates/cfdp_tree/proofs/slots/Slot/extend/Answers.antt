@@ -1,8 +1,8 @@
-use Rattle.std.proofs.Common.{◌≤◌, ◌∙◌, sym, ap, arith}
+use Rattle.std.proofs.Common.{◌≤◌, ◌∙◌, refl, sym, ap, arith}
 use Rattle.cfdp_actions.specs.Filestore.{blocks_of}
 use Rattle.cfdp_tree.specs.Runs.{nth}
 use Rattle.cfdp_tree.proofs.Filling.{blocks_of-le}
-use Rattle.cfdp_tree.proofs.SlotPlaces.{blank_grown}
+use Rattle.cfdp_tree.proofs.SlotPlaces.{slot_grown}
 use Rattle.cfdp_tree.proofs.slots.Slot.extend.Goals as goal
 
 pub returns-then-not-within-clause-placed : goal.returns-then-not-within-clause-placed
@@ -10,8 +10,7 @@ returns-then-not-within-clause-placed c =
     let start = c.start-self.ensures in
     record {
       place = (omega (arith, start.index), start.block ∙ ap (nth c.extend.new.arena c.extend.new.self.run.first) (sym start.index));
-      within = omega (arith, c.requires.placed.within, c.requires.longer, c.extend.ensures.size);
-      blank = blank_grown c.args.arena.now c.extend.new.arena c.args.self.now c.extend.new.self c.args.size c.requires.filled c.requires.placed c.requires.longer c.extend.ensures.octets c.extend.ensures.size;
+      unwritten = slot_grown c.args.arena.now c.extend.new.arena c.args.self.now _ c.args.size c.requires.filled c.requires.placed.unwritten c.requires.longer c.extend.ensures.octets c.extend.ensures.size refl refl;
     }
 
 pub returns-else-not-within-clause-placed : goal.returns-else-not-within-clause-placed
@@ -22,6 +21,5 @@ returns-else-not-within-clause-placed c =
     let grown : was.contents.run.count ≤ after.run.count = omega (arith, c.requires.filled.blocks, c.extend.ensures.filled.blocks, size, more) in
     record {
       place = (omega (arith, at.0, grown), at.1 ∙ sym (c.extend.ensures.places was.place.index c.if-not-within.false));
-      within = omega (arith, c.requires.placed.within, c.requires.longer, c.extend.ensures.size);
-      blank = blank_grown c.args.arena.now c.extend.new.arena c.args.self.now c.extend.new.self c.args.size c.requires.filled c.requires.placed c.requires.longer c.extend.ensures.octets c.extend.ensures.size;
+      unwritten = slot_grown c.args.arena.now c.extend.new.arena c.args.self.now _ c.args.size c.requires.filled c.requires.placed.unwritten c.requires.longer c.extend.ensures.octets c.extend.ensures.size refl refl;
     }

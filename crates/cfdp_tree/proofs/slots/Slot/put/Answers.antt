@@ -1,11 +1,13 @@
-use Rattle.std.proofs.Common.{◌≡◌, ℕ, ◌<◌, ◌-◌, drop, replicate, sym, ap, ◌∙◌, subst, arith}
+use Rattle.std.proofs.Common.{◌≡◌, ℕ, ◌+◌, ◌<◌, ◌≤◌, List, length, refl, sym, ap, ◌∙◌, subst, arith}
 use Rattle.cfdp_tree.specs.declared.runs.Run.{Run}
+use Rattle.cfdp_tree.specs.declared.slots.Slot.{Slot}
 use Rattle.cfdp_tree.specs.Runs.{nth}
 use Rattle.cfdp_tree.specs.Ways.{HasWays}
 use Rattle.cfdp_tree.specs.Contents.{contents_in}
+use Rattle.cfdp_tree.specs.Slots.{blank_end, IsUnwritten}
 use Rattle.cfdp_tree.proofs.ContentsLaws.{length-contents}
 use Rattle.cfdp_tree.proofs.Filling.{blocks_of-fits}
-use Rattle.cfdp_tree.proofs.SlotPlaces.{blank_written}
+use Rattle.cfdp_tree.proofs.SlotPlaces.{end_written, same_unwritten}
 use Rattle.cfdp_tree.proofs.WayLaws.{ways_still, keeps_still}
 use Rattle.cfdp_tree.proofs.slots.Slot.put.Goals as goal
 
@@ -25,18 +27,25 @@ find-self-requires-clause-within c = omega (arith, c.requires.filled.blocks, c.r
 
 pub sum_there-before-requires-clause-placed : goal.sum_there-before-requires-clause-placed
 sum_there-before-requires-clause-placed c =
-    let placed = c.requires.placed in
-    record { place = c.find-self.ensures.place; within = placed.within; blank = placed.blank }
+    let known = c.requires.placed.unwritten in
+    record { place = c.find-self.ensures.place; unwritten = record { end = known.end; gap = known.gap } }
+
+pub gap_after-self-requires : goal.gap_after-self-requires
+gap_after-self-requires c = record { ordered = c.requires.placed.unwritten.gap.ordered }
+
+same_octets : (xs ys : List ℕ) (slot : Slot) → xs ≡ ys → IsUnwritten ys slot → IsUnwritten xs slot
+same_octets xs ys slot e known = subst (λ zs. IsUnwritten zs slot) (sym e) known
 
 pub returns-clause-placed : goal.returns-clause-placed
 returns-clause-placed c =
-    let a = c.args.arena.now in let slot = c.args.self.now in let contents = slot.contents in let r = c.requires in let put = c.put-self.ensures in let at = c.args.at in let part = c.args.octets.now in
-    let later = c.max-self.result in
+    let a = c.args.arena.now in let slot = c.args.self.now in let r = c.requires in let put = c.put-self.ensures in let at = c.args.at in let part = c.args.octets.now in
+    let octets = contents_in a slot.contents in
+    let long : length octets ≡ slot.contents.size = length-contents a slot.contents r.filled in
+    let known = r.placed.unwritten in
     record {
       place = put.place;
-      within = omega (arith, r.placed.within, r.range, put.size, c.max-self.ensures);
-      blank = ap (drop later) put.octets
-          ∙ blank_written (contents_in a contents) contents.size slot.blank_from (length-contents a contents r.filled) r.placed.within r.placed.blank at later part
-          (omega (arith, c.max-self.ensures)) (omega (arith, c.max-self.ensures)) (omega (arith, r.placed.within, r.range, c.max-self.ensures))
-          ∙ ap (λ n. replicate (n - later) 0) (sym put.size);
+      unwritten = same_octets _ _ _ put.octets (record {
+        end = end_written octets part at (blank_end slot) _ (omega (arith, r.range, long)) known.end (omega (arith, c.max-self.ensures)) (omega (arith, c.max-self.ensures)) (omega (arith, c.max-self.ensures, known.end.ordered, r.range, put.size)) put.size;
+        gap = c.gap_after-self.ensures octets part (long ∙ sym put.size) refl (omega (arith, r.range, long)) (same_unwritten octets slot _ put.size refl refl known);
+      });
     }

@@ -26,7 +26,7 @@ invariant_of-self c =
     let after = c.hold.new.self in let held = c.hold.ensures in
     exchange_store _ _ _ _ c.self.invariant _ c.self.view_is b c.args.path.now file.node file.path c.requires.file
     c.from-index.result (omega (arith, c.from-index.ensures, c.requires.slot)) c.index.result.now c.index.ensures later (octets_of (nodes_in later) b) set.nodes set.row set.name set.whole set.runs set.free set.capacity
-    after (held.contents ∙ file.contents) (slot_starts later after (held.block ∙ ap (λ (x : Contents). x.run.first) (sym held.contents)) held.index (held.blank ∙ ap (λ (x : Contents). x.size) (sym held.contents)))
+    after (held.contents ∙ file.contents) (slot_starts later after (held.block ∙ ap (λ (x : Contents). x.run.first) (sym held.contents)) held.index (held.blank ∙ ap (λ (x : Contents). x.size) (sym held.contents)) held.gap)
 
 pub returns-clause-exchanged : goal.returns-clause-exchanged
 returns-clause-exchanged c =
@@ -35,5 +35,5 @@ returns-clause-exchanged c =
     let F = c.args.self.now.filestore in let path = c.args.path.now in
     exchange_seen _ _ _ _ c.self.invariant _ c.self.view_is b path file.node file.path c.requires.file
     c.from-index.result (omega (arith, c.from-index.ensures, c.requires.slot)) c.index.result.now c.index.ensures later (octets_of (nodes_in later) b) set.nodes set.row set.name set.whole set.runs set.free set.capacity
-    after (held.contents ∙ file.contents) (slot_starts later after (held.block ∙ ap (λ (x : Contents). x.run.first) (sym held.contents)) held.index (held.blank ∙ ap (λ (x : Contents). x.size) (sym held.contents)))
+    after (held.contents ∙ file.contents) (slot_starts later after (held.block ∙ ap (λ (x : Contents). x.run.first) (sym held.contents)) held.index (held.blank ∙ ap (λ (x : Contents). x.size) (sym held.contents)) held.gap)
     ∙ ap (λ k. with_changes c.args.self.now (Stages k (octets_at F path) ∷ Becomes path (Some (File (staged_in F k))) ∷ [])) c.from-index.ensures

@@ -5,7 +5,7 @@ use Rattle.cfdp_tree.specs.declared.contents.Contents.{Contents}
 use Rattle.cfdp_tree.specs.declared.runs.Run.{Run}
 use Rattle.cfdp_tree.specs.declared.slots.Slot.{Slot}
 use Rattle.cfdp_tree.specs.Runs.{Spares}
-use Rattle.cfdp_tree.specs.Slots.{IsPlaced}
+use Rattle.cfdp_tree.specs.Slots.{no_gap, IsPlaced}
 use Rattle.cfdp_tree.proofs.Filling.{blocks_of-none}
 use Rattle.cfdp_tree.proofs.ContentsLaws.{none_filled, none_contents}
 use Rattle.cfdp_tree.proofs.SlotPlaces.{slot_starts}
@@ -30,13 +30,13 @@ record IsEmptied (arena : Blocks) (after : Slot) : Type 0 where
   sum : after.contents.sum ≡ 0
   placed : IsPlaced arena after
 
-emptied : (none : Contents) (after : Slot) → none.run.count ≡ 0 → none.size ≡ 0 → none.sum ≡ 0 → after.contents ≡ none → after.place.block ≡ none.run.first → after.place.index ≡ 0 → after.blank_from ≡ none.size
+emptied : (none : Contents) (after : Slot) → none.run.count ≡ 0 → none.size ≡ 0 → none.sum ≡ 0 → after.contents ≡ none → after.place.block ≡ none.run.first → after.place.index ≡ 0 → after.blank_from ≡ none.size → after.gap ≡ no_gap
     → (arena : Blocks) → IsEmptied arena after
-emptied none after blocks size sum holds block index blank arena = record {
+emptied none after blocks size sum holds block index blank gap arena = record {
   blocks = ap (λ (x : Contents). x.run.count) holds ∙ blocks;
   size = ap (λ (x : Contents). x.size) holds ∙ size;
   sum = ap (λ (x : Contents). x.sum) holds ∙ sum;
-  placed = slot_starts arena after (block ∙ ap (λ (x : Contents). x.run.first) (sym holds)) index (blank ∙ ap (λ (x : Contents). x.size) (sym holds));
+  placed = slot_starts arena after (block ∙ ap (λ (x : Contents). x.run.first) (sym holds)) index (blank ∙ ap (λ (x : Contents). x.size) (sym holds)) gap;
 }
 
 pub release-requires : goal.release-requires
@@ -47,7 +47,7 @@ release-requires c = record {
 pub invariant_of-self : goal.invariant_of-self
 invariant_of-self c =
     let arena = c.self.inside.arena in let later = c.release.new.arena in let slot = c.index.result.now in let after = c.hold.new.self in let gone = c.release.ensures in
-    let none = emptied c.empty.result after c.empty.ensures.blocks c.empty.ensures.size c.empty.ensures.sum c.hold.ensures.contents c.hold.ensures.block c.hold.ensures.index c.hold.ensures.blank later in
+    let none = emptied c.empty.result after c.empty.ensures.blocks c.empty.ensures.size c.empty.ensures.sum c.hold.ensures.contents c.hold.ensures.block c.hold.ensures.index c.hold.ensures.blank c.hold.ensures.gap later in
     let had = slot_ways _ _ _ _ c.self.invariant _ c.self.view_is c.from-index.result (omega (arith, c.from-index.ensures, c.requires)) slot c.index.ensures in
     slot_store arena later c.self.inside.heads.items c.self.inside.root c.self.inside.slots.items c.self.invariant c.from-index.result (omega (arith, c.from-index.ensures, c.requires)) slot c.index.ensures after
     gone.nodes gone.capacity (spares_none arena later slot.contents.run slot.contents.run after.contents.run none.blocks gone.spares)
@@ -64,7 +64,7 @@ returns-clause-ticks c =
 pub returns-clause-dropped : goal.returns-clause-dropped
 returns-clause-dropped c =
     let arena = c.self.inside.arena in let later = c.release.new.arena in let slot = c.index.result.now in let after = c.hold.new.self in let gone = c.release.ensures in
-    let none = emptied c.empty.result after c.empty.ensures.blocks c.empty.ensures.size c.empty.ensures.sum c.hold.ensures.contents c.hold.ensures.block c.hold.ensures.index c.hold.ensures.blank later in
+    let none = emptied c.empty.result after c.empty.ensures.blocks c.empty.ensures.size c.empty.ensures.sum c.hold.ensures.contents c.hold.ensures.block c.hold.ensures.index c.hold.ensures.blank c.hold.ensures.gap later in
     slot_changes arena later c.self.inside.heads.items c.self.inside.root c.self.inside.slots.items c.self.invariant c.from-index.result (omega (arith, c.from-index.ensures, c.requires)) slot c.index.ensures after
     gone.nodes gone.capacity (spares_none arena later slot.contents.run slot.contents.run after.contents.run none.blocks gone.spares)
     (none_filled later after.contents none.blocks none.size none.sum) none.placed (no_room arena later slot after none.blocks none.size _ _ gone.freed)
