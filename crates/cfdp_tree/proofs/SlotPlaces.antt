@@ -4,14 +4,14 @@
 --     slot_grown                zeros come to the end of a slot
 --     gap_written, end_written  some octets of a slot are written
 --     same_unwritten            another slot of as many octets
-use Rattle.std.proofs.Common.{◌≡◌, ◌⊎◌, ℕ, ◌+◌, ◌-◌, ◌<◌, ◌≤◌, max, List, length, sym, ap, ◌∙◌, subst, inl, inr, refl, arith}
+use Rattle.std.proofs.Common.{◌≡◌, ◌⊎◌, ℕ, ◌+◌, ◌-◌, ◌<◌, ◌≤◌, max, List, length, sym, ap, ◌∙◌, subst, inl, inr, arith}
 use Rattle.cfdp_actions.specs.Store.{extended, overwritten}
 use Rattle.cfdp_arena.specs.Arena.{Blocks}
 use Rattle.cfdp_ways.specs.declared.cursor.Cursor.{Cursor}
 use Rattle.cfdp_tree.specs.declared.runs.Run.{Run}
 use Rattle.cfdp_tree.specs.declared.gap.Gap.{Gap}
 use Rattle.cfdp_tree.specs.declared.slots.Slot.{Slot}
-use Rattle.cfdp_tree.specs.Runs.{nth, IsHeld, octets_in, IsAt, Stays}
+use Rattle.cfdp_tree.specs.Runs.{nth, IsHeld, IsAt, Stays}
 use Rattle.cfdp_tree.specs.Contents.{IsFilled, contents_in}
 use Rattle.cfdp_tree.specs.Slots.{no_gap, IsBlank, blank_end, IsUnwritten, IsPlaced}
 use Rattle.cfdp_tree.proofs.ContentsLaws.{length-contents, stays_contents}

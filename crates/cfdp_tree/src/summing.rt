@@ -8,7 +8,7 @@ use crate::header::{HEADER_OCTETS, PAYLOAD_OCTETS};
 use crate::payload::part_of;
 use crate::runs::Run;
 use cfdp_arena::{Arena, Block};
-use cfdp_checksum::modular_checksum_at;
+use cfdp_checksum::{modular_checksum, modular_checksum_at};
 use cfdp_ways::Cursor;
 
 /// What octets of a block's payload, from the place `at` in it on, add to the checksum of a file in which they begin at
@@ -17,9 +17,9 @@ fn part_sum(block: &Block, at: usize, len: usize, offset: usize) -> u32
     requires within { at + len ≤ 120 }
     ensures { result ≡ checksum_at offset (slice_range (payload block.now) at (at + len)) }
 {
-    if len == PAYLOAD_OCTETS {
+    if len == PAYLOAD_OCTETS && offset % 4 == 0 {
         // The compiler knows the length of a whole payload, and sums it by vectors.
-        return modular_checksum_at(offset, &block[HEADER_OCTETS..]);
+        return modular_checksum(&block[HEADER_OCTETS..]);
     }
     modular_checksum_at(offset, part_of(block, at, len))
 }
@@ -54,18 +54,18 @@ impl Run {
         requires range { at + len ≤ 120 * self.now.count }
         ensures { result ≡ checksum_at offset (slice_range (octets_in arena.now self.now) at (at + len)) }
     {
-        let end = at + len;
-        let begin = at / PAYLOAD_OCTETS;
+        let mut place = at % PAYLOAD_OCTETS;
+        let mut offset = offset as usize;
+        let mut left = len;
         let mut cursor = first;
         let mut sum = 0u32;
-        for index in begin..(end + PAYLOAD_OCTETS - 1) / PAYLOAD_OCTETS {
-            let block_start = index * PAYLOAD_OCTETS;
-            let start = at.max(block_start);
-            let stop = end.min(block_start + PAYLOAD_OCTETS);
-            let place = offset as usize + (start - at);
-            let added = self.sum_in(arena, &cursor, start - block_start, stop - start, place);
-            sum = sum.wrapping_add(added);
+        'parts: while left > 0 {
+            let count = left.min(PAYLOAD_OCTETS - place);
+            sum = sum.wrapping_add(self.sum_in(arena, &cursor, place, count, offset));
             cursor = self.after(arena, &cursor);
+            offset += count;
+            left -= count;
+            place = 0;
         }
         sum
     }

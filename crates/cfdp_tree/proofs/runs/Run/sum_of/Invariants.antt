@@ -1,12 +1,17 @@
-use Rattle.std.proofs.Common.{◌≡◌, take, drop}
+use Rattle.std.proofs.Common.{◌≡◌, ◌+◌, ◌-◌, ◌*◌, ◌<◌, ◌≤◌, take, drop}
 use Rattle.cfdp_checksum.specs.Checksum.{checksum_at}
 use Rattle.cfdp_tree.specs.Runs.{IsAt, octets_in}
-use Rattle.cfdp_tree.proofs.Octets.{reached}
 use Rattle.cfdp_tree.proofs.runs.Run.sum_of.Given as goal
 
-abbrev pub invariant-loop-index : goal.invariant-loop-index
-invariant-loop-index l = record {
-  summed : l.sum ≡ checksum_at l.offset (take (reached l.at l.end l.index) (drop l.at (octets_in l.arena l.self)));
+abbrev pub invariant-parts : goal.invariant-parts
+invariant-parts l = record {
+  fewer : l.left ≤ l.len;
+  sum : l.sum ≡ checksum_at l.fn.offset (take (l.len - l.left) (drop l.at (octets_in l.arena l.self)));
+  offset : l.offset ≡ l.fn.offset + (l.len - l.left);
   place : IsAt l.arena l.self l.cursor;
-  index : l.cursor.index ≡ l.index;
+  inside : l.place < 120;
+  next : 0 < l.left → 120 * l.cursor.index + l.place ≡ l.at + (l.len - l.left);
 }
+
+abbrev pub decreases-parts : goal.decreases-parts
+decreases-parts l = l.left

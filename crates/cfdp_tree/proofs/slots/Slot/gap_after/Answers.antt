@@ -1,4 +1,4 @@
-use Rattle.std.proofs.Common.{refl, arith}
+use Rattle.std.proofs.Common.{refl}
 use Rattle.cfdp_tree.proofs.SlotPlaces.{gap_written}
 use Rattle.cfdp_tree.proofs.slots.Slot.gap_after.Goals as goal
 

@@ -1,4 +1,4 @@
-use Rattle.std.proofs.Common.{◌≡◌, ℕ, ◌+◌, ◌<◌, ◌≤◌, List, length, refl, sym, ap, ◌∙◌, subst, arith}
+use Rattle.std.proofs.Common.{◌≡◌, ℕ, ◌<◌, List, length, refl, sym, ap, ◌∙◌, subst, arith}
 use Rattle.cfdp_tree.specs.declared.runs.Run.{Run}
 use Rattle.cfdp_tree.specs.declared.slots.Slot.{Slot}
 use Rattle.cfdp_tree.specs.Runs.{nth}

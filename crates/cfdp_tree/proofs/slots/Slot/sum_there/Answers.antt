@@ -1,4 +1,4 @@
-use Rattle.std.proofs.Common.{◌≡◌, ◌+◌, ◌-◌, ℕ, replicate, sym, ap, ◌∙◌, arith, List}
+use Rattle.std.proofs.Common.{◌≡◌, ◌+◌, ◌-◌, ℕ, sym, ap, ◌∙◌, arith, List}
 use Rattle.std.specs.Prelude.{slice_range}
 use Rattle.cfdp_checksum.specs.Checksum.{checksum_at}
 use Rattle.cfdp_checksum.proofs.ChecksumSteps.{none-added}
