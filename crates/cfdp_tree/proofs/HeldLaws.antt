@@ -1,7 +1,7 @@
 -- A run that is held, while the arena changes.
 --     others_keep, held_others, octets_others, nth_others     the run of another owner
 --     others_then                                 the others stay twice
---     others_grown, was_free                      and so does what was free
+--     others_grown                                and with one block more
 --     octets_are                                  the octets of a live block
 --     held_part                                   a block of a run is live, and a part of it
 --     given_live, given_once, given_last      its blocks are a chain, which can be given back as one
@@ -35,11 +35,6 @@ others_then first second third run stay still b live not_of =
 pub others_grown : (first second third : Blocks) (run after : Run) → OthersStay first second run → OthersStay second third run → 0 < after.count → (0 < run.count → after.first ≡ run.first) → OthersStay first third after
 others_grown first second third run after stay still some same b live not_of =
     others_then first second third run stay still b live (λ of. not_of (some, of.1 ∙ sym (same of.0)))
-
--- what is free is no block that stayed
-pub was_free : (entry later : Option (List ℕ)) → (IsSome entry → later ≡ entry) → later ≡ None → entry ≡ None
-was_free None later stays free = refl
-was_free (Some o) later stays free = sym (stays refl) ∙ free
 
 -- what `bytes` shows
 pub octets_are : (arena : Blocks) (block : ℕ) (shown : List ℕ) → octets_at arena block ≡ Some shown → shown ≡ octets (octets_at arena block)

@@ -6,6 +6,7 @@ pub mod HeldLaws
 pub mod FrontLaws
 pub mod NodeLaws
 pub mod GrowLaws
+pub mod BegunLaws
 pub mod SpareLaws
 pub mod WayLaws
 pub mod SlotPlaces

@@ -26,11 +26,12 @@ module _ (was now : List Way) (f g : ℕ → ℕ) (n : ℕ) (many : length now �
   leads_same : (k : ℕ) → k < n → LeadsBack was f k → LeadsBack now g k
   leads_same k less back =
       let e = way_same k less in
-      let j = (way_of was (f k)).jump_index in
+      let j = k - (way_of was (f k)).over in
       record {
         before = (λ some. ap (λ (w : Way). w.before) e ∙ back.before some ∙ sym (same (k - 1) (omega (arith, less))));
-        jump = ap (λ (w : Way). w.jump) e ∙ back.jump ∙ sym (same j (omega (arith, less, back.sooner))) ∙ ap (λ (w : Way). g w.jump_index) (sym e);
-        sooner = subst (λ (w : Way). w.jump_index ≤ k - 1) (sym e) back.sooner;
+        jump = ap (λ (w : Way). w.jump) e ∙ back.jump ∙ sym (same j (omega (arith, less))) ∙ ap (λ (w : Way). g (k - w.over)) (sym e);
+        some = (λ later. subst (λ (w : Way). 0 < w.over) (sym e) (back.some later));
+        over = subst (λ (w : Way). w.over ≤ k) (sym e) back.over;
       }
 
   led_same : IsLed was f n → IsLed now g n

@@ -1,5 +1,5 @@
 -- The ways back in runs, which are beside the arena: for each of its blocks the block before it in its run, and a block
--- further back with its index.
+-- further back.
 --     HasWays arena ways run                 each block of the arena has a way, and those of the run's blocks lead back
 --     StayLive old new                       what was live is live
 --     WaysStay old was now                   the ways of live blocks stay

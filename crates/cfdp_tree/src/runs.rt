@@ -35,10 +35,32 @@ impl Run {
         }
     }
 
-    /// Takes one more block, of zeros, to the end of the run, and writes its way. In constant time.
-    pub(crate) fn grow(&mut self, arena: &mut Arena, ways: &mut [Way])
+    /// Takes the first block, of zeros, of a run that has none, and writes its way. In constant time.
+    fn start_with_block(&mut self, arena: &mut Arena, ways: &mut [Way])
+        requires ways { HasWays arena.old ways.old self.old }
+        requires none { self.old.count ≡ 0 }
+        requires room { 0 < free_count arena.old }
+        ensures held { IsHeld arena.new self.new }
+        ensures count { self.new.count ≡ 1 }
+        ensures octets { octets_in arena.new self.new ≡ payload blank_block }
+        ensures taken { free_count arena.new + 1 ≡ free_count arena.old }
+        ensures size { length arena.new ≡ length arena.old }
+        ensures others { AllStay arena.old arena.new }
+        ensures fresh { octets_at arena.old self.new.first ≡ None }
+        ensures nodes { nodes_in arena.new ≡ nodes_in arena.old }
+        ensures live { StayLive arena.old arena.new }
+        ensures ways { HasWays arena.new ways.new self.new }
+        ensures ways_stay { WaysStay arena.old ways.old ways.new }
+    {
+        *self = begin(arena);
+        begin_list(ways, self.first);
+    }
+
+    /// Takes one more block, of zeros, to the end of a run that has one, and writes its way. In constant time.
+    fn grow(&mut self, arena: &mut Arena, ways: &mut [Way])
         requires held { IsHeld arena.old self.old }
         requires ways { HasWays arena.old ways.old self.old }
+        requires some { 0 < self.old.count }
         requires few { self.old.count < 65536 }
         requires room { 0 < free_count arena.old }
         ensures held { IsHeld arena.new self.new }
@@ -47,22 +69,16 @@ impl Run {
         ensures taken { free_count arena.new + 1 ≡ free_count arena.old }
         ensures size { length arena.new ≡ length arena.old }
         ensures others { OthersStay arena.old arena.new self.old }
-        ensures first { 0 < self.old.count → self.new.first ≡ self.old.first }
-        ensures fresh { self.old.count ≡ 0 → octets_at arena.old self.new.first ≡ None }
+        ensures first { self.new.first ≡ self.old.first }
         ensures places { (k : ℕ) → k < self.old.count → nth arena.new self.new.first k ≡ nth arena.old self.old.first k }
         ensures nodes { nodes_in arena.new ≡ nodes_in arena.old }
         ensures live { StayLive arena.old arena.new }
         ensures ways { HasWays arena.new ways.new self.new }
         ensures ways_stay { WaysStay arena.old ways.old ways.new }
     {
-        if self.count == 0 {
-            *self = begin(arena);
-            begin_list(ways, self.first);
-        } else {
-            let last = self.tail();
-            self.lengthen(arena);
-            extend_list(ways, &last, self.last);
-        }
+        let last = self.tail();
+        self.lengthen(arena);
+        extend_list(ways, &last, self.last);
     }
 
     /// Takes one more block to the end of a run that has one.
@@ -120,6 +136,9 @@ impl Run {
         ensures ways { HasWays arena.new ways.new self.new }
         ensures ways_stay { WaysStay arena.old ways.old ways.new }
     {
+        if self.count == 0 && 0 < count {
+            self.start_with_block(arena, ways);
+        }
         for _block in self.count..count {
             self.grow(arena, ways);
         }

@@ -1,20 +1,20 @@
 //! The way back from each block of a list.
-ghost use Rattle.std.specs.Prelude.{◌≡◌, ◌≢◌, ℕ, ◌+◌, ◌<◌, ◌≤◌, length};
+ghost use Rattle.std.specs.Prelude.{◌≡◌, ◌≢◌, ℕ, ◌+◌, ◌-◌, ◌<◌, ◌≤◌, length};
 ghost use Rattle.cfdp_ways.specs.Ways.{no_way, way_of, IsLed, IsOn};
 
 use crate::cursor::Cursor;
 use cfdp_arena::BlockId;
 
-/// The way back from a block of a list: the block before it, and a block further back with its index in the list. It
-/// takes 6 octets.
+/// The way back from a block of a list: the block before it, and a block further back, with how many blocks back it is.
+/// It takes 6 octets.
 #[derive(Clone, Copy, Debug, PartialEq, Eq)]
 pub struct Way {
     /// The number of the block before it; of the first block its own.
     pub(crate) before: u16,
     /// The number of a block further back; of the first block its own.
     pub(crate) jump: u16,
-    /// The index of that block in the list.
-    pub(crate) jump_index: u16,
+    /// How many blocks back that one is: 1 for the block before; of the first block 0.
+    pub(crate) over: u16,
 }
 
 impl Way {
@@ -25,7 +25,7 @@ impl Way {
         Way {
             before: 0,
             jump: 0,
-            jump_index: 0,
+            over: 0,
         }
     }
 }
@@ -41,7 +41,7 @@ pub fn begin_list(ways: &mut [Way], block: BlockId)
     ways[usize::from(number)] = Way {
         before: number,
         jump: number,
-        jump_index: 0,
+        over: 0,
     };
 }
 
@@ -70,25 +70,24 @@ fn way_after(ways: &[Way], last: &Cursor) -> Way
     requires few { last.now.index < 65536 }
     ensures before { result.before ≡ last.now.block }
     ensures jump { (blocks : ℕ → ℕ) → IsLed ways.now blocks (last.now.index + 1)
-        → last.now.block ≡ blocks last.now.index → result.jump ≡ blocks result.jump_index }
-    ensures sooner { result.jump_index ≤ last.now.index }
+        → last.now.block ≡ blocks last.now.index → result.jump ≡ blocks (last.now.index + 1 - result.over) }
+    ensures some { 0 < result.over }
+    ensures within { result.over ≤ last.now.index + 1 }
 {
     let before = last.block.number() as u16;
     let near = ways[usize::from(before)];
     let far = ways[usize::from(near.jump)];
-    let over_near = last.index - u32::from(near.jump_index);
-    let over_far = u32::from(near.jump_index) - u32::from(far.jump_index);
-    if over_near == over_far {
+    if near.over == far.over {
         return Way {
             before,
             jump: far.jump,
-            jump_index: far.jump_index,
+            over: near.over + far.over + 1,
         };
     }
     Way {
         before,
         jump: before,
-        jump_index: last.index as u16,
+        over: 1,
     }
 }
 
@@ -103,7 +102,7 @@ pub fn step_back(ways: &[Way], from: &Cursor, index: u32) -> Cursor
         → from.now.block ≡ blocks from.now.index → result.block ≡ blocks result.index }
 {
     let way = ways[from.block.number() as usize];
-    let jump_index = u32::from(way.jump_index);
+    let jump_index = from.index - u32::from(way.over);
     if index <= jump_index {
         Cursor {
             block: BlockId::of_number(u32::from(way.jump)),

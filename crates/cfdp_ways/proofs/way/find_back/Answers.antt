@@ -1,4 +1,4 @@
-use Rattle.std.proofs.Common.{◌+◌, arith}
+use Rattle.std.proofs.Common.{◌≡◌, ◌+◌, ap, ◌∙◌, arith}
 use Rattle.cfdp_ways.proofs.WayLaws.{led_shorter}
 use Rattle.cfdp_ways.proofs.way.find_back.Goals as goal
 
@@ -15,3 +15,9 @@ loop-cursor-preserved c =
       nearer = omega (arith, step.ensures.nearer, inv.nearer);
       block = (λ blocks led there. step.ensures.block blocks (led_shorter ways blocks (c.args.from.index + 1) (l.cursor.index + 1) (omega (arith, inv.nearer)) led) (inv.block blocks led there));
     }
+
+pub returns-clause-block : goal.returns-clause-block
+returns-clause-block c blocks led there =
+    let l = c.loop-cursor in
+    let here : l.cursor.index ≡ c.args.index = omega (arith, l.invariant.later, c.loop-cursor-test.false) in
+    l.invariant.block blocks led there ∙ ap blocks here

@@ -1,4 +1,4 @@
-use Rattle.std.proofs.Common.{◌<◌, arith}
+use Rattle.std.proofs.Common.{arith}
 use Rattle.cfdp_tree.proofs.SlotPlaces.{tail_place}
 use Rattle.cfdp_tree.proofs.WayLaws.{on_way, ways_grown}
 use Rattle.cfdp_tree.proofs.runs.Run.grow.Goals as goal
@@ -6,12 +6,10 @@ use Rattle.cfdp_tree.proofs.runs.Run.grow.Goals as goal
 pub extend_list-requires-clause-on : goal.extend_list-requires-clause-on
 extend_list-requires-clause-on c =
     let a = c.args.arena.now in let run = c.args.self.now in let last = c.tail-last in
-    let some : 0 < run.count = omega (arith, c.if-self-eq0.false) in
-    on_way a c.args.ways.now run last.result c.requires.ways (tail_place a run last.result c.requires.held some last.ensures.block last.ensures.index) (omega (arith, some, last.ensures.index))
+    on_way a c.args.ways.now run last.result c.requires.ways (tail_place a run last.result c.requires.held c.requires.some last.ensures.block last.ensures.index) (omega (arith, c.requires.some, last.ensures.index))
 
-pub returns-else-self-eq0-clause-ways : goal.returns-else-self-eq0-clause-ways
-returns-else-self-eq0-clause-ways c =
+pub returns-clause-ways : goal.returns-clause-ways
+returns-clause-ways c =
     let longer = c.lengthen.ensures in let last = c.tail-last in let run = c.args.self.now in
-    let some : 0 < run.count = omega (arith, c.if-self-eq0.false) in
-    ways_grown c.args.arena.now c.lengthen.new.arena c.args.ways.now c.extend_list.new.ways run c.lengthen.new.self last.result c.requires.held some last.ensures.block last.ensures.index c.requires.ways
+    ways_grown c.args.arena.now c.lengthen.new.arena c.args.ways.now c.extend_list.new.ways run c.lengthen.new.self last.result c.requires.held c.requires.some last.ensures.block last.ensures.index c.requires.ways
     longer.size (omega (arith, c.extend_list.auto.ways)) longer.held longer.count longer.places longer.was_free c.extend_list.ensures.led

@@ -11,6 +11,7 @@ invariant-loop-block l = record {
   count : l.self.count ≡ l._block;
   more : l.fn.self.count ≤ l._block;
   most : l._block ≤ l.count;
+  some : 0 < l.count → 0 < l._block;
   octets : octets_in l.arena l.self ≡ octets_in l.fn.arena l.fn.self ++ replicate (120 * (l._block - l.fn.self.count)) 0;
   taken : free_count l.arena + l._block ≡ free_count l.fn.arena + l.fn.self.count;
   size : length l.arena ≡ length l.fn.arena;
