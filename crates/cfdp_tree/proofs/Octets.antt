@@ -4,9 +4,9 @@
 --     overwritten-extended                    octets put behind a list that was lengthened by zeros
 --     take-front, slice-first                 the first octets, before the part;  a slice of first octets that are the same
 --     take_parts, slice_is, slice_join        the first octets in two parts;  a slice, and two of them joined
---     reached, step_write, step_read, step_copy   how far a walk by blocks has come, and what one block more adds
+--     step_write, step_read, step_copy            what one part or one block more adds
 --     slice-left, slice-right                 a slice of two lists joined
-use Rattle.std.proofs.Common.{◌≡◌, ℕ, suc, zero, ◌+◌, ◌-◌, ◌*◌, ◌<◌, ◌≤◌, min, max, List, [], ◌∷◌, ◌++◌, length, take, drop, replicate, refl, sym, ap, ◌∙◌, arith, append_assoc, append-nil, length-append, length-drop}
+use Rattle.std.proofs.Common.{◌≡◌, ℕ, suc, zero, ◌+◌, ◌-◌, ◌*◌, ◌<◌, ◌≤◌, min, List, [], ◌∷◌, ◌++◌, length, take, drop, replicate, refl, sym, ap, ◌∙◌, arith, append_assoc, append-nil, length-append, length-drop}
 use Rattle.std.proofs.lemmas.List.{take-append-le, drop-append-le, length-take-le, take_at, drop-drop, drop-replicate, take-append-drop, take-take}
 use Rattle.std.proofs.lemmas.Slice.{between_is, take-put_mid}
 use borrow.Rule.Slice.PartMut.{put_mid}
@@ -100,36 +100,6 @@ pub slice-first : (xs ys : List ℕ) (n a b : ℕ) → b ≤ n → take n xs ≡
 slice-first xs ys n a b before same =
     between_is xs a b ∙ ap (drop a) (sym (take-take b n xs before) ∙ ap (take b) same ∙ take-take b n ys before) ∙ sym (between_is ys a b)
 
--- how many octets of those from at to end lie before a block
-abbrev pub reached : ℕ → ℕ → ℕ → ℕ
-reached at end index = max at (min end (120 * index)) - at
-
--- one block more
-module _ (at end index start stop : ℕ) (start_is : start ≡ max at (120 * index)) (stop_is : stop ≡ min end (120 * index + 120)) (at_end : at ≤ end) (before : 120 * index < end) (behind : at < 120 * index + 120) where
-  reached_now : reached at end index ≡ start - at
-  reached_now = omega arith
-
-  reached_next : reached at end (index + 1) ≡ stop - at
-  reached_next = omega arith
-
-  -- read
-  pub step_read : (all buffer piece : List ℕ) → take (reached at end index) buffer ≡ take (reached at end index) (drop at all) → piece ≡ take (stop - start) (drop start all) → length piece ≡ stop - start → end ≡ at + length buffer
-      → take (reached at end (index + 1)) (put_mid (start - at) (stop - at - (start - at)) buffer piece) ≡ take (reached at end (index + 1)) (drop at all)
-  step_read all buffer piece so_far piece_is whole long =
-      let m = start - at in
-      let n = stop - at in
-      let there : at + m ≡ start = omega arith in
-      let rest : n - m ≡ stop - start = omega arith in
-      let full : n ≡ m + length piece = omega arith in
-      ap (λ i. take i (put_mid m (n - m) buffer piece)) reached_next
-      ∙ take-put_mid m (n - m) buffer piece n full (omega arith)
-      ∙ (λ k. take (sym reached_now k) buffer ++ piece)
-      ∙ (λ k. so_far k ++ piece_is k)
-      ∙ (λ k. take (reached_now k) (drop at all) ++ take (sym rest k) (drop (sym there k) all))
-      ∙ (λ k. take m (drop at all) ++ take (n - m) (sym (drop-drop m at all) k))
-      ∙ sym (take_parts (drop at all) m n (omega arith))
-      ∙ ap (λ i. take i (drop at all)) (sym reached_next)
-
 -- one part more of some octets is written
 pub step_write : (old octets rest : List ℕ) (at done count j : ℕ) → at ≤ length old → done + count ≤ length octets → rest ≡ drop done octets → j ≡ at + done
     → overwritten (overwritten old at (take done octets)) j (take count rest) ≡ overwritten old at (take (done + count) octets)
@@ -138,6 +108,17 @@ step_write old octets rest at done count j within long rest_is j_is =
     overwritten-join old (take done octets) (take count rest) at j within (omega (arith, j_is, length-take-le done octets (omega (arith, long))))
     ∙ ap (λ part. overwritten old at (take done octets ++ part)) more
     ∙ ap (overwritten old at) (sym (take_parts octets done (done + count) (omega arith)))
+
+-- one part more is read
+pub step_read : (all buffer piece : List ℕ) (at done count : ℕ) → take done buffer ≡ take done (drop at all) → piece ≡ take count (drop (at + done) all) → length piece ≡ count → done + count ≤ length buffer
+    → take (done + count) (put_mid done (done + count - done) buffer piece) ≡ take (done + count) (drop at all)
+step_read all buffer piece at done count so_far piece_is whole fits =
+    let rest = drop at all in
+    let full : done + count ≡ done + length piece = omega (arith, whole) in
+    let there : piece ≡ slice_range rest done (done + count) = piece_is ∙ ap (take count) (sym (drop-drop done at all)) ∙ sym (slice_is rest done (done + count) count refl) in
+    take-put_mid done (done + count - done) buffer piece (done + count) full (omega (arith, fits))
+    ∙ (λ k. so_far k ++ there k)
+    ∙ sym (take_parts rest done (done + count) (omega arith))
 
 -- one block more is copied
 pub step_copy : (old source : List ℕ) (at count index n j : ℕ) → at ≤ length old → count ≤ length source → 120 * index < count → n ≡ min 120 (count - index * 120) → j ≡ at + 120 * index

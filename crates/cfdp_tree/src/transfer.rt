@@ -93,18 +93,17 @@ impl Run {
         ensures octets { buffer.new ≡ slice_range (octets_in arena.now self.now) at (at + length buffer.old) }
         ensures place { IsAt arena.now self.now result }
     {
-        let end = at + buffer.len();
-        let begin = at / PAYLOAD_OCTETS;
-        let mut cursor = self.find(arena, ways, from, begin as u32);
+        let mut place = at % PAYLOAD_OCTETS;
+        let mut filled = 0;
+        let mut cursor = self.find(arena, ways, from, (at / PAYLOAD_OCTETS) as u32);
         let mut last = cursor;
-        for index in begin..(end + PAYLOAD_OCTETS - 1) / PAYLOAD_OCTETS {
-            let block_start = index * PAYLOAD_OCTETS;
-            let start = at.max(block_start);
-            let stop = end.min(block_start + PAYLOAD_OCTETS);
-            let part = &mut buffer[start - at..stop - at];
-            self.get_in(arena, &cursor, start - block_start, part);
+        'parts: while filled < buffer.len() {
+            let stop = buffer.len().min(filled + (PAYLOAD_OCTETS - place));
+            self.get_in(arena, &cursor, place, &mut buffer[filled..stop]);
             last = cursor;
             cursor = self.after(arena, &cursor);
+            filled = stop;
+            place = 0;
         }
         last
     }

@@ -1,12 +1,16 @@
-use Rattle.std.proofs.Common.{◌≡◌, take, drop}
+use Rattle.std.proofs.Common.{◌≡◌, ◌+◌, ◌-◌, ◌*◌, ◌<◌, ◌≤◌, take, drop, length}
 use Rattle.cfdp_tree.specs.Runs.{IsAt, octets_in}
-use Rattle.cfdp_tree.proofs.Octets.{reached}
 use Rattle.cfdp_tree.proofs.runs.Run.read.Given as goal
 
-abbrev pub invariant-loop-index : goal.invariant-loop-index
-invariant-loop-index l = record {
-  octets : take (reached l.at l.end l.index) l.buffer ≡ take (reached l.at l.end l.index) (drop l.at (octets_in l.arena l.self));
+abbrev pub invariant-parts : goal.invariant-parts
+invariant-parts l = record {
+  within : l.filled ≤ length l.fn.buffer;
+  octets : take l.filled l.buffer ≡ take l.filled (drop l.at (octets_in l.arena l.self));
   place : IsAt l.arena l.self l.cursor;
-  index : l.cursor.index ≡ l.index;
+  inside : l.place < 120;
+  next : l.filled < length l.fn.buffer → 120 * l.cursor.index + l.place ≡ l.at + l.filled;
   last : IsAt l.arena l.self l.last;
 }
+
+abbrev pub decreases-parts : goal.decreases-parts
+decreases-parts l = length l.buffer - l.filled
