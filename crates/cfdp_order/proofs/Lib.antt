@@ -1,0 +1,11 @@
+pub mod Counts
+pub mod TreeLaws
+pub mod HeightLaws
+pub mod TurnLaws
+pub mod SplitLaws
+pub mod GrowthLaws
+pub mod SearchLaws
+pub mod TestLaws
+pub mod ShrinkLaws
+pub mod SortedLaws
+pub mod MemberLaws

@@ -1,0 +1,41 @@
+//! What is true of orders, whatever the code does. Each function does nothing: its contract is a law over the
+//! definitions of `specs/`.
+ghost use Rattle.cfdp_order.specs.Laws.{FewLevels, NoLevels, NodesOnce, NodesWithin, OtherOrdersStay, SortedStays, SplitsOfSorted};
+
+/// An order of no levels has no nodes.
+pub fn no_levels()
+    ensures { NoLevels }
+{}
+
+/// An order has at least so many nodes for its levels: 0 for none, 1 for one, and for more levels 1 more than for one
+/// level less and for two levels less. So an order of at most 65,536 nodes has at most 22 levels.
+pub fn few_levels()
+    ensures { FewLevels }
+{}
+
+/// Each node of an order has links, and an order has no more nodes than there are links.
+pub fn nodes_within()
+    ensures { NodesWithin }
+{}
+
+/// No two nodes of an order are equal.
+pub fn nodes_once()
+    ensures { NodesOnce }
+{}
+
+/// An order stays while the links of its nodes stay.
+pub fn other_orders_stay()
+    ensures { OtherOrdersStay }
+{}
+
+/// The nodes of a list, of which those before what is sought come first, split there. So do those of a list, of which
+/// those after what is sought come last.
+pub fn splits_of_sorted()
+    ensures { SplitsOfSorted }
+{}
+
+/// A list whose nodes rise by a comparison of two nodes still does with one node more between the lesser and the greater
+/// ones, and with one node less.
+pub fn sorted_stays()
+    ensures { SortedStays }
+{}
