@@ -8,3 +8,4 @@ pub mod Rounds
 pub mod Reached
 pub mod Rows
 pub mod Closing
+pub mod Concluding

@@ -223,7 +223,7 @@ quiet_ack R now h ack s here known =
     (quiet_ack_stage R L h ack s s.stage here refl known))
     (kept_quiet R (id_of h) s false here)
 
-roused_is : (R : State) (s : SessionFields) →
+pub roused_is : (R : State) (s : SessionFields) →
     ((Turning.roused R s).stage ≡ s.stage) × ((Turning.roused R s).header ≡ s.header) × ((Turning.roused R s).timer.count ≤ s.timer.count)
 roused_is R s =
     cond_both (Dues.is_receiving_at (at_of R.world s)) (record s { timer = restarted R.now }) s

@@ -1,3 +1,4 @@
 pub mod Awaiting
 pub mod NakRounds
 pub mod Closing
+pub mod Concluding

@@ -2,6 +2,7 @@
 
 ghost use Rattle.cfdp_progress.specs.Awaiting.{AwaitingAwaits, AnsweredTurns, StaysDelivered};
 ghost use Rattle.cfdp_progress.specs.Closing.{ClosedAfterLosses};
+ghost use Rattle.cfdp_progress.specs.Concluding.{ConcludedWhenDone, FinishedIsSent};
 ghost use Rattle.cfdp_progress.specs.NakRounds.{DeliveredAfterRounds, DeliveredAfterLosses};
 
 /// What an entry in Awaiting is, over an entity that began without transactions and whatever came: its session is known, its EOF PDU came with a
@@ -54,6 +55,21 @@ pub fn delivered_after_losses()
     cfdp_transactions::laws::next_is_promised();
     cfdp_retransmission::laws::whole_after_losses();
 }
+
+/// A transaction takes no file data any more, as one whose file was delivered. Whatever comes then, once no transaction has an item to be performed
+/// and of none is the outcome to be handed out, one of the inputs has handed out its outcome.
+pub fn concluded_when_done()
+    ensures { ConcludedWhenDone }
+{
+    cfdp_transactions::laws::next_is_sound();
+    cfdp_transactions::laws::next_is_promised();
+}
+
+/// In acknowledged mode its Finished PDU is sent then, unless it was abandoned, and its session waits for the acknowledgement, with no expiry
+/// counted.
+pub fn finished_is_sent()
+    ensures { FinishedIsSent }
+{}
 
 /// A Finished PDU was sent, and its session waits for the acknowledgement. A round begins when its ACK timer expires below the limit, so that the
 /// same octets are sent again. The sender acknowledges each Finished PDU that it gets. After one round more than PDUs are lost, the first one

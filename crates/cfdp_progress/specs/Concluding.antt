@@ -1,0 +1,47 @@
+-- What follows once the file of a transaction was delivered: its items are performed, and its outcome is handed out
+-- (CCSDS 727.0-B-5 §4.6.1 and §4.9).
+--     has_nothing_left R        no transaction has an item to be performed, and of none is the outcome to be handed out
+--     WasConcluded R inputs id  one of the inputs hands out its outcome
+--     ConcludedWhenDone         so it is when nothing is left, whatever came
+--     FinishedIsSent            in acknowledged mode its Finished PDU is sent then, and its session waits
+use Rattle.std.specs.Prelude.{◌≡◌, ℕ, Bool, true, false, not, ◌&&◌, List, [], ◌∷◌, ◌++◌, Some, is_some}
+use Rattle.cfdp_status.specs.declared.transaction.TransactionId.{TransactionId}
+use Rattle.cfdp_sessions.specs.Sessions.{SessionFields, name_of, AreDistinct}
+use Rattle.cfdp_sessions.specs.declared.session.Stage.TheVariants.{Known, Waiting}
+use Rattle.cfdp_transactions.specs.Entry.{Entry, takes_data}
+use Rattle.cfdp_transactions.specs.Sound.{Sound}
+use Rattle.cfdp_transactions.specs.World.{entry_of, next_runnable}
+use Rattle.cfdp_transactions.specs.Writable.{finished_octets}
+use Rattle.cfdp_receiver.specs.State.{State, Input, Finish, session_of}
+use Rattle.cfdp_receiver.specs.Due.{first_over}
+use Rattle.cfdp_receiver.specs.Turning.{outcome_for, parts, after, after_all}
+
+abbrev pub has_nothing_left : State → Bool
+has_nothing_left R = not (is_some (next_runnable R.world.table)) && not (is_some (first_over R.world R.sessions))
+
+pub record WasConcluded (R : State) (inputs : List Input) (id : TransactionId) : Type 0 where
+  pub front : List Input
+  pub moment : ℕ
+  pub back : List Input
+  pub parts : inputs ≡ front ++ Finish moment ∷ back
+  pub session : SessionFields
+  pub over : first_over (after_all R front).world (after_all R front).sessions ≡ Some session
+  pub named : name_of session ≡ id
+
+-- of a transaction that takes no file data any more: its file was delivered, or it has none, or it ended otherwise
+abbrev pub ConcludedWhenDone : Type 0
+ConcludedWhenDone =
+    (R : State) (inputs : List Input) (id : TransactionId) (session : SessionFields) (entry : Entry) →
+    Sound R.world → AreDistinct R.sessions → session_of R id ≡ Some session → session.stage ≡ Known →
+    entry_of R.world id ≡ Some entry → takes_data entry.phase ≡ false → has_nothing_left (after_all R inputs) ≡ true →
+    WasConcluded R inputs id
+
+-- of a session that was not abandoned
+abbrev pub FinishedIsSent : Type 0
+FinishedIsSent =
+    (R : State) (moment : ℕ) (session : SessionFields) (entry : Entry) →
+    AreDistinct R.sessions → first_over R.world R.sessions ≡ Some session → session.is_abandoned ≡ false →
+    session.header.acknowledged ≡ true → entry_of R.world (name_of session) ≡ Some entry → entry.header.acknowledged ≡ true →
+    ((parts R (Finish moment)).answer.finished ≡ finished_octets (outcome_for session (Some entry)) ∷ [])
+    × ((waiting : SessionFields) × (session_of (after R (Finish moment)) (name_of session) ≡ Some waiting)
+    × (waiting.stage ≡ Waiting) × (waiting.timer.count ≡ 0))
