@@ -104,7 +104,7 @@ kept_cancel R L rs id s Waiting same here w = ap (λ (ss : List SessionFields). 
 
 -- ---- its acknowledgement
 
-remembers_it : (c : ClosedFields) (id : TransactionId) → remembers (with_name c id) id ≡ true
+pub remembers_it : (c : ClosedFields) (id : TransactionId) → remembers (with_name c id) id ≡ true
 remembers_it c id = or_left (is_same id id) (list_any (λ (name : TransactionId). is_same name id) (take 255 c.names)) (same_self id)
 
 own_ack : (R : State) (now : ℕ) (h : Header) (ack : Ack) (s : SessionFields) → AreDistinct R.sessions → session_of R (id_of h) ≡ Some s →
@@ -253,11 +253,11 @@ turn_of R ForgetAsked id s d here w none = Stays here refl
 still_waits : (R : State) (id : TransactionId) (s : SessionFields) → session_of R id ≡ Some s → s.stage ≡ Waiting → waits_in (session_of R id) ≡ true
 still_waits R id s here w = ap waits_in here ∙ ap is_waiting w
 
-closed_later : (R : State) (i : Input) (is : List Input) (id : TransactionId) → WasClosed (Turning.after R i) is id → WasClosed R (i ∷ is) id
+pub closed_later : (R : State) (i : Input) (is : List Input) (id : TransactionId) → WasClosed (Turning.after R i) is id → WasClosed R (i ∷ is) id
 closed_later R i is id w =
     record { front = i ∷ w.front; back = w.back; parts = ap (λ (xs : List Input). i ∷ xs) w.parts; gone = w.gone; remembered = w.remembered }
 
-closed_after : (R : State) (xs ys : List Input) (id : TransactionId) → WasClosed (Turning.after_all R xs) ys id → WasClosed R (xs ++ ys) id
+pub closed_after : (R : State) (xs ys : List Input) (id : TransactionId) → WasClosed (Turning.after_all R xs) ys id → WasClosed R (xs ++ ys) id
 closed_after R [] ys id w = w
 closed_after R (x ∷ xs) ys id w = closed_later R x (xs ++ ys) id (closed_after (Turning.after R x) xs ys id w)
 
@@ -265,7 +265,7 @@ joined : (xs ys zs : List Input) → (xs ++ ys) ++ zs ≡ xs ++ (ys ++ zs)
 joined [] ys zs = refl
 joined (x ∷ xs) ys zs = ap (λ (ws : List Input). x ∷ ws) (joined xs ys zs)
 
-closed_before : (R : State) (xs ys : List Input) (id : TransactionId) → WasClosed R xs id → WasClosed R (xs ++ ys) id
+pub closed_before : (R : State) (xs ys : List Input) (id : TransactionId) → WasClosed R xs id → WasClosed R (xs ++ ys) id
 closed_before R xs ys id w =
     record {
       front = w.front;
@@ -281,10 +281,10 @@ or_none true b h k = absurd cc
 or_none false b h k = k
 
 -- closed, or as before and not acknowledged
-abbrev Over : State → List Input → TransactionId → SessionFields → Type 0
+abbrev pub Over : State → List Input → TransactionId → SessionFields → Type 0
 Over R inputs id s = WasClosed R inputs id ⊎ ((session_of (Turning.after_all R inputs) id ≡ Some s) × (is_acknowledged R id inputs ≡ false))
 
-over : (R : State) (inputs : List Input) (id : TransactionId) (s : SessionFields) → AreDistinct R.sessions → session_of R id ≡ Some s → s.stage ≡ Waiting →
+pub over : (R : State) (inputs : List Input) (id : TransactionId) (s : SessionFields) → AreDistinct R.sessions → session_of R id ≡ Some s → s.stage ≡ Waiting →
     IsSentOnce R id inputs → Over R inputs id s
 over R [] id s d here w none = inr (here, refl)
 over R (i ∷ is) id s d here w none = elim (turn_of R i id s d here w (none.0 (still_waits R id s here w))) [
@@ -334,11 +334,11 @@ resent R id s moment d here served =
 
 -- ---- all rounds
 
-abbrev AreLow : List FinishedRound → Type 0
+abbrev pub AreLow : List FinishedRound → Type 0
 AreLow rounds = AllByRecursion (λ round. round.is_at_limit ≡ false) rounds
 
 -- each round begins below the limit; or the limit is above what is lost
-abbrev Safe : ℕ → ℕ → List FinishedRound → Type 0
+abbrev pub Safe : ℕ → ℕ → List FinishedRound → Type 0
 Safe limit count rounds = AreLow rounds ⊎ (count + 1 + rounds_lost rounds < limit)
 
 is_low : (R : State) (id : TransactionId) (s : SessionFields) (round : FinishedRound) (rounds : List FinishedRound) → AreDistinct R.sessions →
@@ -356,12 +356,12 @@ safe_rest limit count round rounds (inl low) lost = inl low.1
 safe_rest limit count round rounds (inr room) lost = inr (omega (arith, room, ap one_if lost))
 
 -- what was not acknowledged was lost
-is_lost_by : (R : State) (id : TransactionId) (lost : Bool) (rest : List Input) → (lost ≡ false → is_acknowledged R id rest ≡ true) →
+pub is_lost_by : (R : State) (id : TransactionId) (lost : Bool) (rest : List Input) → (lost ≡ false → is_acknowledged R id rest ≡ true) →
     is_acknowledged R id rest ≡ false → lost ≡ true
 is_lost_by R id true rest comes none = refl
 is_lost_by R id false rest comes none = absurd (both_of (is_acknowledged R id rest) none (comes refl))
 
-rounds_close : (mib : Mib) (R : State) (id : TransactionId) (s : SessionFields) (rounds : List FinishedRound) → R.mib ≡ mib → AreDistinct R.sessions →
+pub rounds_close : (mib : Mib) (R : State) (id : TransactionId) (s : SessionFields) (rounds : List FinishedRound) → R.mib ≡ mib → AreDistinct R.sessions →
     session_of R id ≡ Some s → s.stage ≡ Waiting → AreFinishedRounds R id rounds →
     Safe mib.ack.limit s.timer.count rounds → rounds_lost rounds < length rounds → WasClosed R (flat_map finished_inputs rounds) id
 rounds_close mib R id s [] same d here w are safe enough = absurd (omega (arith, enough))

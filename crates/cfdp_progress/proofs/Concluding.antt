@@ -484,7 +484,7 @@ left_none R id s here known p none =
           (overs R.world R.sessions s (found_member R.sessions id s here) (ap Dues.is_over (at_is R id s p here known ∙ over)))
     ]
 
-concluded_later : (R : State) (i : Input) (is : List Input) (id : TransactionId) → WasConcluded (Turning.after R i) is id → WasConcluded R (i ∷ is) id
+pub concluded_later : (R : State) (i : Input) (is : List Input) (id : TransactionId) → WasConcluded (Turning.after R i) is id → WasConcluded R (i ∷ is) id
 concluded_later R i is id w =
     record { front = i ∷ w.front; moment = w.moment; back = w.back; parts = ap (λ (xs : List Input). i ∷ xs) w.parts; session = w.session; over = w.over; named = w.named }
 

@@ -9,3 +9,4 @@ pub mod Reached
 pub mod Rows
 pub mod Closing
 pub mod Concluding
+pub mod InAll

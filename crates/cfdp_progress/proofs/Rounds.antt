@@ -80,12 +80,12 @@ within_sent most size rs sent some answers =
 
 -- ---- the rounds so far, as those of the pure procedure
 
-record SoFar (most : ℕ) (rs : Received) (eof : Eof) (done : List (List Sending)) (e : Entry) : Type 0 where
-  some : 1 ≤ most
-  few : pieces rs ≤ 32
-  fits : length rs ≤ eof.size
-  rounds : AreRounds most eof.size rs done
-  received : after_rounds rs done ≡ e.received
+pub record SoFar (most : ℕ) (rs : Received) (eof : Eof) (done : List (List Sending)) (e : Entry) : Type 0 where
+  pub some : 1 ≤ most
+  pub few : pieces rs ≤ 32
+  pub fits : length rs ≤ eof.size
+  pub rounds : AreRounds most eof.size rs done
+  pub received : after_rounds rs done ≡ e.received
 
 rounds_more : (most size : ℕ) (rs : Received) (done : List (List Sending)) (sent : List Sending) → AreRounds most size rs done →
     AnswersInOrder (asked most size (after_rounds rs done)) sent →
@@ -118,7 +118,7 @@ one_more most rs eof done e new sent so answers kept = record {
 }
 
 -- as long as it waits, no more rounds were made than pieces are lost, and the spare one
-not_enough : WholeAfterLosses →
+pub not_enough : WholeAfterLosses →
     (R : State) (id : TransactionId) (e : Entry) (eof : Eof) (s : SessionFields) (most : ℕ) (rs : Received) (done : List (List Sending)) → Sound R.world →
     Before R id e eof s →
     SoFar most rs eof done e → length done ≤ lost_in done + spare_round rs
@@ -131,7 +131,7 @@ not_enough whole R id e eof s most rs done sound b so = elim (cases_lt (lost_in 
 
 -- ---- one round, once it began
 
-round_goes : NextIsSound → NextIsPromised →
+pub round_goes : NextIsSound → NextIsPromised →
     (N : State) (id : TransactionId) (e : Entry) (eof : Eof) (s : SessionFields) (requests : List Range) (sent : List Sending) (rest : List Input) →
     Sound N.world → AreDistinct N.sessions →
     Before N id e eof s → Within eof.size (arrived sent) → AreAnswered N id requests sent rest →
@@ -141,22 +141,22 @@ round_goes next_sound promised N id e eof s requests sent rest sound d b within 
     (over_inputs next_sound promised N rest id e eof s sound d b a.goes_on (subst (Within eof.size) (sym a.come) within))
 
 -- the pieces that answer what was asked for, or none where it was not heard
-within_heard : (most size : ℕ) (rs : Received) (naks : List NakFields) (heard : Bool) (sent : List Sending) → 1 ≤ most →
+pub within_heard : (most size : ℕ) (rs : Received) (naks : List NakFields) (heard : Bool) (sent : List Sending) → 1 ≤ most →
     requests_of naks ≡ asked most size rs → AnswersInOrder (heard_requests heard naks) sent → Within size (arrived sent)
 within_heard most size rs naks true sent some asks answers =
     within_sent most size rs sent some (subst (λ (requests : List Range). AnswersInOrder requests sent) asks answers)
 within_heard most size rs naks false sent some asks answers = subst (λ (ss : List Sending). Within size (arrived ss)) (sym answers) tt
 
 -- the rounds that were heard, and how many were not
-abbrev done_after : Bool → List (List Sending) → List Sending → List (List Sending)
+abbrev pub done_after : Bool → List (List Sending) → List Sending → List (List Sending)
 done_after true done sent = done ++ sent ∷ []
 done_after false done sent = done
 
-abbrev unheard_after : Bool → ℕ → ℕ
+abbrev pub unheard_after : Bool → ℕ → ℕ
 unheard_after true unheard = unheard
 unheard_after false unheard = unheard + 1
 
-so_far_after : (most : ℕ) (rs : Received) (eof : Eof) (done : List (List Sending)) (e new : Entry) (naks : List NakFields) (heard : Bool)
+pub so_far_after : (most : ℕ) (rs : Received) (eof : Eof) (done : List (List Sending)) (e new : Entry) (naks : List NakFields) (heard : Bool)
     (sent : List Sending) → SoFar most rs eof done e → requests_of naks ≡ asked most eof.size e.received →
     AnswersInOrder (heard_requests heard naks) sent → new.received ≡ keep_all e.received (arrived sent) → SoFar most rs eof (done_after heard done sent) new
 so_far_after most rs eof done e new naks true sent so asks answers kept =
@@ -169,12 +169,12 @@ so_far_after most rs eof done e new naks false sent so asks answers kept = recor
   received = so.received ∙ sym (kept ∙ ap (λ (ss : List Sending). keep_all e.received (arrived ss)) answers);
 }
 
-lost_after : (heard : Bool) (done : List (List Sending)) (sent : List Sending) (unheard : ℕ) →
+pub lost_after : (heard : Bool) (done : List (List Sending)) (sent : List Sending) (unheard : ℕ) →
     lost_in (done_after heard done sent) + unheard_after heard unheard ≡ lost_in done + unheard + lost_of heard sent
 lost_after true done sent unheard = omega (arith, lost_more done sent)
 lost_after false done sent unheard = omega arith
 
-count_after : (heard : Bool) (done : List (List Sending)) (sent : List Sending) (unheard : ℕ) →
+pub count_after : (heard : Bool) (done : List (List Sending)) (sent : List Sending) (unheard : ℕ) →
     length (done_after heard done sent) + unheard_after heard unheard ≡ length done + unheard + 1
 count_after true done sent unheard = omega (arith, length_more done sent)
 count_after false done sent unheard = omega arith
@@ -197,18 +197,27 @@ safe_rest limit count later rs done unheard round rounds (inr counted) few =
           (arith, counted.1, lost_after round.is_heard done round.sent unheard),
     )
 
-is_below : WholeAfterLosses →
+-- below the limit, or the limit is above what was lost so far
+abbrev pub Room : Bool → ℕ → ℕ → Received → List (List Sending) → ℕ → Type 0
+Room is_at_limit limit count rs done unheard =
+    (is_at_limit ≡ false) ⊎ ((count + 1 ≤ length done + unheard) × (lost_in done + unheard + spare_round rs < limit))
+
+pub is_below : WholeAfterLosses →
     (R : State) (id : TransactionId) (e : Entry) (eof : Eof) (s : SessionFields) (most : ℕ) (rs : Received) (done : List (List Sending)) (unheard : ℕ)
-    (round : NakRound) (rounds : List NakRound) → Sound R.world → AreDistinct R.sessions →
-    Before R id e eof s → SoFar most rs eof done e → Safe R.mib.nak.limit s.timer.count rs done unheard (round ∷ rounds) →
-    IsServed R id round.moment round.is_at_limit → round.is_at_limit ≡ false
-is_below whole R id e eof s most rs done unheard round rounds sound d b so (inl below) served = below.0
-is_below whole R id e eof s most rs done unheard round rounds sound d b so (inr counted) served = elim (cases_Bool round.is_at_limit) [
+    (moment : ℕ) (is_at_limit : Bool) → Sound R.world → AreDistinct R.sessions → Before R id e eof s → SoFar most rs eof done e →
+    Room is_at_limit R.mib.nak.limit s.timer.count rs done unheard → IsServed R id moment is_at_limit → is_at_limit ≡ false
+is_below whole R id e eof s most rs done unheard moment is_at_limit sound d b so (inl below) served = below
+is_below whole R id e eof s most rs done unheard moment is_at_limit sound d b so (inr counted) served = elim (cases_Bool is_at_limit) [
   | inl limit ↦
-      let full = limit_is_full R id e eof s round.moment d b (subst (IsServed R id round.moment) limit served) in
+      let full = limit_is_full R id e eof s moment d b (subst (IsServed R id moment) limit served) in
       absurd (omega (arith, full, counted.0, counted.1, not_enough whole R id e eof s most rs done sound b so))
   | inr below ↦ below
 ]
+
+room_of : (limit count : ℕ) (rs : Received) (done : List (List Sending)) (unheard : ℕ) (round : NakRound) (rounds : List NakRound) →
+    Safe limit count rs done unheard (round ∷ rounds) → Room round.is_at_limit limit count rs done unheard
+room_of limit count rs done unheard round rounds (inl below) = inl below.0
+room_of limit count rs done unheard round rounds (inr counted) = inr (counted.0, omega (arith, counted.1))
 
 rounds_go : NextIsSound → NextIsPromised → WholeAfterLosses →
     (mib : Mib) (R : State) (id : TransactionId) (rounds : List NakRound) (e : Entry) (eof : Eof) (s : SessionFields) (rs : Received)
@@ -226,9 +235,10 @@ rounds_go next_sound promised whole mib R id (round ∷ rounds) e eof s rs done 
     let heard = round.is_heard in
     let naks = (parts R i).answer.naks in
     let is = are.0 (still_awaits R id e eof s b) in
+    let room = room_of mib.nak.limit s.timer.count rs done unheard round rounds safe in
     let low : round.is_at_limit ≡ false =
-    is_below whole R id e eof s most rs done unheard round rounds sound d b so
-    (subst (λ (m : Mib). Safe m.nak.limit s.timer.count rs done unheard (round ∷ rounds)) (sym same) safe) is.served in
+    is_below whole R id e eof s most rs done unheard round.moment round.is_at_limit sound d b so
+    (subst (λ (m : Mib). Room round.is_at_limit m.nak.limit s.timer.count rs done unheard) (sym same) room) is.served in
     let opened = open_expire R id e eof s round.moment d b (subst (IsServed R id round.moment) low is.served) in
     let asks : requests_of naks ≡ asked most eof.size e.received = opened.asks ∙ ap (λ (m : Mib). asked (most_requests m) eof.size e.received) same in
     let sound_now = run_sound next_sound R.world (handed R i) sound in

@@ -173,7 +173,7 @@ answered_turns next_sound promised whole R inputs id e eof sound d a on within k
 
 -- ---- once it is delivered
 
-takes_none : (phase : Phase) → (phase ≡ Executing 0) ⊎ (phase ≡ Ended 5) → takes_data phase ≡ false
+pub takes_none : (phase : Phase) → (phase ≡ Executing 0) ⊎ (phase ≡ Ended 5) → takes_data phase ≡ false
 takes_none phase (inl e) = ap takes_data e
 takes_none phase (inr e) = ap takes_data e
 

@@ -2,3 +2,4 @@ pub mod Awaiting
 pub mod NakRounds
 pub mod Closing
 pub mod Concluding
+pub mod InAll

@@ -3,6 +3,7 @@
 ghost use Rattle.cfdp_progress.specs.Awaiting.{AwaitingAwaits, AnsweredTurns, StaysDelivered};
 ghost use Rattle.cfdp_progress.specs.Closing.{ClosedAfterLosses};
 ghost use Rattle.cfdp_progress.specs.Concluding.{ConcludedWhenDone, FinishedIsSent};
+ghost use Rattle.cfdp_progress.specs.InAll.{ClosedInAll};
 ghost use Rattle.cfdp_progress.specs.NakRounds.{DeliveredAfterRounds, DeliveredAfterLosses};
 
 /// What an entry in Awaiting is, over an entity that began without transactions and whatever came: its session is known, its EOF PDU came with a
@@ -78,3 +79,17 @@ pub fn finished_is_sent()
 pub fn closed_after_losses()
     ensures { ClosedAfterLosses }
 {}
+
+/// From the EOF PDU until the session is closed. A round begins with the EOF PDU, or when the timer of the session is served; the driver has items
+/// performed and outcomes handed out before it ends. In each round the sender answers NAK PDUs in the order of their requests, and acknowledges the
+/// Finished PDU; the channel loses pieces, NAK PDUs, Finished PDUs and acknowledgements. If both limits are above what is lost in all, the session is
+/// closed after two rounds more than is lost, at the latest. One round more is needed where 32 parts are there without the octet at offset 0.
+pub fn closed_in_all()
+    ensures { ClosedInAll }
+{
+    cfdp_transactions::laws::only_take_removes();
+    cfdp_transactions::laws::take_removes();
+    cfdp_transactions::laws::next_is_sound();
+    cfdp_transactions::laws::next_is_promised();
+    cfdp_retransmission::laws::whole_after_losses();
+}
