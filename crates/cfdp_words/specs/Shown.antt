@@ -40,7 +40,7 @@ use Rattle.cfdp_words.specs.declared.style.Style.TheVariants.{Text, Json}
 
 abbrev pub opening : Style → Kind → ℕ → List ℕ
 opening Text kind len = kind_words kind ++ codes " PDU, " ++ decimal len ++ codes " octets\n"
-opening Json kind len = codes "{\"pdu\":\"" ++ kind_words kind ++ codes "\",\"octets\":" ++ decimal len
+opening Json kind len = codes "{\"kind\":\"" ++ kind_words kind ++ codes "\",\"octets\":" ++ decimal len
 
 abbrev pub closing : Style → List ℕ
 closing Text = []

@@ -52,7 +52,7 @@ fn push_opening(style: Style, kind: Kind, len: usize, text: &mut Vec<u8>) -> Res
             text.extend_from_slice(b" octets\n")
         }
         Style::Json => {
-            text.extend_from_slice(b"{\"pdu\":\"")?;
+            text.extend_from_slice(b"{\"kind\":\"")?;
             text.extend_from_slice(kind.words())?;
             text.extend_from_slice(b"\",\"octets\":")?;
             push_decimal(len as u64, text)

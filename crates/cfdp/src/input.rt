@@ -1,0 +1,49 @@
+//! The input of a command: a file, or standard input.
+
+use crate::end::End;
+use crate::found::Found;
+use crate::{hexadecimal, octets, pcap};
+use std::alloc::Global;
+use std::fs;
+use std::io::{Error, ErrorKind, Read};
+use std::rt::Files;
+
+/// What a fault of reading is to the program.
+fn end_of(error: &Error) -> End {
+    match error.kind() {
+        ErrorKind::OutOfMemory => End::Memory,
+        _ => End::Read,
+    }
+}
+
+/// All that an input has.
+fn read_all<I: Read + Drop>(alloc: Global, input: I) -> Result<Vec<u8>, End> {
+    let mut octets = Vec::new(alloc);
+    let mut input = input;
+    match input.read_to_end(&mut octets) {
+        Ok(_) => Ok(octets),
+        Err(error) => Err(end_of(&error)),
+    }
+}
+
+/// All that a file has, or standard input without one.
+pub fn read<R: AllocGlobal + Files + Input>(rt: &R, path: Option<&str>) -> Result<Vec<u8>, End> {
+    match path {
+        None => read_all(rt.alloc(), rt.reader()),
+        Some(path) => match fs::open(rt, path) {
+            Ok(file) => read_all(rt.alloc(), file),
+            Err(error) => Err(end_of(&error)),
+        },
+    }
+}
+
+/// The PDUs of an input: of a capture, in hexadecimal, or as octets.
+pub fn find(alloc: Global, input: &[u8]) -> Result<Vec<Found>, End> {
+    if pcap::is_capture(input) {
+        pcap::read(alloc, input)
+    } else if hexadecimal::is_text(input) {
+        hexadecimal::read(alloc, input)
+    } else {
+        octets::read(alloc, input)
+    }
+}

@@ -1,0 +1,43 @@
+//! `cfdp`: tools for people who plan, run and look at file transfers by CFDP (CCSDS 727.0-B-5).
+//!
+//! `cfdp show [--json] [FILE]` prints what PDUs say, a block of lines or a JSON value for each. It reads a file, or standard
+//! input without one: PDUs in hexadecimal, one a line; PDUs one after the other, as octets; or a capture in the pcap
+//! format, with PDUs in UDP datagrams or of their own link type.
+//!
+//! What goes wrong is said on standard error, and by the exit status: 1 for a fault of reading, writing or memory, 2 for
+//! unknown words, 3 for a line that is not hexadecimal.
+#![tactic(auto)]
+
+mod end;
+mod found;
+mod hexadecimal;
+mod input;
+mod octets;
+mod pcap;
+mod show;
+mod words;
+
+use end::End;
+use std::process::ExitCode;
+use std::rt::{Env, Files};
+use words::{Asked, parse};
+
+fn main(rt: HostRuntime) -> ExitCode {
+    match run(&rt) {
+        Ok(()) => ExitCode::SUCCESS,
+        Err(end) => {
+            // Where standard error cannot be written either, the status has to do.
+            let _ = eprintln!(rt; "cfdp: {end}");
+            ExitCode::from(end.status())
+        }
+    }
+}
+
+/// Does what the words of the command line ask for.
+fn run<R: AllocGlobal + Env + Files + Input + Print>(rt: &R) -> Result<(), End> {
+    let words = words::read(rt)?;
+    match parse(rt.alloc(), &words)? {
+        Asked::Help(text) => show::print(rt, text.as_bytes()),
+        Asked::Show(style, path) => show::run(rt, style, path),
+    }
+}

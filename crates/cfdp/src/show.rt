@@ -1,0 +1,55 @@
+//! `cfdp show`: what PDUs say.
+
+use crate::end::End;
+use crate::found::{Found, Place};
+use crate::input;
+use cfdp_words::{Style, show};
+use std::alloc::Global;
+use std::io;
+use std::io::Write;
+use std::rt::Files;
+
+/// Prints octets to standard output.
+pub fn print<R: Print>(rt: &R, octets: &[u8]) -> Result<(), End> {
+    let mut out = io::writer(rt);
+    match out.write_all(octets) {
+        Ok(()) => Ok(()),
+        Err(_) => Err(End::Write),
+    }
+}
+
+/// The lines of a PDU: for people where it begins and what it says, else both in one JSON value.
+fn block(alloc: Global, style: Style, found: &mut Found) -> Result<Vec<u8>, End> {
+    let place = found.place;
+    let said = show(alloc, style, &mut found.octets)?;
+    let mut text = match (style, place) {
+        (Style::Text, _) => format!(in alloc; "{place}: ")?,
+        (Style::Json, Place::Line(number)) => format!(in alloc; "{{\"line\":{number},\"pdu\":")?,
+        (Style::Json, Place::Offset(offset)) => format!(in alloc;
+            "{{\"offset\":{offset},\"pdu\":"
+        )?,
+        (Style::Json, Place::Frame(number)) => format!(in alloc; "{{\"frame\":{number},\"pdu\":")?,
+    }
+    .into_bytes();
+    match style {
+        Style::Text => text.extend_from_slice(&said)?,
+        Style::Json => {
+            text.extend_from_slice(said.strip_suffix(b"\n").unwrap_or(&said))?;
+            text.extend_from_slice(b"}\n")?;
+        }
+    }
+    Ok(text)
+}
+
+/// Prints what the PDUs of a file say, or of standard input without one.
+pub fn run<R: AllocGlobal + Files + Input + Print>(
+    rt: &R,
+    style: Style,
+    path: Option<&str>,
+) -> Result<(), End> {
+    let octets = input::read(rt, path)?;
+    for mut found in input::find(rt.alloc(), &octets)? {
+        print(rt, &block(rt.alloc(), style, &mut found)?)?;
+    }
+    Ok(())
+}

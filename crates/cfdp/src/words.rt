@@ -1,0 +1,82 @@
+//! The words of the command line.
+
+use crate::end::End;
+use cfdp_words::Style;
+use clap::error::ErrorKind;
+use clap::{Arg, ArgAction, ArgMatches, Command, Error};
+use std::alloc::{AllocError, Global};
+use std::rt::Env;
+use std::{env, io};
+
+/// What the words ask for.
+#[derive(Drop)]
+pub enum Asked<'a> {
+    /// To print this help, or the version.
+    Help(String),
+    /// To show the PDUs of this file, or of standard input without one.
+    Show(Style, Option<&'a str>),
+}
+
+/// The words of the command line.
+pub fn read<R: AllocGlobal + Env>(rt: &R) -> Result<Vec<String>, End> {
+    let words = match env::args(rt) {
+        Ok(words) => words,
+        Err(error) if error.kind() == io::ErrorKind::OutOfMemory => return Err(End::Memory),
+        Err(_) => return Err(End::Words(String::from_str(rt.alloc(), "a word is no text")?)),
+    };
+    Ok(words.collect(rt.alloc())?)
+}
+
+/// The words that the program knows.
+fn program<'a>(alloc: Global) -> Result<Command<'a>, AllocError> {
+    let json = Arg::new(alloc, "json")
+        .long("json")
+        .action(ArgAction::SetTrue)
+        .help("One JSON value for each PDU");
+    let file = Arg::new(alloc, "FILE").help(
+        "PDUs in hexadecimal, as octets, or a pcap capture; else standard input",
+    );
+    let show = Command::new(alloc, "show")
+        .about("Prints what PDUs say")
+        .arg(json)?
+        .arg(file)?;
+    Command::new(alloc, "cfdp")
+        .about("File transfers by CFDP (CCSDS 727.0-B-5)")
+        .version("0.1.0")
+        .subcommand_required(true)
+        .subcommand(show)
+}
+
+/// What these words ask for, of which the first is the program's own name.
+pub fn parse<'a>(alloc: Global, words: &'a [String]) -> Result<Asked<'a>, End> {
+    match matches(alloc, words) {
+        Ok(matches) => Ok(asked_by(&matches)),
+        Err(error) => refused(alloc, &error),
+    }
+}
+
+/// What is found in the words.
+fn matches<'a>(alloc: Global, words: &'a [String]) -> Result<ArgMatches<'a>, Error> {
+    let program = program(alloc)?;
+    program.try_get_matches_from(words)
+}
+
+/// What is said where the words are no command: help, or why not.
+fn refused<'a>(alloc: Global, error: &Error) -> Result<Asked<'a>, End> {
+    match error.kind() {
+        ErrorKind::OutOfMemory => Err(End::Memory),
+        ErrorKind::DisplayHelp | ErrorKind::DisplayVersion => {
+            Ok(Asked::Help(format!(in alloc; "{error}")?))
+        }
+        _ => Err(End::Words(format!(in alloc; "{error}")?)),
+    }
+}
+
+/// What the words ask for in which these matches were found.
+fn asked_by<'a>(matches: &ArgMatches<'a>) -> Asked<'a> {
+    match matches.subcommand_matches("show") {
+        Some(found) if found.get_flag("json") => Asked::Show(Style::Json, found.get_str("FILE")),
+        Some(found) => Asked::Show(Style::Text, found.get_str("FILE")),
+        None => Asked::Show(Style::Text, None),
+    }
+}
