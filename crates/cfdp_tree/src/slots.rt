@@ -1,5 +1,5 @@
 //! A staged list with the position of its last write, and with what of it was never written.
-ghost use Rattle.std.specs.Prelude.{◌≡◌, ℕ, ◌+◌, ◌/◌, ◌≤◌, List, length, slice_range};
+ghost use Rattle.std.specs.Prelude.{◌≡◌, ℕ, ◌+◌, ◌-◌, ◌/◌, ◌≤◌, List, length, max, min, slice_range};
 ghost use Rattle.cfdp_arena.specs.Arena.{free_count};
 ghost use Rattle.cfdp_actions.specs.Filestore.{blocks_of};
 ghost use Rattle.cfdp_actions.specs.Store.{extended, overwritten};
@@ -136,8 +136,11 @@ impl Slot {
     /// between the octets before them and them, whichever is longer.
     fn gap_after(&self, at: usize, end: usize) -> Gap
         requires ordered { self.now.gap.from ≤ self.now.gap.to }
-        ensures { (octets part : List ℕ) → length octets ≡ self.now.contents.size → at + length part ≡ end
+        ensures blank { (octets part : List ℕ) → length octets ≡ self.now.contents.size → at + length part ≡ end
             → end ≤ length octets → IsUnwritten octets self.now → IsBlank (overwritten octets at part) result }
+        ensures before { min self.now.gap.to at - self.now.gap.from ≤ result.to - result.from }
+        ensures after { self.now.gap.to - max self.now.gap.from end ≤ result.to - result.from }
+        ensures skipped { at - self.now.blank_from ≤ result.to - result.from }
     {
         let skipped = Gap {
             from: self.blank_from,

@@ -46,6 +46,6 @@ returns-clause-placed c =
       place = put.place;
       unwritten = same_octets _ _ _ put.octets (record {
         end = end_written octets part at (blank_end slot) _ (omega (arith, r.range, long)) known.end (omega (arith, c.max-self.ensures)) (omega (arith, c.max-self.ensures)) (omega (arith, c.max-self.ensures, known.end.ordered, r.range, put.size)) put.size;
-        gap = c.gap_after-self.ensures octets part (long ∙ sym put.size) refl (omega (arith, r.range, long)) (same_unwritten octets slot _ put.size refl refl known);
+        gap = c.gap_after-self.ensures.blank octets part (long ∙ sym put.size) refl (omega (arith, r.range, long)) (same_unwritten octets slot _ put.size refl refl known);
       });
     }
