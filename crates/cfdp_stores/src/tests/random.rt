@@ -45,7 +45,12 @@ impl Random {
     }
 
     /// Two names for what is asked, rather two at which it is not refused.
-    fn names(&mut self, alloc: Global, store: &ListStore, task: Task) -> Result<Names, Memory> {
+    fn names<S: Filestore>(
+        &mut self,
+        alloc: Global,
+        store: &S,
+        task: Task,
+    ) -> Result<Names, Memory> {
         let is_directory = task.is_of_directories();
         let mut names = (self.name(is_directory), self.name(is_directory));
         for _ in 0..self.below(16) {
@@ -141,7 +146,12 @@ impl Task {
     }
 
     /// Whether it is refused at the names; what is not an action, where no file stands.
-    fn is_refused(self, alloc: Global, store: &ListStore, names: Names) -> Result<bool, Memory> {
+    fn is_refused<S: Filestore>(
+        self,
+        alloc: Global,
+        store: &S,
+        names: Names,
+    ) -> Result<bool, Memory> {
         match self {
             Task::Perform(action) => is_refused(alloc, store, action, names),
             _ => Ok(size(store, &parsed(alloc, names.0)?).is_none()),
@@ -243,10 +253,10 @@ struct Operation {
 
 impl Random {
     /// The next operation; its list of octets is to have 119, 120, 121, or any number up to five blocks of them.
-    fn operation(
+    fn operation<S: Filestore>(
         &mut self,
         alloc: Global,
-        store: &ListStore,
+        store: &S,
         work: &Work,
         reach: Reach,
     ) -> Result<Operation, Memory> {
@@ -400,14 +410,15 @@ fn all_unstaged<S: Filestore>(alloc: Global, store: &mut S) -> Result<Vec<Answer
     Ok(all)
 }
 
-/// The two stores.
+/// The two stores: one of lists, and one in a tree. What is done to them is written for any two stores, so that it is proved
+/// without what is true of these two.
 #[derive(Drop)]
-struct Pair {
-    lists: ListStore,
-    tree: TreeStore,
+struct Pair<L, T> {
+    lists: L,
+    tree: T,
 }
 
-impl Pair {
+impl<L: Filestore, T: Filestore> Pair<L, T> {
     /// Asks both: whether they answer the same, and say the same then.
     fn agrees_on(&mut self, alloc: Global, operation: &Operation) -> Result<bool, Memory> {
         let asked = operation.asked();
@@ -454,13 +465,13 @@ impl Pair {
 
 /// A script, and how far it has come.
 #[derive(Drop)]
-struct Script {
+struct Script<L, T> {
     random: Random,
     reach: Reach,
-    pair: Pair,
+    pair: Pair<L, T>,
 }
 
-impl Script {
+impl<L: Filestore, T: Filestore> Script<L, T> {
     /// One operation: both stores give the same answer.
     fn go_on(&mut self, rt: &impl Abort, alloc: Global, work: &Work) -> Result<(), Memory> {
         let operation = self
