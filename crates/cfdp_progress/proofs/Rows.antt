@@ -1,24 +1,35 @@
--- A worked run, which the check computes: the middle of a file comes, then its EOF PDU. Of the two pieces that are asked for the channel loses the
--- first. In the second round it loses the NAK PDU, and in the third it brings the piece. So 2 PDUs are lost, and the NAK limit is 3.
+-- A worked run, which the check computes: the middle of a file comes, then its EOF PDU, with a wrong checksum. Of the two pieces that are asked for
+-- the channel loses the first. In the second round it loses the NAK PDU, and in the third it brings the piece; the outcome is handed out, and the
+-- Finished PDU is lost. In the fourth round that is sent again, and acknowledged. So 3 PDUs are lost, both limits are 4, and the session is closed
+-- before the fifth round.
 use Rattle.std.specs.Prelude.{codes}
-use Rattle.std.proofs.Common.{inl, ℕ, Bool, true, false, [], ◌∷◌, Option, Some, None, refl, arith}
+use Rattle.std.specs.List.{flat_map}
+use Rattle.std.proofs.Common.{◌≡◌, inl, inr, ℕ, Bool, true, false, [], ◌∷◌, ◌++◌, Option, Some, None, refl, arith}
 use Rattle.cfdp_actions.specs.Filestore.{empty_filestore, blocks_of}
 use Rattle.cfdp_actions.specs.Actions.{Install}
 use Rattle.cfdp_checksum.specs.Checksum.{weighed_from}
+use Rattle.cfdp_pdus.specs.Canonical.{finished_field}
+use Rattle.cfdp_pdus.specs.declared.eof.Eof.{Eof}
 use Rattle.cfdp_retransmission.specs.Rounds.{Sending}
 use Rattle.cfdp_retransmission.specs.Timers.{restarted}
 use Rattle.cfdp_sessions.specs.Sessions.{SessionFields}
-use Rattle.cfdp_sessions.specs.declared.session.Stage.TheVariants.{Known}
+use Rattle.cfdp_sessions.specs.declared.session.Stage.TheVariants.{Known, Waiting}
 use Rattle.cfdp_transactions.specs.Admission.{new_entry}
 use Rattle.cfdp_transactions.specs.Entry.{Entry}
+use Rattle.cfdp_transactions.specs.Sound.{Sound}
 use Rattle.cfdp_transactions.specs.World.{entry_of}
 use Rattle.cfdp_transactions.specs.declared.phase.Phase.TheVariants.{Receiving}
 use Rattle.cfdp_transactions.proofs.ExampleWords.{config}
-use Rattle.cfdp_receiver.specs.State.{State, Input, DataPdu, EofPdu, Expire, session_of}
+use Rattle.cfdp_receiver.specs.declared.mib.Handler.TheVariants as handlers
+use Rattle.cfdp_receiver.specs.declared.mib.Mib.{Mib}
+use Rattle.cfdp_receiver.specs.State.{State, Input, DataPdu, EofPdu, AckPdu, Finish, session_of}
+use Rattle.cfdp_receiver.specs.Laws.{AreKnown}
 use Rattle.cfdp_receiver.specs.Turning.{after, after_all}
-use Rattle.cfdp_receiver.proofs.RowWords.{mib, header, id, M, D, E}
+use Rattle.cfdp_receiver.proofs.RowWords.{mib, header, id, M, D, E, finished_ack, pdu_of}
 use Rattle.cfdp_progress.specs.Awaiting.{IsDelivered}
-use Rattle.cfdp_progress.specs.NakRounds.{FirstRound, IsFirstRound, NakRound, AreNakRounds, all_inputs}
+use Rattle.cfdp_progress.specs.NakRounds.{FirstRound, IsFirstRound}
+use Rattle.cfdp_progress.specs.InAll.{EitherRound, inputs_of, IsWatched, IsEitherRound, AreEitherRounds, ClosedInAll}
+use Rattle.cfdp_progress.specs.Closing.{WasClosed}
 
 abbrev admitted : Entry
 admitted = new_entry (header 5) M Receiving 0 (Install (codes "f" ∷ []) ∷ []) 2 2
@@ -26,11 +37,18 @@ admitted = new_entry (header 5) M Receiving 0 (Install (codes "f" ∷ []) ∷ []
 abbrev known : SessionFields
 known = record { header = header 5; stage = Known; timer = restarted 0; alive_at = 0; cause = None; is_abandoned = false; finished = [] }
 
+-- both limits are 4
+abbrev patient : Mib
+patient = record mib {
+  ack = record { interval = 10; limit = 4; at_limit = handlers.Cancel };
+  nak = record { interval = 10; limit = 4; at_limit = handlers.Cancel };
+}
+
 -- its Metadata PDU came
 abbrev described : State
 described = record {
   world = record { config = config; filestore = empty_filestore; table = admitted ∷ [] };
-  mib = mib;
+  mib = patient;
   now = 0;
   sessions = known ∷ [];
   closed = record { names = []; forgot = false };
@@ -42,17 +60,33 @@ data_at moment low high = DataPdu moment (header 5) (D low high)
 abbrev sending : ℕ → ℕ → Bool → Sending
 sending low high lost = record { piece = (low, (D low high).octets); is_lost = lost }
 
+abbrev wrong : Eof
+wrong = record E { checksum = 0 }
+
 abbrev middle : State
 middle = after described (data_at 0 4 8)
 
 abbrev first : FirstRound
-first = record { opening = EofPdu 1 (header 5) E; is_heard = true; sent = sending 0 4 true ∷ sending 8 15 false ∷ []; rest = data_at 2 8 15 ∷ [] }
+first = record { opening = EofPdu 1 (header 5) wrong; is_heard = true; sent = sending 0 4 true ∷ sending 8 15 false ∷ []; rest = data_at 2 8 15 ∷ [] }
 
-abbrev second : NakRound
-second = record { moment = 12; is_at_limit = false; is_heard = false; sent = []; rest = [] }
+abbrev second : EitherRound
+second = record { moment = 12; is_at_limit = false; is_heard = false; sent = []; is_lost = false; rest = [] }
 
-abbrev third : NakRound
-third = record { moment = 22; is_at_limit = false; is_heard = true; sent = sending 0 4 false ∷ []; rest = data_at 23 0 4 ∷ [] }
+abbrev third : EitherRound
+third = record {
+  moment = 22;
+  is_at_limit = false;
+  is_heard = true;
+  sent = sending 0 4 false ∷ [];
+  is_lost = true;
+  rest = data_at 23 0 4 ∷ Finish 23 ∷ [];
+}
+
+abbrev fourth : EitherRound
+fourth = record { moment = 33; is_at_limit = false; is_heard = true; sent = []; is_lost = false; rest = AckPdu 34 (header 5) finished_ack ∷ [] }
+
+abbrev fifth : EitherRound
+fifth = record { moment = 43; is_at_limit = false; is_heard = true; sent = []; is_lost = false; rest = [] }
 
 abbrev entry_in : Option Entry → Entry
 entry_in None = admitted
@@ -68,7 +102,7 @@ waiting = after middle first.opening
 abbrev rest : State
 rest = after_all middle (first.opening ∷ first.rest)
 
-first_is : IsFirstRound middle (id 5) first (entry_in (entry_of waiting.world (id 5))) E
+first_is : IsFirstRound middle (id 5) first (entry_in (entry_of waiting.world (id 5))) wrong
 unfolding blocks_of weighed_from
 first_is = record {
   opens = record { ours = refl; named = refl; no_error = refl; session = session_in (session_of middle (id 5)); here = refl; known = refl; receiving = refl };
@@ -87,30 +121,96 @@ first_is = record {
   };
 }
 
-abbrev more : State
-more = after rest (Expire 12)
+abbrev after_second : State
+after_second = after_all rest (inputs_of second)
 
-rounds_are : AreNakRounds rest (id 5) (second ∷ third ∷ [])
+abbrev after_third : State
+after_third = after_all after_second (inputs_of third)
+
+abbrev after_fourth : State
+after_fourth = after_all after_third (inputs_of fourth)
+
+first_watched : IsWatched false waiting (id 5) first.rest
 unfolding blocks_of weighed_from
-rounds_are = (
-  (λ q. record {
+first_watched = record { acknowledged = ((λ c. absurd cc), tt); once = ((λ q. refl), tt); done = refl }
+
+second_is : IsEitherRound rest (id 5) second
+unfolding blocks_of weighed_from
+second_is = record {
+  asks = λ q. record {
     served = record { session = session_in (session_of rest (id 5)); due = refl; named = refl };
     answered = record { in_order = refl; come = refl; goes_on = tt; once = tt };
-  }),
-  (
-    (λ q. record {
-      served = record { session = session_in (session_of more (id 5)); due = refl; named = refl };
-      answered = record {
-        in_order = (sending 0 4 false ∷ [], [], refl, (refl, refl), refl);
-        come = refl;
-        goes_on = ((λ x. refl), tt);
-        once = ((λ x. refl), tt);
-      };
-    }),
-    tt,
-  ),
-)
+  };
+  closes = λ q. absurd cc;
+  watched = record { acknowledged = tt; once = tt; done = refl };
+}
 
-delivered : IsDelivered (after_all rest (all_inputs (second ∷ third ∷ []))).world (id 5)
+third_is : IsEitherRound after_second (id 5) third
+unfolding blocks_of weighed_from finished_field
+third_is = record {
+  asks = λ q. record {
+    served = record { session = session_in (session_of after_second (id 5)); due = refl; named = refl };
+    answered = record {
+      in_order = (sending 0 4 false ∷ [], [], refl, (refl, refl), refl);
+      come = refl;
+      goes_on = ((λ x. refl), ((λ x. refl), tt));
+      once = ((λ x. refl), ((λ x. refl), tt));
+    };
+  };
+  closes = λ q. absurd cc;
+  watched = record { acknowledged = ((λ c. absurd cc), ((λ c lost. absurd cc), tt)); once = ((λ x. refl), ((λ x. refl), tt)); done = refl };
+}
+
+-- its Finished PDU: file checksum failure
+abbrev failed : SessionFields
+failed = record {
+  header = header 5;
+  stage = Waiting;
+  timer = restarted 23;
+  alive_at = 0;
+  cause = None;
+  is_abandoned = false;
+  finished = pdu_of 5 (0x54 ∷ 6 ∷ 1 ∷ 2 ∷ []);
+}
+
+third_ends : after_third.sessions ≡ failed ∷ []
+unfolding blocks_of weighed_from finished_field
+third_ends = refl
+
+fourth_is : IsEitherRound after_third (id 5) fourth
+unfolding blocks_of weighed_from finished_field
+fourth_is = record {
+  asks = λ q. absurd cc;
+  closes = λ q. record {
+    served = record { session = failed; due = refl; named = refl };
+    answered = record { comes = λ kept. refl; once = ((λ x. refl), tt) };
+  };
+  watched = record { acknowledged = ((λ c. absurd cc), tt); once = ((λ x. refl), tt); done = refl };
+}
+
+fifth_is : IsEitherRound after_fourth (id 5) fifth
+unfolding blocks_of weighed_from finished_field
+fifth_is = record { asks = λ q. absurd cc; closes = λ q. absurd cc; watched = record { acknowledged = tt; once = tt; done = refl } }
+
+all_are : AreEitherRounds rest (id 5) (second ∷ third ∷ fourth ∷ fifth ∷ [])
+all_are = (second_is, (third_is, (fourth_is, (fifth_is, tt))))
+
+-- so the law says that the session is closed
+told : ClosedInAll → Sound middle.world → AreKnown middle → WasClosed middle (first.opening ∷ first.rest ++ flat_map inputs_of (second ∷ third ∷ fourth ∷ fifth ∷ [])) (id 5)
 unfolding blocks_of weighed_from
-delivered = record { entry = entry_in (entry_of (after_all rest (all_inputs (second ∷ third ∷ []))).world (id 5)); here = refl; phase = inl refl }
+told law sound known =
+    law middle (id 5) first false (second ∷ third ∷ fourth ∷ fifth ∷ []) (entry_in (entry_of waiting.world (id 5))) wrong sound (refl, tt) known (omega arith) first_is first_watched all_are
+    (inr (omega arith, omega arith)) (omega arith)
+
+closed : session_of after_fourth (id 5) ≡ None
+unfolding blocks_of weighed_from finished_field
+closed = refl
+
+-- with the right checksum
+delivered : IsDelivered (after_all middle (EofPdu 1 (header 5) E ∷ data_at 2 8 15 ∷ data_at 3 0 4 ∷ [])).world (id 5)
+unfolding blocks_of weighed_from
+delivered = record {
+  entry = entry_in (entry_of (after_all middle (EofPdu 1 (header 5) E ∷ data_at 2 8 15 ∷ data_at 3 0 4 ∷ [])).world (id 5));
+  here = refl;
+  phase = inl refl;
+}
