@@ -284,7 +284,8 @@ or_none false b h k = k
 abbrev pub Over : State → List Input → TransactionId → SessionFields → Type 0
 Over R inputs id s = WasClosed R inputs id ⊎ ((session_of (Turning.after_all R inputs) id ≡ Some s) × (is_acknowledged R id inputs ≡ false))
 
-pub over : (R : State) (inputs : List Input) (id : TransactionId) (s : SessionFields) → AreDistinct R.sessions → session_of R id ≡ Some s → s.stage ≡ Waiting →
+pub over : (R : State) (inputs : List Input) (id : TransactionId) (s : SessionFields) → AreDistinct R.sessions → session_of R id ≡ Some s →
+    s.stage ≡ Waiting →
     IsSentOnce R id inputs → Over R inputs id s
 over R [] id s d here w none = inr (here, refl)
 over R (i ∷ is) id s d here w none = elim (turn_of R i id s d here w (none.0 (still_waits R id s here w))) [

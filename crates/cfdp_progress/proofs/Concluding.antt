@@ -69,17 +69,20 @@ put_past W V id e new here name table past = record {
   past = past;
 }
 
-ends_past : (W : World) (id : TransactionId) (e other : Entry) (condition : ℕ) (reply : Reply) → entry_of W id ≡ Some e → Entries.name_of other ≡ Entries.name_of e →
+ends_past : (W : World) (id : TransactionId) (e other : Entry) (condition : ℕ) (reply : Reply) → entry_of W id ≡ Some e →
+    Entries.name_of other ≡ Entries.name_of e →
     Own id (ends W (index_of W id) other condition, reply)
 ends_past W id e other condition reply here name =
     put_past W (ends W (index_of W id) other condition) id e (ended W.filestore other condition) here name refl refl
 
 -- by the entry that is found
-metadata_past : (W : World) (h : Header) (m : MetadataFields) (id : TransactionId) (o : Option Entry) → Past W id → is_some o ≡ true → Own id (metadata_came W h m o)
+metadata_past : (W : World) (h : Header) (m : MetadataFields) (id : TransactionId) (o : Option Entry) → Past W id → is_some o ≡ true →
+    Own id (metadata_came W h m o)
 metadata_past W h m id None p there = absurd cc
 metadata_past W h m id (Some e) p there = p
 
-data_past : (W : World) (id : TransactionId) (piece : FileDataFields) (e : Entry) → Past W id → takes_data e.phase ≡ false → Own id (data_came W (index_of W id) piece (Some e))
+data_past : (W : World) (id : TransactionId) (piece : FileDataFields) (e : Entry) → Past W id → takes_data e.phase ≡ false →
+    Own id (data_came W (index_of W id) piece (Some e))
 data_past W id piece e p past = subst (Own id) (sym (cond-false (takes_data e.phase) (data_at W (index_of W id) e piece) (W, Reply.Idle) past)) p
 
 receives_not : (phase : Phase) → takes_data phase ≡ false → not (is_receiving phase) ≡ true
@@ -90,7 +93,8 @@ receives_not Refused h = refl
 receives_not Done h = refl
 receives_not (Ended condition) h = refl
 
-eof_past : (W : World) (id : TransactionId) (eof : Eof) (e : Entry) → Past W id → entry_of W id ≡ Some e → takes_data e.phase ≡ false → Own id (eof_came W (index_of W id) eof (Some e))
+eof_past : (W : World) (id : TransactionId) (eof : Eof) (e : Entry) → Past W id → entry_of W id ≡ Some e → takes_data e.phase ≡ false →
+    Own id (eof_came W (index_of W id) eof (Some e))
 eof_past W id eof e p here past =
     let k = index_of W id in
     let last : World × Reply = if not (is_receiving e.phase) then (W, Reply.Duplicate) else eof_at W k e eof in
@@ -104,12 +108,14 @@ past_before : (n : ℕ) (items : List Item) → takes_data (phase_before n items
 past_before n [] = refl
 past_before n (item ∷ items) = refl
 
-step_at_past : (W : World) (id : TransactionId) (e : Entry) (n : ℕ) (items : List Item) → Past W id → entry_of W id ≡ Some e → Own id (step_at W (index_of W id) e n items)
+step_at_past : (W : World) (id : TransactionId) (e : Entry) (n : ℕ) (items : List Item) → Past W id → entry_of W id ≡ Some e →
+    Own id (step_at W (index_of W id) e n items)
 step_at_past W id e n [] p here = p
 step_at_past W id e n (item ∷ items) p here =
     let k = index_of W id in
     let o = act_now W e item in
-    cond_both (succeeded o.answer) (change_at W k o.changes (entry_after e n item items o), replied o.answer) (ends W k (entry_failed e o) 4, replied o.answer) (Own id)
+    cond_both (succeeded o.answer) (change_at W k o.changes (entry_after e n item items o), replied o.answer)
+    (ends W k (entry_failed e o) 4, replied o.answer) (Own id)
     (λ q. put_past W (change_at W k o.changes (entry_after e n item items o)) id e (entry_after e n item items o) here refl refl (past_before (suc n) items))
     (λ q. ends_past W id e (entry_failed e o) 4 (replied o.answer) here refl)
 
@@ -123,7 +129,8 @@ step_past W id e (Ended condition) p here = p
 
 cancel_past : (W : World) (id : TransactionId) (e : Entry) → Past W id → entry_of W id ≡ Some e → Own id (cancelled W (index_of W id) (Some e))
 cancel_past W id e p here =
-    cond_both (is_live e.phase) (ends W (index_of W id) e 15, Reply.Cancelled) (W, Reply.Idle) (Own id) (λ q. ends_past W id e e 15 Reply.Cancelled here refl) (λ q. p)
+    cond_both (is_live e.phase) (ends W (index_of W id) e 15, Reply.Cancelled) (W, Reply.Idle) (Own id)
+    (λ q. ends_past W id e e 15 Reply.Cancelled here refl) (λ q. p)
 
 ours_past : (W : World) (h : Header) (id : TransactionId) (answer : World × Reply) → Past W id → Own id answer →
     Own id (if h.destination == W.config.entity then answer else (W, Reply.NotForUs))
@@ -154,142 +161,173 @@ cancel_next W id p = subst (λ (o : Option Entry). Own id (cancelled W (index_of
 -- ---- its session
 
 -- known, and with its entry
-record Stands (V : World) (ss : List SessionFields) (id : TransactionId) : Type 0 where
+record KnownStill (V : World) (ss : List SessionFields) (id : TransactionId) : Type 0 where
   session : SessionFields
   here : found ss id ≡ Some session
   known : session.stage ≡ Known
   past : Past V id
 
-kept_stands : (R : State) (V : World) (id : TransactionId) (s : SessionFields) → session_of R id ≡ Some s → s.stage ≡ Known → Past V id → Stands V R.sessions id
-kept_stands R V id s here known past = record { session = s; here = here; known = known; past = past }
+kept_still : (R : State) (V : World) (id : TransactionId) (s : SessionFields) → session_of R id ≡ Some s → s.stage ≡ Known → Past V id →
+    KnownStill V R.sessions id
+kept_still R V id s here known past = record { session = s; here = here; known = known; past = past }
 
-put_stands : (R : State) (V : World) (id : TransactionId) (s t : SessionFields) → session_of R id ≡ Some s → s.stage ≡ Known → t.header ≡ s.header → t.stage ≡ s.stage → Past V id → Stands V (replaced R.sessions t) id
-put_stands R V id s t here known header stage past =
+put_still : (R : State) (V : World) (id : TransactionId) (s t : SessionFields) → session_of R id ≡ Some s → s.stage ≡ Known → t.header ≡ s.header →
+    t.stage ≡ s.stage → Past V id → KnownStill V (replaced R.sessions t) id
+put_still R V id s t here known header stage past =
     let name : name_of t ≡ id = ap id_of header ∙ found_name R.sessions id s here in
     record { session = t; here = replaced_self R.sessions t id (s, here) name; known = stage ∙ known; past = past }
 
-heard_stands : (R L : State) (U V : World) (id : TransactionId) (s : SessionFields) → session_of R id ≡ Some s → s.stage ≡ Known → Past V id → Stands V (replaced R.sessions (Turning.heard L U s)) id
-heard_stands R L U V id s here known past = let h = heard_is L U s in put_stands R V id s (Turning.heard L U s) here known h.1 h.0 past
+heard_still : (R L : State) (U V : World) (id : TransactionId) (s : SessionFields) → session_of R id ≡ Some s → s.stage ≡ Known → Past V id →
+    KnownStill V (replaced R.sessions (Turning.heard L U s)) id
+heard_still R L U V id s here known past = let h = heard_is L U s in put_still R V id s (Turning.heard L U s) here known h.1 h.0 past
 
-stands_if : (W : World) (id : TransactionId) (b : Bool) (es : List Event) (p q : Turning.Parts) → Stands (run W es) p.sessions id → Stands W q.sessions id →
-    Stands (run W (if b then es else [])) (if b then p else q).sessions id
-stands_if W id true es p q hp hq = hp
-stands_if W id false es p q hp hq = hq
+still_if : (W : World) (id : TransactionId) (b : Bool) (es : List Event) (p q : Turning.Parts) → KnownStill (run W es) p.sessions id → KnownStill W q.sessions id →
+    KnownStill (run W (if b then es else [])) (if b then p else q).sessions id
+still_if W id true es p q hp hq = hp
+still_if W id false es p q hp hq = hq
 
-stands_either : (V : World) (id : TransactionId) (b : Bool) (p q : Turning.Parts) → Stands V p.sessions id → Stands V q.sessions id → Stands V (if b then p else q).sessions id
-stands_either V id true p q hp hq = hp
-stands_either V id false p q hp hq = hq
+still_either : (V : World) (id : TransactionId) (b : Bool) (p q : Turning.Parts) → KnownStill V p.sessions id → KnownStill V q.sessions id →
+    KnownStill V (if b then p else q).sessions id
+still_either V id true p q hp hq = hp
+still_either V id false p q hp hq = hq
 
 -- ---- inputs of its own
 
 abbrev After : State → Input → TransactionId → Type 0
-After R i id = Stands (Turning.after R i).world (Turning.after R i).sessions id
+After R i id = KnownStill (Turning.after R i).world (Turning.after R i).sessions id
 
-metadata_stage : (R L : State) (U : World) (rs : List Reply) (h : Header) (m : MetadataFields) (s : SessionFields) (stage : Stage) → L.sessions ≡ R.sessions → session_of R (id_of h) ≡ Some s → s.stage ≡ Known → Past R.world (id_of h) →
-    stage ≡ Known → Stands (run R.world (Handing.metadata_in_stage h m s stage)) (Turning.metadata_stage L U rs h m s stage).sessions (id_of h)
+metadata_stage : (R L : State) (U : World) (rs : List Reply) (h : Header) (m : MetadataFields) (s : SessionFields) (stage : Stage) →
+    L.sessions ≡ R.sessions → session_of R (id_of h) ≡ Some s → s.stage ≡ Known → Past R.world (id_of h) →
+    stage ≡ Known → KnownStill (run R.world (Handing.metadata_in_stage h m s stage)) (Turning.metadata_stage L U rs h m s stage).sessions (id_of h)
 metadata_stage R L U rs h m s (Held eof) same here known p k = absurd cc
 metadata_stage R L U rs h m s Known same here known p k =
-    subst (λ (ss : List SessionFields). Stands (next R.world (MetadataCame h m)).0 (replaced ss (Turning.heard L U s)) (id_of h)) (sym same)
-    (heard_stands R L U (next R.world (MetadataCame h m)).0 (id_of h) s here known (metadata_next R.world h m p))
+    subst (λ (ss : List SessionFields). KnownStill (next R.world (MetadataCame h m)).0 (replaced ss (Turning.heard L U s)) (id_of h)) (sym same)
+    (heard_still R L U (next R.world (MetadataCame h m)).0 (id_of h) s here known (metadata_next R.world h m p))
 metadata_stage R L U rs h m s (OverStage ending) same here known p k = absurd cc
 metadata_stage R L U rs h m s Waiting same here known p k = absurd cc
 
-own_metadata : (R : State) (now : ℕ) (h : Header) (m : MetadataFields) (s : SessionFields) → session_of R (id_of h) ≡ Some s → s.stage ≡ Known → Past R.world (id_of h) → After R (MetadataPdu now h m) (id_of h)
+own_metadata : (R : State) (now : ℕ) (h : Header) (m : MetadataFields) (s : SessionFields) → session_of R (id_of h) ≡ Some s → s.stage ≡ Known →
+    Past R.world (id_of h) → After R (MetadataPdu now h m) (id_of h)
 own_metadata R now h m s here known p =
     let i = MetadataPdu now h m in
     let L = Handing.later now R in
     let U = run R.world (Handing.handed R i) in
     let rs = replies R.world (Handing.handed R i) in
-    stands_if R.world (id_of h) (Handing.is_ours L h) (Handing.metadata_events L h m (session_of L (id_of h))) (Turning.metadata_parts L U rs h m (session_of L (id_of h))) (Turning.keeps L (Turning.quiet (Turning.foreign h)))
-    (subst (λ (o : Option SessionFields). Stands (run R.world (Handing.metadata_events L h m o)) (Turning.metadata_parts L U rs h m o).sessions (id_of h)) (sym here)
+    still_if R.world (id_of h) (Handing.is_ours L h) (Handing.metadata_events L h m (session_of L (id_of h)))
+    (Turning.metadata_parts L U rs h m (session_of L (id_of h))) (Turning.keeps L (Turning.quiet (Turning.foreign h)))
+    (subst (λ (o : Option SessionFields). KnownStill (run R.world (Handing.metadata_events L h m o)) (Turning.metadata_parts L U rs h m o).sessions (id_of h))
+    (sym here)
     (metadata_stage R L U rs h m s s.stage refl here known p known))
-    (kept_stands R R.world (id_of h) s here known p)
+    (kept_still R R.world (id_of h) s here known p)
 
-data_stage : (R L : State) (U : World) (rs : List Reply) (h : Header) (piece : FileDataFields) (s : SessionFields) (stage : Stage) → L.sessions ≡ R.sessions → session_of R (id_of h) ≡ Some s → s.stage ≡ Known → Past R.world (id_of h) →
-    stage ≡ Known → Stands (run R.world (Handing.where_known stage (DataCame h piece ∷ []))) (if Turning.is_known stage then Turning.takes_data L U rs h piece s else Turning.keeps L (Turning.said s words.Idle)).sessions (id_of h)
+data_stage : (R L : State) (U : World) (rs : List Reply) (h : Header) (piece : FileDataFields) (s : SessionFields) (stage : Stage) →
+    L.sessions ≡ R.sessions → session_of R (id_of h) ≡ Some s → s.stage ≡ Known → Past R.world (id_of h) →
+    stage ≡ Known →
+    KnownStill (run R.world (Handing.where_known stage (DataCame h piece ∷ [])))
+    (if Turning.is_known stage then Turning.takes_data L U rs h piece s else Turning.keeps L (Turning.said s words.Idle)).sessions (id_of h)
 data_stage R L U rs h piece s (Held eof) same here known p k = absurd cc
 data_stage R L U rs h piece s Known same here known p k =
-    subst (λ (ss : List SessionFields). Stands (next R.world (DataCame h piece)).0 (replaced ss (Turning.heard L U s)) (id_of h)) (sym same)
-    (heard_stands R L U (next R.world (DataCame h piece)).0 (id_of h) s here known (data_next R.world h piece p))
+    subst (λ (ss : List SessionFields). KnownStill (next R.world (DataCame h piece)).0 (replaced ss (Turning.heard L U s)) (id_of h)) (sym same)
+    (heard_still R L U (next R.world (DataCame h piece)).0 (id_of h) s here known (data_next R.world h piece p))
 data_stage R L U rs h piece s (OverStage ending) same here known p k = absurd cc
 data_stage R L U rs h piece s Waiting same here known p k = absurd cc
 
-own_data : (R : State) (now : ℕ) (h : Header) (piece : FileDataFields) (s : SessionFields) → session_of R (id_of h) ≡ Some s → s.stage ≡ Known → Past R.world (id_of h) → After R (DataPdu now h piece) (id_of h)
+own_data : (R : State) (now : ℕ) (h : Header) (piece : FileDataFields) (s : SessionFields) → session_of R (id_of h) ≡ Some s → s.stage ≡ Known →
+    Past R.world (id_of h) → After R (DataPdu now h piece) (id_of h)
 own_data R now h piece s here known p =
     let i = DataPdu now h piece in
     let L = Handing.later now R in
     let U = run R.world (Handing.handed R i) in
     let rs = replies R.world (Handing.handed R i) in
-    stands_if R.world (id_of h) (Handing.is_ours L h) (Handing.of_session (session_of L (id_of h)) (DataCame h piece ∷ [])) (Turning.data_parts L U rs h piece (session_of L (id_of h))) (Turning.keeps L (Turning.quiet (Turning.foreign h)))
-    (subst (λ (o : Option SessionFields). Stands (run R.world (Handing.of_session o (DataCame h piece ∷ []))) (Turning.data_parts L U rs h piece o).sessions (id_of h)) (sym here)
+    still_if R.world (id_of h) (Handing.is_ours L h) (Handing.of_session (session_of L (id_of h)) (DataCame h piece ∷ []))
+    (Turning.data_parts L U rs h piece (session_of L (id_of h))) (Turning.keeps L (Turning.quiet (Turning.foreign h)))
+    (subst (λ (o : Option SessionFields). KnownStill (run R.world (Handing.of_session o (DataCame h piece ∷ []))) (Turning.data_parts L U rs h piece o).sessions
+    (id_of h)) (sym here)
     (data_stage R L U rs h piece s s.stage refl here known p known))
-    (kept_stands R R.world (id_of h) s here known p)
+    (kept_still R R.world (id_of h) s here known p)
 
-eof_stage : (R L : State) (U : World) (rs : List Reply) (h : Header) (eof : Eof) (s : SessionFields) (stage : Stage) → L.sessions ≡ R.sessions → session_of R (id_of h) ≡ Some s → s.stage ≡ Known → Past R.world (id_of h) →
-    stage ≡ Known → Stands (run R.world (Handing.where_known stage (EofCame h eof ∷ []))) (Turning.eof_stage L U rs h eof s stage).sessions (id_of h)
+eof_stage : (R L : State) (U : World) (rs : List Reply) (h : Header) (eof : Eof) (s : SessionFields) (stage : Stage) → L.sessions ≡ R.sessions →
+    session_of R (id_of h) ≡ Some s → s.stage ≡ Known → Past R.world (id_of h) →
+    stage ≡ Known → KnownStill (run R.world (Handing.where_known stage (EofCame h eof ∷ []))) (Turning.eof_stage L U rs h eof s stage).sessions (id_of h)
 eof_stage R L U rs h eof s (Held held) same here known p k = absurd cc
 eof_stage R L U rs h eof s Known same here known p k =
-    subst (λ (ss : List SessionFields). Stands (next R.world (EofCame h eof)).0 (replaced ss (Turning.heard L U s)) (id_of h)) (sym same)
-    (heard_stands R L U (next R.world (EofCame h eof)).0 (id_of h) s here known (eof_next R.world h eof p))
+    subst (λ (ss : List SessionFields). KnownStill (next R.world (EofCame h eof)).0 (replaced ss (Turning.heard L U s)) (id_of h)) (sym same)
+    (heard_still R L U (next R.world (EofCame h eof)).0 (id_of h) s here known (eof_next R.world h eof p))
 eof_stage R L U rs h eof s (OverStage ending) same here known p k = absurd cc
 eof_stage R L U rs h eof s Waiting same here known p k = absurd cc
 
-own_eof : (R : State) (now : ℕ) (h : Header) (eof : Eof) (s : SessionFields) → session_of R (id_of h) ≡ Some s → s.stage ≡ Known → Past R.world (id_of h) → After R (EofPdu now h eof) (id_of h)
+own_eof : (R : State) (now : ℕ) (h : Header) (eof : Eof) (s : SessionFields) → session_of R (id_of h) ≡ Some s → s.stage ≡ Known → Past R.world (id_of h) →
+    After R (EofPdu now h eof) (id_of h)
 own_eof R now h eof s here known p =
     let i = EofPdu now h eof in
     let L = Handing.later now R in
     let U = run R.world (Handing.handed R i) in
     let rs = replies R.world (Handing.handed R i) in
-    stands_if R.world (id_of h) (Handing.is_ours L h) (Handing.of_session (session_of L (id_of h)) (EofCame h eof ∷ [])) (Turning.eof_parts L U rs h eof (session_of L (id_of h))) (Turning.keeps L (Turning.quiet (Turning.foreign h)))
-    (subst (λ (o : Option SessionFields). Stands (run R.world (Handing.of_session o (EofCame h eof ∷ []))) (Turning.eof_parts L U rs h eof o).sessions (id_of h)) (sym here)
+    still_if R.world (id_of h) (Handing.is_ours L h) (Handing.of_session (session_of L (id_of h)) (EofCame h eof ∷ []))
+    (Turning.eof_parts L U rs h eof (session_of L (id_of h))) (Turning.keeps L (Turning.quiet (Turning.foreign h)))
+    (subst (λ (o : Option SessionFields). KnownStill (run R.world (Handing.of_session o (EofCame h eof ∷ []))) (Turning.eof_parts L U rs h eof o).sessions
+    (id_of h)) (sym here)
     (eof_stage R L U rs h eof s s.stage refl here known p known))
-    (kept_stands R R.world (id_of h) s here known p)
+    (kept_still R R.world (id_of h) s here known p)
 
-ack_stage : (R L : State) (h : Header) (ack : Ack) (s : SessionFields) (stage : Stage) → L.sessions ≡ R.sessions → session_of R (id_of h) ≡ Some s → s.stage ≡ Known → Past R.world (id_of h) → stage ≡ Known →
-    Stands R.world (Turning.ack_stage L h ack s stage).sessions (id_of h)
+ack_stage : (R L : State) (h : Header) (ack : Ack) (s : SessionFields) (stage : Stage) → L.sessions ≡ R.sessions → session_of R (id_of h) ≡ Some s →
+    s.stage ≡ Known → Past R.world (id_of h) → stage ≡ Known →
+    KnownStill R.world (Turning.ack_stage L h ack s stage).sessions (id_of h)
 ack_stage R L h ack s (Held eof) same here known p k = absurd cc
-ack_stage R L h ack s Known same here known p k = subst (λ (ss : List SessionFields). Stands R.world ss (id_of h)) (sym same) (kept_stands R R.world (id_of h) s here known p)
+ack_stage R L h ack s Known same here known p k =
+    subst (λ (ss : List SessionFields). KnownStill R.world ss (id_of h)) (sym same) (kept_still R R.world (id_of h) s here known p)
 ack_stage R L h ack s (OverStage ending) same here known p k = absurd cc
 ack_stage R L h ack s Waiting same here known p k = absurd cc
 
-own_ack : (R : State) (now : ℕ) (h : Header) (ack : Ack) (s : SessionFields) → session_of R (id_of h) ≡ Some s → s.stage ≡ Known → Past R.world (id_of h) → After R (AckPdu now h ack) (id_of h)
+own_ack : (R : State) (now : ℕ) (h : Header) (ack : Ack) (s : SessionFields) → session_of R (id_of h) ≡ Some s → s.stage ≡ Known → Past R.world (id_of h) →
+    After R (AckPdu now h ack) (id_of h)
 own_ack R now h ack s here known p =
     let L = Handing.later now R in
-    stands_either R.world (id_of h) (Handing.is_ours L h) (Turning.ack_parts L h ack (session_of L (id_of h))) (Turning.keeps L (Turning.quiet (Turning.foreign h)))
-    (subst (λ (o : Option SessionFields). Stands R.world (Turning.ack_parts L h ack o).sessions (id_of h)) (sym here) (ack_stage R L h ack s s.stage refl here known p known))
-    (kept_stands R R.world (id_of h) s here known p)
+    still_either R.world (id_of h) (Handing.is_ours L h) (Turning.ack_parts L h ack (session_of L (id_of h)))
+    (Turning.keeps L (Turning.quiet (Turning.foreign h)))
+    (subst (λ (o : Option SessionFields). KnownStill R.world (Turning.ack_parts L h ack o).sessions (id_of h)) (sym here)
+    (ack_stage R L h ack s s.stage refl here known p known))
+    (kept_still R R.world (id_of h) s here known p)
 
-own_prompt : (R : State) (now : ℕ) (h : Header) (prompt : Prompt) (s : SessionFields) → session_of R (id_of h) ≡ Some s → s.stage ≡ Known → Past R.world (id_of h) → After R (PromptPdu now h prompt) (id_of h)
+own_prompt : (R : State) (now : ℕ) (h : Header) (prompt : Prompt) (s : SessionFields) → session_of R (id_of h) ≡ Some s → s.stage ≡ Known →
+    Past R.world (id_of h) → After R (PromptPdu now h prompt) (id_of h)
 own_prompt R now h prompt s here known p =
     let L = Handing.later now R in
     let r = roused_is L s in
-    let kept = kept_stands R R.world (id_of h) s here known p in
-    stands_either R.world (id_of h) (Handing.is_ours L h) (Turning.prompt_parts L h prompt (session_of L (id_of h))) (Turning.keeps L (Turning.quiet (Turning.foreign h)))
-    (subst (λ (o : Option SessionFields). Stands R.world (Turning.prompt_parts L h prompt o).sessions (id_of h)) (sym here)
-    (stands_either R.world (id_of h) (s.header.acknowledged && Turning.takes_prompts (at_of L.world s)) (Turning.puts L (Turning.roused L s) (Turning.prompted L h s prompt)) (Turning.keeps L (Turning.said_of h words.Idle))
-    (put_stands R R.world (id_of h) s (Turning.roused L s) here known r.1 r.0 p) kept))
+    let kept = kept_still R R.world (id_of h) s here known p in
+    still_either R.world (id_of h) (Handing.is_ours L h) (Turning.prompt_parts L h prompt (session_of L (id_of h)))
+    (Turning.keeps L (Turning.quiet (Turning.foreign h)))
+    (subst (λ (o : Option SessionFields). KnownStill R.world (Turning.prompt_parts L h prompt o).sessions (id_of h)) (sym here)
+    (still_either R.world (id_of h) (s.header.acknowledged && Turning.takes_prompts (at_of L.world s))
+    (Turning.puts L (Turning.roused L s) (Turning.prompted L h s prompt)) (Turning.keeps L (Turning.said_of h words.Idle))
+    (put_still R R.world (id_of h) s (Turning.roused L s) here known r.1 r.0 p) kept))
     kept
 
-own_other : (R : State) (now : ℕ) (h : Header) (s : SessionFields) → session_of R (id_of h) ≡ Some s → s.stage ≡ Known → Past R.world (id_of h) → After R (OtherPdu now h) (id_of h)
+own_other : (R : State) (now : ℕ) (h : Header) (s : SessionFields) → session_of R (id_of h) ≡ Some s → s.stage ≡ Known → Past R.world (id_of h) →
+    After R (OtherPdu now h) (id_of h)
 own_other R now h s here known p =
     let L = Handing.later now R in
-    let kept = kept_stands R R.world (id_of h) s here known p in
-    stands_either R.world (id_of h) (Handing.is_ours L h) (Turning.keeps L (Turning.quiet became.NotOurs)) (Turning.keeps L (Turning.quiet (Turning.foreign h))) kept kept
+    let kept = kept_still R R.world (id_of h) s here known p in
+    still_either R.world (id_of h) (Handing.is_ours L h) (Turning.keeps L (Turning.quiet became.NotOurs))
+    (Turning.keeps L (Turning.quiet (Turning.foreign h))) kept kept
 
-cancel_stage : (R L : State) (rs : List Reply) (id : TransactionId) (s : SessionFields) (stage : Stage) → L.sessions ≡ R.sessions → session_of R id ≡ Some s → s.stage ≡ Known → Past R.world id → stage ≡ Known →
-    Stands (run R.world (Handing.where_known stage (Cancel id ∷ []))) (Turning.cancel_stage L rs s stage).sessions id
+cancel_stage : (R L : State) (rs : List Reply) (id : TransactionId) (s : SessionFields) (stage : Stage) → L.sessions ≡ R.sessions →
+    session_of R id ≡ Some s → s.stage ≡ Known → Past R.world id → stage ≡ Known →
+    KnownStill (run R.world (Handing.where_known stage (Cancel id ∷ []))) (Turning.cancel_stage L rs s stage).sessions id
 cancel_stage R L rs id s (Held eof) same here known p k = absurd cc
 cancel_stage R L rs id s Known same here known p k =
-    subst (λ (ss : List SessionFields). Stands (next R.world (Cancel id)).0 ss id) (sym same) (kept_stands R (next R.world (Cancel id)).0 id s here known (cancel_next R.world id p))
+    subst (λ (ss : List SessionFields). KnownStill (next R.world (Cancel id)).0 ss id) (sym same)
+    (kept_still R (next R.world (Cancel id)).0 id s here known (cancel_next R.world id p))
 cancel_stage R L rs id s (OverStage ending) same here known p k = absurd cc
 cancel_stage R L rs id s Waiting same here known p k = absurd cc
 
-own_cancel : (R : State) (now : ℕ) (id : TransactionId) (s : SessionFields) → session_of R id ≡ Some s → s.stage ≡ Known → Past R.world id → After R (CancelAsked now id) id
+own_cancel : (R : State) (now : ℕ) (id : TransactionId) (s : SessionFields) → session_of R id ≡ Some s → s.stage ≡ Known → Past R.world id →
+    After R (CancelAsked now id) id
 own_cancel R now id s here known p =
     let i = CancelAsked now id in
     let L = Handing.later now R in
     let rs = replies R.world (Handing.handed R i) in
-    subst (λ (o : Option SessionFields). Stands (run R.world (Handing.of_session o (Cancel id ∷ []))) (Turning.cancel_parts L rs id o).sessions id) (sym here)
+    subst (λ (o : Option SessionFields). KnownStill (run R.world (Handing.of_session o (Cancel id ∷ []))) (Turning.cancel_parts L rs id o).sessions id) (sym here)
     (cancel_stage R L rs id s s.stage refl here known p known)
 
 -- ---- its timer does not run
@@ -303,13 +341,15 @@ past_at Refused h = inr refl
 past_at Done h = inr refl
 past_at (Ended condition) h = inr refl
 
-at_is : (R : State) (id : TransactionId) (s : SessionFields) (p : Past R.world id) → session_of R id ≡ Some s → s.stage ≡ Known → at_of R.world s ≡ at_phase p.entry.phase
+at_is : (R : State) (id : TransactionId) (s : SessionFields) (p : Past R.world id) → session_of R id ≡ Some s → s.stage ≡ Known →
+    at_of R.world s ≡ at_phase p.entry.phase
 at_is R id s p here known =
     ap (λ (stage : Stage). at_stage stage (entry_of R.world (name_of s))) known
     ∙ ap (λ (n : TransactionId). at_entry (entry_of R.world n)) (found_name R.sessions id s here)
     ∙ ap at_entry p.here
 
-no_terms : (mib : Mib) (checks : ℕ) (acknowledged : Bool) (timer : Timer) (at : At) → (at ≡ At_executing) ⊎ (at ≡ At_over) → Dues.terms_at mib checks acknowledged timer at ≡ None
+no_terms : (mib : Mib) (checks : ℕ) (acknowledged : Bool) (timer : Timer) (at : At) → (at ≡ At_executing) ⊎ (at ≡ At_over) →
+    Dues.terms_at mib checks acknowledged timer at ≡ None
 no_terms mib checks true timer at (inl e) = ap (Dues.terms_at mib checks true timer) e
 no_terms mib checks false timer at (inl e) = ap (Dues.terms_at mib checks false timer) e
 no_terms mib checks true timer at (inr e) = ap (Dues.terms_at mib checks true timer) e
@@ -324,20 +364,23 @@ not_due R now id s t here known p at it =
     let L = Handing.later now R in
     ap (Dues.expiry_of L) (sym it) ∙ never_due L s (subst (λ (x : At). (x ≡ At_executing) ⊎ (x ≡ At_over)) (sym (at_is R id s p here known)) at)
 
-due_stands : (R : State) (now : ℕ) (U : World) (id : TransactionId) (s : SessionFields) (due : Dues.Due) → AreDistinct R.sessions → session_of R id ≡ Some s → s.stage ≡ Known → (p : Past R.world id) →
-    (at_phase p.entry.phase ≡ At_executing) ⊎ (at_phase p.entry.phase ≡ At_over) → Dues.first_due (Handing.later now R) R.sessions ≡ due → is_same (due_name due) id ≡ true →
-    Stands (run R.world (Handing.due_events (Handing.later now R) due)) (Turning.due_parts (Handing.later now R) U due).sessions id
-due_stands R now U id s Dues.Nothing_due d here known p at is same = kept_stands R R.world id s here known p
-due_stands R now U id s (Dues.Alive_due t) d here known p at is same =
+due_still : (R : State) (now : ℕ) (U : World) (id : TransactionId) (s : SessionFields) (due : Dues.Due) → AreDistinct R.sessions →
+    session_of R id ≡ Some s → s.stage ≡ Known → (p : Past R.world id) →
+    (at_phase p.entry.phase ≡ At_executing) ⊎ (at_phase p.entry.phase ≡ At_over) → Dues.first_due (Handing.later now R) R.sessions ≡ due →
+    is_same (due_name due) id ≡ true →
+    KnownStill (run R.world (Handing.due_events (Handing.later now R) due)) (Turning.due_parts (Handing.later now R) U due).sessions id
+due_still R now U id s Dues.Nothing_due d here known p at is same = kept_still R R.world id s here known p
+due_still R now U id s (Dues.Alive_due t) d here known p at is same =
     let L = Handing.later now R in
     let it : s ≡ t = is_it R id s t d here (alive_due L R.sessions t is).0 same in
-    subst (λ (y : SessionFields). Stands R.world (replaced R.sessions (record y { alive_at = L.now })) id) it (put_stands R R.world id s (record s { alive_at = L.now }) here known refl refl p)
-due_stands R now U id s (Dues.Stage_due t false) d here known p at is same =
+    subst (λ (y : SessionFields). KnownStill R.world (replaced R.sessions (record y { alive_at = L.now })) id) it
+    (put_still R R.world id s (record s { alive_at = L.now }) here known refl refl p)
+due_still R now U id s (Dues.Stage_due t false) d here known p at is same =
     let L = Handing.later now R in
     let due = stage_due L R.sessions t false is in
     let never : NotDue ≡ Again = sym (not_due R now id s t here known p at (is_it R id s t d here due.0 same)) ∙ due.1 in
     absurd cc
-due_stands R now U id s (Dues.Stage_due t true) d here known p at is same =
+due_still R now U id s (Dues.Stage_due t true) d here known p at is same =
     let L = Handing.later now R in
     let due = stage_due L R.sessions t true is in
     let never : NotDue ≡ Limit = sym (not_due R now id s t here known p at (is_it R id s t d here due.0 same)) ∙ due.1 in
@@ -347,12 +390,14 @@ due_stands R now U id s (Dues.Stage_due t true) d here known p at is same =
 
 -- its outcome is handed out, or it goes on
 data Turned (R : State) (i : Input) (id : TransactionId) : Type 0 where
-  Concludes : (moment : ℕ) → (is : i ≡ Finish moment) → (s : SessionFields) → (over : Dues.first_over R.world R.sessions ≡ Some s) → (named : name_of s ≡ id) → Turned R i id
-  Goes_on : (stands : After R i id) → Turned R i id
+  Concludes : (moment : ℕ) → (is : i ≡ Finish moment) → (s : SessionFields) → (over : Dues.first_over R.world R.sessions ≡ Some s) →
+      (named : name_of s ≡ id) → Turned R i id
+  Goes_on : (still : After R i id) → Turned R i id
 
-other_stands : NextIsSound → NextIsPromised → (R : State) (i : Input) (id : TransactionId) (s : SessionFields) → Sound R.world → session_of R id ≡ Some s → s.stage ≡ Known → Past R.world id → is_work i ≡ false → is_same (touched R i) id ≡ false →
+other_still : NextIsSound → NextIsPromised → (R : State) (i : Input) (id : TransactionId) (s : SessionFields) → Sound R.world → session_of R id ≡ Some s →
+    s.stage ≡ Known → Past R.world id → is_work i ≡ false → is_same (touched R i) id ≡ false →
     After R i id
-other_stands next_sound promised R i id s sound here known p w other = record {
+other_still next_sound promised R i id s sound here known p w other = record {
   session = s;
   here = others_stay R i id other ∙ here;
   known = known;
@@ -360,62 +405,70 @@ other_stands next_sound promised R i id s sound here known p w other = record {
 }
 
 -- a PDU of its own, or of another transaction
-pdu_stands : NextIsSound → NextIsPromised → (R : State) (i : Input) (h : Header) (id : TransactionId) (s : SessionFields) → Sound R.world → session_of R id ≡ Some s → s.stage ≡ Known → Past R.world id → is_work i ≡ false → touched R i ≡ id_of h →
+pdu_still : NextIsSound → NextIsPromised → (R : State) (i : Input) (h : Header) (id : TransactionId) (s : SessionFields) → Sound R.world →
+    session_of R id ≡ Some s → s.stage ≡ Known → Past R.world id → is_work i ≡ false → touched R i ≡ id_of h →
     (session_of R (id_of h) ≡ Some s → Past R.world (id_of h) → After R i (id_of h)) → Turned R i id
-pdu_stands next_sound promised R i h id s sound here known p w of own = elim (cases_Bool (is_same (id_of h) id)) [
+pdu_still next_sound promised R i h id s sound here known p w of own = elim (cases_Bool (is_same (id_of h) id)) [
   | inl same ↦
       let it = same_is (id_of h) id same in
       Goes_on (subst (After R i) it (own (ap (found R.sessions) it ∙ here) (subst (Past R.world) (sym it) p)))
-  | inr other ↦ Goes_on (other_stands next_sound promised R i id s sound here known p w (ap (λ (n : TransactionId). is_same n id) of ∙ other))
+  | inr other ↦ Goes_on (other_still next_sound promised R i id s sound here known p w (ap (λ (n : TransactionId). is_same n id) of ∙ other))
 ]
 
-work_past : NextIsSound → NextIsPromised → (W : World) (o : Option TransactionId) (id : TransactionId) → Sound W → Past W id → Past (run W (Handing.step_of o)) id
+work_past : NextIsSound → NextIsPromised → (W : World) (o : Option TransactionId) (id : TransactionId) → Sound W → Past W id →
+    Past (run W (Handing.step_of o)) id
 work_past next_sound promised W None id sound p = p
 work_past next_sound promised W (Some n) id sound p = elim (cases_Bool (is_same n id)) [
   | inl same ↦ subst (λ (x : TransactionId). Past (next W (Step x)).0 id) (sym (same_is n id same)) (step_next W id p)
   | inr other ↦ record { entry = p.entry; here = (promised W (Step n) sound).others id (other_than n id other) ∙ p.here; past = p.past }
 ]
 
-finish_turned : NextIsSound → NextIsPromised → (R : State) (now : ℕ) (id : TransactionId) (s : SessionFields) (o : Option SessionFields) → Sound R.world → session_of R id ≡ Some s → s.stage ≡ Known → Past R.world id →
+finish_turned : NextIsSound → NextIsPromised → (R : State) (now : ℕ) (id : TransactionId) (s : SessionFields) (o : Option SessionFields) → Sound R.world →
+    session_of R id ≡ Some s → s.stage ≡ Known → Past R.world id →
     Dues.first_over R.world R.sessions ≡ o → Turned R (Finish now) id
 finish_turned next_sound promised R now id s None sound here known p is =
     let L = Handing.later now R in
-    Goes_on (subst (λ (o : Option SessionFields). Stands (run R.world (Handing.take_of o)) (Turning.finish_parts L o).sessions id) (sym is) (kept_stands R R.world id s here known p))
+    Goes_on (subst (λ (o : Option SessionFields). KnownStill (run R.world (Handing.take_of o)) (Turning.finish_parts L o).sessions id) (sym is)
+    (kept_still R R.world id s here known p))
 finish_turned next_sound promised R now id s (Some t) sound here known p is = elim (cases_Bool (is_same (name_of t) id)) [
   | inl same ↦ Concludes now refl t is (same_is (name_of t) id same)
-  | inr other ↦ Goes_on (other_stands next_sound promised R (Finish now) id s sound here known p refl (ap (λ (o : Option SessionFields). is_same (session_name o) id) is ∙ other))
+  | inr other ↦ Goes_on (other_still next_sound promised R (Finish now) id s sound here known p refl
+      (ap (λ (o : Option SessionFields). is_same (session_name o) id) is ∙ other))
 ]
 
-turn_of : NextIsSound → NextIsPromised → (R : State) (i : Input) (id : TransactionId) (s : SessionFields) → Sound R.world → AreDistinct R.sessions → session_of R id ≡ Some s → s.stage ≡ Known → Past R.world id → Turned R i id
+turn_of : NextIsSound → NextIsPromised → (R : State) (i : Input) (id : TransactionId) (s : SessionFields) → Sound R.world → AreDistinct R.sessions →
+    session_of R id ≡ Some s → s.stage ≡ Known → Past R.world id → Turned R i id
 turn_of next_sound promised R (MetadataPdu now h m) id s sound d here known p =
-    pdu_stands next_sound promised R (MetadataPdu now h m) h id s sound here known p refl refl (λ own q. own_metadata R now h m s own known q)
+    pdu_still next_sound promised R (MetadataPdu now h m) h id s sound here known p refl refl (λ own q. own_metadata R now h m s own known q)
 turn_of next_sound promised R (DataPdu now h piece) id s sound d here known p =
-    pdu_stands next_sound promised R (DataPdu now h piece) h id s sound here known p refl refl (λ own q. own_data R now h piece s own known q)
+    pdu_still next_sound promised R (DataPdu now h piece) h id s sound here known p refl refl (λ own q. own_data R now h piece s own known q)
 turn_of next_sound promised R (EofPdu now h eof) id s sound d here known p =
-    pdu_stands next_sound promised R (EofPdu now h eof) h id s sound here known p refl refl (λ own q. own_eof R now h eof s own known q)
+    pdu_still next_sound promised R (EofPdu now h eof) h id s sound here known p refl refl (λ own q. own_eof R now h eof s own known q)
 turn_of next_sound promised R (AckPdu now h ack) id s sound d here known p =
-    pdu_stands next_sound promised R (AckPdu now h ack) h id s sound here known p refl refl (λ own q. own_ack R now h ack s own known q)
+    pdu_still next_sound promised R (AckPdu now h ack) h id s sound here known p refl refl (λ own q. own_ack R now h ack s own known q)
 turn_of next_sound promised R (PromptPdu now h prompt) id s sound d here known p =
-    pdu_stands next_sound promised R (PromptPdu now h prompt) h id s sound here known p refl refl (λ own q. own_prompt R now h prompt s own known q)
+    pdu_still next_sound promised R (PromptPdu now h prompt) h id s sound here known p refl refl (λ own q. own_prompt R now h prompt s own known q)
 turn_of next_sound promised R (OtherPdu now h) id s sound d here known p =
-    pdu_stands next_sound promised R (OtherPdu now h) h id s sound here known p refl refl (λ own q. own_other R now h s own known q)
+    pdu_still next_sound promised R (OtherPdu now h) h id s sound here known p refl refl (λ own q. own_other R now h s own known q)
 turn_of next_sound promised R (Expire now) id s sound d here known p =
     let L = Handing.later now R in
     let due = Dues.first_due L L.sessions in
     elim (cases_Bool (is_same (due_name due) id)) [
-      | inl same ↦ Goes_on (due_stands R now (run R.world (Handing.handed R (Expire now))) id s due d here known p (past_at p.entry.phase p.past) refl same)
-      | inr other ↦ Goes_on (other_stands next_sound promised R (Expire now) id s sound here known p refl other)
+      | inl same ↦ Goes_on (due_still R now (run R.world (Handing.handed R (Expire now))) id s due d here known p (past_at p.entry.phase p.past) refl same)
+      | inr other ↦ Goes_on (other_still next_sound promised R (Expire now) id s sound here known p refl other)
     ]
 turn_of next_sound promised R (Work now) id s sound d here known p =
-    Goes_on (kept_stands R (run R.world (Handing.step_of (next_runnable R.world.table))) id s here known (work_past next_sound promised R.world (next_runnable R.world.table) id sound p))
-turn_of next_sound promised R (Finish now) id s sound d here known p = finish_turned next_sound promised R now id s (Dues.first_over R.world R.sessions) sound here known p refl
+    Goes_on (kept_still R (run R.world (Handing.step_of (next_runnable R.world.table))) id s here known
+    (work_past next_sound promised R.world (next_runnable R.world.table) id sound p))
+turn_of next_sound promised R (Finish now) id s sound d here known p =
+    finish_turned next_sound promised R now id s (Dues.first_over R.world R.sessions) sound here known p refl
 turn_of next_sound promised R (CancelAsked now n) id s sound d here known p = elim (cases_Bool (is_same n id)) [
   | inl same ↦
       let it = same_is n id same in
       Goes_on (subst (After R (CancelAsked now n)) it (own_cancel R now n s (ap (found R.sessions) it ∙ here) known (subst (Past R.world) (sym it) p)))
-  | inr other ↦ Goes_on (other_stands next_sound promised R (CancelAsked now n) id s sound here known p refl other)
+  | inr other ↦ Goes_on (other_still next_sound promised R (CancelAsked now n) id s sound here known p refl other)
 ]
-turn_of next_sound promised R ForgetAsked id s sound d here known p = Goes_on (kept_stands R R.world id s here known p)
+turn_of next_sound promised R ForgetAsked id s sound d here known p = Goes_on (kept_still R R.world id s here known p)
 
 -- ---- nothing is left
 
@@ -423,7 +476,8 @@ not_true : (b : Bool) → not b ≡ true → b ≡ false
 not_true true h = absurd cc
 not_true false h = refl
 
-runs_by : (e : Entry) (es : List Entry) (b : Bool) → is_executing e.phase ≡ b → (is_some (next_runnable es) ≡ true) ⊎ (b ≡ true) → is_some (if b then Some (Entries.name_of e) else next_runnable es) ≡ true
+runs_by : (e : Entry) (es : List Entry) (b : Bool) → is_executing e.phase ≡ b → (is_some (next_runnable es) ≡ true) ⊎ (b ≡ true) →
+    is_some (if b then Some (Entries.name_of e) else next_runnable es) ≡ true
 runs_by e es true is h = refl
 runs_by e es false is (inl later) = later
 runs_by e es false is (inr now) = absurd cc
@@ -439,7 +493,8 @@ abbrev of_session : SessionFields → Option SessionFields → SessionFields
 of_session d None = d
 of_session d (Some s) = s
 
-member_by : (x : SessionFields) (xs : List SessionFields) (id : TransactionId) (s : SessionFields) (b : Bool) → (if b then Some x else found xs id) ≡ Some s → (found xs id ≡ Some s → IsMember s xs) → IsMember s (x ∷ xs)
+member_by : (x : SessionFields) (xs : List SessionFields) (id : TransactionId) (s : SessionFields) (b : Bool) →
+    (if b then Some x else found xs id) ≡ Some s → (found xs id ≡ Some s → IsMember s xs) → IsMember s (x ∷ xs)
 member_by x xs id s true h later = inl (ap (of_session x) h)
 member_by x xs id s false h later = inr (later h)
 
@@ -471,8 +526,9 @@ executes_by Refused h = absurd cc
 executes_by Done h = absurd cc
 executes_by (Ended condition) h = absurd cc
 
--- then it does not stand
-left_none : (R : State) (id : TransactionId) (s : SessionFields) → session_of R id ≡ Some s → s.stage ≡ Known → Past R.world id → has_nothing_left R ≡ true → ⊥
+-- then it is not so any more
+left_none : (R : State) (id : TransactionId) (s : SessionFields) → session_of R id ≡ Some s → s.stage ≡ Known → Past R.world id →
+    has_nothing_left R ≡ true → ⊥
 left_none R id s here known p none =
     let both = and_parts (not (is_some (next_runnable R.world.table))) (not (is_some (Dues.first_over R.world R.sessions))) none in
     elim (past_at p.entry.phase p.past) [
@@ -486,15 +542,27 @@ left_none R id s here known p none =
 
 pub concluded_later : (R : State) (i : Input) (is : List Input) (id : TransactionId) → WasConcluded (Turning.after R i) is id → WasConcluded R (i ∷ is) id
 concluded_later R i is id w =
-    record { front = i ∷ w.front; moment = w.moment; back = w.back; parts = ap (λ (xs : List Input). i ∷ xs) w.parts; session = w.session; over = w.over; named = w.named }
+    record {
+      front = i ∷ w.front;
+      moment = w.moment;
+      back = w.back;
+      parts = ap (λ (xs : List Input). i ∷ xs) w.parts;
+      session = w.session;
+      over =
+          w.over;
+      named = w.named;
+    }
 
-goes : NextIsSound → NextIsPromised → (R : State) (inputs : List Input) (id : TransactionId) (s : SessionFields) → Sound R.world → AreDistinct R.sessions → session_of R id ≡ Some s → s.stage ≡ Known → Past R.world id →
+goes : NextIsSound → NextIsPromised → (R : State) (inputs : List Input) (id : TransactionId) (s : SessionFields) → Sound R.world → AreDistinct R.sessions →
+    session_of R id ≡ Some s → s.stage ≡ Known → Past R.world id →
     has_nothing_left (Turning.after_all R inputs) ≡ true → WasConcluded R inputs id
 goes next_sound promised R [] id s sound d here known p none = absurd (left_none R id s here known p none)
 goes next_sound promised R (i ∷ is) id s sound d here known p none = elim (turn_of next_sound promised R i id s sound d here known p) [
-  | Concludes moment finish t over named ↦ record { front = []; moment = moment; back = is; parts = ap (λ (x : Input). x ∷ is) finish; session = t; over = over; named = named }
-  | Goes_on stands ↦
-      concluded_later R i is id (goes next_sound promised (Turning.after R i) is id stands.session (run_sound next_sound R.world (Handing.handed R i) sound) (distinct_after R i d) stands.here stands.known stands.past none)
+  | Concludes moment finish t over named ↦
+      record { front = []; moment = moment; back = is; parts = ap (λ (x : Input). x ∷ is) finish; session = t; over = over; named = named }
+  | Goes_on still ↦
+      concluded_later R i is id (goes next_sound promised (Turning.after R i) is id still.session (run_sound next_sound R.world (Handing.handed R i) sound)
+      (distinct_after R i d) still.here still.known still.past none)
 ]
 
 pub concluded_when_done : NextIsSound → NextIsPromised → ConcludedWhenDone
@@ -523,5 +591,11 @@ finished_is_sent R moment s e d over kept mode there owner =
     ∙ cond-false (not s.header.acknowledged) unacknowledged waiting (ap not mode) in
     let here : session_of R (name_of s) ≡ Some s = member_found R.sessions s d (first_over_is R.world R.sessions s over).0 in (
       ap (λ (p : Turning.Parts). p.answer.finished) parts,
-      (Turning.waits L s o, ap (λ (p : Turning.Parts). found p.sessions (name_of s)) parts ∙ replaced_self R.sessions (Turning.waits L s o) (name_of s) (s, here) refl, refl, refl),
+      (
+        Turning.waits L s o,
+        ap (λ (p : Turning.Parts). found p.sessions (name_of s)) parts ∙ replaced_self R.sessions (Turning.waits L s o) (name_of s)
+            (s, here) refl,
+        refl,
+        refl,
+      ),
     )

@@ -1,8 +1,8 @@
 -- From the EOF PDU until the session is closed.
-use Rattle.std.specs.Prelude.{if◌then◌else◌, ◌==◌, is_some}
+use Rattle.std.specs.Prelude.{if◌then◌else◌, is_some}
 use Rattle.std.specs.List.{AllByRecursion, flat_map}
 use Rattle.std.proofs.Common.{◌≡◌, ◌⊎◌, inl, inr, ℕ, ◌+◌, ◌<◌, ◌≤◌, Bool, true, false, not, List, [], ◌∷◌, ◌++◌, map, length, Option, Some, None, refl, sym, ap, subst, ◌∙◌, arith}
-use Rattle.std.proofs.lemmas.Bool.{cond_both, cases_Bool}
+use Rattle.std.proofs.lemmas.Bool.{cond_both}
 use Rattle.cfdp_status.specs.declared.transaction.TransactionId.{TransactionId}
 use Rattle.cfdp_leases.specs.Leases.{is_same}
 use Rattle.cfdp_pdus.specs.declared.eof.Eof.{Eof}
@@ -22,7 +22,7 @@ use Rattle.cfdp_transactions.specs.World.{entry_of}
 use Rattle.cfdp_transactions.specs.declared.outcome.Outcome.{Outcome}
 use Rattle.cfdp_receiver.specs.declared.answer.Word.TheVariants as words
 use Rattle.cfdp_receiver.specs.declared.mib.Mib.{Mib}
-use Rattle.cfdp_receiver.specs.State.{State, Input, Expire, Finish, session_of, is_closed}
+use Rattle.cfdp_receiver.specs.State.{State, Input, Expire, Finish, session_of}
 use Rattle.cfdp_receiver.specs.Due as Dues
 use Rattle.cfdp_receiver.specs.Handing as Handing
 use Rattle.cfdp_receiver.specs.Turning as Turning
@@ -32,14 +32,14 @@ use Rattle.cfdp_receiver.proofs.Distinct.{distinct_after}
 use Rattle.cfdp_receiver.proofs.Knowing.{Laws, known_after}
 use Rattle.cfdp_receiver.proofs.Limits.{first_over_is}
 use Rattle.cfdp_progress.specs.Awaiting.{WasDelivered}
-use Rattle.cfdp_progress.specs.NakRounds.{heard_requests, IsServed, lost_of, FirstRound}
+use Rattle.cfdp_progress.specs.NakRounds.{heard_requests, IsServed, FirstRound}
 use Rattle.cfdp_progress.specs.Closing.{is_acknowledged, IsSentOnce, FinishedRound, finished_inputs, AreFinishedRounds, rounds_lost, WasClosed}
 use Rattle.cfdp_progress.specs.Concluding.{has_nothing_left, WasConcluded}
 use Rattle.cfdp_progress.specs.InAll.{EitherRound, as_finished, inputs_of, is_session_of, concludes, IsAcknowledgedAfter, IsWatched, AreEitherRounds, total_lost, lost_in_all, ClosedInAll}
 use Rattle.cfdp_progress.proofs.Apart.{run_sound}
 use Rattle.cfdp_progress.proofs.Pieces.{fits_of, few_of}
 use Rattle.cfdp_progress.proofs.Turns.{Before}
-use Rattle.cfdp_progress.proofs.Runs.{Within, Left, still_awaits, sound_all, distinct_all, mib_all, after_both, takes_none}
+use Rattle.cfdp_progress.proofs.Runs.{still_awaits, sound_all, distinct_all, mib_all, after_both, takes_none}
 use Rattle.cfdp_progress.proofs.Openings.{open_expire, open_first}
 use Rattle.cfdp_progress.proofs.Rounds.{SoFar, Room, is_below, not_enough, round_goes, within_heard, done_after, unheard_after, so_far_after, lost_after, count_after}
 use Rattle.cfdp_progress.proofs.Closing.{AreLow, Safe as SafeClosing, over, rounds_close, remembers_it, closed_later, closed_after, closed_before, is_lost_by}
@@ -47,10 +47,12 @@ use Rattle.cfdp_progress.proofs.Concluding.{concluded_when_done, concluded_later
 
 -- ---- what is known after several inputs
 
-known_all : Laws → NextIsSound → NextIsPromised → (R : State) (inputs : List Input) → Sound R.world → AreDistinct R.sessions → AreKnown R → AreKnown (after_all R inputs)
+known_all : Laws → NextIsSound → NextIsPromised → (R : State) (inputs : List Input) → Sound R.world → AreDistinct R.sessions → AreKnown R →
+    AreKnown (after_all R inputs)
 known_all laws next_sound promised R [] sound d known = known
 known_all laws next_sound promised R (i ∷ is) sound d known =
-    known_all laws next_sound promised (after R i) is (run_sound next_sound R.world (Handing.handed R i) sound) (distinct_after R i d) (known_after laws next_sound promised R i sound d known)
+    known_all laws next_sound promised (after R i) is (run_sound next_sound R.world (Handing.handed R i) sound) (distinct_after R i d)
+    (known_after laws next_sound promised R i sound d known)
 
 -- a session that is known
 record Session (R : State) (id : TransactionId) : Type 0 where
@@ -76,7 +78,8 @@ Handed id p =
     ((found p.sessions id ≡ None) × (remembers p.closed id ≡ true))
     ⊎ ((u : SessionFields) × (found p.sessions id ≡ Some u) × (u.stage ≡ Waiting) × (u.timer.count ≡ 0))
 
-finish_hands : (R : State) (s : SessionFields) (o : Outcome) → AreDistinct R.sessions → found R.sessions (name_of s) ≡ Some s → Handed (name_of s) (Turning.finish_session R s o)
+finish_hands : (R : State) (s : SessionFields) (o : Outcome) → AreDistinct R.sessions → found R.sessions (name_of s) ≡ Some s →
+    Handed (name_of s) (Turning.finish_session R s o)
 finish_hands R s o d here =
     let H = Handed (name_of s) in
     let closed = Turning.closes R (name_of s) (Turning.said s words.Closed) in
@@ -92,7 +95,8 @@ finish_hands R s o d here =
     (λ z. cond_both (not s.header.acknowledged) unacknowledged waiting H (λ x. inl (none, named))
     (λ x. inr (Turning.waits R s o, replaced_self R.sessions (Turning.waits R s o) (name_of s) (s, here) refl, refl, refl))))
 
-finish_handed : (R : State) (moment : ℕ) (s : SessionFields) (id : TransactionId) → AreDistinct R.sessions → Dues.first_over R.world R.sessions ≡ Some s → name_of s ≡ id → Handed id (parts R (Finish moment))
+finish_handed : (R : State) (moment : ℕ) (s : SessionFields) (id : TransactionId) → AreDistinct R.sessions → Dues.first_over R.world R.sessions ≡ Some s →
+    name_of s ≡ id → Handed id (parts R (Finish moment))
 finish_handed R moment s id d is named =
     let L = Handing.later moment R in
     let here = member_found R.sessions s d (first_over_is R.world R.sessions s is).0 in
@@ -105,7 +109,8 @@ once_after : (R : State) (xs ys : List Input) (id : TransactionId) → IsSentOnc
 once_after R [] ys id once = once
 once_after R (x ∷ xs) ys id once = once_after (after R x) xs ys id once.1
 
-acknowledged_after : (lost : Bool) (R : State) (xs ys : List Input) (id : TransactionId) → IsAcknowledgedAfter lost R id (xs ++ ys) → IsAcknowledgedAfter lost (after_all R xs) id ys
+acknowledged_after : (lost : Bool) (R : State) (xs ys : List Input) (id : TransactionId) → IsAcknowledgedAfter lost R id (xs ++ ys) →
+    IsAcknowledgedAfter lost (after_all R xs) id ys
 acknowledged_after lost R [] ys id comes = comes
 acknowledged_after lost R (x ∷ xs) ys id comes = acknowledged_after lost (after R x) xs ys id comes.1
 
@@ -116,9 +121,11 @@ concluded_after R (x ∷ xs) ys id w = concluded_later R x (xs ++ ys) id (conclu
 -- the session is closed in it, or its Finished PDU was sent, and that or the acknowledgement is lost
 data Ends (N : State) (rest : List Input) (id : TransactionId) (lost : Bool) : Type 0 where
   Is_closed : (closed : WasClosed N rest id) → Ends N rest id lost
-  Is_sent : (u : SessionFields) → (here : session_of (after_all N rest) id ≡ Some u) → (waits : u.stage ≡ Waiting) → (none : u.timer.count ≡ 0) → (is : lost ≡ true) → Ends N rest id lost
+  Is_sent : (u : SessionFields) → (here : session_of (after_all N rest) id ≡ Some u) → (waits : u.stage ≡ Waiting) → (none : u.timer.count ≡ 0) →
+      (is : lost ≡ true) → Ends N rest id lost
 
-ends_concluded : (N : State) (rest : List Input) (id : TransactionId) (lost : Bool) → AreDistinct N.sessions → IsWatched lost N id rest → WasConcluded N rest id → Ends N rest id lost
+ends_concluded : (N : State) (rest : List Input) (id : TransactionId) (lost : Bool) → AreDistinct N.sessions → IsWatched lost N id rest →
+    WasConcluded N rest id → Ends N rest id lost
 ends_concluded N rest id lost d watched w =
     let i = Finish w.moment in
     let G = after_all N w.front in
@@ -126,8 +133,10 @@ ends_concluded N rest id lost d watched w =
     let apart = distinct_all N w.front d in
     let once : IsSentOnce P id w.back = (once_after N w.front (i ∷ w.back) id (subst (IsSentOnce N id) w.parts watched.once)).1 in
     let is : concludes G id i ≡ true = ap (is_session_of id) w.over ∙ ap (λ (n : TransactionId). is_same n id) w.named ∙ same_self id in
-    let comes : lost ≡ false → is_acknowledged P id w.back ≡ true = (acknowledged_after lost N w.front (i ∷ w.back) id (subst (IsAcknowledgedAfter lost N id) w.parts watched.acknowledged)).0 is in
-    let lift : WasClosed G (i ∷ w.back) id → Ends N rest id lost = λ c. Is_closed (subst (λ (xs : List Input). WasClosed N xs id) (sym w.parts) (closed_after N w.front (i ∷ w.back) id c)) in
+    let comes : lost ≡ false → is_acknowledged P id w.back ≡ true =
+    (acknowledged_after lost N w.front (i ∷ w.back) id (subst (IsAcknowledgedAfter lost N id) w.parts watched.acknowledged)).0 is in
+    let lift : WasClosed G (i ∷ w.back) id → Ends N rest id lost =
+    λ c. Is_closed (subst (λ (xs : List Input). WasClosed N xs id) (sym w.parts) (closed_after N w.front (i ∷ w.back) id c)) in
     let end : after_all N rest ≡ after_all P w.back = ap (after_all N) w.parts ∙ after_both N w.front (i ∷ w.back) in
     elim (finish_handed G w.moment w.session id apart w.over w.named) [
       | inl closed ↦ lift (record { front = i ∷ []; back = w.back; parts = refl; gone = closed.0; remembered = closed.1 })
@@ -137,7 +146,8 @@ ends_concluded N rest id lost d watched w =
       ]
     ]
 
-ends_delivered : Laws → NextIsSound → NextIsPromised → (N : State) (rest : List Input) (id : TransactionId) (lost : Bool) → Sound N.world → AreDistinct N.sessions → AreKnown N → IsWatched lost N id rest → WasDelivered N rest id → Ends N rest id lost
+ends_delivered : Laws → NextIsSound → NextIsPromised → (N : State) (rest : List Input) (id : TransactionId) (lost : Bool) → Sound N.world →
+    AreDistinct N.sessions → AreKnown N → IsWatched lost N id rest → WasDelivered N rest id → Ends N rest id lost
 ends_delivered laws next_sound promised N rest id lost sound d known watched was =
     let F = after_all N was.front in
     let sound_now = sound_all next_sound N was.front sound in
@@ -147,7 +157,8 @@ ends_delivered laws next_sound promised N rest id lost sound d known watched was
     let end : after_all N rest ≡ after_all F was.back = ap (after_all N) was.parts ∙ after_both N was.front was.back in
     let done : has_nothing_left (after_all F was.back) ≡ true = ap has_nothing_left (sym end) ∙ watched.done in
     let w : WasConcluded F was.back id =
-    concluded_when_done next_sound promised F was.back id is.session e sound_now apart is.here is.known was.delivered.here (takes_none e.phase was.delivered.phase) done in
+    concluded_when_done next_sound promised F was.back id is.session e sound_now apart is.here is.known was.delivered.here
+    (takes_none e.phase was.delivered.phase) done in
     ends_concluded N rest id lost d watched (subst (λ (xs : List Input). WasConcluded N xs id) (sym was.parts) (concluded_after N was.front was.back id w))
 
 -- ---- the rounds that are left, as Finished rounds
@@ -182,35 +193,48 @@ low_all (round ∷ rounds) below = (below.0, low_all rounds below.1)
 abbrev Safe : Mib → ℕ → Received → List (List Sending) → ℕ → List EitherRound → Type 0
 Safe mib count rs done unheard rounds =
     AreBelowAll rounds
-    ⊎ ((count + 1 ≤ length done + unheard) × (lost_in done + unheard + total_lost rounds + spare_round rs < mib.nak.limit) × (total_lost rounds < mib.ack.limit))
+    ⊎ ((count + 1 ≤ length done + unheard) × (lost_in done + unheard + total_lost rounds + spare_round rs < mib.nak.limit) ×
+    (total_lost rounds < mib.ack.limit))
 
-room_of : (mib : Mib) (count : ℕ) (rs : Received) (done : List (List Sending)) (unheard : ℕ) (round : EitherRound) (rounds : List EitherRound) → Safe mib count rs done unheard (round ∷ rounds) →
+room_of : (mib : Mib) (count : ℕ) (rs : Received) (done : List (List Sending)) (unheard : ℕ) (round : EitherRound) (rounds : List EitherRound) →
+    Safe mib count rs done unheard (round ∷ rounds) →
     Room round.is_at_limit mib.nak.limit count rs done unheard
 room_of mib count rs done unheard round rounds (inl below) = inl below.0
 room_of mib count rs done unheard round rounds (inr safe) = inr (safe.0, omega (arith, safe.1))
 
-safe_rest : (mib : Mib) (count later : ℕ) (rs : Received) (done : List (List Sending)) (unheard : ℕ) (round : EitherRound) (rounds : List EitherRound) → Safe mib count rs done unheard (round ∷ rounds) → later ≤ count + 1 →
+safe_rest : (mib : Mib) (count later : ℕ) (rs : Received) (done : List (List Sending)) (unheard : ℕ) (round : EitherRound) (rounds : List EitherRound) →
+    Safe mib count rs done unheard (round ∷ rounds) → later ≤ count + 1 →
     Safe mib later rs (done_after round.is_heard done round.sent) (unheard_after round.is_heard unheard) rounds
 safe_rest mib count later rs done unheard round rounds (inl below) few = inl below.1
 safe_rest mib count later rs done unheard round rounds (inr safe) few =
-    inr (omega (arith, safe.0, few, count_after round.is_heard done round.sent unheard), omega (arith, safe.1, lost_after round.is_heard done round.sent unheard), omega (arith, safe.2))
+    inr (
+      omega (arith, safe.0, few, count_after round.is_heard done round.sent unheard),
+      omega
+          (arith, safe.1, lost_after round.is_heard done round.sent unheard),
+      omega (arith, safe.2),
+    )
 
 -- once the Finished PDU was sent in a round, and was lost
-safe_closing : (mib : Mib) (count sent : ℕ) (rs : Received) (done : List (List Sending)) (unheard : ℕ) (round : EitherRound) (rounds : List EitherRound) → Safe mib count rs done unheard (round ∷ rounds) → sent ≡ 0 → round.is_lost ≡ true →
+safe_closing : (mib : Mib) (count sent : ℕ) (rs : Received) (done : List (List Sending)) (unheard : ℕ) (round : EitherRound) (rounds : List EitherRound) →
+    Safe mib count rs done unheard (round ∷ rounds) → sent ≡ 0 → round.is_lost ≡ true →
     SafeClosing mib.ack.limit sent (as_all rounds)
 safe_closing mib count sent rs done unheard round rounds (inl below) zero lost = inl (low_all rounds below.1)
 safe_closing mib count sent rs done unheard round rounds (inr safe) zero lost = inr (omega (arith, safe.2, zero, ap one_if lost, fewer_lost rounds))
 
 -- ---- all rounds
 
-close_rest : (mib : Mib) (M : State) (id : TransactionId) (u : SessionFields) (rounds : List EitherRound) → M.mib ≡ mib → AreDistinct M.sessions → session_of M id ≡ Some u → u.stage ≡ Waiting → AreEitherRounds M id rounds →
+close_rest : (mib : Mib) (M : State) (id : TransactionId) (u : SessionFields) (rounds : List EitherRound) → M.mib ≡ mib → AreDistinct M.sessions →
+    session_of M id ≡ Some u → u.stage ≡ Waiting → AreEitherRounds M id rounds →
     SafeClosing mib.ack.limit u.timer.count (as_all rounds) → total_lost rounds < length rounds → WasClosed M (flat_map inputs_of rounds) id
 close_rest mib M id u rounds same d here w are safe enough =
     subst (λ (xs : List Input). WasClosed M xs id) (same_inputs rounds)
     (rounds_close mib M id u (as_all rounds) same d here w (finished_of M id rounds are) safe (omega (arith, enough, fewer_lost rounds, as_many rounds)))
 
-all_go : Laws → NextIsSound → NextIsPromised → WholeAfterLosses → (mib : Mib) (R : State) (id : TransactionId) (rounds : List EitherRound) (e : Entry) (eof : Eof) (s : SessionFields) (rs : Received) (done : List (List Sending)) (unheard : ℕ) →
-    R.mib ≡ mib → Sound R.world → AreDistinct R.sessions → AreKnown R → Before R id e eof s → SoFar (most_requests mib) rs eof done e → AreEitherRounds R id rounds → Safe mib s.timer.count rs done unheard rounds →
+all_go : Laws → NextIsSound → NextIsPromised → WholeAfterLosses →
+    (mib : Mib) (R : State) (id : TransactionId) (rounds : List EitherRound) (e : Entry) (eof : Eof) (s : SessionFields) (rs : Received)
+    (done : List (List Sending)) (unheard : ℕ) →
+    R.mib ≡ mib → Sound R.world → AreDistinct R.sessions → AreKnown R → Before R id e eof s → SoFar (most_requests mib) rs eof done e →
+    AreEitherRounds R id rounds → Safe mib s.timer.count rs done unheard rounds →
     lost_in done + unheard + total_lost rounds + spare_round rs + 2 ≤ length done + unheard + length rounds → WasClosed R (flat_map inputs_of rounds) id
 all_go laws next_sound promised whole mib R id [] e eof s rs done unheard same sound d known b so are safe enough =
     absurd (omega (arith, enough, not_enough whole R id e eof s (most_requests mib) rs done sound b so))
@@ -233,7 +257,8 @@ all_go laws next_sound promised whole mib R id (round ∷ rounds) e eof s rs don
     let known_now = known_after laws next_sound promised R i sound d known in
     let within = within_heard most eof.size e.received naks heard round.sent so.some asks is.answered.in_order in
     let few_rounds = not_enough whole R id e eof s most rs done sound b so in
-    elim (round_goes next_sound promised N id e eof opened.session (heard_requests heard naks) round.sent round.rest sound_now apart opened.before within is.answered) [
+    elim (round_goes next_sound promised N id e eof opened.session
+    (heard_requests heard naks) round.sent round.rest sound_now apart opened.before within is.answered) [
       | inl was ↦ elim (ends_delivered laws next_sound promised N round.rest id round.is_lost sound_now apart known_now are.0.watched was) [
         | Is_closed closed ↦ closed_before R (inputs_of round) (flat_map inputs_of rounds) id (closed_later R i round.rest id closed)
         | Is_sent u here waits none lost ↦
@@ -243,8 +268,10 @@ all_go laws next_sound promised whole mib R id (round ∷ rounds) e eof s rs don
       ]
       | inr left ↦
           closed_after R (inputs_of round) (flat_map inputs_of rounds) id (
-          all_go laws next_sound promised whole mib M id rounds left.entry eof left.session rs (done_after heard done round.sent) (unheard_after heard unheard) (mib_all N round.rest ∙ same)
-          (sound_all next_sound N round.rest sound_now) (distinct_all N round.rest apart) (known_all laws next_sound promised N round.rest sound_now apart known_now) left.before
+          all_go laws next_sound promised whole mib M id rounds left.entry eof left.session rs (done_after heard done round.sent)
+          (unheard_after heard unheard) (mib_all N round.rest ∙ same)
+          (sound_all next_sound N round.rest sound_now) (distinct_all N round.rest apart)
+          (known_all laws next_sound promised N round.rest sound_now apart known_now) left.before
           (so_far_after most rs eof done e left.entry naks heard round.sent so asks is.answered.in_order left.kept) are.1
           (safe_rest mib s.timer.count left.session.timer.count rs done unheard round rounds safe (omega (arith, left.few is.answered.once, opened.few)))
           (omega (arith, enough, lost_after heard done round.sent unheard, count_after heard done round.sent unheard))
@@ -255,13 +282,20 @@ abbrev SafeAtFirst : Mib → ℕ → FirstRound → Bool → List EitherRound �
 SafeAtFirst mib spare first is_lost rounds =
     AreBelowAll rounds ⊎ ((lost_in_all first is_lost rounds + spare < mib.nak.limit) × (lost_in_all first is_lost rounds < mib.ack.limit))
 
-safe_first : (mib : Mib) (count : ℕ) (rs : Received) (first : FirstRound) (is_lost : Bool) (rounds : List EitherRound) → SafeAtFirst mib (spare_round rs) first is_lost rounds → count ≤ 0 →
+safe_first : (mib : Mib) (count : ℕ) (rs : Received) (first : FirstRound) (is_lost : Bool) (rounds : List EitherRound) →
+    SafeAtFirst mib (spare_round rs) first is_lost rounds → count ≤ 0 →
     Safe mib count rs (done_after first.is_heard [] first.sent) (unheard_after first.is_heard 0) rounds
 safe_first mib count rs first is_lost rounds (inl below) few = inl below
 safe_first mib count rs first is_lost rounds (inr room) few =
-    inr (omega (arith, few, count_after first.is_heard [] first.sent 0), omega (arith, room.0, lost_after first.is_heard [] first.sent 0), omega (arith, room.1))
+    inr (
+      omega (arith, few, count_after first.is_heard [] first.sent 0),
+      omega (arith, room.0, lost_after first.is_heard [] first.sent 0),
+      omega
+          (arith, room.1),
+    )
 
-closing_first : (mib : Mib) (spare sent : ℕ) (first : FirstRound) (is_lost : Bool) (rounds : List EitherRound) → SafeAtFirst mib spare first is_lost rounds → sent ≡ 0 → is_lost ≡ true → SafeClosing mib.ack.limit sent (as_all rounds)
+closing_first : (mib : Mib) (spare sent : ℕ) (first : FirstRound) (is_lost : Bool) (rounds : List EitherRound) →
+    SafeAtFirst mib spare first is_lost rounds → sent ≡ 0 → is_lost ≡ true → SafeClosing mib.ack.limit sent (as_all rounds)
 closing_first mib spare sent first is_lost rounds (inl below) zero lost = inl (low_all rounds below)
 closing_first mib spare sent first is_lost rounds (inr room) zero lost = inr (omega (arith, room.1, zero, ap one_if lost, fewer_lost rounds))
 
@@ -287,7 +321,8 @@ closed_in_all only_take takes next_sound promised whole R id first is_lost round
       received = refl;
     } in
     let within = within_heard most eof.size e.received naks heard first.sent some opened.asks r.answered.in_order in
-    elim (round_goes next_sound promised N id e eof opened.session (heard_requests heard naks) first.sent first.rest sound_now apart opened.before within r.answered) [
+    elim (round_goes next_sound promised N id e eof opened.session
+    (heard_requests heard naks) first.sent first.rest sound_now apart opened.before within r.answered) [
       | inl was ↦ elim (ends_delivered laws next_sound promised N first.rest id is_lost sound_now apart known_now watched was) [
         | Is_closed closed ↦ closed_before R (i ∷ first.rest) (flat_map inputs_of rounds) id (closed_later R i first.rest id closed)
         | Is_sent u here waits none lost ↦
@@ -297,8 +332,10 @@ closed_in_all only_take takes next_sound promised whole R id first is_lost round
       ]
       | inr left ↦
           closed_after R (i ∷ first.rest) (flat_map inputs_of rounds) id (
-          all_go laws next_sound promised whole mib M id rounds left.entry eof left.session e.received (done_after heard [] first.sent) (unheard_after heard 0) (mib_all N first.rest)
-          (sound_all next_sound N first.rest sound_now) (distinct_all N first.rest apart) (known_all laws next_sound promised N first.rest sound_now apart known_now) left.before
+          all_go laws next_sound promised whole mib M id rounds left.entry eof left.session e.received (done_after heard [] first.sent)
+          (unheard_after heard 0) (mib_all N first.rest)
+          (sound_all next_sound N first.rest sound_now) (distinct_all N first.rest apart)
+          (known_all laws next_sound promised N first.rest sound_now apart known_now) left.before
           (so_far_after most e.received eof [] e left.entry naks heard first.sent begun opened.asks r.answered.in_order left.kept) are
           (safe_first mib left.session.timer.count e.received first is_lost rounds low (omega (arith, left.few r.answered.once, opened.few)))
           (omega (arith, enough, lost_after heard [] first.sent 0, count_after heard [] first.sent 0))

@@ -48,10 +48,10 @@ pub data Comes (V : World) (id : TransactionId) (eof : Eof) (received : Received
   Goes_on : (after : Entry) → (awaits : EntryAwaits V id after eof) → (kept : after.received ≡ received) → Comes V id eof received
   Is_over : (delivered : IsDelivered V id) → Comes V id eof received
 
--- an entry that is put in its place
-placed : (W V : World) (id : TransactionId) (e new : Entry) → entry_of W id ≡ Some e → Entries.name_of new ≡ id →
+-- an entry that replaces the one of its name
+replaces : (W V : World) (id : TransactionId) (e new : Entry) → entry_of W id ≡ Some e → Entries.name_of new ≡ id →
     V.table ≡ slice_set W.table (index_of W id) new → entry_of V id ≡ Some new
-placed W V id e new here name table = ap (λ (t : List Entry). slice_get t (place_of id t)) table ∙ set_own W.table id e new name here
+replaces W V id e new here name table = ap (λ (t : List Entry). slice_get t (place_of id t)) table ∙ set_own W.table id e new name here
 
 -- all octets are there
 whole_comes : (W V : World) (id : TransactionId) (eof : Eof) (e new : Entry) (received : Received) → entry_of W id ≡ Some e → Entries.name_of new ≡ id →
@@ -64,8 +64,8 @@ whole_comes W V id eof e new received here name table =
     λ other. ap (λ (t : List Entry). slice_set t k other) table ∙ set_set_same W.table k new other in
     cond_both (is_right_checksum new eof.checksum) (turns V k new (Executing 0) new.eof true, _) (ends V k new 5, _)
     (λ (a : World × Reply). Comes a.0 id eof received)
-    (λ r. Is_over (record { entry = right; here = placed W (turns V k new (Executing 0) new.eof true) id e right here name (again right); phase = inl refl }))
-    (λ r. Is_over (record { entry = wrong; here = placed W (ends V k new 5) id e wrong here name (again wrong); phase = inr refl }))
+    (λ r. Is_over (record { entry = right; here = replaces W (turns V k new (Executing 0) new.eof true) id e right here name (again right); phase = inl refl }))
+    (λ r. Is_over (record { entry = wrong; here = replaces W (ends V k new 5) id e wrong here name (again wrong); phase = inr refl }))
 
 stored_comes : (W : World) (id : TransactionId) (eof : Eof) (e : Entry) (received : Received) → EntryAwaits W id e eof →
     Comes (stored e.phase (stores W (index_of W id) e received) (index_of W id) (storing W.filestore e received)).0 id eof received
@@ -77,7 +77,7 @@ stored_comes W id eof e received a =
     let waits : is_whole eof.size received ≡ false → Comes V id eof received =
     λ short. Goes_on new (record {
       checks = a.checks;
-      here = placed W V id e new a.here name refl;
+      here = replaces W V id e new a.here name refl;
       phase = a.phase;
       came = a.came;
       within = a.within;

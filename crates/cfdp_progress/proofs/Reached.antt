@@ -67,9 +67,9 @@ abbrev some_entry : Entry → Option Entry → Entry
 some_entry d None = d
 some_entry d (Some e) = e
 
-placed : (W V : World) (id : TransactionId) (e new : Entry) → entry_of W id ≡ Some e → Entries.name_of new ≡ id →
+replaces : (W V : World) (id : TransactionId) (e new : Entry) → entry_of W id ≡ Some e → Entries.name_of new ≡ id →
     V.table ≡ slice_set W.table (index_of W id) new → entry_of V id ≡ Some new
-placed W V id e new here name table = ap (λ (t : List Entry). slice_get t (place_of id t)) table ∙ set_own W.table id e new name here
+replaces W V id e new here name table = ap (λ (t : List Entry). slice_get t (place_of id t)) table ∙ set_own W.table id e new name here
 
 it_is : (c : Config) (V : World) (id : TransactionId) (new : Entry) → entry_of V id ≡ Some new → If_waiting c new → LacksAt c V id
 it_is c V id new here lacks e found = subst (If_waiting c) (ap (some_entry new) (sym here ∙ found)) lacks
@@ -80,7 +80,7 @@ none_is c V id none e found = let never : None ≡ Some e = sym none ∙ found i
 
 put_is : (c : Config) (W V : World) (id : TransactionId) (e new : Entry) → entry_of W id ≡ Some e → Entries.name_of new ≡ Entries.name_of e →
     V.table ≡ slice_set W.table (index_of W id) new → If_waiting c new → LacksAt c V id
-put_is c W V id e new here name table lacks = it_is c V id new (placed W V id e new here (name ∙ entry_name W.table id e here) table) lacks
+put_is c W V id e new here name table lacks = it_is c V id new (replaces W V id e new here (name ∙ entry_name W.table id e here) table) lacks
 
 -- ---- by the event, for an entry that is there
 

@@ -196,10 +196,12 @@ all_are : AreEitherRounds rest (id 5) (second ∷ third ∷ fourth ∷ fifth ∷
 all_are = (second_is, (third_is, (fourth_is, (fifth_is, tt))))
 
 -- so the law says that the session is closed
-told : ClosedInAll → Sound middle.world → AreKnown middle → WasClosed middle (first.opening ∷ first.rest ++ flat_map inputs_of (second ∷ third ∷ fourth ∷ fifth ∷ [])) (id 5)
+law_applies : ClosedInAll → Sound middle.world → AreKnown middle →
+    WasClosed middle (first.opening ∷ first.rest ++ flat_map inputs_of (second ∷ third ∷ fourth ∷ fifth ∷ [])) (id 5)
 unfolding blocks_of weighed_from
-told law sound known =
-    law middle (id 5) first false (second ∷ third ∷ fourth ∷ fifth ∷ []) (entry_in (entry_of waiting.world (id 5))) wrong sound (refl, tt) known (omega arith) first_is first_watched all_are
+law_applies law sound known =
+    law middle (id 5) first false (second ∷ third ∷ fourth ∷ fifth ∷ []) (entry_in (entry_of waiting.world (id 5))) wrong sound (refl, tt) known
+    (omega arith) first_is first_watched all_are
     (inr (omega arith, omega arith)) (omega arith)
 
 closed : session_of after_fourth (id 5) ≡ None

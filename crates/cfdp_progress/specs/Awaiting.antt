@@ -129,7 +129,8 @@ StaysDelivered =
 -- over an entity that begins without transactions
 abbrev pub AwaitingAwaits : Type 0
 AwaitingAwaits =
-    (mib : Mib) (W : World) (inputs : List Input) (id : TransactionId) (session : SessionFields) (entry : Entry) (checks : ℕ) →
+    (mib : Mib) (W : World) (inputs : List Input) (id : TransactionId) (session : SessionFields) (entry : Entry)
+    (checks : ℕ) →
     Sound W → W.table ≡ [] →
     session_of (after_all (begin mib W) inputs) id ≡ Some session → session.header.acknowledged ≡ true →
     entry_of (after_all (begin mib W) inputs).world id ≡ Some entry → entry.phase ≡ Awaiting checks →

@@ -4,7 +4,7 @@
 --     is_acknowledged R id inputs       one of the inputs is that
 --     is_sent_again R id i      the ACK timer of its session is served
 --     IsSentOnce R id inputs    it is not, as long as the session waits
---     IsAcknowledgedUnless is_lost R id rest    a Finished PDU was sent; its acknowledgement comes in `rest`, unless it is lost
+--     IsAcknowledgedUnless is_lost R id rest    a Finished PDU was sent, and is acknowledged in `rest`, unless it is lost
 --     FinishedRound, AreFinishedRounds  rounds that begin when the ACK timer is served, as long as the session waits
 --     WasClosed R inputs id     after some of the inputs the session is closed
 --     ClosedAfterLosses         so it is after one round more than were lost
@@ -84,7 +84,8 @@ pub record WasClosed (R : State) (inputs : List Input) (id : TransactionId) : Ty
 -- begins below it
 abbrev pub ClosedAfterLosses : Type 0
 ClosedAfterLosses =
-    (R : State) (id : TransactionId) (session : SessionFields) (is_lost : Bool) (rest : List Input) (rounds : List FinishedRound) →
+    (R : State) (id : TransactionId) (session : SessionFields) (is_lost : Bool) (rest : List Input)
+    (rounds : List FinishedRound) →
     AreDistinct R.sessions → session_of R id ≡ Some session → session.stage ≡ Waiting →
     IsAcknowledgedUnless is_lost R id rest → AreFinishedRounds (after_all R rest) id rounds →
     AllByRecursion (λ round. round.is_at_limit ≡ false) rounds

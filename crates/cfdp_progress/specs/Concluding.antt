@@ -41,7 +41,8 @@ abbrev pub FinishedIsSent : Type 0
 FinishedIsSent =
     (R : State) (moment : ℕ) (session : SessionFields) (entry : Entry) →
     AreDistinct R.sessions → first_over R.world R.sessions ≡ Some session → session.is_abandoned ≡ false →
-    session.header.acknowledged ≡ true → entry_of R.world (name_of session) ≡ Some entry → entry.header.acknowledged ≡ true →
+    session.header.acknowledged ≡ true → entry_of R.world (name_of session) ≡ Some entry →
+    entry.header.acknowledged ≡ true →
     ((parts R (Finish moment)).answer.finished ≡ finished_octets (outcome_for session (Some entry)) ∷ [])
     × ((waiting : SessionFields) × (session_of (after R (Finish moment)) (name_of session) ≡ Some waiting)
     × (waiting.stage ≡ Waiting) × (waiting.timer.count ≡ 0))

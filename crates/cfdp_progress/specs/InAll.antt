@@ -1,11 +1,12 @@
--- A transaction from its EOF PDU on until its session is closed: it asks for octets until its file is delivered, and then sends
--- its Finished PDU until that is acknowledged.
---     EitherRound               a round in which NAK PDUs are sent, or a Finished PDU, or the one and then the other
+-- A transaction from its EOF PDU on until its session is closed: it asks for octets until its file is delivered, and then
+-- sends its Finished PDU until that is acknowledged.
+--     EitherRound               a round in which NAK PDUs are sent, or a Finished PDU, or first these and then this
 --     concludes R id i          the input hands out the transaction's outcome
 --     IsAcknowledgedAfter is_lost R id inputs   after such an input the acknowledgement comes, unless it is lost
---     IsWatched is_lost R id rest       so it is in the rest of a round, in which the ACK timer is not served, and at the end nothing is left
+--     IsWatched is_lost R id rest       so it is after the input that begins a round; the ACK timer is not served before the
+--                               next, and at the end nothing is left to be performed or handed out
 --     AreEitherRounds R id rounds       each of several is of the kind that the transaction then needs
---     total_lost                how much is lost in them
+--     total_lost, lost_in_all   how much is lost in them;  in the first round too
 --     ClosedInAll               after two rounds more than are lost, and the spare one, the session is closed
 use Rattle.std.specs.Prelude.{◌≡◌, ⊤, ◌⊎◌, ℕ, ◌+◌, ◌≤◌, ◌<◌, Bool, true, false, List, [], ◌∷◌, ◌++◌, length, Option, Some, None}
 use Rattle.std.specs.List.{AllByRecursion, flat_map}
@@ -44,7 +45,12 @@ as_nak round = record {
 }
 
 abbrev pub as_finished : EitherRound → FinishedRound
-as_finished round = record { moment = round.moment; is_at_limit = round.is_at_limit; is_lost = round.is_lost; rest = round.rest }
+as_finished round = record {
+  moment = round.moment;
+  is_at_limit = round.is_at_limit;
+  is_lost = round.is_lost;
+  rest = round.rest;
+}
 
 abbrev pub inputs_of : EitherRound → List Input
 inputs_of round = Expire round.moment ∷ round.rest
@@ -63,11 +69,11 @@ IsAcknowledgedAfter is_lost R id (i ∷ is) =
     (concludes R id i ≡ true → is_lost ≡ false → is_acknowledged (after R i) id is ≡ true)
     × IsAcknowledgedAfter is_lost (after R i) id is
 
--- R is the state after the input that begins the round. The driver has items performed and outcomes handed out before it ends
+-- R is the state after the input that begins the round
 pub record IsWatched (is_lost : Bool) (R : State) (id : TransactionId) (rest : List Input) : Type 0 where
   pub acknowledged : IsAcknowledgedAfter is_lost R id rest
   pub once : IsSentOnce R id rest
-  pub done : has_nothing_left (after_all R rest) ≡ true
+  pub done : has_nothing_left (after_all R rest) ≡ true  -- the driver did all that was to be done
 
 pub record IsEitherRound (R : State) (id : TransactionId) (round : EitherRound) : Type 0 where
   pub asks : awaits_octets R id ≡ true → IsNakRound R id (as_nak round)
@@ -76,7 +82,8 @@ pub record IsEitherRound (R : State) (id : TransactionId) (round : EitherRound) 
 
 abbrev pub AreEitherRounds : State → TransactionId → List EitherRound → Type 0
 AreEitherRounds R id [] = ⊤
-AreEitherRounds R id (round ∷ rounds) = IsEitherRound R id round × AreEitherRounds (after_all R (inputs_of round)) id rounds
+AreEitherRounds R id (round ∷ rounds) =
+    IsEitherRound R id round × AreEitherRounds (after_all R (inputs_of round)) id rounds
 
 abbrev pub total_lost : List EitherRound → ℕ
 total_lost [] = 0
@@ -89,12 +96,13 @@ lost_in_all first is_lost rounds = lost_of first.is_heard first.sent + one_if is
 -- both limits are above what is lost; or each later round begins below them
 abbrev pub ClosedInAll : Type 0
 ClosedInAll =
-    (R : State) (id : TransactionId) (first : FirstRound) (is_lost : Bool) (rounds : List EitherRound) (entry : Entry) (eof : Eof) →
-    Sound R.world → AreDistinct R.sessions → AreKnown R → 1 ≤ most_requests R.mib → IsFirstRound R id first entry eof →
-    IsWatched is_lost (after R first.opening) id first.rest →
+    (R : State) (id : TransactionId) (first : FirstRound) (is_lost : Bool) (rounds : List EitherRound)
+    (entry : Entry) (eof : Eof) →
+    Sound R.world → AreDistinct R.sessions → AreKnown R → 1 ≤ most_requests R.mib →
+    IsFirstRound R id first entry eof → IsWatched is_lost (after R first.opening) id first.rest →
     AreEitherRounds (after_all R (first.opening ∷ first.rest)) id rounds →
     AllByRecursion (λ round. round.is_at_limit ≡ false) rounds
     ⊎ ((lost_in_all first is_lost rounds + spare_round entry.received < R.mib.nak.limit)
-       × (lost_in_all first is_lost rounds < R.mib.ack.limit)) →
+    × (lost_in_all first is_lost rounds < R.mib.ack.limit)) →
     lost_in_all first is_lost rounds + spare_round entry.received + 2 ≤ 1 + length rounds →
     WasClosed R (first.opening ∷ first.rest ++ flat_map inputs_of rounds) id
