@@ -235,7 +235,7 @@ all_go : Laws → NextIsSound → NextIsPromised → WholeAfterLosses →
     (done : List (List Sending)) (unheard : ℕ) →
     R.mib ≡ mib → Sound R.world → AreDistinct R.sessions → AreKnown R → Before R id e eof s → SoFar (most_requests mib) rs eof done e →
     AreEitherRounds R id rounds → Safe mib s.timer.count rs done unheard rounds →
-    lost_in done + unheard + total_lost rounds + spare_round rs + 2 ≤ length done + unheard + length rounds → WasClosed R (flat_map inputs_of rounds) id
+    lost_in done + unheard + total_lost rounds + spare_round rs < length done + unheard + length rounds → WasClosed R (flat_map inputs_of rounds) id
 all_go laws next_sound promised whole mib R id [] e eof s rs done unheard same sound d known b so are safe enough =
     absurd (omega (arith, enough, not_enough whole R id e eof s (most_requests mib) rs done sound b so))
 all_go laws next_sound promised whole mib R id (round ∷ rounds) e eof s rs done unheard same sound d known b so are safe enough =
@@ -264,7 +264,7 @@ all_go laws next_sound promised whole mib R id (round ∷ rounds) e eof s rs don
         | Is_sent u here waits none lost ↦
             closed_after R (inputs_of round) (flat_map inputs_of rounds) id
             (close_rest mib M id u rounds (mib_all N round.rest ∙ same) (distinct_all N round.rest apart) here waits are.1
-            (safe_closing mib s.timer.count u.timer.count rs done unheard round rounds safe none lost) (omega (arith, enough, few_rounds)))
+            (safe_closing mib s.timer.count u.timer.count rs done unheard round rounds safe none lost) (omega (arith, enough, few_rounds, ap one_if lost)))
       ]
       | inr left ↦
           closed_after R (inputs_of round) (flat_map inputs_of rounds) id (
@@ -328,7 +328,7 @@ closed_in_all only_take takes next_sound promised whole R id first is_lost round
         | Is_sent u here waits none lost ↦
             closed_after R (i ∷ first.rest) (flat_map inputs_of rounds) id
             (close_rest mib M id u rounds (mib_all N first.rest) (distinct_all N first.rest apart) here waits are
-            (closing_first mib (spare_round e.received) u.timer.count first is_lost rounds low none lost) (omega (arith, enough)))
+            (closing_first mib (spare_round e.received) u.timer.count first is_lost rounds low none lost) (omega (arith, enough, ap one_if lost)))
       ]
       | inr left ↦
           closed_after R (i ∷ first.rest) (flat_map inputs_of rounds) id (

@@ -1,7 +1,7 @@
 -- A worked run, which the check computes: the middle of a file comes, then its EOF PDU, with a wrong checksum. Of the two pieces that are asked for
 -- the channel loses the first. In the second round it loses the NAK PDU, and in the third it brings the piece; the outcome is handed out, and the
--- Finished PDU is lost. In the fourth round that is sent again, and acknowledged. So 3 PDUs are lost, both limits are 4, and the session is closed
--- before the fifth round.
+-- Finished PDU is lost. In the fourth round that is sent again and acknowledged, and the session is closed. So 3 PDUs are lost in 4 rounds, and both
+-- limits are 4.
 use Rattle.std.specs.Prelude.{codes}
 use Rattle.std.specs.List.{flat_map}
 use Rattle.std.proofs.Common.{◌≡◌, inl, inr, ℕ, Bool, true, false, [], ◌∷◌, ◌++◌, Option, Some, None, refl, arith}
@@ -84,9 +84,6 @@ third = record {
 
 abbrev fourth : EitherRound
 fourth = record { moment = 33; is_at_limit = false; is_heard = true; sent = []; is_lost = false; rest = AckPdu 34 (header 5) finished_ack ∷ [] }
-
-abbrev fifth : EitherRound
-fifth = record { moment = 43; is_at_limit = false; is_heard = true; sent = []; is_lost = false; rest = [] }
 
 abbrev entry_in : Option Entry → Entry
 entry_in None = admitted
@@ -188,19 +185,15 @@ fourth_is = record {
   watched = record { acknowledged = ((λ c. absurd cc), tt); once = ((λ x. refl), tt); done = refl };
 }
 
-fifth_is : IsEitherRound after_fourth (id 5) fifth
-unfolding blocks_of weighed_from finished_field
-fifth_is = record { asks = λ q. absurd cc; closes = λ q. absurd cc; watched = record { acknowledged = tt; once = tt; done = refl } }
-
-all_are : AreEitherRounds rest (id 5) (second ∷ third ∷ fourth ∷ fifth ∷ [])
-all_are = (second_is, (third_is, (fourth_is, (fifth_is, tt))))
+all_are : AreEitherRounds rest (id 5) (second ∷ third ∷ fourth ∷ [])
+all_are = (second_is, (third_is, (fourth_is, tt)))
 
 -- so the law says that the session is closed
 law_applies : ClosedInAll → Sound middle.world → AreKnown middle →
-    WasClosed middle (first.opening ∷ first.rest ++ flat_map inputs_of (second ∷ third ∷ fourth ∷ fifth ∷ [])) (id 5)
+    WasClosed middle (first.opening ∷ first.rest ++ flat_map inputs_of (second ∷ third ∷ fourth ∷ [])) (id 5)
 unfolding blocks_of weighed_from
 law_applies law sound known =
-    law middle (id 5) first false (second ∷ third ∷ fourth ∷ fifth ∷ []) (entry_in (entry_of waiting.world (id 5))) wrong sound (refl, tt) known
+    law middle (id 5) first false (second ∷ third ∷ fourth ∷ []) (entry_in (entry_of waiting.world (id 5))) wrong sound (refl, tt) known
     (omega arith) first_is first_watched all_are
     (inr (omega arith, omega arith)) (omega arith)
 

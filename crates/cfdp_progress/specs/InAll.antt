@@ -7,7 +7,7 @@
 --                               next, and at the end nothing is left to be performed or handed out
 --     AreEitherRounds R id rounds       each of several is of the kind that the transaction then needs
 --     total_lost, lost_in_all   how much is lost in them;  in the first round too
---     ClosedInAll               after two rounds more than are lost, and the spare one, the session is closed
+--     ClosedInAll               after one round more than are lost, and the spare one, the session is closed
 use Rattle.std.specs.Prelude.{◌≡◌, ⊤, ◌⊎◌, ℕ, ◌+◌, ◌≤◌, ◌<◌, Bool, true, false, List, [], ◌∷◌, ◌++◌, length, Option, Some, None}
 use Rattle.std.specs.List.{AllByRecursion, flat_map}
 use Rattle.cfdp_status.specs.declared.transaction.TransactionId.{TransactionId}
@@ -104,5 +104,5 @@ ClosedInAll =
     AllByRecursion (λ round. round.is_at_limit ≡ false) rounds
     ⊎ ((lost_in_all first is_lost rounds + spare_round entry.received < R.mib.nak.limit)
     × (lost_in_all first is_lost rounds < R.mib.ack.limit)) →
-    lost_in_all first is_lost rounds + spare_round entry.received + 2 ≤ 1 + length rounds →
+    lost_in_all first is_lost rounds + spare_round entry.received < 1 + length rounds →
     WasClosed R (first.opening ∷ first.rest ++ flat_map inputs_of rounds) id

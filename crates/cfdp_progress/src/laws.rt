@@ -85,8 +85,8 @@ pub fn closed_after_losses()
 /// From the EOF PDU until the session is closed. A round begins with the EOF PDU, or when the timer of the session expires; all
 /// items are performed, and all outcomes handed out, before it ends. The sender answers NAK PDUs in the order of their requests,
 /// and acknowledges Finished PDUs. The channel loses pieces, NAK PDUs, Finished PDUs and acknowledgements. If both limits are
-/// above what is lost in all, the session is closed after two rounds more than that, at the latest. One round more is needed
-/// where 32 parts are there without the octet at offset 0.
+/// above what is lost in all, the session is closed after one round more than that, at the latest. One round more is needed where
+/// 32 parts are there without the octet at offset 0.
 pub fn closed_in_all()
     ensures { ClosedInAll }
 {
