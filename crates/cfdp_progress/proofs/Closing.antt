@@ -40,31 +40,31 @@ use Rattle.cfdp_progress.proofs.Openings.{full_of}
 use Rattle.cfdp_progress.proofs.Runs.{distinct_all, mib_all}
 
 -- it is closed, or it stays as it is and the input is no acknowledgement
-data Turned (R : State) (i : Input) (id : TransactionId) (s : SessionFields) : Type 0 where
-  Closes : (none : session_of (Turning.after R i) id ≡ None) → (remembered : is_closed (Turning.after R i) id ≡ true) → Turned R i id s
-  Stays : (here : session_of (Turning.after R i) id ≡ Some s) → (other : acknowledges R id i ≡ false) → Turned R i id s
+data TurnsWaiting (R : State) (i : Input) (id : TransactionId) (s : SessionFields) : Type 0 where
+  Closes : (none : session_of (Turning.after R i) id ≡ None) → (remembered : is_closed (Turning.after R i) id ≡ true) → TurnsWaiting R i id s
+  Stays : (here : session_of (Turning.after R i) id ≡ Some s) → (other : acknowledges R id i ≡ false) → TurnsWaiting R i id s
 
 -- ---- by the input, of its own
 
-abbrev Kept : TransactionId → SessionFields → Turning.Parts → Type 0
-Kept id s p = found p.sessions id ≡ Some s
+abbrev KeepsWaiting : TransactionId → SessionFields → Turning.Parts → Type 0
+KeepsWaiting id s p = found p.sessions id ≡ Some s
 
-kept_if : (id : TransactionId) (s : SessionFields) (b : Bool) (p q : Turning.Parts) → Kept id s p → Kept id s q → Kept id s (if b then p else q)
+kept_if : (id : TransactionId) (s : SessionFields) (b : Bool) (p q : Turning.Parts) → KeepsWaiting id s p → KeepsWaiting id s q → KeepsWaiting id s (if b then p else q)
 kept_if id s true p q hp hq = hp
 kept_if id s false p q hp hq = hq
 
 -- a PDU: by what becomes of it where the session is found
 pdu_kept : (R L : State) (h : Header) (s : SessionFields) (parts : Option SessionFields → Turning.Parts) → L.sessions ≡ R.sessions →
-    session_of R (id_of h) ≡ Some s → Kept (id_of h) s (parts (Some s)) →
-    Kept (id_of h) s (Turning.where_ours L h (parts (session_of R (id_of h))))
+    session_of R (id_of h) ≡ Some s → KeepsWaiting (id_of h) s (parts (Some s)) →
+    KeepsWaiting (id_of h) s (Turning.where_ours L h (parts (session_of R (id_of h))))
 pdu_kept R L h s parts same here kept =
     kept_if (id_of h) s (Handing.is_ours L h) (parts (session_of R (id_of h))) (Turning.keeps L (Turning.quiet (Turning.foreign h)))
-    (subst (λ (o : Option SessionFields). Kept (id_of h) s (parts o)) (sym here) kept)
+    (subst (λ (o : Option SessionFields). KeepsWaiting (id_of h) s (parts o)) (sym here) kept)
     (ap (λ (ss : List SessionFields). found ss (id_of h)) same ∙ here)
 
 kept_metadata : (R L : State) (U : World) (rs : List Reply) (h : Header) (m : MetadataFields) (s : SessionFields) (stage : Stage) →
     L.sessions ≡ R.sessions → session_of R (id_of h) ≡ Some s → stage ≡ Waiting →
-    Kept (id_of h) s (Turning.metadata_stage L U rs h m s stage)
+    KeepsWaiting (id_of h) s (Turning.metadata_stage L U rs h m s stage)
 kept_metadata R L U rs h m s (Held eof) same here w = absurd cc
 kept_metadata R L U rs h m s Known same here w = absurd cc
 kept_metadata R L U rs h m s (OverStage ending) same here w = absurd cc
@@ -72,7 +72,7 @@ kept_metadata R L U rs h m s Waiting same here w = ap (λ (ss : List SessionFiel
 
 kept_eof : (R L : State) (U : World) (rs : List Reply) (h : Header) (eof : Eof) (s : SessionFields) (stage : Stage) → L.sessions ≡ R.sessions →
     session_of R (id_of h) ≡ Some s → stage ≡ Waiting →
-    Kept (id_of h) s (Turning.eof_stage L U rs h eof s stage)
+    KeepsWaiting (id_of h) s (Turning.eof_stage L U rs h eof s stage)
 kept_eof R L U rs h eof s (Held held) same here w = absurd cc
 kept_eof R L U rs h eof s Known same here w = absurd cc
 kept_eof R L U rs h eof s (OverStage ending) same here w = absurd cc
@@ -80,23 +80,23 @@ kept_eof R L U rs h eof s Waiting same here w = ap (λ (ss : List SessionFields)
 
 kept_data : (R L : State) (U : World) (rs : List Reply) (h : Header) (piece : FileDataFields) (s : SessionFields) → L.sessions ≡ R.sessions →
     session_of R (id_of h) ≡ Some s → s.stage ≡ Waiting →
-    Kept (id_of h) s (Turning.data_parts L U rs h piece (Some s))
+    KeepsWaiting (id_of h) s (Turning.data_parts L U rs h piece (Some s))
 kept_data R L U rs h piece s same here w =
-    subst (Kept (id_of h) s) (sym
+    subst (KeepsWaiting (id_of h) s) (sym
     (cond-false (Turning.is_known s.stage) (Turning.takes_data L U rs h piece s) (Turning.keeps L (Turning.said s words.Idle)) (ap Turning.is_known w)))
     (ap (λ (ss : List SessionFields). found ss (id_of h)) same ∙ here)
 
 kept_prompt : (R L : State) (h : Header) (prompt : Prompt) (s : SessionFields) → L.sessions ≡ R.sessions → session_of R (id_of h) ≡ Some s →
-    s.stage ≡ Waiting → Kept (id_of h) s (Turning.prompt_parts L h prompt (Some s))
+    s.stage ≡ Waiting → KeepsWaiting (id_of h) s (Turning.prompt_parts L h prompt (Some s))
 kept_prompt R L h prompt s same here w =
     let takes = Turning.takes_prompts (at_of L.world s) in
-    subst (Kept (id_of h) s)
+    subst (KeepsWaiting (id_of h) s)
     (sym (cond-false (s.header.acknowledged && takes) (Turning.puts L (Turning.roused L s) (Turning.prompted L h s prompt))
     (Turning.keeps L (Turning.said_of h words.Idle)) (and_right s.header.acknowledged takes (ap Turning.takes_prompts (at_waiting L.world s w)))))
     (ap (λ (ss : List SessionFields). found ss (id_of h)) same ∙ here)
 
 kept_cancel : (R L : State) (rs : List Reply) (id : TransactionId) (s : SessionFields) (stage : Stage) → L.sessions ≡ R.sessions →
-    session_of R id ≡ Some s → stage ≡ Waiting → Kept id s (Turning.cancel_stage L rs s stage)
+    session_of R id ≡ Some s → stage ≡ Waiting → KeepsWaiting id s (Turning.cancel_stage L rs s stage)
 kept_cancel R L rs id s (Held eof) same here w = absurd cc
 kept_cancel R L rs id s Known same here w = absurd cc
 kept_cancel R L rs id s (OverStage ending) same here w = absurd cc
@@ -108,7 +108,7 @@ pub remembers_it : (c : ClosedFields) (id : TransactionId) → remembers (with_n
 remembers_it c id = or_left (is_same id id) (list_any (λ (name : TransactionId). is_same name id) (take 255 c.names)) (same_self id)
 
 own_ack : (R : State) (now : ℕ) (h : Header) (ack : Ack) (s : SessionFields) → AreDistinct R.sessions → session_of R (id_of h) ≡ Some s →
-    s.stage ≡ Waiting → Turned R (AckPdu now h ack) (id_of h) s
+    s.stage ≡ Waiting → TurnsWaiting R (AckPdu now h ack) (id_of h) s
 own_ack R now h ack s d here w =
     let i = AckPdu now h ack in
     let L = Handing.later now R in
@@ -140,13 +140,13 @@ own_ack R now h ack s d here w =
 -- ---- each input
 
 other_turned : (R : State) (i : Input) (id : TransactionId) (s : SessionFields) → session_of R id ≡ Some s → is_same (touched R i) id ≡ false →
-    acknowledges R id i ≡ false → Turned R i id s
+    acknowledges R id i ≡ false → TurnsWaiting R i id s
 other_turned R i id s here other none = Stays (others_stay R i id other ∙ here) none
 
 -- a PDU of its own, or of another transaction
 pdu_turned : (R : State) (i : Input) (h : Header) (id : TransactionId) (s : SessionFields) → session_of R id ≡ Some s → touched R i ≡ id_of h →
     acknowledges R id i ≡ false →
-    (session_of R (id_of h) ≡ Some s → session_of (Turning.after R i) (id_of h) ≡ Some s) → Turned R i id s
+    (session_of R (id_of h) ≡ Some s → session_of (Turning.after R i) (id_of h) ≡ Some s) → TurnsWaiting R i id s
 pdu_turned R i h id s here of none own = elim (cases_Bool (is_same (id_of h) id)) [
   | inl same ↦
       let it = same_is (id_of h) id same in
@@ -162,7 +162,7 @@ not_alive R s w due =
 
 due_kept : (R : State) (now : ℕ) (U : World) (id : TransactionId) (s : SessionFields) (due : Dues.Due) → AreDistinct R.sessions → session_of R id ≡ Some s →
     s.stage ≡ Waiting → Dues.first_due (Handing.later now R) R.sessions ≡ due →
-    is_same (due_name due) id ≡ true → is_timer_of id due ≡ false → Kept id s (Turning.due_parts (Handing.later now R) U due)
+    is_same (due_name due) id ≡ true → is_timer_of id due ≡ false → KeepsWaiting id s (Turning.due_parts (Handing.later now R) U due)
 due_kept R now U id s Dues.Nothing_due d here w is same none = here
 due_kept R now U id s (Dues.Alive_due t) d here w is same none =
     let L = Handing.later now R in
@@ -173,7 +173,7 @@ due_kept R now U id s (Dues.Stage_due t limit) d here w is same none = absurd (b
 
 finish_kept : (R : State) (now : ℕ) (id : TransactionId) (s : SessionFields) (o : Option SessionFields) → AreDistinct R.sessions →
     session_of R id ≡ Some s → s.stage ≡ Waiting → Dues.first_over R.world R.sessions ≡ o →
-    is_same (session_name o) id ≡ true → Kept id s (Turning.finish_parts (Handing.later now R) o)
+    is_same (session_name o) id ≡ true → KeepsWaiting id s (Turning.finish_parts (Handing.later now R) o)
 finish_kept R now id s None d here w is same = here
 finish_kept R now id s (Some t) d here w is same =
     let over = first_over_is R.world R.sessions t is in
@@ -182,7 +182,7 @@ finish_kept R now id s (Some t) d here w is same =
     absurd (both_of (Dues.is_over (at_of R.world t)) waiting over.1)
 
 turn_of : (R : State) (i : Input) (id : TransactionId) (s : SessionFields) → AreDistinct R.sessions → session_of R id ≡ Some s → s.stage ≡ Waiting →
-    is_sent_again R id i ≡ false → Turned R i id s
+    is_sent_again R id i ≡ false → TurnsWaiting R i id s
 turn_of R (MetadataPdu now h m) id s d here w none =
     let i = MetadataPdu now h m in
     let L = Handing.later now R in
@@ -208,7 +208,7 @@ turn_of R (AckPdu now h ack) id s d here w none =
     elim (cases_Bool (is_same (id_of h) id)) [
       | inl same ↦
           let it = same_is (id_of h) id same in
-          subst (λ (n : TransactionId). Turned R i n s) it (own_ack R now h ack s d (ap (found R.sessions) it ∙ here) w)
+          subst (λ (n : TransactionId). TurnsWaiting R i n s) it (own_ack R now h ack s d (ap (found R.sessions) it ∙ here) w)
       | inr other ↦ other_turned R i id s here other
           (and_right (Handing.is_ours R h) (is_same (id_of h) id && five) (and_left (is_same (id_of h) id) five other))
     ]
@@ -241,8 +241,8 @@ turn_of R (CancelAsked now n) id s d here w none = elim (cases_Bool (is_same n i
       let it = same_is n id same in
       let rs = replies R.world (Handing.handed R i) in
       let own : session_of R n ≡ Some s = ap (found R.sessions) it ∙ here in
-      let kept : Kept n s (Turning.cancel_parts L rs n (session_of L n)) =
-      subst (λ (o : Option SessionFields). Kept n s (Turning.cancel_parts L rs n o)) (sym own) (kept_cancel R L rs n s s.stage refl own w) in
+      let kept : KeepsWaiting n s (Turning.cancel_parts L rs n (session_of L n)) =
+      subst (λ (o : Option SessionFields). KeepsWaiting n s (Turning.cancel_parts L rs n o)) (sym own) (kept_cancel R L rs n s s.stage refl own w) in
       Stays (subst (λ (x : TransactionId). session_of (Turning.after R i) x ≡ Some s) it kept) refl
   | inr other ↦ other_turned R (CancelAsked now n) id s here other refl
 ]
@@ -281,12 +281,12 @@ or_none true b h k = absurd cc
 or_none false b h k = k
 
 -- closed, or as before and not acknowledged
-abbrev pub Over : State → List Input → TransactionId → SessionFields → Type 0
-Over R inputs id s = WasClosed R inputs id ⊎ ((session_of (Turning.after_all R inputs) id ≡ Some s) × (is_acknowledged R id inputs ≡ false))
+abbrev pub ClosedOrWaits : State → List Input → TransactionId → SessionFields → Type 0
+ClosedOrWaits R inputs id s = WasClosed R inputs id ⊎ ((session_of (Turning.after_all R inputs) id ≡ Some s) × (is_acknowledged R id inputs ≡ false))
 
 pub over : (R : State) (inputs : List Input) (id : TransactionId) (s : SessionFields) → AreDistinct R.sessions → session_of R id ≡ Some s →
     s.stage ≡ Waiting →
-    IsSentOnce R id inputs → Over R inputs id s
+    IsSentOnce R id inputs → ClosedOrWaits R inputs id s
 over R [] id s d here w none = inr (here, refl)
 over R (i ∷ is) id s d here w none = elim (turn_of R i id s d here w (none.0 (still_waits R id s here w))) [
   | Closes no_session remembered ↦ inl (record { front = i ∷ []; back = is; parts = refl; gone = no_session; remembered = remembered })
@@ -339,11 +339,11 @@ abbrev pub AreLow : List FinishedRound → Type 0
 AreLow rounds = AllByRecursion (λ round. round.is_at_limit ≡ false) rounds
 
 -- each round begins below the limit; or the limit is above what is lost
-abbrev pub Safe : ℕ → ℕ → List FinishedRound → Type 0
-Safe limit count rounds = AreLow rounds ⊎ (count + 1 + rounds_lost rounds < limit)
+abbrev pub IsSafeToSend : ℕ → ℕ → List FinishedRound → Type 0
+IsSafeToSend limit count rounds = AreLow rounds ⊎ (count + 1 + rounds_lost rounds < limit)
 
 is_low : (R : State) (id : TransactionId) (s : SessionFields) (round : FinishedRound) (rounds : List FinishedRound) → AreDistinct R.sessions →
-    session_of R id ≡ Some s → s.stage ≡ Waiting → Safe R.mib.ack.limit s.timer.count (round ∷ rounds) →
+    session_of R id ≡ Some s → s.stage ≡ Waiting → IsSafeToSend R.mib.ack.limit s.timer.count (round ∷ rounds) →
     IsServed R id round.moment round.is_at_limit → round.is_at_limit ≡ false
 is_low R id s round rounds d here w (inl low) served = low.0
 is_low R id s round rounds d here w (inr room) served = elim (cases_Bool round.is_at_limit) [
@@ -351,8 +351,8 @@ is_low R id s round rounds d here w (inr room) served = elim (cases_Bool round.i
   | inr low ↦ low
 ]
 
-safe_rest : (limit count : ℕ) (round : FinishedRound) (rounds : List FinishedRound) → Safe limit count (round ∷ rounds) → round.is_lost ≡ true →
-    Safe limit (count + 1) rounds
+safe_rest : (limit count : ℕ) (round : FinishedRound) (rounds : List FinishedRound) → IsSafeToSend limit count (round ∷ rounds) → round.is_lost ≡ true →
+    IsSafeToSend limit (count + 1) rounds
 safe_rest limit count round rounds (inl low) lost = inl low.1
 safe_rest limit count round rounds (inr room) lost = inr (omega (arith, room, ap one_if lost))
 
@@ -364,14 +364,14 @@ is_lost_by R id false rest comes none = absurd (both_of (is_acknowledged R id re
 
 pub rounds_close : (mib : Mib) (R : State) (id : TransactionId) (s : SessionFields) (rounds : List FinishedRound) → R.mib ≡ mib → AreDistinct R.sessions →
     session_of R id ≡ Some s → s.stage ≡ Waiting → AreFinishedRounds R id rounds →
-    Safe mib.ack.limit s.timer.count rounds → rounds_lost rounds < length rounds → WasClosed R (flat_map finished_inputs rounds) id
+    IsSafeToSend mib.ack.limit s.timer.count rounds → rounds_lost rounds < length rounds → WasClosed R (flat_map finished_inputs rounds) id
 rounds_close mib R id s [] same d here w are safe enough = absurd (omega (arith, enough))
 rounds_close mib R id s (round ∷ rounds) same d here w are safe enough =
     let i = Expire round.moment in
     let N = Turning.after R i in
     let M = Turning.after_all N round.rest in
     let is = are.0 (still_waits R id s here w) in
-    let low = is_low R id s round rounds d here w (subst (λ (m : Mib). Safe m.ack.limit s.timer.count (round ∷ rounds)) (sym same) safe) is.served in
+    let low = is_low R id s round rounds d here w (subst (λ (m : Mib). IsSafeToSend m.ack.limit s.timer.count (round ∷ rounds)) (sym same) safe) is.served in
     let new : SessionFields = record s { timer = passed (Handing.later round.moment R).now s.timer Again } in
     let again : session_of N id ≡ Some new = resent R id s round.moment d here (subst (IsServed R id round.moment) low is.served) in
     let apart = distinct_after R i d in
@@ -385,7 +385,7 @@ rounds_close mib R id s (round ∷ rounds) same d here w are safe enough =
     ]
 
 safe_first : (limit count : ℕ) (lost : Bool) (rounds : List FinishedRound) → AreLow rounds ⊎ (count + one_if lost + rounds_lost rounds < limit) →
-    lost ≡ true → Safe limit count rounds
+    lost ≡ true → IsSafeToSend limit count rounds
 safe_first limit count lost rounds (inl low) is = inl low
 safe_first limit count lost rounds (inr room) is = inr (omega (arith, room, ap one_if is))
 

@@ -58,8 +58,8 @@ record Past (W : World) (id : TransactionId) : Type 0 where
   here : entry_of W id ≡ Some entry
   past : takes_data entry.phase ≡ false
 
-abbrev Own : TransactionId → World × Reply → Type 0
-Own id a = Past a.0 id
+abbrev OwnPast : TransactionId → World × Reply → Type 0
+OwnPast id a = Past a.0 id
 
 put_past : (W V : World) (id : TransactionId) (e new : Entry) → entry_of W id ≡ Some e → Entries.name_of new ≡ Entries.name_of e →
     V.table ≡ slice_set W.table (index_of W id) new → takes_data new.phase ≡ false → Past V id
@@ -71,19 +71,19 @@ put_past W V id e new here name table past = record {
 
 ends_past : (W : World) (id : TransactionId) (e other : Entry) (condition : ℕ) (reply : Reply) → entry_of W id ≡ Some e →
     Entries.name_of other ≡ Entries.name_of e →
-    Own id (ends W (index_of W id) other condition, reply)
+    OwnPast id (ends W (index_of W id) other condition, reply)
 ends_past W id e other condition reply here name =
     put_past W (ends W (index_of W id) other condition) id e (ended W.filestore other condition) here name refl refl
 
 -- by the entry that is found
 metadata_past : (W : World) (h : Header) (m : MetadataFields) (id : TransactionId) (o : Option Entry) → Past W id → is_some o ≡ true →
-    Own id (metadata_came W h m o)
+    OwnPast id (metadata_came W h m o)
 metadata_past W h m id None p there = absurd cc
 metadata_past W h m id (Some e) p there = p
 
 data_past : (W : World) (id : TransactionId) (piece : FileDataFields) (e : Entry) → Past W id → takes_data e.phase ≡ false →
-    Own id (data_came W (index_of W id) piece (Some e))
-data_past W id piece e p past = subst (Own id) (sym (cond-false (takes_data e.phase) (data_at W (index_of W id) e piece) (W, Reply.Idle) past)) p
+    OwnPast id (data_came W (index_of W id) piece (Some e))
+data_past W id piece e p past = subst (OwnPast id) (sym (cond-false (takes_data e.phase) (data_at W (index_of W id) e piece) (W, Reply.Idle) past)) p
 
 receives_not : (phase : Phase) → takes_data phase ≡ false → not (is_receiving phase) ≡ true
 receives_not Receiving h = absurd cc
@@ -94,32 +94,32 @@ receives_not Done h = refl
 receives_not (Ended condition) h = refl
 
 eof_past : (W : World) (id : TransactionId) (eof : Eof) (e : Entry) → Past W id → entry_of W id ≡ Some e → takes_data e.phase ≡ false →
-    Own id (eof_came W (index_of W id) eof (Some e))
+    OwnPast id (eof_came W (index_of W id) eof (Some e))
 eof_past W id eof e p here past =
     let k = index_of W id in
     let last : World × Reply = if not (is_receiving e.phase) then (W, Reply.Duplicate) else eof_at W k e eof in
     let faulted : World × Reply = (ends W k (record e { ended_by_eof = true }) eof.condition, Reply.Faulted eof.condition) in
-    cond_both (not (is_live e.phase)) (W, Reply.Idle) (if not (eof.condition == 0) then faulted else last) (Own id) (λ q. p)
-    (λ q. cond_both (not (eof.condition == 0)) faulted last (Own id)
+    cond_both (not (is_live e.phase)) (W, Reply.Idle) (if not (eof.condition == 0) then faulted else last) (OwnPast id) (λ q. p)
+    (λ q. cond_both (not (eof.condition == 0)) faulted last (OwnPast id)
     (λ z. ends_past W id e (record e { ended_by_eof = true }) eof.condition (Reply.Faulted eof.condition) here refl)
-    (λ z. subst (Own id) (sym (cond-true (not (is_receiving e.phase)) (W, Reply.Duplicate) (eof_at W k e eof) (receives_not e.phase past))) p))
+    (λ z. subst (OwnPast id) (sym (cond-true (not (is_receiving e.phase)) (W, Reply.Duplicate) (eof_at W k e eof) (receives_not e.phase past))) p))
 
 past_before : (n : ℕ) (items : List Item) → takes_data (phase_before n items) ≡ false
 past_before n [] = refl
 past_before n (item ∷ items) = refl
 
 step_at_past : (W : World) (id : TransactionId) (e : Entry) (n : ℕ) (items : List Item) → Past W id → entry_of W id ≡ Some e →
-    Own id (step_at W (index_of W id) e n items)
+    OwnPast id (step_at W (index_of W id) e n items)
 step_at_past W id e n [] p here = p
 step_at_past W id e n (item ∷ items) p here =
     let k = index_of W id in
     let o = act_now W e item in
     cond_both (succeeded o.answer) (change_at W k o.changes (entry_after e n item items o), replied o.answer)
-    (ends W k (entry_failed e o) 4, replied o.answer) (Own id)
+    (ends W k (entry_failed e o) 4, replied o.answer) (OwnPast id)
     (λ q. put_past W (change_at W k o.changes (entry_after e n item items o)) id e (entry_after e n item items o) here refl refl (past_before (suc n) items))
     (λ q. ends_past W id e (entry_failed e o) 4 (replied o.answer) here refl)
 
-step_past : (W : World) (id : TransactionId) (e : Entry) (phase : Phase) → Past W id → entry_of W id ≡ Some e → Own id (step_in phase W (index_of W id) e)
+step_past : (W : World) (id : TransactionId) (e : Entry) (phase : Phase) → Past W id → entry_of W id ≡ Some e → OwnPast id (step_in phase W (index_of W id) e)
 step_past W id e (Executing n) p here = step_at_past W id e n (drop n e.items) p here
 step_past W id e Receiving p here = p
 step_past W id e (Awaiting checks) p here = p
@@ -127,14 +127,14 @@ step_past W id e Refused p here = p
 step_past W id e Done p here = p
 step_past W id e (Ended condition) p here = p
 
-cancel_past : (W : World) (id : TransactionId) (e : Entry) → Past W id → entry_of W id ≡ Some e → Own id (cancelled W (index_of W id) (Some e))
+cancel_past : (W : World) (id : TransactionId) (e : Entry) → Past W id → entry_of W id ≡ Some e → OwnPast id (cancelled W (index_of W id) (Some e))
 cancel_past W id e p here =
-    cond_both (is_live e.phase) (ends W (index_of W id) e 15, Reply.Cancelled) (W, Reply.Idle) (Own id)
+    cond_both (is_live e.phase) (ends W (index_of W id) e 15, Reply.Cancelled) (W, Reply.Idle) (OwnPast id)
     (λ q. ends_past W id e e 15 Reply.Cancelled here refl) (λ q. p)
 
-ours_past : (W : World) (h : Header) (id : TransactionId) (answer : World × Reply) → Past W id → Own id answer →
-    Own id (if h.destination == W.config.entity then answer else (W, Reply.NotForUs))
-ours_past W h id answer p own = cond_both (h.destination == W.config.entity) answer (W, Reply.NotForUs) (Own id) (λ q. own) (λ q. p)
+ours_past : (W : World) (h : Header) (id : TransactionId) (answer : World × Reply) → Past W id → OwnPast id answer →
+    OwnPast id (if h.destination == W.config.entity then answer else (W, Reply.NotForUs))
+ours_past W h id answer p own = cond_both (h.destination == W.config.entity) answer (W, Reply.NotForUs) (OwnPast id) (λ q. own) (λ q. p)
 
 metadata_next : (W : World) (h : Header) (m : MetadataFields) → Past W (id_of h) → Past (next W (MetadataCame h m)).0 (id_of h)
 metadata_next W h m p =
@@ -142,21 +142,21 @@ metadata_next W h m p =
 
 data_next : (W : World) (h : Header) (piece : FileDataFields) → Past W (id_of h) → Past (next W (DataCame h piece)).0 (id_of h)
 data_next W h piece p =
-    let came : Own (id_of h) (data_came W (index_of W (id_of h)) piece (entry_of W (id_of h))) =
-    subst (λ (o : Option Entry). Own (id_of h) (data_came W (index_of W (id_of h)) piece o)) (sym p.here) (data_past W (id_of h) piece p.entry p p.past) in
+    let came : OwnPast (id_of h) (data_came W (index_of W (id_of h)) piece (entry_of W (id_of h))) =
+    subst (λ (o : Option Entry). OwnPast (id_of h) (data_came W (index_of W (id_of h)) piece o)) (sym p.here) (data_past W (id_of h) piece p.entry p p.past) in
     ours_past W h (id_of h) (data_came W (index_of W (id_of h)) piece (entry_of W (id_of h))) p came
 
 eof_next : (W : World) (h : Header) (eof : Eof) → Past W (id_of h) → Past (next W (EofCame h eof)).0 (id_of h)
 eof_next W h eof p =
-    let came : Own (id_of h) (eof_came W (index_of W (id_of h)) eof (entry_of W (id_of h))) =
-    subst (λ (o : Option Entry). Own (id_of h) (eof_came W (index_of W (id_of h)) eof o)) (sym p.here) (eof_past W (id_of h) eof p.entry p p.here p.past) in
+    let came : OwnPast (id_of h) (eof_came W (index_of W (id_of h)) eof (entry_of W (id_of h))) =
+    subst (λ (o : Option Entry). OwnPast (id_of h) (eof_came W (index_of W (id_of h)) eof o)) (sym p.here) (eof_past W (id_of h) eof p.entry p p.here p.past) in
     ours_past W h (id_of h) (eof_came W (index_of W (id_of h)) eof (entry_of W (id_of h))) p came
 
 step_next : (W : World) (id : TransactionId) → Past W id → Past (next W (Step id)).0 id
-step_next W id p = subst (λ (o : Option Entry). Own id (stepped W (index_of W id) o)) (sym p.here) (step_past W id p.entry p.entry.phase p p.here)
+step_next W id p = subst (λ (o : Option Entry). OwnPast id (stepped W (index_of W id) o)) (sym p.here) (step_past W id p.entry p.entry.phase p p.here)
 
 cancel_next : (W : World) (id : TransactionId) → Past W id → Past (next W (Cancel id)).0 id
-cancel_next W id p = subst (λ (o : Option Entry). Own id (cancelled W (index_of W id) o)) (sym p.here) (cancel_past W id p.entry p p.here)
+cancel_next W id p = subst (λ (o : Option Entry). OwnPast id (cancelled W (index_of W id) o)) (sym p.here) (cancel_past W id p.entry p p.here)
 
 -- ---- its session
 
@@ -389,10 +389,10 @@ due_still R now U id s (Dues.Stage_due t true) d here known p at is same =
 -- ---- every input
 
 -- its outcome is handed out, or it goes on
-data Turned (R : State) (i : Input) (id : TransactionId) : Type 0 where
+data TurnsPast (R : State) (i : Input) (id : TransactionId) : Type 0 where
   Concludes : (moment : ℕ) → (is : i ≡ Finish moment) → (s : SessionFields) → (over : Dues.first_over R.world R.sessions ≡ Some s) →
-      (named : name_of s ≡ id) → Turned R i id
-  Goes_on : (still : After R i id) → Turned R i id
+      (named : name_of s ≡ id) → TurnsPast R i id
+  Goes_on : (still : After R i id) → TurnsPast R i id
 
 other_still : NextIsSound → NextIsPromised → (R : State) (i : Input) (id : TransactionId) (s : SessionFields) → Sound R.world → session_of R id ≡ Some s →
     s.stage ≡ Known → Past R.world id → is_work i ≡ false → is_same (touched R i) id ≡ false →
@@ -407,7 +407,7 @@ other_still next_sound promised R i id s sound here known p w other = record {
 -- a PDU of its own, or of another transaction
 pdu_still : NextIsSound → NextIsPromised → (R : State) (i : Input) (h : Header) (id : TransactionId) (s : SessionFields) → Sound R.world →
     session_of R id ≡ Some s → s.stage ≡ Known → Past R.world id → is_work i ≡ false → touched R i ≡ id_of h →
-    (session_of R (id_of h) ≡ Some s → Past R.world (id_of h) → After R i (id_of h)) → Turned R i id
+    (session_of R (id_of h) ≡ Some s → Past R.world (id_of h) → After R i (id_of h)) → TurnsPast R i id
 pdu_still next_sound promised R i h id s sound here known p w of own = elim (cases_Bool (is_same (id_of h) id)) [
   | inl same ↦
       let it = same_is (id_of h) id same in
@@ -425,7 +425,7 @@ work_past next_sound promised W (Some n) id sound p = elim (cases_Bool (is_same 
 
 finish_turned : NextIsSound → NextIsPromised → (R : State) (now : ℕ) (id : TransactionId) (s : SessionFields) (o : Option SessionFields) → Sound R.world →
     session_of R id ≡ Some s → s.stage ≡ Known → Past R.world id →
-    Dues.first_over R.world R.sessions ≡ o → Turned R (Finish now) id
+    Dues.first_over R.world R.sessions ≡ o → TurnsPast R (Finish now) id
 finish_turned next_sound promised R now id s None sound here known p is =
     let L = Handing.later now R in
     Goes_on (subst (λ (o : Option SessionFields). KnownStill (run R.world (Handing.take_of o)) (Turning.finish_parts L o).sessions id) (sym is)
@@ -437,7 +437,7 @@ finish_turned next_sound promised R now id s (Some t) sound here known p is = el
 ]
 
 turn_of : NextIsSound → NextIsPromised → (R : State) (i : Input) (id : TransactionId) (s : SessionFields) → Sound R.world → AreDistinct R.sessions →
-    session_of R id ≡ Some s → s.stage ≡ Known → Past R.world id → Turned R i id
+    session_of R id ≡ Some s → s.stage ≡ Known → Past R.world id → TurnsPast R i id
 turn_of next_sound promised R (MetadataPdu now h m) id s sound d here known p =
     pdu_still next_sound promised R (MetadataPdu now h m) h id s sound here known p refl refl (λ own q. own_metadata R now h m s own known q)
 turn_of next_sound promised R (DataPdu now h piece) id s sound d here known p =

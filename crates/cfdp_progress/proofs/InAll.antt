@@ -42,7 +42,7 @@ use Rattle.cfdp_progress.proofs.Turns.{Before}
 use Rattle.cfdp_progress.proofs.Runs.{still_awaits, sound_all, distinct_all, mib_all, after_both, takes_none}
 use Rattle.cfdp_progress.proofs.Openings.{open_expire, open_first}
 use Rattle.cfdp_progress.proofs.Rounds.{SoFar, Room, is_below, not_enough, round_goes, within_heard, done_after, unheard_after, so_far_after, lost_after, count_after}
-use Rattle.cfdp_progress.proofs.Closing.{AreLow, Safe as SafeClosing, over, rounds_close, remembers_it, closed_later, closed_after, closed_before, is_lost_by}
+use Rattle.cfdp_progress.proofs.Closing.{AreLow, IsSafeToSend, over, rounds_close, remembers_it, closed_later, closed_after, closed_before, is_lost_by}
 use Rattle.cfdp_progress.proofs.Concluding.{concluded_when_done, concluded_later}
 
 -- ---- what is known after several inputs
@@ -55,7 +55,7 @@ known_all laws next_sound promised R (i ∷ is) sound d known =
     (known_after laws next_sound promised R i sound d known)
 
 -- a session that is known
-record Session (R : State) (id : TransactionId) : Type 0 where
+record HasKnown (R : State) (id : TransactionId) : Type 0 where
   session : SessionFields
   here : session_of R id ≡ Some session
   known : session.stage ≡ Known
@@ -66,7 +66,7 @@ known_stage Known h = refl
 known_stage (OverStage ending) h = absurd cc
 known_stage Waiting h = absurd cc
 
-session_by : (R : State) (id : TransactionId) (o : Option SessionFields) → session_of R id ≡ o → knows o ≡ true → Session R id
+session_by : (R : State) (id : TransactionId) (o : Option SessionFields) → session_of R id ≡ o → knows o ≡ true → HasKnown R id
 session_by R id None here h = absurd cc
 session_by R id (Some s) here h = record { session = s; here = here; known = known_stage s.stage h }
 
@@ -190,21 +190,21 @@ low_all [] below = tt
 low_all (round ∷ rounds) below = (below.0, low_all rounds below.1)
 
 -- each begins below the limits; or the limits are above what is lost
-abbrev Safe : Mib → ℕ → Received → List (List Sending) → ℕ → List EitherRound → Type 0
-Safe mib count rs done unheard rounds =
+abbrev AreBothSafe : Mib → ℕ → Received → List (List Sending) → ℕ → List EitherRound → Type 0
+AreBothSafe mib count rs done unheard rounds =
     AreBelowAll rounds
     ⊎ ((count + 1 ≤ length done + unheard) × (lost_in done + unheard + total_lost rounds + spare_round rs < mib.nak.limit) ×
     (total_lost rounds < mib.ack.limit))
 
 room_of : (mib : Mib) (count : ℕ) (rs : Received) (done : List (List Sending)) (unheard : ℕ) (round : EitherRound) (rounds : List EitherRound) →
-    Safe mib count rs done unheard (round ∷ rounds) →
+    AreBothSafe mib count rs done unheard (round ∷ rounds) →
     Room round.is_at_limit mib.nak.limit count rs done unheard
 room_of mib count rs done unheard round rounds (inl below) = inl below.0
 room_of mib count rs done unheard round rounds (inr safe) = inr (safe.0, omega (arith, safe.1))
 
 safe_rest : (mib : Mib) (count later : ℕ) (rs : Received) (done : List (List Sending)) (unheard : ℕ) (round : EitherRound) (rounds : List EitherRound) →
-    Safe mib count rs done unheard (round ∷ rounds) → later ≤ count + 1 →
-    Safe mib later rs (done_after round.is_heard done round.sent) (unheard_after round.is_heard unheard) rounds
+    AreBothSafe mib count rs done unheard (round ∷ rounds) → later ≤ count + 1 →
+    AreBothSafe mib later rs (done_after round.is_heard done round.sent) (unheard_after round.is_heard unheard) rounds
 safe_rest mib count later rs done unheard round rounds (inl below) few = inl below.1
 safe_rest mib count later rs done unheard round rounds (inr safe) few =
     inr (
@@ -216,8 +216,8 @@ safe_rest mib count later rs done unheard round rounds (inr safe) few =
 
 -- once the Finished PDU was sent in a round, and was lost
 safe_closing : (mib : Mib) (count sent : ℕ) (rs : Received) (done : List (List Sending)) (unheard : ℕ) (round : EitherRound) (rounds : List EitherRound) →
-    Safe mib count rs done unheard (round ∷ rounds) → sent ≡ 0 → round.is_lost ≡ true →
-    SafeClosing mib.ack.limit sent (as_all rounds)
+    AreBothSafe mib count rs done unheard (round ∷ rounds) → sent ≡ 0 → round.is_lost ≡ true →
+    IsSafeToSend mib.ack.limit sent (as_all rounds)
 safe_closing mib count sent rs done unheard round rounds (inl below) zero lost = inl (low_all rounds below.1)
 safe_closing mib count sent rs done unheard round rounds (inr safe) zero lost = inr (omega (arith, safe.2, zero, ap one_if lost, fewer_lost rounds))
 
@@ -225,7 +225,7 @@ safe_closing mib count sent rs done unheard round rounds (inr safe) zero lost = 
 
 close_rest : (mib : Mib) (M : State) (id : TransactionId) (u : SessionFields) (rounds : List EitherRound) → M.mib ≡ mib → AreDistinct M.sessions →
     session_of M id ≡ Some u → u.stage ≡ Waiting → AreEitherRounds M id rounds →
-    SafeClosing mib.ack.limit u.timer.count (as_all rounds) → total_lost rounds < length rounds → WasClosed M (flat_map inputs_of rounds) id
+    IsSafeToSend mib.ack.limit u.timer.count (as_all rounds) → total_lost rounds < length rounds → WasClosed M (flat_map inputs_of rounds) id
 close_rest mib M id u rounds same d here w are safe enough =
     subst (λ (xs : List Input). WasClosed M xs id) (same_inputs rounds)
     (rounds_close mib M id u (as_all rounds) same d here w (finished_of M id rounds are) safe (omega (arith, enough, fewer_lost rounds, as_many rounds)))
@@ -234,7 +234,7 @@ all_go : Laws → NextIsSound → NextIsPromised → WholeAfterLosses →
     (mib : Mib) (R : State) (id : TransactionId) (rounds : List EitherRound) (e : Entry) (eof : Eof) (s : SessionFields) (rs : Received)
     (done : List (List Sending)) (unheard : ℕ) →
     R.mib ≡ mib → Sound R.world → AreDistinct R.sessions → AreKnown R → Before R id e eof s → SoFar (most_requests mib) rs eof done e →
-    AreEitherRounds R id rounds → Safe mib s.timer.count rs done unheard rounds →
+    AreEitherRounds R id rounds → AreBothSafe mib s.timer.count rs done unheard rounds →
     lost_in done + unheard + total_lost rounds + spare_round rs < length done + unheard + length rounds → WasClosed R (flat_map inputs_of rounds) id
 all_go laws next_sound promised whole mib R id [] e eof s rs done unheard same sound d known b so are safe enough =
     absurd (omega (arith, enough, not_enough whole R id e eof s (most_requests mib) rs done sound b so))
@@ -284,7 +284,7 @@ SafeAtFirst mib spare first is_lost rounds =
 
 safe_first : (mib : Mib) (count : ℕ) (rs : Received) (first : FirstRound) (is_lost : Bool) (rounds : List EitherRound) →
     SafeAtFirst mib (spare_round rs) first is_lost rounds → count ≤ 0 →
-    Safe mib count rs (done_after first.is_heard [] first.sent) (unheard_after first.is_heard 0) rounds
+    AreBothSafe mib count rs (done_after first.is_heard [] first.sent) (unheard_after first.is_heard 0) rounds
 safe_first mib count rs first is_lost rounds (inl below) few = inl below
 safe_first mib count rs first is_lost rounds (inr room) few =
     inr (
@@ -295,7 +295,7 @@ safe_first mib count rs first is_lost rounds (inr room) few =
     )
 
 closing_first : (mib : Mib) (spare sent : ℕ) (first : FirstRound) (is_lost : Bool) (rounds : List EitherRound) →
-    SafeAtFirst mib spare first is_lost rounds → sent ≡ 0 → is_lost ≡ true → SafeClosing mib.ack.limit sent (as_all rounds)
+    SafeAtFirst mib spare first is_lost rounds → sent ≡ 0 → is_lost ≡ true → IsSafeToSend mib.ack.limit sent (as_all rounds)
 closing_first mib spare sent first is_lost rounds (inl below) zero lost = inl (low_all rounds below)
 closing_first mib spare sent first is_lost rounds (inr room) zero lost = inr (omega (arith, room.1, zero, ap one_if lost, fewer_lost rounds))
 

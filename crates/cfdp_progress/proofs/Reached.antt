@@ -84,54 +84,54 @@ put_is c W V id e new here name table lacks = it_is c V id new (replaces W V id 
 
 -- ---- by the event, for an entry that is there
 
-abbrev Own : World → TransactionId → World × Reply → Type 0
-Own W id a = LacksAt W.config a.0 id
+abbrev OwnLacks : World → TransactionId → World × Reply → Type 0
+OwnLacks W id a = LacksAt W.config a.0 id
 
 ends_own : (W : World) (id : TransactionId) (e other : Entry) (condition : ℕ) (reply : Reply) → entry_of W id ≡ Some e →
-    Entries.name_of other ≡ Entries.name_of e → Own W id (ends W (index_of W id) other condition, reply)
+    Entries.name_of other ≡ Entries.name_of e → OwnLacks W id (ends W (index_of W id) other condition, reply)
 ends_own W id e other condition reply here name =
     put_is W.config W (ends W (index_of W id) other condition) id e (ended W.filestore other condition) here name refl (λ checks is. absurd cc)
 
 turns_own : (W : World) (id : TransactionId) (e : Entry) (phase : Phase) (eof : Option Eof) (complete : Bool) (reply : Reply) → entry_of W id ≡ Some e →
     If_waiting W.config (turned e phase eof complete) →
-    Own W id (turns W (index_of W id) e phase eof complete, reply)
+    OwnLacks W id (turns W (index_of W id) e phase eof complete, reply)
 turns_own W id e phase eof complete reply here lacks =
     put_is W.config W (turns W (index_of W id) e phase eof complete) id e (turned e phase eof complete) here refl refl lacks
 
 -- in the world after its octets were stored
 whole_own : (W V : World) (id : TransactionId) (e new : Entry) (sum : ℕ) → entry_of W id ≡ Some e → Entries.name_of new ≡ Entries.name_of e →
-    V.table ≡ slice_set W.table (index_of W id) new → Own W id (whole V (index_of W id) new sum)
+    V.table ≡ slice_set W.table (index_of W id) new → OwnLacks W id (whole V (index_of W id) new sum)
 whole_own W V id e new sum here name table =
     let k = index_of W id in
     let right : Entry = turned new (Executing 0) new.eof true in
     let wrong : Entry = ended V.filestore new 5 in
     let again : (other : Entry) → slice_set V.table k other ≡ slice_set W.table k other =
     λ other. ap (λ (t : List Entry). slice_set t k other) table ∙ set_set_same W.table k new other in
-    cond_both (is_right_checksum new sum) (turns V k new (Executing 0) new.eof true, _) (ends V k new 5, _) (Own W id)
+    cond_both (is_right_checksum new sum) (turns V k new (Executing 0) new.eof true, _) (ends V k new 5, _) (OwnLacks W id)
     (λ r. put_is W.config W (turns V k new (Executing 0) new.eof true) id e right here name (again right) (λ checks is. absurd cc))
     (λ r. put_is W.config W (ends V k new 5) id e wrong here name (again wrong) (λ checks is. absurd cc))
 
 -- with the entry as it is
-whole_here : (W : World) (id : TransactionId) (e : Entry) (sum : ℕ) → entry_of W id ≡ Some e → Own W id (whole W (index_of W id) e sum)
+whole_here : (W : World) (id : TransactionId) (e : Entry) (sum : ℕ) → entry_of W id ≡ Some e → OwnLacks W id (whole W (index_of W id) e sum)
 whole_here W id e sum here =
-    cond_both (is_right_checksum e sum) (turns W (index_of W id) e (Executing 0) e.eof true, _) (ends W (index_of W id) e 5, _) (Own W id)
+    cond_both (is_right_checksum e sum) (turns W (index_of W id) e (Executing 0) e.eof true, _) (ends W (index_of W id) e 5, _) (OwnLacks W id)
     (λ r. turns_own W id e (Executing 0) e.eof true Reply.Complete here (λ checks is. absurd cc)) (λ r. ends_own W id e e 5 (Reply.Faulted 5) here refl)
 
 -- an entry that waited, with what came
 stores_own : (W : World) (id : TransactionId) (e : Entry) (received : Received) → entry_of W id ≡ Some e →
-    If_waiting W.config (storing W.filestore e received) → Own W id (stores W (index_of W id) e received, Reply.Stored)
+    If_waiting W.config (storing W.filestore e received) → OwnLacks W id (stores W (index_of W id) e received, Reply.Stored)
 stores_own W id e received here lacks = put_is W.config W (stores W (index_of W id) e received) id e (storing W.filestore e received) here refl refl lacks
 
 after_own : (W : World) (id : TransactionId) (e : Entry) (received : Received) (eof : Option Eof) → entry_of W id ≡ Some e → e.eof ≡ eof →
     If_waiting W.config e →
-    Own W id (after_eof eof (stores W (index_of W id) e received) (index_of W id) (storing W.filestore e received))
+    OwnLacks W id (after_eof eof (stores W (index_of W id) e received) (index_of W id) (storing W.filestore e received))
 after_own W id e received None here came lacks =
     stores_own W id e received here (λ checks is. let l = lacks checks is in let never : None ≡ Some l.eof = sym came ∙ l.came in absurd cc)
 after_own W id e received (Some eof) here came lacks =
     let k = index_of W id in
     let V = stores W k e received in
     let new : Entry = storing W.filestore e received in
-    cond_both (is_whole eof.size received) (whole V k new eof.checksum) (V, Reply.Stored) (Own W id)
+    cond_both (is_whole eof.size received) (whole V k new eof.checksum) (V, Reply.Stored) (OwnLacks W id)
     (λ w. whole_own W V id e new eof.checksum here refl refl)
     (λ short. stores_own W id e received here (λ checks is.
     let l = lacks checks is in
@@ -140,7 +140,7 @@ after_own W id e received (Some eof) here came lacks =
 
 stored_own : (W : World) (id : TransactionId) (e : Entry) (received : Received) (phase : Phase) → entry_of W id ≡ Some e → e.phase ≡ phase →
     If_waiting W.config e →
-    Own W id (stored phase (stores W (index_of W id) e received) (index_of W id) (storing W.filestore e received))
+    OwnLacks W id (stored phase (stores W (index_of W id) e received) (index_of W id) (storing W.filestore e received))
 stored_own W id e received (Awaiting checks) here is lacks = after_own W id e received e.eof here refl lacks
 stored_own W id e received Receiving here is lacks =
     stores_own W id e received here (λ checks q. let never : Receiving ≡ Awaiting checks = sym is ∙ q in absurd cc)
@@ -152,20 +152,20 @@ stored_own W id e received Done here is lacks = stores_own W id e received here 
 stored_own W id e received (Ended condition) here is lacks =
     stores_own W id e received here (λ checks q. let never : Ended condition ≡ Awaiting checks = sym is ∙ q in absurd cc)
 
-same_own : (W : World) (id : TransactionId) (reply : Reply) → LacksAt W.config W id → Own W id (W, reply)
+same_own : (W : World) (id : TransactionId) (reply : Reply) → LacksAt W.config W id → OwnLacks W id (W, reply)
 same_own W id reply lacks = lacks
 
 data_own : (W : World) (id : TransactionId) (piece : FileDataFields) (o : Option Entry) → LacksAt W.config W id → entry_of W id ≡ o →
-    Own W id (data_came W (index_of W id) piece o)
+    OwnLacks W id (data_came W (index_of W id) piece o)
 data_own W id piece None lacks here = lacks
 data_own W id piece (Some e) lacks here =
     let k = index_of W id in
     let received = kept_with e.received piece.offset piece.octets in
-    cond_both (takes_data e.phase) (data_at W k e piece) (W, Reply.Idle) (Own W id)
-    (λ q. cond_both (length piece.octets == 0) (W, Reply.Stored) _ (Own W id) (λ z. lacks)
-    (λ z. cond_both (nat_lt (limit e.phase W.config e) (piece.offset + length piece.octets)) (ends W k e 6, Reply.Faulted 6) _ (Own W id)
+    cond_both (takes_data e.phase) (data_at W k e piece) (W, Reply.Idle) (OwnLacks W id)
+    (λ q. cond_both (length piece.octets == 0) (W, Reply.Stored) _ (OwnLacks W id) (λ z. lacks)
+    (λ z. cond_both (nat_lt (limit e.phase W.config e) (piece.offset + length piece.octets)) (ends W k e 6, Reply.Faulted 6) _ (OwnLacks W id)
     (λ over. ends_own W id e e 6 (Reply.Faulted 6) here refl)
-    (λ fits. cond_both (nat_lt 32 (pieces received)) (W, Reply.Dropped) _ (Own W id) (λ many. lacks)
+    (λ fits. cond_both (nat_lt 32 (pieces received)) (W, Reply.Dropped) _ (OwnLacks W id) (λ many. lacks)
     (λ few. stored_own W id e received e.phase here refl (lacks e here)))))
     (λ q. lacks)
 
@@ -180,21 +180,21 @@ not_true true h = absurd cc
 not_true false h = refl
 
 eof_own : (W : World) (id : TransactionId) (eof : Eof) (o : Option Entry) → LacksAt W.config W id → entry_of W id ≡ o →
-    Own W id (eof_came W (index_of W id) eof o)
+    OwnLacks W id (eof_came W (index_of W id) eof o)
 eof_own W id eof None lacks here = lacks
 eof_own W id eof (Some e) lacks here =
     let k = index_of W id in
-    cond_both (not (is_live e.phase)) (W, Reply.Idle) _ (Own W id) (λ q. lacks)
-    (λ q. cond_both (not (eof.condition == 0)) (ends W k (record e { ended_by_eof = true }) eof.condition, Reply.Faulted eof.condition) _ (Own W id)
+    cond_both (not (is_live e.phase)) (W, Reply.Idle) _ (OwnLacks W id) (λ q. lacks)
+    (λ q. cond_both (not (eof.condition == 0)) (ends W k (record e { ended_by_eof = true }) eof.condition, Reply.Faulted eof.condition) _ (OwnLacks W id)
     (λ z. ends_own W id e (record e { ended_by_eof = true }) eof.condition (Reply.Faulted eof.condition) here refl)
-    (λ z. cond_both (not (is_receiving e.phase)) (W, Reply.Duplicate) _ (Own W id) (λ past. lacks)
-    (λ first. cond_both (length e.items == 0) (turns W k e Done e.eof true, Reply.Done) _ (Own W id)
+    (λ z. cond_both (not (is_receiving e.phase)) (W, Reply.Duplicate) _ (OwnLacks W id) (λ past. lacks)
+    (λ first. cond_both (length e.items == 0) (turns W k e Done e.eof true, Reply.Done) _ (OwnLacks W id)
     (λ empty. turns_own W id e Done e.eof true Reply.Done here (λ checks is. absurd cc))
-    (λ some. cond_both (not (has_file e.metadata)) (turns W k e (Executing 0) e.eof true, Reply.Complete) _ (Own W id)
+    (λ some. cond_both (not (has_file e.metadata)) (turns W k e (Executing 0) e.eof true, Reply.Complete) _ (OwnLacks W id)
     (λ no_file. turns_own W id e (Executing 0) e.eof true Reply.Complete here (λ checks is. absurd cc))
-    (λ file. cond_both (nat_lt (bound W.config e.metadata) eof.size || nat_lt eof.size (length e.received)) (ends W k e 6, Reply.Faulted 6) _ (Own W id)
+    (λ file. cond_both (nat_lt (bound W.config e.metadata) eof.size || nat_lt eof.size (length e.received)) (ends W k e 6, Reply.Faulted 6) _ (OwnLacks W id)
     (λ over. ends_own W id e e 6 (Reply.Faulted 6) here refl)
-    (λ fits. cond_both (not (is_whole eof.size e.received)) (turns W k e (Awaiting 0) (Some eof) e.complete, Reply.Waiting) _ (Own W id)
+    (λ fits. cond_both (not (is_whole eof.size e.received)) (turns W k e (Awaiting 0) (Some eof) e.complete, Reply.Waiting) _ (OwnLacks W id)
     (λ short. turns_own W id e (Awaiting 0) (Some eof) e.complete Reply.Waiting here (λ checks is.
     record {
       eof = eof;
@@ -206,11 +206,11 @@ eof_own W id eof (Some e) lacks here =
     (λ all. whole_here W id e eof.checksum here)))))))
 
 check_own : (W : World) (id : TransactionId) (e : Entry) (phase : Phase) → entry_of W id ≡ Some e → e.phase ≡ phase → LacksAt W.config W id →
-    Own W id (check_at phase W (index_of W id) e)
+    OwnLacks W id (check_at phase W (index_of W id) e)
 check_own W id e (Awaiting checks) here is lacks =
     let k = index_of W id in
     cond_both (nat_le W.config.checks (checks + 1)) (ends W k e 10, Reply.Faulted 10) (turns W k e (Awaiting (checks + 1)) e.eof e.complete, Reply.Waiting)
-    (Own W id)
+    (OwnLacks W id)
     (λ q. ends_own W id e e 10 (Reply.Faulted 10) here refl)
     (λ q. turns_own W id e (Awaiting (checks + 1)) e.eof e.complete Reply.Waiting here
     (λ n z. let l = lacks e here checks is in record { eof = l.eof; came = l.came; within = l.within; short = l.short }))
@@ -220,7 +220,7 @@ check_own W id e Refused here is lacks = lacks
 check_own W id e Done here is lacks = lacks
 check_own W id e (Ended condition) here is lacks = lacks
 
-checked_own : (W : World) (id : TransactionId) (o : Option Entry) → LacksAt W.config W id → entry_of W id ≡ o → Own W id (checked W (index_of W id) o)
+checked_own : (W : World) (id : TransactionId) (o : Option Entry) → LacksAt W.config W id → entry_of W id ≡ o → OwnLacks W id (checked W (index_of W id) o)
 checked_own W id None lacks here = lacks
 checked_own W id (Some e) lacks here = check_own W id e e.phase here refl lacks
 
@@ -229,18 +229,18 @@ no_wait n checks [] h = absurd cc
 no_wait n checks (item ∷ items) h = absurd cc
 
 step_at_own : (W : World) (id : TransactionId) (e : Entry) (n : ℕ) (items : List Item) → entry_of W id ≡ Some e → LacksAt W.config W id →
-    Own W id (step_at W (index_of W id) e n items)
+    OwnLacks W id (step_at W (index_of W id) e n items)
 step_at_own W id e n [] here lacks = lacks
 step_at_own W id e n (item ∷ items) here lacks =
     let k = index_of W id in
     let o = act_now W e item in
-    cond_both (succeeded o.answer) _ _ (Own W id)
+    cond_both (succeeded o.answer) _ _ (OwnLacks W id)
     (λ q. put_is W.config W (change_at W k o.changes (entry_after e n item items o)) id e (entry_after e n item items o) here refl refl
     (λ checks is. absurd (no_wait (suc n) checks items is)))
     (λ q. ends_own W id e (entry_failed e o) 4 (replied o.answer) here refl)
 
 step_own : (W : World) (id : TransactionId) (e : Entry) (phase : Phase) → entry_of W id ≡ Some e → LacksAt W.config W id →
-    Own W id (step_in phase W (index_of W id) e)
+    OwnLacks W id (step_in phase W (index_of W id) e)
 step_own W id e (Executing n) here lacks = step_at_own W id e n (drop n e.items) here lacks
 step_own W id e Receiving here lacks = lacks
 step_own W id e (Awaiting checks) here lacks = lacks
@@ -248,21 +248,21 @@ step_own W id e Refused here lacks = lacks
 step_own W id e Done here lacks = lacks
 step_own W id e (Ended condition) here lacks = lacks
 
-stepped_own : (W : World) (id : TransactionId) (o : Option Entry) → LacksAt W.config W id → entry_of W id ≡ o → Own W id (stepped W (index_of W id) o)
+stepped_own : (W : World) (id : TransactionId) (o : Option Entry) → LacksAt W.config W id → entry_of W id ≡ o → OwnLacks W id (stepped W (index_of W id) o)
 stepped_own W id None lacks here = lacks
 stepped_own W id (Some e) lacks here = step_own W id e e.phase here lacks
 
-cancelled_own : (W : World) (id : TransactionId) (o : Option Entry) → LacksAt W.config W id → entry_of W id ≡ o → Own W id (cancelled W (index_of W id) o)
+cancelled_own : (W : World) (id : TransactionId) (o : Option Entry) → LacksAt W.config W id → entry_of W id ≡ o → OwnLacks W id (cancelled W (index_of W id) o)
 cancelled_own W id None lacks here = lacks
 cancelled_own W id (Some e) lacks here =
-    cond_both (is_live e.phase) (ends W (index_of W id) e 15, Reply.Cancelled) (W, Reply.Idle) (Own W id)
+    cond_both (is_live e.phase) (ends W (index_of W id) e 15, Reply.Cancelled) (W, Reply.Idle) (OwnLacks W id)
     (λ q. ends_own W id e e 15 Reply.Cancelled here refl) (λ q. lacks)
 
 taken_own : TakeRemoves → (W : World) (id : TransactionId) (o : Option Entry) → Sound W → LacksAt W.config W id → entry_of W id ≡ o →
-    Own W id (taken_out W (index_of W id) o)
+    OwnLacks W id (taken_out W (index_of W id) o)
 taken_own removes W id None sound lacks here = lacks
 taken_own removes W id (Some e) sound lacks here = elim (cases_Bool (is_live e.phase)) [
-  | inl live ↦ subst (Own W id) (sym (cond-true (is_live e.phase) (W, Reply.Idle) _ live)) lacks
+  | inl live ↦ subst (OwnLacks W id) (sym (cond-true (is_live e.phase) (W, Reply.Idle) _ live)) lacks
   | inr over ↦
       none_is W.config (taken_out W (index_of W id) (Some e)).0 id
       (ap (λ (o : Option Entry). entry_of (taken_out W (index_of W id) o).0 id) (sym here) ∙ removes W id e sound here over)
@@ -271,31 +271,31 @@ taken_own removes W id (Some e) sound lacks here = elim (cases_Bool (is_live e.p
 -- ---- a new entry
 
 new_own : (W : World) (id : TransactionId) (new : Entry) (reply : Reply) → entry_of W id ≡ None → Entries.name_of new ≡ id → If_waiting W.config new →
-    Own W id (with_new W new, reply)
+    OwnLacks W id (with_new W new, reply)
 new_own W id new reply none name lacks = it_is W.config (with_new W new) id new (append_own W.table id new name none) lacks
 
-judged_own : (W : World) (h : Header) (m : MetadataFields) (v : Verdict) → entry_of W (id_of h) ≡ None → Own W (id_of h) (judged W h m v)
+judged_own : (W : World) (h : Header) (m : MetadataFields) (v : Verdict) → entry_of W (id_of h) ≡ None → OwnLacks W (id_of h) (judged W h m v)
 judged_own W h m (Refuse r) none = new_own W (id_of h) (refused_entry h m Refused) (Reply.Refused r) none refl (λ checks is. absurd cc)
 judged_own W h m (Grant items blocks steps) none =
     new_own W (id_of h) (new_entry h m Receiving _ items blocks steps) (Reply.Admitted blocks steps) none refl (λ checks is. absurd cc)
 
 metadata_own : (W : World) (h : Header) (m : MetadataFields) (o : Option Entry) → LacksAt W.config W (id_of h) → entry_of W (id_of h) ≡ o →
-    Own W (id_of h) (metadata_came W h m o)
+    OwnLacks W (id_of h) (metadata_came W h m o)
 metadata_own W h m (Some e) lacks here = lacks
 metadata_own W h m None lacks none =
-    cond_both (nat_le 64 (length W.table)) (W, Reply.TableFull) _ (Own W (id_of h)) (λ q. lacks)
-    (λ q. cond_both (nat_lt 64 (length m.requests)) (W, _) _ (Own W (id_of h)) (λ z. lacks)
-    (λ z. cond_both (has_file m && not (is_known_checksum m.checksum_type)) (with_new W (refused_entry h m (Ended 11)), Reply.Faulted 11) _ (Own W (id_of h))
+    cond_both (nat_le 64 (length W.table)) (W, Reply.TableFull) _ (OwnLacks W (id_of h)) (λ q. lacks)
+    (λ q. cond_both (nat_lt 64 (length m.requests)) (W, _) _ (OwnLacks W (id_of h)) (λ z. lacks)
+    (λ z. cond_both (has_file m && not (is_known_checksum m.checksum_type)) (with_new W (refused_entry h m (Ended 11)), Reply.Faulted 11) _ (OwnLacks W (id_of h))
     (λ wrong. new_own W (id_of h) (refused_entry h m (Ended 11)) (Reply.Faulted 11) none refl (λ checks is. absurd cc))
     (λ right. judged_own W h m (verdict W.config.prefixes W.filestore (leases_of W.table) (spare W) (proposal_of W.config m)) none)))
 
-ours_own : (W : World) (h : Header) (id : TransactionId) (answer : World × Reply) → LacksAt W.config W id → Own W id answer →
-    Own W id (if h.destination == W.config.entity then answer else (W, Reply.NotForUs))
-ours_own W h id answer lacks own = cond_both (h.destination == W.config.entity) answer (W, Reply.NotForUs) (Own W id) (λ q. own) (λ q. lacks)
+ours_own : (W : World) (h : Header) (id : TransactionId) (answer : World × Reply) → LacksAt W.config W id → OwnLacks W id answer →
+    OwnLacks W id (if h.destination == W.config.entity then answer else (W, Reply.NotForUs))
+ours_own W h id answer lacks own = cond_both (h.destination == W.config.entity) answer (W, Reply.NotForUs) (OwnLacks W id) (λ q. own) (λ q. lacks)
 
 -- ---- every event
 
-next_own : TakeRemoves → (W : World) (v : Event) → Sound W → LacksAt W.config W (about v) → Own W (about v) (next W v)
+next_own : TakeRemoves → (W : World) (v : Event) → Sound W → LacksAt W.config W (about v) → OwnLacks W (about v) (next W v)
 next_own removes W (MetadataCame h m) sound lacks =
     ours_own W h (id_of h) (metadata_came W h m (entry_of W (id_of h))) lacks (metadata_own W h m (entry_of W (id_of h)) lacks refl)
 next_own removes W (DataCame h piece) sound lacks =

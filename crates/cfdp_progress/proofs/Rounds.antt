@@ -27,8 +27,8 @@ use Rattle.cfdp_progress.specs.Awaiting.{WasDelivered}
 use Rattle.cfdp_progress.specs.NakRounds.{heard_requests, AreAnswered, IsServed, NakRound, round_inputs, AreNakRounds, lost_of, all_lost, AreBelow, all_inputs, DeliveredAfterRounds, DeliveredAfterLosses}
 use Rattle.cfdp_progress.proofs.Apart.{run_sound}
 use Rattle.cfdp_progress.proofs.Pieces.{fits_of, few_of}
-use Rattle.cfdp_progress.proofs.Runs.{Within, Left, over_inputs, still_awaits, before_of, sound_all, distinct_all, mib_all, was_later, was_after, was_before, never_waits}
-use Rattle.cfdp_progress.proofs.Turns.{Before}
+use Rattle.cfdp_progress.proofs.Runs.{Left, over_inputs, still_awaits, before_of, sound_all, distinct_all, mib_all, was_later, was_after, was_before, never_waits}
+use Rattle.cfdp_progress.proofs.Turns.{Within, Before}
 use Rattle.cfdp_progress.proofs.Openings.{open_expire, open_first, limit_is_full}
 
 -- ---- no piece of an answer ends after the file
@@ -182,13 +182,13 @@ count_after false done sent unheard = omega arith
 -- ---- all of them
 
 -- each begins below the limit; or the limit is above what is lost, and the timer has counted one less than there were rounds
-abbrev Safe : ℕ → ℕ → Received → List (List Sending) → ℕ → List NakRound → Type 0
-Safe limit count rs done unheard rounds =
+abbrev IsSafeToAsk : ℕ → ℕ → Received → List (List Sending) → ℕ → List NakRound → Type 0
+IsSafeToAsk limit count rs done unheard rounds =
     AreBelow rounds ⊎ ((count + 1 ≤ length done + unheard) × (lost_in done + unheard + all_lost rounds + spare_round rs < limit))
 
 safe_rest : (limit count later : ℕ) (rs : Received) (done : List (List Sending)) (unheard : ℕ) (round : NakRound) (rounds : List NakRound) →
-    Safe limit count rs done unheard (round ∷ rounds) → later ≤ count + 1 →
-    Safe limit later rs (done_after round.is_heard done round.sent) (unheard_after round.is_heard unheard) rounds
+    IsSafeToAsk limit count rs done unheard (round ∷ rounds) → later ≤ count + 1 →
+    IsSafeToAsk limit later rs (done_after round.is_heard done round.sent) (unheard_after round.is_heard unheard) rounds
 safe_rest limit count later rs done unheard round rounds (inl below) few = inl below.1
 safe_rest limit count later rs done unheard round rounds (inr counted) few =
     inr (
@@ -215,7 +215,7 @@ is_below whole R id e eof s most rs done unheard moment is_at_limit sound d b so
 ]
 
 room_of : (limit count : ℕ) (rs : Received) (done : List (List Sending)) (unheard : ℕ) (round : NakRound) (rounds : List NakRound) →
-    Safe limit count rs done unheard (round ∷ rounds) → Room round.is_at_limit limit count rs done unheard
+    IsSafeToAsk limit count rs done unheard (round ∷ rounds) → Room round.is_at_limit limit count rs done unheard
 room_of limit count rs done unheard round rounds (inl below) = inl below.0
 room_of limit count rs done unheard round rounds (inr counted) = inr (counted.0, omega (arith, counted.1))
 
@@ -223,7 +223,7 @@ rounds_go : NextIsSound → NextIsPromised → WholeAfterLosses →
     (mib : Mib) (R : State) (id : TransactionId) (rounds : List NakRound) (e : Entry) (eof : Eof) (s : SessionFields) (rs : Received)
     (done : List (List Sending)) (unheard : ℕ) → R.mib ≡ mib → Sound R.world →
     AreDistinct R.sessions → Before R id e eof s → SoFar (most_requests mib) rs eof done e → AreNakRounds R id rounds →
-    Safe mib.nak.limit s.timer.count rs done unheard rounds →
+    IsSafeToAsk mib.nak.limit s.timer.count rs done unheard rounds →
     lost_in done + unheard + all_lost rounds + spare_round rs < length done + unheard + length rounds → WasDelivered R (all_inputs rounds) id
 rounds_go next_sound promised whole mib R id [] e eof s rs done unheard same sound d b so are safe enough =
     absurd (omega (arith, enough, not_enough whole R id e eof s (most_requests mib) rs done sound b so))
@@ -269,7 +269,7 @@ delivered_after_rounds next_sound promised whole R id rounds e eof sound d some 
 
 safe_first : (limit count : ℕ) (rs : Received) (heard : Bool) (sent : List Sending) (rounds : List NakRound) →
     AreBelow rounds ⊎ (lost_of heard sent + all_lost rounds + spare_round rs < limit) → count ≤ 0 →
-    Safe limit count rs (done_after heard [] sent) (unheard_after heard 0) rounds
+    IsSafeToAsk limit count rs (done_after heard [] sent) (unheard_after heard 0) rounds
 safe_first limit count rs heard sent rounds (inl below) few = inl below
 safe_first limit count rs heard sent rounds (inr room) few =
     inr (omega (arith, few, count_after heard [] sent 0), omega (arith, room, lost_after heard [] sent 0))

@@ -1,7 +1,7 @@
 -- Several turns of a receiver in which a transaction waits for octets.
 use Rattle.std.specs.Prelude.{◌==◌, is_some}
-use Rattle.std.specs.List.{AllByRecursion, list_all}
-use Rattle.std.proofs.Common.{◌≡◌, ◌⊎◌, inl, inr, ℕ, zero, suc, ◌+◌, ◌<◌, ◌≤◌, Bool, true, false, not, List, [], ◌∷◌, ◌++◌, length, Option, Some, None, refl, sym, ap, subst, ◌∙◌, arith}
+use Rattle.std.specs.List.{list_all}
+use Rattle.std.proofs.Common.{◌≡◌, ◌⊎◌, inl, inr, ℕ, zero, suc, ◌<◌, ◌≤◌, Bool, true, false, not, List, [], ◌∷◌, ◌++◌, length, Option, Some, None, refl, sym, ap, subst, ◌∙◌, arith}
 use Rattle.std.proofs.lemmas.Bool.{cond_both, cond-false, cases_Bool, cases_lt, and_from, eq-eqb}
 use Rattle.cfdp_status.specs.declared.transaction.TransactionId.{TransactionId}
 use Rattle.cfdp_leases.specs.Leases.{is_same}
@@ -36,7 +36,7 @@ use Rattle.cfdp_progress.specs.Awaiting.{EntryAwaits, TransactionAwaits, is_awai
 use Rattle.cfdp_progress.specs.NakRounds.{IsAskedOnce}
 use Rattle.cfdp_progress.proofs.Apart.{is_work, entry_stays, work_stays, run_sound}
 use Rattle.cfdp_progress.proofs.Pieces.{fits_of}
-use Rattle.cfdp_progress.proofs.Turns.{Before, Still, Is_done, step}
+use Rattle.cfdp_progress.proofs.Turns.{Within, Before, Still, Is_done, step}
 
 -- ---- after several inputs
 
@@ -77,9 +77,6 @@ was_before R xs ys id w = record {
 }
 
 -- ---- what comes
-
-abbrev pub Within : ℕ → List Piece → Type 0
-Within size ps = AllByRecursion (λ p. p.0 + length p.1 ≤ size) ps
 
 within_both : (size : ℕ) (xs ys : List Piece) → Within size (xs ++ ys) → Within size xs × Within size ys
 within_both size [] ys w = (tt, w)

@@ -447,7 +447,7 @@ other_goes next_sound promised R i id e eof s again sound b w other =
 
 -- ---- each input
 
-abbrev Within : ℕ → List Piece → Type 0
+abbrev pub Within : ℕ → List Piece → Type 0
 Within size ps = AllByRecursion (λ p. p.0 + length p.1 ≤ size) ps
 
 abbrev Stepped : State → Input → TransactionId → Entry → Eof → SessionFields → Type 0
