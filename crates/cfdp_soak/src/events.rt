@@ -55,7 +55,7 @@ fn header(number: u64) -> Header {
     Header {
         toward_sender: false,
         acknowledged: is_acknowledged(number),
-        large: true,
+        large: false,
         id_len: 8,
         number_len: 8,
         source: 1,

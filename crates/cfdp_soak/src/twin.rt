@@ -1,6 +1,6 @@
 //! A receiver over a filestore inside an arena, and beside it a core over a plain list that gets each event that the
 //! receiver hands on, by the table of inputs in docs/FORMATS.md.
-ghost use Rattle.std.specs.Prelude.{◌≡◌, true};
+ghost use Rattle.std.specs.Prelude.{◌≡◌, ◌<◌, ◌^◌, IsTrue, false};
 ghost use Rattle.cfdp_pdus.specs.Canonical.{IsHeader};
 
 use crate::counts::Counts;
@@ -14,7 +14,9 @@ use crate::words::Words;
 use cfdp_actions::ListStore;
 use cfdp_directives::{Ack, Prompt, TransactionStatus, write_ack, write_prompt};
 use cfdp_entity::Entity;
-use cfdp_pdus::{Eof, Header, directive, write_eof, write_file_data, write_metadata};
+use cfdp_pdus::{
+    Eof, FileData, Header, Metadata, directive, write_eof, write_file_data, write_metadata,
+};
 use cfdp_receiver::{
     Answer, Became, Handler, Mib, NakMode, NotMade, NotWritten, Receiver, Retries, Watch, Word,
 };
@@ -68,29 +70,29 @@ fn mib() -> Mib {
     }
 }
 
-/// The header of a transaction's PDUs.
-fn header(number: u64, is_acknowledged: bool) -> Header
+/// The header of a transaction's PDUs, which go this way, to this entity.
+fn header(id: TransactionId, toward_sender: bool, destination: u64) -> Header
     ensures header { IsHeader result }
-    ensures large { result.large ≡ true }
+    ensures small { result.large ≡ false }
 {
     Header {
-        toward_sender: false,
-        acknowledged: is_acknowledged,
-        large: true,
+        toward_sender,
+        acknowledged: is_acknowledged(id.number),
+        large: false,
         id_len: 8,
         number_len: 8,
-        source: 1,
-        number,
-        destination: 2,
+        source: id.source,
+        number: id.number,
+        destination,
     }
 }
 
-/// The header of the PDUs of a transaction by its name.
+/// The header of the PDUs that come to the receiver.
 fn header_of(id: TransactionId) -> Header
     ensures header { IsHeader result }
-    ensures large { result.large ≡ true }
+    ensures small { result.large ≡ false }
 {
-    header(id.number, is_acknowledged(id.number))
+    header(id, false, 2)
 }
 
 /// The transaction of an event that a PDU carries.
@@ -103,14 +105,54 @@ fn about(event: &Event) -> TransactionId {
     }
 }
 
+/// Whether a size or an offset fits a field of four octets.
+fn is_small(size: u64) -> bool
+    ensures { IsTrue result → size < 256 ^ 4 }
+{
+    size < 4_294_967_296
+}
+
+/// Appends a Metadata PDU.
+fn put_metadata(header: &Header, metadata: &Metadata, octets: &mut Vec<u8>) -> Result<(), Fault>
+    requires header { IsHeader header.now }
+    requires small { header.now.large ≡ false }
+{
+    if metadata.checksum_type > 15 || !is_small(metadata.size) {
+        return Err(Fault::Wrong(Wrong::Unwritten));
+    }
+    Ok(write_metadata(header, metadata, octets)?)
+}
+
+/// Appends a File Data PDU.
+fn put_data(header: &Header, data: &FileData, octets: &mut Vec<u8>) -> Result<(), Fault>
+    requires header { IsHeader header.now }
+    requires small { header.now.large ≡ false }
+{
+    if !is_small(data.offset) {
+        return Err(Fault::Wrong(Wrong::Unwritten));
+    }
+    Ok(write_file_data(header, data, octets)?)
+}
+
+/// Appends an EOF PDU.
+fn put_eof(header: &Header, eof: &Eof, octets: &mut Vec<u8>) -> Result<(), Fault>
+    requires header { IsHeader header.now }
+    requires small { header.now.large ≡ false }
+{
+    if eof.condition > 15 || !is_small(eof.size) {
+        return Err(Fault::Wrong(Wrong::Unwritten));
+    }
+    Ok(write_eof(header, eof, octets)?)
+}
+
 /// The octets of the PDU that carries an event.
 fn octets_of(alloc: Global, event: &Event) -> Result<Vec<u8>, Fault> {
     let header = header_of(about(event));
     let mut octets = Vec::new(alloc);
     match event {
-        Event::Metadata(_, metadata) => write_metadata(&header, metadata, &mut octets)?,
-        Event::Data(_, data) => write_file_data(&header, data, &mut octets)?,
-        Event::Eof(_, eof) => write_eof(&header, eof, &mut octets)?,
+        Event::Metadata(_, metadata) => put_metadata(&header, metadata, &mut octets)?,
+        Event::Data(_, data) => put_data(&header, data, &mut octets)?,
+        Event::Eof(_, eof) => put_eof(&header, eof, &mut octets)?,
         Event::Step(_) | Event::Cancel(_) | Event::Check(_) | Event::Take(_) => (),
     }
     Ok(octets)
@@ -122,7 +164,7 @@ fn directive_octets(
     id: TransactionId,
     directed: Directed,
 ) -> Result<Vec<u8>, Fault> {
-    let mut header = header_of(id);
+    let toward_us = header_of(id);
     let mut octets = Vec::new(alloc);
     match directed {
         Directed::Acknowledgement => {
@@ -131,17 +173,15 @@ fn directive_octets(
                 condition: 0,
                 status: TransactionStatus::Terminated,
             };
-            write_ack(&header, ack, &mut octets)?;
+            write_ack(&toward_us, ack, &mut octets)?;
         }
-        Directed::NakPrompt => write_prompt(&header, Prompt::Nak, &mut octets)?,
-        Directed::KeepAlivePrompt => write_prompt(&header, Prompt::KeepAlive, &mut octets)?,
+        Directed::NakPrompt => write_prompt(&toward_us, Prompt::Nak, &mut octets)?,
+        Directed::KeepAlivePrompt => write_prompt(&toward_us, Prompt::KeepAlive, &mut octets)?,
         Directed::ToSender => {
-            header.toward_sender = true;
-            write_prompt(&header, Prompt::Nak, &mut octets)?;
+            write_prompt(&header(id, true, 2), Prompt::Nak, &mut octets)?;
         }
         Directed::Elsewhere => {
-            header.destination = 3;
-            write_prompt(&header, Prompt::Nak, &mut octets)?;
+            write_prompt(&header(id, false, 3), Prompt::Nak, &mut octets)?;
         }
     }
     Ok(octets)
