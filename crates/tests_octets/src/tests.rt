@@ -6,3 +6,4 @@ mod pdus;
 mod retransmission;
 mod sessions;
 mod tlv;
+mod words;

@@ -2,8 +2,8 @@
 
 ghost use Rattle.std.specs.Prelude.{◌<◌, ◌+◌, ◌^◌, ◌≤◌};
 
-use cfdp_retransmission::{Expiry, NakPart, Timer, next_nak};
 use cfdp_directives::Range;
+use cfdp_retransmission::{Expiry, NakPart, Timer, next_nak};
 
 /// A timer of 10 ticks with the limit 3, and what it is at a moment.
 struct Moment {

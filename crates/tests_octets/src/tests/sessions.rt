@@ -2,9 +2,9 @@
 
 ghost use Rattle.std.specs.Prelude.{◌<◌};
 
-use cfdp_sessions::{Closed, Ending, MOST_SESSIONS, Session, Sessions, Stage};
 use cfdp_pdus::Header;
 use cfdp_retransmission::Timer;
+use cfdp_sessions::{Closed, Ending, MOST_SESSIONS, Session, Sessions, Stage};
 use cfdp_status::TransactionId;
 use std::alloc::{AllocError, Global};
 

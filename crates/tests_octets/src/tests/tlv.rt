@@ -1,7 +1,7 @@
 //! Filestore requests and responses of worked transactions, read and written with ample memory.
 
-use cfdp_tlv::*;
 use cfdp_status::{Action, Status};
+use cfdp_tlv::*;
 use std::alloc::Global;
 use std::process::Abort;
 
