@@ -49,7 +49,8 @@ data TurnsWaiting (R : State) (i : Input) (id : TransactionId) (s : SessionField
 abbrev KeepsWaiting : TransactionId → SessionFields → Turning.Parts → Type 0
 KeepsWaiting id s p = found p.sessions id ≡ Some s
 
-kept_if : (id : TransactionId) (s : SessionFields) (b : Bool) (p q : Turning.Parts) → KeepsWaiting id s p → KeepsWaiting id s q → KeepsWaiting id s (if b then p else q)
+kept_if : (id : TransactionId) (s : SessionFields) (b : Bool) (p q : Turning.Parts) → KeepsWaiting id s p → KeepsWaiting id s q →
+    KeepsWaiting id s (if b then p else q)
 kept_if id s true p q hp hq = hp
 kept_if id s false p q hp hq = hq
 

@@ -119,7 +119,8 @@ step_at_past W id e n (item ∷ items) p here =
     (λ q. put_past W (change_at W k o.changes (entry_after e n item items o)) id e (entry_after e n item items o) here refl refl (past_before (suc n) items))
     (λ q. ends_past W id e (entry_failed e o) 4 (replied o.answer) here refl)
 
-step_past : (W : World) (id : TransactionId) (e : Entry) (phase : Phase) → Past W id → entry_of W id ≡ Some e → OwnPast id (step_in phase W (index_of W id) e)
+step_past : (W : World) (id : TransactionId) (e : Entry) (phase : Phase) → Past W id → entry_of W id ≡ Some e →
+    OwnPast id (step_in phase W (index_of W id) e)
 step_past W id e (Executing n) p here = step_at_past W id e n (drop n e.items) p here
 step_past W id e Receiving p here = p
 step_past W id e (Awaiting checks) p here = p
@@ -149,7 +150,8 @@ data_next W h piece p =
 eof_next : (W : World) (h : Header) (eof : Eof) → Past W (id_of h) → Past (next W (EofCame h eof)).0 (id_of h)
 eof_next W h eof p =
     let came : OwnPast (id_of h) (eof_came W (index_of W (id_of h)) eof (entry_of W (id_of h))) =
-    subst (λ (o : Option Entry). OwnPast (id_of h) (eof_came W (index_of W (id_of h)) eof o)) (sym p.here) (eof_past W (id_of h) eof p.entry p p.here p.past) in
+    subst (λ (o : Option Entry). OwnPast (id_of h) (eof_came W (index_of W (id_of h)) eof o)) (sym p.here)
+    (eof_past W (id_of h) eof p.entry p p.here p.past) in
     ours_past W h (id_of h) (eof_came W (index_of W (id_of h)) eof (entry_of W (id_of h))) p came
 
 step_next : (W : World) (id : TransactionId) → Past W id → Past (next W (Step id)).0 id
@@ -181,7 +183,8 @@ heard_still : (R L : State) (U V : World) (id : TransactionId) (s : SessionField
     KnownStill V (replaced R.sessions (Turning.heard L U s)) id
 heard_still R L U V id s here known past = let h = heard_is L U s in put_still R V id s (Turning.heard L U s) here known h.1 h.0 past
 
-still_if : (W : World) (id : TransactionId) (b : Bool) (es : List Event) (p q : Turning.Parts) → KnownStill (run W es) p.sessions id → KnownStill W q.sessions id →
+still_if : (W : World) (id : TransactionId) (b : Bool) (es : List Event) (p q : Turning.Parts) → KnownStill (run W es) p.sessions id →
+    KnownStill W q.sessions id →
     KnownStill (run W (if b then es else [])) (if b then p else q).sessions id
 still_if W id true es p q hp hq = hp
 still_if W id false es p q hp hq = hq
@@ -241,7 +244,8 @@ own_data R now h piece s here known p =
     let rs = replies R.world (Handing.handed R i) in
     still_if R.world (id_of h) (Handing.is_ours L h) (Handing.of_session (session_of L (id_of h)) (DataCame h piece ∷ []))
     (Turning.data_parts L U rs h piece (session_of L (id_of h))) (Turning.keeps L (Turning.quiet (Turning.foreign h)))
-    (subst (λ (o : Option SessionFields). KnownStill (run R.world (Handing.of_session o (DataCame h piece ∷ []))) (Turning.data_parts L U rs h piece o).sessions
+    (subst (λ (o : Option SessionFields). KnownStill (run R.world (Handing.of_session o (DataCame h piece ∷ [])))
+    (Turning.data_parts L U rs h piece o).sessions
     (id_of h)) (sym here)
     (data_stage R L U rs h piece s s.stage refl here known p known))
     (kept_still R R.world (id_of h) s here known p)
@@ -327,7 +331,8 @@ own_cancel R now id s here known p =
     let i = CancelAsked now id in
     let L = Handing.later now R in
     let rs = replies R.world (Handing.handed R i) in
-    subst (λ (o : Option SessionFields). KnownStill (run R.world (Handing.of_session o (Cancel id ∷ []))) (Turning.cancel_parts L rs id o).sessions id) (sym here)
+    subst (λ (o : Option SessionFields). KnownStill (run R.world (Handing.of_session o (Cancel id ∷ []))) (Turning.cancel_parts L rs id o).sessions id)
+    (sym here)
     (cancel_stage R L rs id s s.stage refl here known p known)
 
 -- ---- its timer does not run

@@ -64,7 +64,12 @@ whole_comes W V id eof e new received here name table =
     λ other. ap (λ (t : List Entry). slice_set t k other) table ∙ set_set_same W.table k new other in
     cond_both (is_right_checksum new eof.checksum) (turns V k new (Executing 0) new.eof true, _) (ends V k new 5, _)
     (λ (a : World × Reply). Comes a.0 id eof received)
-    (λ r. Is_over (record { entry = right; here = replaces W (turns V k new (Executing 0) new.eof true) id e right here name (again right); phase = inl refl }))
+    (λ r. Is_over (record {
+      entry = right;
+      here = replaces W (turns V k new (Executing 0) new.eof true) id e right here name (again right);
+      phase =
+          inl refl;
+    }))
     (λ r. Is_over (record { entry = wrong; here = replaces W (ends V k new 5) id e wrong here name (again wrong); phase = inr refl }))
 
 stored_comes : (W : World) (id : TransactionId) (eof : Eof) (e : Entry) (received : Received) → EntryAwaits W id e eof →

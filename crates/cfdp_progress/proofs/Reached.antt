@@ -252,7 +252,8 @@ stepped_own : (W : World) (id : TransactionId) (o : Option Entry) → LacksAt W.
 stepped_own W id None lacks here = lacks
 stepped_own W id (Some e) lacks here = step_own W id e e.phase here lacks
 
-cancelled_own : (W : World) (id : TransactionId) (o : Option Entry) → LacksAt W.config W id → entry_of W id ≡ o → OwnLacks W id (cancelled W (index_of W id) o)
+cancelled_own : (W : World) (id : TransactionId) (o : Option Entry) → LacksAt W.config W id → entry_of W id ≡ o →
+    OwnLacks W id (cancelled W (index_of W id) o)
 cancelled_own W id None lacks here = lacks
 cancelled_own W id (Some e) lacks here =
     cond_both (is_live e.phase) (ends W (index_of W id) e 15, Reply.Cancelled) (W, Reply.Idle) (OwnLacks W id)
@@ -285,7 +286,8 @@ metadata_own W h m (Some e) lacks here = lacks
 metadata_own W h m None lacks none =
     cond_both (nat_le 64 (length W.table)) (W, Reply.TableFull) _ (OwnLacks W (id_of h)) (λ q. lacks)
     (λ q. cond_both (nat_lt 64 (length m.requests)) (W, _) _ (OwnLacks W (id_of h)) (λ z. lacks)
-    (λ z. cond_both (has_file m && not (is_known_checksum m.checksum_type)) (with_new W (refused_entry h m (Ended 11)), Reply.Faulted 11) _ (OwnLacks W (id_of h))
+    (λ z. cond_both (has_file m && not (is_known_checksum m.checksum_type)) (with_new W (refused_entry h m (Ended 11)), Reply.Faulted 11) _
+    (OwnLacks W (id_of h))
     (λ wrong. new_own W (id_of h) (refused_entry h m (Ended 11)) (Reply.Faulted 11) none refl (λ checks is. absurd cc))
     (λ right. judged_own W h m (verdict W.config.prefixes W.filestore (leases_of W.table) (spare W) (proposal_of W.config m)) none)))
 

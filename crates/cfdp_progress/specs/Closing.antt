@@ -4,7 +4,7 @@
 --     is_acknowledged R id inputs       one of the inputs is that
 --     is_sent_again R id i      the ACK timer of its session is served
 --     IsSentOnce R id inputs    it is not, as long as the session waits
---     IsAcknowledgedUnless is_lost R id rest    a Finished PDU was sent, and is acknowledged in `rest`, unless it is lost
+--     IsAcknowledgedUnless is_lost R id rest    a Finished PDU that was sent is acknowledged in `rest`, or it is lost
 --     FinishedRound, AreFinishedRounds  rounds that begin when the ACK timer is served, as long as the session waits
 --     WasClosed R inputs id     after some of the inputs the session is closed
 --     ClosedAfterLosses         so it is after one round more than were lost

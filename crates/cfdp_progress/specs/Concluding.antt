@@ -1,7 +1,7 @@
 -- What follows once the file of a transaction was delivered: its items are performed, and its outcome is handed out
 -- (CCSDS 727.0-B-5 §4.6.1 and §4.9).
 --     has_nothing_left R        no transaction has an item to be performed, and of none is the outcome to be handed out
---     WasConcluded R inputs id  one of the inputs hands out its outcome
+--     WasConcluded R inputs id  one of the inputs hands out the transaction's outcome
 --     ConcludedWhenDone         so it is when nothing is left, whatever came
 --     FinishedIsSent            in acknowledged mode its Finished PDU is sent then, and its session waits
 use Rattle.std.specs.Prelude.{◌≡◌, ℕ, Bool, true, false, not, ◌&&◌, List, [], ◌∷◌, ◌++◌, Some, is_some}

@@ -1,10 +1,10 @@
--- A transaction from its EOF PDU on until its session is closed: it asks for octets until its file is delivered, and then
--- sends its Finished PDU until that is acknowledged.
+-- A transaction from its EOF PDU on until its session is closed: it asks for octets until its file is delivered, and
+-- then sends its Finished PDU until that is acknowledged.
 --     EitherRound               a round in which NAK PDUs are sent, or a Finished PDU, or first these and then this
 --     concludes R id i          the input hands out the transaction's outcome
 --     IsAcknowledgedAfter is_lost R id inputs   after such an input the acknowledgement comes, unless it is lost
---     IsWatched is_lost R id rest       so it is after the input that begins a round; the ACK timer is not served before the
---                               next, and at the end nothing is left to be performed or handed out
+--     IsWatched is_lost R id rest       so it is after the input that begins a round; the ACK timer is not served
+--                               before the next, and at the end nothing is left to be performed or handed out
 --     AreEitherRounds R id rounds       each of several is of the kind that the transaction then needs
 --     total_lost, lost_in_all   how much is lost in them;  in the first round too
 --     ClosedInAll               after one round more than are lost, and the spare one, the session is closed

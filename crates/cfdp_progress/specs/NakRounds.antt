@@ -1,9 +1,9 @@
--- Rounds of a receiver's turns: it asks for what is missing, a sender answers in the order of the requests, and a channel
--- loses pieces and NAK PDUs (CCSDS 727.0-B-5 §4.6.4, the lost segment procedures).
+-- Rounds of a receiver's turns: it asks for what is missing, a sender answers in the order of the requests, and a
+-- channel loses pieces and NAK PDUs (CCSDS 727.0-B-5 §4.6.4, the lost segment procedures).
 --     asks_again R id i         the NAK timer of its session is served below the limit, so NAK PDUs are sent
 --     IsAskedOnce R id inputs   this does not happen, as long as it waits
 --     heard_requests            the requests of NAK PDUs that the sender gets: none, where they are lost
---     AreAnswered R id requests sent rest   what is sent answers the requests in order; in `rest` comes what is not lost
+--     AreAnswered R id requests sent rest   what is sent answers the requests in order; what is not lost is in `rest`
 --     IsServed R id moment is_at_limit  the timer of the transaction's session is the first that is due
 --     NakRound                  a round that begins when the NAK timer is served
 --     AreNakRounds R id rounds  each of several is one, as long as the transaction waits for octets

@@ -1,5 +1,5 @@
-//! What is true of a transaction from its EOF PDU on, whatever else comes. These functions do nothing: their contracts are the
-//! laws. A file is *delivered* when all its octets are there: it is then complete, or its checksum is wrong.
+//! What is true of a transaction from its EOF PDU on. These functions do nothing: their contracts are the laws. A file
+//! is *delivered* when all its octets are there: it is then complete, or its checksum is wrong.
 
 ghost use Rattle.cfdp_progress.specs.Awaiting.{AwaitingAwaits, AnsweredTurns, StaysDelivered};
 ghost use Rattle.cfdp_progress.specs.Closing.{ClosedAfterLosses};
@@ -7,8 +7,8 @@ ghost use Rattle.cfdp_progress.specs.Concluding.{ConcludedWhenDone, FinishedIsSe
 ghost use Rattle.cfdp_progress.specs.InAll.{ClosedInAll};
 ghost use Rattle.cfdp_progress.specs.NakRounds.{DeliveredAfterRounds, DeliveredAfterLosses};
 
-/// Of an entity that began without transactions, whatever came: where an entry of the core is in Awaiting, its session is known,
-/// its EOF PDU came with a size that its file may have, and octets below that size are missing.
+/// Of an entity that began without transactions, whatever came: where an entry of the core is in Awaiting, its session
+/// is known, its EOF PDU came with a size that its file may have, and octets below that size are missing.
 pub fn awaiting_awaits()
     ensures { AwaitingAwaits }
 {
@@ -18,9 +18,9 @@ pub fn awaiting_awaits()
     cfdp_receiver::laws::known_is_entry();
 }
 
-/// A file waits for octets, and inputs come. Neither its sender nor the user cancels it, and its NAK limit is not reached, or is
-/// ignored. Once every octet that was missing has come, and no piece was passed over, the file is delivered: after some of the
-/// inputs, at the latest after all of them.
+/// A file waits for octets, and inputs come. Neither its sender nor the user cancels it, and its NAK limit is not
+/// reached, or is ignored. Once every octet that was missing has come, and no piece was passed over, the file is
+/// delivered: after some of the inputs, at the latest after all of them.
 pub fn answered_turns()
     ensures { AnsweredTurns }
 {
@@ -29,7 +29,8 @@ pub fn answered_turns()
     cfdp_retransmission::laws::answered_is_whole();
 }
 
-/// Its entry stays so while each input is a File Data PDU or touches another transaction, and no item of it is performed.
+/// Its entry stays so while each input is a File Data PDU or touches another transaction, and no item of it is
+/// performed.
 pub fn stays_delivered()
     ensures { StaysDelivered }
 {
@@ -37,9 +38,10 @@ pub fn stays_delivered()
     cfdp_transactions::laws::next_is_promised();
 }
 
-/// A file waits for octets. A round begins when its NAK timer expires below the limit: NAK PDUs ask for what is missing, a sender
-/// answers them in the order of their requests, and a channel loses pieces, or the NAK PDUs. After one round more than is lost
-/// in all, at the latest, the file is delivered. One round more is needed where 32 parts are there without the octet at offset 0.
+/// A file waits for octets. A round begins when its NAK timer expires below the limit: NAK PDUs ask for what is
+/// missing, a sender answers them in the order of their requests, and a channel loses pieces, or the NAK PDUs. After
+/// one round more than is lost in all, at the latest, the file is delivered. One round more is needed where 32 parts
+/// are there without the octet at offset 0.
 pub fn delivered_after_rounds()
     ensures { DeliveredAfterRounds }
 {
@@ -48,9 +50,9 @@ pub fn delivered_after_rounds()
     cfdp_retransmission::laws::whole_after_losses();
 }
 
-/// The same from the first NAK PDUs on. They are sent when the EOF PDU comes and octets are missing, or when the Metadata PDU
-/// comes after it. If the NAK limit is above what is lost in all, and the round more where it is needed, then it is not reached
-/// before.
+/// The same from the first NAK PDUs on. They are sent when the EOF PDU comes and octets are missing, or when the
+/// Metadata PDU comes after it. If the NAK limit is above what is lost in all, and the round more where it is needed,
+/// then it is not reached before.
 pub fn delivered_after_losses()
     ensures { DeliveredAfterLosses }
 {
@@ -59,8 +61,9 @@ pub fn delivered_after_losses()
     cfdp_retransmission::laws::whole_after_losses();
 }
 
-/// A transaction takes no file data any more, as one whose file was delivered. Whatever comes then: once no transaction has an
-/// item to be performed, and of none is the outcome to be handed out, one of the inputs has handed out its outcome.
+/// A transaction takes no file data any more, as one whose file was delivered. Whatever comes then: once no transaction
+/// has an item to be performed, and of none is the outcome to be handed out, one of the inputs has handed out its
+/// outcome.
 pub fn concluded_when_done()
     ensures { ConcludedWhenDone }
 {
@@ -68,25 +71,25 @@ pub fn concluded_when_done()
     cfdp_transactions::laws::next_is_promised();
 }
 
-/// In acknowledged mode its Finished PDU is sent then, unless it was abandoned, and its session waits for the acknowledgement,
-/// with no expiry counted.
+/// In acknowledged mode its Finished PDU is sent then, unless it was abandoned, and its session waits for the
+/// acknowledgement, with no expiry counted.
 pub fn finished_is_sent()
     ensures { FinishedIsSent }
 {}
 
-/// A Finished PDU was sent, and its session waits for the acknowledgement. A round begins when its ACK timer expires below the
-/// limit, and the same octets are sent again. The sender acknowledges each Finished PDU that it gets. After one round more than
-/// PDUs are lost, that of the first Finished PDU included, the session is closed, and its name is remembered. If the ACK limit
-/// is above what is lost, and no expiry was counted before, then it is not reached.
+/// A Finished PDU was sent, and its session waits for the acknowledgement. A round begins when its ACK timer expires
+/// below the limit, and the same octets are sent again. The sender acknowledges each Finished PDU that it gets. After
+/// one round more than PDUs are lost, that of the first Finished PDU included, the session is closed, and its name is
+/// remembered. If the ACK limit is above what is lost, and no expiry was counted before, then it is not reached.
 pub fn closed_after_losses()
     ensures { ClosedAfterLosses }
 {}
 
-/// From the EOF PDU until the session is closed. A round begins with the EOF PDU, or when the timer of the session expires; all
-/// items are performed, and all outcomes handed out, before it ends. The sender answers NAK PDUs in the order of their requests,
-/// and acknowledges Finished PDUs. The channel loses pieces, NAK PDUs, Finished PDUs and acknowledgements. If both limits are
-/// above what is lost in all, the session is closed after one round more than that, at the latest. One round more is needed where
-/// 32 parts are there without the octet at offset 0.
+/// From the EOF PDU until the session is closed. A round begins with the EOF PDU, or when the timer of the session
+/// expires; all items are performed, and all outcomes handed out, before it ends. The sender answers NAK PDUs in the
+/// order of their requests, and acknowledges Finished PDUs. The channel loses pieces, NAK PDUs, Finished PDUs and
+/// acknowledgements. If both limits are above what is lost in all, the session is closed after one round more than
+/// that, at the latest. One round more is needed where 32 parts are there without the octet at offset 0.
 pub fn closed_in_all()
     ensures { ClosedInAll }
 {
