@@ -7,7 +7,7 @@ use Rattle.cfdp_transactions.specs.World.{World}
 use Rattle.cfdp_transactions.specs.declared.reply.Reply.{Reply}
 use Rattle.cfdp_receiver.specs.State.{State, Input, now_of}
 use Rattle.cfdp_receiver.specs.Handing.{events_of}
-use Rattle.cfdp_receiver.specs.Heard.{input_at}
+use Rattle.cfdp_receiver.specs.declared.reading.Dropped.{Dropped}
 use Rattle.cfdp_receiver.specs.Machine.{MachineFields, AnswerParts, IsWhole, Turns, answer_in, at_moment}
 use Rattle.cfdp_receiver.specs.Turning as Turning
 use Rattle.cfdp_receiver.proofs.Turned.{turned, turns_by}
@@ -66,8 +66,8 @@ some_named (e ∷ es) some = omega arith
 
 -- ---- octets that come
 
-pub heard_ok : {E : Type 0} (now : ℕ) (octets : List ℕ) (M N : MachineFields) (i : Input) (result : Result AnswerParts E) → input_at now octets ≡ Ok i →
+pub heard_ok : {E : Type 0} (read : Result Input Dropped) (M N : MachineFields) (i : Input) (result : Result AnswerParts E) → read ≡ Ok i →
     IfOk result (λ a. Turning.turn M.state i ≡ (N.state, answer_in N a)) →
-    IfOk result (λ a. (x : Input) × (input_at now octets ≡ Ok x) × (Turning.turn M.state x ≡ (N.state, answer_in N a)))
-heard_ok now octets M N i (Ok a) read t = (i, read, t)
-heard_ok now octets M N i (Err why) read t = tt
+    IfOk result (λ a. (x : Input) × (read ≡ Ok x) × (Turning.turn M.state x ≡ (N.state, answer_in N a)))
+heard_ok read M N i (Ok a) is t = (i, is, t)
+heard_ok read M N i (Err why) is t = tt

@@ -36,7 +36,7 @@ past [] i h = refl
 past (r ∷ rs) zero h = absurd (omega (arith, h))
 past (r ∷ rs) (suc i) h = past rs i (omega (arith, h))
 
-never_both : (b : Bool) → b ≡ true → b ≡ false → ⊥
+pub never_both : (b : Bool) → b ≡ true → b ≡ false → ⊥
 never_both true t f = absurd cc
 never_both false t f = absurd cc
 
@@ -78,7 +78,7 @@ idle_rest W h (p ∷ ps) d =
     subst (λ (V : World). Delivered (run V (data_events h ps)) h) (sym same) (idle_rest W h ps d)
 
 -- an entry that is put in its place
-placed : (W V : World) (h : Header) (e new : Entry) → entry_of W (id_of h) ≡ Some e → Entries.name_of new ≡ id_of h → V.table ≡ slice_set W.table (index_of W (id_of h)) new → entry_of V (id_of h) ≡ Some new
+pub placed : (W V : World) (h : Header) (e new : Entry) → entry_of W (id_of h) ≡ Some e → Entries.name_of new ≡ id_of h → V.table ≡ slice_set W.table (index_of W (id_of h)) new → entry_of V (id_of h) ≡ Some new
 placed W V h e new here name table = ap (λ (t : List Entry). slice_get t (place_of (id_of h) t)) table ∙ set_own W.table (id_of h) e new name here
 
 -- ---- an entry that waits for octets
@@ -96,7 +96,7 @@ data Comes (W V : World) (h : Header) (eof : Eof) (made : ℕ) (e : Entry) (rece
   Waits : (now : Entry) → (awaits : Awaits V h eof made now) → (kept : now.received ≡ received) → (same : bound V.config now.metadata ≡ bound W.config e.metadata) → Comes W V h eof made e received
   Over : (delivered : Delivered V h) → Comes W V h eof made e received
 
-own_name : (W : World) (h : Header) (e : Entry) → entry_of W (id_of h) ≡ Some e → Entries.name_of e ≡ id_of h
+pub own_name : (W : World) (h : Header) (e : Entry) → entry_of W (id_of h) ≡ Some e → Entries.name_of e ≡ id_of h
 own_name W h e here = entry_name W.table (id_of h) e here
 
 -- all octets are there
@@ -161,7 +161,7 @@ data_comes : (W : World) (h : Header) (eof : Eof) (made : ℕ) (e : Entry) (p : 
     pieces (kept_with e.received p.0 p.1) ≤ 32 → Comes W (data_at W (index_of W (id_of h)) e (record { offset = p.0; octets = p.1 })).0 h eof made e (kept_with e.received p.0 p.1)
 data_comes W h eof made e p a within few = data_by W h eof made e p.0 p.1 a within few
 
-neither : (o q : Option ℕ) → or_else o q ≡ None → (o ≡ None) × (q ≡ None)
+pub neither : (o q : Option ℕ) → or_else o q ≡ None → (o ≡ None) × (q ≡ None)
 neither None q e = (refl, e)
 neither (Some x) q e = absurd cc
 

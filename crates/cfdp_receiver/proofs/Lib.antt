@@ -22,5 +22,7 @@ pub mod Concluding
 pub mod Taking
 pub mod Read
 pub mod Whole
+pub mod InOrder
+pub mod NoGap
 pub mod Calls
 pub mod Written

@@ -103,6 +103,13 @@ stage_is_taking stages.Known (Some x) e = phase_is_taking x.phase e
 stage_is_taking (stages.Over ending) entry e = absurd cc
 stage_is_taking stages.Waiting entry e = absurd cc
 
+-- the core knows a transaction that is in Receiving
+pub receiving_is_known : (stage : Stage) (entry : Option Entry) → is_receiving_at (at_stage stage entry) ≡ true → stage ≡ stages.Known
+receiving_is_known (stages.Held eof) entry e = absurd cc
+receiving_is_known stages.Known entry e = refl
+receiving_is_known (stages.Over ending) entry e = absurd cc
+receiving_is_known stages.Waiting entry e = absurd cc
+
 -- a Keep Alive PDU is due while file data is taken
 pub alive_is_taking : (R : State) (s : SessionFields) → is_alive_due R s ≡ true → IsTaking (entry_of R.world (name_of s))
 alive_is_taking R s due =

@@ -18,12 +18,15 @@
 --     awaited_of W s            what is missing of a transaction that waits for it
 --     IsTaking entry            file data is taken, where there is an entry
 --     with_session M new        the session of the same name is replaced
+--     begins_no_gap R id piece  file data begins no gap that is asked for at once
+--     IsInOrder R h piece index     file data for this session is only kept: no PDU is sent with it
 --     heard_in U M s            what was handed to the core since the world U is heard by a session
 use Rattle.std.specs.Prelude.{◌≡◌, ⊤, ℕ, ◌≤◌, ◌<◌, ◌^◌, Bool, true, false, not, ◌&&◌, ◌||◌, ◌==◌, if◌then◌else◌, nat_le, nat_lt, List, [], ◌∷◌, length, map, slice_get, All, Option, Some, None, IfSome, IsTrue}
 use Rattle.cfdp_pdus.specs.Bits.{fss}
 use Rattle.cfdp_pdus.specs.Canonical.{IsHeader}
 use Rattle.cfdp_directives.specs.Spelling.{IsSizedAck, IsSizedKeepAlive, IsSizedRange}
 use Rattle.cfdp_status.specs.declared.transaction.TransactionId.{TransactionId}
+use Rattle.cfdp_pdus.specs.Values.{FileDataFields}
 use Rattle.cfdp_pdus.specs.declared.header.Header.{Header}
 use Rattle.cfdp_directives.specs.Reading.{NakFields}
 use Rattle.cfdp_directives.specs.declared.ack.Ack.{Ack}
@@ -32,7 +35,8 @@ use Rattle.cfdp_retransmission.specs.Naks.{Range, naks}
 use Rattle.cfdp_retransmission.specs.declared.timer.Expiry.{Expiry}
 use Rattle.cfdp_retransmission.specs.declared.timer.Expiry.TheVariants.{NotDue, Again, Limit}
 use Rattle.cfdp_sessions.specs.Sessions.{SessionFields, name_of, replaced}
-use Rattle.cfdp_transactions.specs.Entry.{Entry, takes_data}
+use Rattle.cfdp_sessions.specs.declared.session.Stage.TheVariants.{Known}
+use Rattle.cfdp_transactions.specs.Entry.{Entry, id_of, takes_data}
 use Rattle.cfdp_transactions.specs.declared.outcome.Outcome.{Outcome}
 use Rattle.cfdp_transactions.specs.World.{World, entry_of}
 use Rattle.cfdp_transactions.specs.Next.{run, replies}
@@ -46,10 +50,10 @@ use Rattle.cfdp_receiver.specs.declared.mib.MibFault.TheVariants as faults
 use Rattle.cfdp_receiver.specs.State.{State, Input, AnswerFields, is_closed, session_of, at_of}
 use Rattle.cfdp_receiver.specs.declared.timing.DueTimer.{DueTimer}
 use Rattle.cfdp_receiver.specs.declared.timing.DueTimer.TheVariants as timers
-use Rattle.cfdp_receiver.specs.Due.{Due, Nothing_due, Stage_due, Alive_due, IsSet}
-use Rattle.cfdp_receiver.specs.Handing.{events_of, later}
+use Rattle.cfdp_receiver.specs.Due.{Due, Nothing_due, Stage_due, Alive_due, IsSet, is_receiving_at}
+use Rattle.cfdp_receiver.specs.Handing.{events_of, is_ours, later}
 use Rattle.cfdp_receiver.specs.Laws.{AreKnown}
-use Rattle.cfdp_receiver.specs.Turning.{Parts, parts_of, finish_session, gaps_at, heard, is_awaiting_at}
+use Rattle.cfdp_receiver.specs.Turning.{Parts, parts_of, finish_session, gaps_at, heard, is_awaiting_at, is_immediate, progress_at}
 
 pub record MachineFields : Type 0 where
   pub state : State
@@ -218,3 +222,15 @@ pub record IsWhole (R : State) : Type 0 where
 abbrev pub IsTaking : Option Entry → Type 0
 IsTaking None = ⊤
 IsTaking (Some e) = IsTrue (takes_data e.phase)
+
+-- gaps are asked for after the EOF PDU; or file data begins within what was received, or right after it
+abbrev pub begins_no_gap : State → TransactionId → FileDataFields → Bool
+begins_no_gap R id piece = not (is_immediate R.mib.nak_mode) || nat_le piece.offset (progress_at (entry_of R.world id))
+
+-- file data with which nothing is sent: no EOF PDU of its transaction came, and no gap is asked for at once
+pub record IsInOrder (R : State) (h : Header) (piece : FileDataFields) (index : ℕ) : Type 0 where
+  pub ours : is_ours R h ≡ true
+  pub here : IsSessionAt R (id_of h) index
+  pub known : AtIndex R.sessions index (λ s. s.stage ≡ Known)
+  pub receiving : AtIndex R.sessions index (λ s. is_receiving_at (at_of R.world s) ≡ true)
+  pub no_gap : begins_no_gap R (id_of h) piece ≡ true

@@ -61,6 +61,48 @@ impl Model for Answer {
     ghost invariant = { λ a. IsSendable a.ack a.keep_alive };
 }
 
+/// The answer to an input with which nothing is sent: what became of the input, and what the user is told of it. It is small beside an
+/// [`Answer`], which has room for 33 segment requests, so it is moved at little cost.
+#[derive(Drop)]
+pub(crate) struct Unsent {
+    pub(crate) indication: Option<Indication>,
+    pub(crate) became: Became,
+}
+
+impl Model for Unsent {
+    ghost use Rattle.cfdp_receiver.specs.Machine.{AnswerParts, listed, silent};
+
+    ghost Value = { AnswerParts };
+
+    ghost view = { λ u. record (silent u.became) { indications = listed u.indication } };
+}
+
+impl Unsent {
+    /// The core's reply, and an indication, if there is one.
+    pub(crate) fn replied(id: TransactionId, reply: Reply, indication: Option<Indication>) -> Unsent
+        ensures { result ≡ record (silent (Replied id reply)) { indications = listed indication } }
+    {
+        Unsent {
+            indication,
+            became: Became::Replied(id, reply),
+        }
+    }
+
+    /// The same as a whole answer.
+    pub(crate) fn answer(self) -> Answer
+        ensures { result ≡ self }
+    {
+        Answer {
+            ack: None,
+            naks: None,
+            keep_alive: None,
+            finished: None,
+            indication: self.indication,
+            became: self.became,
+        }
+    }
+}
+
 /// The header of a PDU that is sent: toward the sender, and in all else as the PDU that came.
 pub(crate) fn turned(header: &Header) -> Header
     ensures { result ≡ turned header.now }

@@ -1,10 +1,10 @@
 //! PDUs that come: Metadata, File Data, EOF, ACK and Prompt.
 
-ghost use Rattle.std.specs.Prelude.{◌≡◌, ◌<◌, ◌^◌, ◌∷◌, [], if◌then◌else◌, Bool, true, length, None, IfOk, IfSome, OnErr};
+ghost use Rattle.std.specs.Prelude.{◌≡◌, ◌<◌, ◌^◌, ◌∷◌, [], if◌then◌else◌, Bool, true, length, slice_get, None, Some, IfNone, IfOk, IfSome, OnErr};
 ghost use Rattle.cfdp_pdus.specs.Bits.{fss};
 ghost use Rattle.cfdp_pdus.specs.Canonical.{IsHeader, IsSizedEof};
 ghost use Rattle.cfdp_directives.specs.Spelling.{IsSizedAck};
-ghost use Rattle.cfdp_sessions.specs.Sessions.{name_of};
+ghost use Rattle.cfdp_sessions.specs.Sessions.{SessionFields, name_of};
 ghost use Rattle.cfdp_sessions.specs.declared.session.Stage.TheVariants.{Held as HeldStage, Known as KnownStage};
 ghost use Rattle.cfdp_transactions.specs.Entry.{id_of};
 ghost use Rattle.cfdp_transactions.specs.declared.event.Event.TheVariants.{Metadata as MetadataCame};
@@ -14,11 +14,12 @@ ghost use Rattle.cfdp_transactions.specs.Writable.{IsReadable};
 ghost use Rattle.cfdp_receiver.specs.State.{MetadataPdu, DataPdu, EofPdu, AckPdu, PromptPdu, OtherPdu, at_of, past_status, is_closed, session_of, status_of};
 ghost use Rattle.cfdp_receiver.specs.declared.answer.Indication.TheVariants.{FileSegmentRecv};
 ghost use Rattle.cfdp_receiver.specs.Handing.{is_ours};
-ghost use Rattle.cfdp_receiver.specs.Machine.{AtIndex, IsSessionAt, MachineFields, Turns, answer_in, at_moment, in_world, joined, listed, with_session};
+ghost use Rattle.cfdp_receiver.specs.Due.{is_receiving_at};
+ghost use Rattle.cfdp_receiver.specs.Machine.{AtIndex, IsInOrder, begins_no_gap, IsSessionAt, MachineFields, Turns, answer_in, at_moment, heard_in, in_world, joined, listed, with_session};
 ghost use Rattle.cfdp_receiver.specs.Laws.{AreKnown};
 ghost use Rattle.cfdp_receiver.specs.Turning.{acked, acks_only, asks_at_once, described, foreign, is_immediate, is_kept_by, progress_at, prompted, quiet, roused, stage_in, takes_prompts};
 
-use crate::answering::{Answer, NakSequence, turned};
+use crate::answering::{Answer, NakSequence, Unsent, turned};
 use crate::machine::Machine;
 use crate::{At, Became, Described, Indication, Word};
 use cfdp_directives::{Ack, Prompt, TransactionStatus};
@@ -224,6 +225,7 @@ impl Machine {
         let stage = self.stage_in(id, true, header.destination);
         let session = self.begun(alloc, header, stage);
         let naks = self.asks_where_awaiting(&session);
+        self.sessions.look_first(index);
         self.sessions.put(session);
         Ok(
             Answer::replied(id, reply)
@@ -254,22 +256,77 @@ impl Machine {
         Ok(Answer::replied(id, reply))
     }
 
-    /// A File Data PDU came (CCSDS 727.0-B-5 §5.3).
-    pub(crate) fn data(&mut self, header: &Header, piece: &Piece<'_>) -> Answer
-        requires { IsHeader header.now }
+    /// A File Data PDU came (CCSDS 727.0-B-5 §5.3), of the session with this index, if its transaction has one.
+    pub(crate) fn data(
+        &mut self,
+        found: Option<usize>,
+        header: &Header,
+        piece: &Piece<'_>,
+    ) -> Answer
+        requires some { IfSome found (λ index. session_of self.old.state (id_of header.now) ≡ slice_get self.old.state.sessions index) }
+        requires within { IfSome found (λ index. index < length self.old.state.sessions) }
+        requires named { IfSome found (λ index. AtIndex self.old.state.sessions index (λ s. name_of s ≡ id_of header.now)) }
+        requires none { IfNone found (session_of self.old.state (id_of header.now) ≡ None) }
+        requires header { IsHeader header.now }
         ensures { Turns self.old self.new result (DataPdu self.old.state.now header.now piece.now) }
     {
         if !self.is_ours(header) {
             return self.foreign(header);
         }
         let id = transaction_of(header);
-        let Some(index) = self.find(id) else {
+        let Some(index) = found else {
             return Answer::said(id, self.absent(id));
         };
         match self.session(index).stage {
             Stage::Known => self.takes_data(index, header, piece),
             Stage::Held(_) | Stage::Over(_) | Stage::Waiting => Answer::said(id, Word::Idle),
         }
+    }
+
+    /// Whether file data begins no gap that is asked for at once: it begins within what was received, or right after it.
+    fn begins_no_gap(&self, id: TransactionId, piece: &Piece<'_>) -> bool
+        ensures { result ≡ begins_no_gap self.now.state id piece.now }
+    {
+        !self.is_immediate() || piece.offset <= self.progress(id)
+    }
+
+    /// Whether nothing is sent with file data for the session with this index: no EOF PDU of its transaction came, and no gap is asked for at
+    /// once.
+    pub(crate) fn is_in_order(&self, index: usize, header: &Header, piece: &Piece<'_>) -> bool
+        requires { IsSessionAt self.now.state (id_of header.now) index }
+        ensures { result ≡ true → IsInOrder self.now.state header.now piece.now index }
+    {
+        self.is_ours(header)
+            && self.begins_no_gap(transaction_of(header), piece)
+            && self.at(self.session(index)).is_receiving()
+    }
+
+    /// File data with which nothing is sent, of the session with this index. It does what [`Machine::data`] does, and its answer is small.
+    pub(crate) fn keeps(&mut self, index: usize, header: &Header, piece: &Piece<'_>) -> Unsent
+        requires ours { is_ours self.old.state header.now ≡ true }
+        requires here { IsSessionAt self.old.state (id_of header.now) index }
+        requires known { AtIndex self.old.state.sessions index (λ s. s.stage ≡ KnownStage) }
+        requires receiving { AtIndex self.old.state.sessions index (λ s. is_receiving_at (at_of self.old.state.world s) ≡ true) }
+        requires no_gap { begins_no_gap self.old.state (id_of header.now) piece.now ≡ true }
+        requires header { IsHeader header.now }
+        ensures { Turns self.old self.new result (DataPdu self.old.state.now header.now piece.now) }
+    {
+        let id = self.session(index).name();
+        let reply = self.entity.file_data(header, piece);
+        self.restarts(index);
+        let told = segment_told(id, piece, &reply);
+        Unsent::replied(id, reply, told)
+    }
+
+    /// An event of the transaction of a session was handed to the core while file data was taken and no EOF PDU had come: the session's timer
+    /// begins anew.
+    fn restarts(&mut self, index: usize)
+        requires { index < length self.old.state.sessions }
+        ensures { (U : World) (session : SessionFields) → slice_get self.old.state.sessions index ≡ Some session
+            → is_receiving_at (at_of U session) ≡ true → self.new ≡ heard_in U self.old session }
+    {
+        let timer = Timer::start(self.latest);
+        self.sessions.set_timer(index, timer);
     }
 
     /// File data of a transaction that the core knows.
@@ -452,7 +509,7 @@ impl Machine {
         };
         match self.session(index).stage {
             Stage::Waiting if ack.directive == directive::FINISHED => {
-                self.close(id);
+                self.close(index, id);
                 Answer::said(id, Word::Acknowledged)
             }
             Stage::Held(_) | Stage::Known | Stage::Over(_) | Stage::Waiting => {

@@ -141,10 +141,12 @@ impl Machine {
         }
     }
 
-    /// A transaction is closed, and its name remembered.
-    pub(crate) fn close(&mut self, id: TransactionId)
+    /// A transaction is closed, and its name remembered. The index is that of its session, so that no pass over the sessions finds it again;
+    /// another index changes only the cost.
+    pub(crate) fn close(&mut self, index: usize, id: TransactionId)
         ensures { self.new ≡ record self.old { state = record self.old.state { sessions = without self.old.state.sessions id; closed = with_name self.old.state.closed id } } }
     {
+        self.sessions.look_first(index);
         self.sessions.close(id);
         self.closed.add(id);
     }

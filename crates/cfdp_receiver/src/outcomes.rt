@@ -147,11 +147,11 @@ impl Machine {
         let id = session.name();
         let told = Some(Indication::TransactionFinished(id, conclusion));
         if session.is_abandoned {
-            self.close(id);
+            self.close(index, id);
             return Answer::said(id, Word::Closed);
         }
         if !is_sent {
-            self.close(id);
+            self.close(index, id);
             return Answer::said(id, Word::Closed).with_indication(told);
         }
         if session.header.acknowledged {
@@ -161,7 +161,7 @@ impl Machine {
                 .with_finished(id)
                 .with_indication(told);
         }
-        self.close(id);
+        self.close(index, id);
         self.concluded = octets;
         Answer::said(id, Word::Closed)
             .with_finished(id)

@@ -1,15 +1,20 @@
 //! What octets that came bring.
 
-ghost use Rattle.std.specs.Prelude.{◌≡◌, ◌⊎◌, ℕ, IfErr, IfOk, Ok, Err};
+ghost use Rattle.std.specs.Prelude.{◌≡◌, ◌⊎◌, ℕ, IfErr, IfNone, IfOk, IfSome, Ok, Err};
+ghost use Rattle.cfdp_pdus.specs.Canonical.{IsHeader};
 ghost use Rattle.cfdp_pdus.specs.First.{pdu_at};
 ghost use Rattle.cfdp_pdus.specs.Sound.{IsNoFileData};
 ghost use Rattle.cfdp_pdus.specs.declared.fault.PduFault.TheVariants.{Memory};
 ghost use Rattle.cfdp_receiver.specs.Heard.{IsHearable, IsMetadata, input_at, input_of, other_input};
+ghost use Rattle.cfdp_receiver.specs.State.{DataPdu};
 ghost use Rattle.cfdp_receiver.specs.declared.reading.Dropped.TheVariants.{Crc as CrcDropped, Pdu as PduDropped};
 
 use cfdp_crc::CrcFault;
 use cfdp_directives::{Ack, Directive, NakFault, Prompt, read_directive, read_nak};
-use cfdp_pdus::{Eof, Header, Metadata, Pdu, PduFault, directive, read_for_receiver, read_start};
+use cfdp_pdus::{
+    Eof, Header, Metadata, Pdu, PduFault, Piece, directive, read_for_receiver, read_piece,
+    read_start,
+};
 use std::alloc::Global;
 
 /// Why octets that came were dropped. The receiver is as before.
@@ -69,6 +74,15 @@ fn read_other(header: Header, code: u8, octets: &[u8]) -> Result<Directed, PduFa
         Directive::Prompt(header, prompt) => Ok(Directed::Prompt(header, prompt)),
         Directive::KeepAlive(header, _) => Ok(Directed::Other(header)),
     }
+}
+
+/// The File Data PDU that the octets spell, if they spell one.
+pub(crate) fn read_data(octets: &[u8]) -> Option<(Header, Piece<'_>)>
+    ensures some { IfSome result (λ came. (now : ℕ) → input_at now octets.now ≡ Ok (DataPdu now came.0 came.1)) }
+    ensures header { IfSome result (λ came. IsHeader came.0) }
+    ensures none { IfNone result (IsNoFileData (pdu_at octets.now)) }
+{
+    read_piece(octets)
 }
 
 /// The PDU that the octets spell, but for a File Data PDU.

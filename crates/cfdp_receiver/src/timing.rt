@@ -290,7 +290,7 @@ impl Machine {
         let id = session.name();
         match at {
             At::Waiting => {
-                self.close(id);
+                self.close(index, id);
                 return Answer::said(id, Word::Faulted).with_indication(Some(Indication::Fault(
                     id, condition,
                 )));
@@ -319,7 +319,7 @@ impl Machine {
     {
         let id = self.session(index).name();
         match at {
-            At::Waiting | At::Held => self.close(id),
+            At::Waiting | At::Held => self.close(index, id),
             _ => {
                 self.hand_cancel(index);
                 self.sessions.abandon(index);

@@ -94,3 +94,16 @@ set_replaced (x ∷ xs) (suc i) s new d e same = elim (cases_Bool (is_same (name
       ap (λ (ys : List SessionFields). x ∷ ys) (set_replaced xs i s new d.1 e same)
       ∙ sym (cond-false (is_same (name_of x) (name_of new)) (new ∷ xs) (x ∷ replaced xs new) there)
 ]
+
+-- a session at an index is at the place of its name
+pub place_here : (ss : List SessionFields) (i : ℕ) (s : SessionFields) (id : TransactionId) → AreDistinct ss → slice_get ss i ≡ Some s → name_of s ≡ id → place_of ss id ≡ i
+place_here [] i s id d e same = absurd cc
+place_here (x ∷ xs) zero s id d e same =
+    let here : is_same (name_of x) id ≡ true = ap (λ (n : TransactionId). is_same n id) (ap name_of (some_same x s e) ∙ same) ∙ same_self id in
+    cond-true (is_same (name_of x) id) 0 (suc (place_of xs id)) here
+place_here (x ∷ xs) (suc i) s id d e same = elim (cases_Bool (is_same (name_of x) id)) [
+  | inl here ↦
+      let later = found_by_name xs i s e in
+      absurd (no_some later.0 (sym d.0 ∙ ap (found xs) (same_is (name_of x) id here ∙ sym same) ∙ later.1))
+  | inr there ↦ cond-false (is_same (name_of x) id) 0 (suc (place_of xs id)) there ∙ ap suc (place_here xs i s id d.1 e same)
+]

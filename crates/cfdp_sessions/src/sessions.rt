@@ -21,6 +21,8 @@ pub const MOST_SESSIONS: usize = 64;
 #[derive(Drop)]
 pub struct Sessions {
     list: Vec<Session>,
+    /// The index that is looked at first when a session is looked up.
+    recent: usize,
 }
 
 impl Model for Sessions {
@@ -46,6 +48,7 @@ impl Sessions {
     {
         Ok(Sessions {
             list: Vec::with_capacity(alloc, MOST_SESSIONS)?,
+            recent: 0,
         })
     }
 
@@ -70,10 +73,20 @@ impl Sessions {
         &self.list
     }
 
+    /// Whether the session with this index is there, and is that of this transaction.
+    fn is_at(&self, index: usize, id: TransactionId) -> bool
+        ensures { result ≡ true → place_of self.now id ≡ index }
+    {
+        index < self.list.len() && self.list[index].name() == id
+    }
+
     /// The index of a transaction's session: the number of sessions where it has none.
     fn place(&self, id: TransactionId) -> usize
         ensures { result ≡ place_of self.now id }
     {
+        if self.is_at(self.recent, id) {
+            return self.recent;
+        }
         let mut place = 0usize;
         for session in &self.list {
             if session.name() == id {
@@ -84,7 +97,8 @@ impl Sessions {
         place
     }
 
-    /// A transaction's session, if it has one. Takes no memory. Cost: a pass over the sessions.
+    /// A transaction's session, if it has one. Takes no memory. Cost: at most a pass over the sessions, constant after
+    /// [`Sessions::look_first`] or [`Sessions::set_timer`] of it.
     pub fn get(&self, id: TransactionId) -> Option<&Session>
         ensures some { IfSome result (λ session. found self.now id ≡ Some session.now) }
         ensures none { IfNone result (found self.now id ≡ None) }
@@ -97,7 +111,7 @@ impl Sessions {
         }
     }
 
-    /// The index of a transaction's session, if it has one. Takes no memory. Cost: a pass over the sessions.
+    /// The index of a transaction's session, if it has one. Takes no memory. Cost: as [`Sessions::get`].
     pub fn find(&self, id: TransactionId) -> Option<usize>
         ensures some { IfSome result (λ index. found self.now id ≡ slice_get self.now index) }
         ensures here { IfSome result (λ index. index < length self.now) }
@@ -111,6 +125,14 @@ impl Sessions {
         }
     }
 
+    /// The session with this index, if there is one, is looked at first from now on: then to find it by its name takes constant time. No
+    /// answer changes. In constant time.
+    pub fn look_first(&mut self, index: usize)
+        ensures { self.new ≡ self.old }
+    {
+        self.recent = index;
+    }
+
     /// No two sessions have one name. Does nothing.
     pub fn distinct(&self)
         ensures { AreDistinct self.now }
@@ -118,13 +140,14 @@ impl Sessions {
         let _list = &self.list;
     }
 
-    /// Gives the session with this index another timer. Takes no memory. In constant time.
+    /// Gives the session with this index another timer; it is looked at first from now on. Takes no memory. In constant time.
     pub fn set_timer(&mut self, index: usize, timer: Timer)
         requires here { index < length self.old }
         requires counted { timer.count ≤ timer.since }
         ensures { (session : SessionFields) → slice_get self.old index ≡ Some session
             → self.new ≡ replaced self.old (record session { timer = timer }) }
     {
+        self.recent = index;
         let session = &mut self.list[index];
         session.timer = timer;
     }
@@ -198,7 +221,7 @@ impl Sessions {
         self.list.push_reserved(session);
     }
 
-    /// Replaces the session of the same transaction, if there is one. Takes no memory. Cost: a pass over the sessions.
+    /// Replaces the session of the same transaction, if there is one. Takes no memory. Cost: as [`Sessions::get`].
     pub fn put(&mut self, session: Session)
         ensures { self.new ≡ replaced self.old session }
     {
@@ -208,8 +231,8 @@ impl Sessions {
         }
     }
 
-    /// Removes a transaction's session, if it has one, and keeps the order of the others. Takes no memory. Cost: a pass
-    /// over the sessions.
+    /// Removes a transaction's session, if it has one, and keeps the order of the others. Takes no memory. Cost: as [`Sessions::get`], and a
+    /// move of the sessions after it.
     pub fn close(&mut self, id: TransactionId)
         ensures { self.new ≡ without self.old id }
     {

@@ -17,5 +17,5 @@ invariant_of-self c =
     whole_turn c.args.self.now c.data.new.self c.data.result (DataPdu c.args.now c.args.header.now c.args.piece.now)
     (c.stays_whole.ensures (DataPdu c.args.now c.args.header.now c.args.piece.now)) (as_it_came (goal.at.invariant_of-self c).After-data)
 
-pub returns : goal.returns
-returns c = turned c.args.self.now c.data.new.self c.data.result (DataPdu c.args.now c.args.header.now c.args.piece.now) (as_it_came (goal.at.returns c).After-data)
+pub returns-clause-ok : goal.returns-clause-ok
+returns-clause-ok c = turned c.args.self.now c.data.new.self c.data.result (DataPdu c.args.now c.args.header.now c.args.piece.now) (as_it_came (goal.at.returns-clause-ok c).After-data)

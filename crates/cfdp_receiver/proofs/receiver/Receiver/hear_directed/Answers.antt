@@ -1,24 +1,9 @@
 use Rattle.std.specs.Prelude.{Ok}
-use Rattle.std.proofs.Common.{rules, ◌≡◌, arith}
-use Rattle.cfdp_pdus.specs.declared.pdu.Pdu.TheVariants as pdus
-use Rattle.cfdp_pdus.proofs.PduSteps.{pdu_takes}
-use Rattle.cfdp_pdus.proofs.SoundSteps.{octets_from, pdu_sound}
-use Rattle.cfdp_receiver.specs.State.{MetadataPdu, DataPdu, EofPdu, AckPdu, PromptPdu, OtherPdu}
+use Rattle.std.proofs.Common.{rules, ◌≡◌}
+use Rattle.cfdp_receiver.specs.State.{MetadataPdu, EofPdu, AckPdu, PromptPdu, OtherPdu}
 use Rattle.cfdp_receiver.specs.Heard.{input_at}
 use Rattle.cfdp_receiver.proofs.Calls.{heard_ok}
-use Rattle.cfdp_receiver.proofs.receiver.Receiver.hear.Goals as goal
-
-pub hear_data-requires : goal.hear_data-requires
-hear_data-requires c =
-    let octets = c.args.octets.now in
-    let pdu = pdus.FileData c.in-Some.header c.in-Some.piece in
-    (pdu_sound octets pdu (octets_from octets (λ i. omega (arith, c.type_inv.octets i))) (pdu_takes octets pdu c.in-Some.ensures.found)).0
-
-pub returns-in-Some-clause-ok : goal.returns-in-Some-clause-ok
-returns-in-Some-clause-ok c =
-    let i = DataPdu c.args.now c.in-Some.header c.in-Some.piece in
-    let read : input_at c.args.now c.args.octets.now ≡ Ok i = search rules in
-    (i, read, c.hear_data.ensures)
+use Rattle.cfdp_receiver.proofs.receiver.Receiver.hear_directed.Goals as goal
 
 pub returns-in-Eof-clause-ok : goal.returns-in-Eof-clause-ok
 returns-in-Eof-clause-ok c =
@@ -48,4 +33,4 @@ pub returns-in-Metadata-clause-ok : goal.returns-in-Metadata-clause-ok
 returns-in-Metadata-clause-ok c =
     let i = MetadataPdu c.args.now c.in-Metadata.header c.in-Metadata.metadata in
     let read : input_at c.args.now c.args.octets.now ≡ Ok i = search rules in
-    heard_ok c.args.now c.args.octets.now c.args.self.now c.hear_metadata.new.self i c.hear_metadata.result read c.hear_metadata.ensures.ok
+    heard_ok (input_at c.args.now c.args.octets.now) c.args.self.now c.hear_metadata.new.self i c.hear_metadata.result read c.hear_metadata.ensures.ok

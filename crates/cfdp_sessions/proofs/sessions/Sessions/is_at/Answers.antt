@@ -1,0 +1,17 @@
+use Rattle.std.proofs.Common.{◌≡◌, List, length, Some, refl, sym, ap, subst, ◌∙◌, arith}
+use Rattle.std.specs.Prelude.{slice_get}
+use Rattle.std.proofs.lemmas.Option.{slice_get_read}
+use Rattle.cfdp_sessions.specs.Sessions.{SessionFields, AreDistinct}
+use Rattle.cfdp_sessions.proofs.Names.{same_is}
+use Rattle.cfdp_sessions.proofs.Places.{place_here}
+use Rattle.cfdp_sessions.proofs.sessions.Sessions.is_at.Goals as goal
+
+pub returns-then-index-len : goal.returns-then-index-len
+returns-then-index-len c same =
+    let session = c.index.result.now in
+    let items = c.self.inside.list.items in
+    let here : slice_get items c.args.index ≡ Some session =
+    slice_get_read items (length items) c.args.index session refl (omega (arith, c.if-index-len.true, c.len.ensures)) c.index.ensures in
+    let at = ap (λ (xs : List SessionFields). slice_get xs c.args.index) (sym c.self.view_is) ∙ here in
+    place_here c.args.self.now c.args.index session c.args.id (subst AreDistinct c.self.view_is c.self.invariant.2) at
+    (sym c.name.ensures ∙ same_is c.name.result c.args.id (sym c.eq.ensures ∙ same))
