@@ -1,0 +1,115 @@
+//! `cfdp_cost entity|receiver SESSIONS COUNT [immediate|deadline|stranger]`: File Data PDUs, so that their cost can be counted.
+//!
+//! An entity begins SESSIONS transactions, 1 to 64, in acknowledged mode. Then COUNT File Data PDUs of 1,000 octets of the last
+//! transaction, 1 to 7,800, are handed in, in order, by `Entity::receive` or by `Receiver::receive`. They come from one buffer whose
+//! offset alone changes, nothing else is done between them, and no memory is asked for. With `immediate` the receiver asks for a
+//! gap when it begins. With `deadline` the receiver is asked for its deadline after each PDU. With `stranger` 256 transactions are
+//! closed before, and the PDUs are of a transaction that never began.
+//!
+//! At the end a line says how many were stored and what became of the last one; the exit status is 1 unless all were stored, and of
+//! `stranger` none.
+//!
+//! The instructions of a run with twice the COUNT, less those of a run with COUNT, are those of COUNT PDUs.
+#![tactic(auto)]
+
+mod counting;
+mod fault;
+mod hearing;
+mod pdus;
+
+use cfdp_entity::Entity;
+use cfdp_receiver::{NakMode, Receiver};
+use counting::{Plan, Tally, count};
+use fault::Fault;
+use std::alloc::Global;
+use std::env;
+use std::process::ExitCode;
+use std::rt::Env;
+
+/// What PDUs are handed to, and what else is asked for.
+#[derive(Clone, Copy, PartialEq, Eq)]
+enum Way {
+    Entity,
+    Receiver(NakMode),
+    /// The deadline of a receiver is asked for, too.
+    Deadline,
+    /// The PDUs are of a transaction that the receiver does not know.
+    Stranger,
+}
+
+fn main(rt: HostRuntime) -> ExitCode {
+    let Some((way, plan)) = read_words(&rt) else {
+        let _ = eprintln!(rt;
+            "cfdp_cost entity|receiver SESSIONS COUNT [immediate|deadline|stranger]: 1 to 64, 1 to 7800"
+        );
+        return ExitCode::from(2);
+    };
+    let wanted = if way == Way::Stranger { 0 } else { plan.count };
+    match run(rt.alloc(), way, plan) {
+        Ok(tally) => {
+            let _ = println!(rt; "{} transactions: {tally}", plan.sessions);
+            if tally.stored == wanted {
+                ExitCode::SUCCESS
+            } else {
+                ExitCode::from(1)
+            }
+        }
+        Err(fault) => {
+            let _ = eprintln!(rt; "cfdp_cost: {fault}");
+            ExitCode::from(1)
+        }
+    }
+}
+
+/// Hands all PDUs in, this way.
+fn run(alloc: Global, way: Way, plan: Plan) -> Result<Tally, Fault> {
+    let mut entity = hearing::entity(alloc)?;
+    let nak_mode = match way {
+        Way::Entity => return count::<Entity>(alloc, &mut entity, plan),
+        Way::Receiver(nak_mode) => nak_mode,
+        Way::Deadline | Way::Stranger => NakMode::Deferred,
+    };
+    let mut receiver = hearing::receiver(alloc, entity, nak_mode)?;
+    if way == Way::Stranger {
+        hearing::close_names(alloc, &mut receiver)?;
+    }
+    count::<Receiver>(alloc, &mut receiver, plan)
+}
+
+/// What the command line asks for.
+fn read_words<R: AllocGlobal + Env>(rt: &R) -> Option<(Way, Plan)> {
+    let words: Vec<String> = env::args(rt).ok()?.collect(rt.alloc()).ok()?;
+    let (way, sessions, count) = match words.as_slice() {
+        [_, way, sessions, count] => (way_of(way.as_str(), "")?, sessions, count),
+        [_, way, sessions, count, mode] => (way_of(way.as_str(), mode.as_str())?, sessions, count),
+        _ => return None,
+    };
+    let plan = Plan {
+        sessions: number_of(sessions.as_str(), 64)?,
+        count: number_of(count.as_str(), 7_800)?,
+        is_stranger: way == Way::Stranger,
+        asks_deadline: way == Way::Deadline,
+    };
+    Some((way, plan))
+}
+
+fn way_of(word: &str, mode: &str) -> Option<Way> {
+    match (word, mode) {
+        ("entity", "") => Some(Way::Entity),
+        ("receiver", "") => Some(Way::Receiver(NakMode::Deferred)),
+        ("receiver", "immediate") => Some(Way::Receiver(NakMode::Immediate)),
+        ("receiver", "deadline") => Some(Way::Deadline),
+        ("receiver", "stranger") => Some(Way::Stranger),
+        _ => None,
+    }
+}
+
+/// A number from 1 to `most`.
+fn number_of(word: &str, most: u32) -> Option<u32> {
+    let number = word.parse::<u32>().ok()?;
+    if number == 0 || most < number {
+        None
+    } else {
+        Some(number)
+    }
+}
