@@ -1,20 +1,31 @@
-//! A run: transactions begin, and the File Data PDUs of one of them come.
+//! A run: transactions begin, and File Data PDUs come.
 
 use crate::fault::Fault;
 use crate::hearing::{Heard, Hears};
-use crate::pdus::{PIECE, data_pdu, header, metadata_pdu, set_offset};
+use crate::pdus::{PIECE, data_pdu, header, metadata_pdu, set_number, set_offset};
 use std::alloc::Global;
 use std::fmt;
+
+/// Whose File Data PDUs come.
+#[derive(Clone, Copy, PartialEq, Eq)]
+pub enum Whose {
+    /// Those of the transaction that began last.
+    Last,
+    /// Those of all transactions in turn.
+    Each,
+    /// Those of a transaction that did not begin.
+    Stranger,
+}
 
 /// What is handed in.
 #[derive(Clone, Copy)]
 pub struct Plan {
     /// How many transactions begin.
     pub sessions: u32,
-    /// How many File Data PDUs of the last one come.
+    /// How many File Data PDUs come.
     pub count: u32,
-    /// They are of a transaction that did not begin.
-    pub is_stranger: bool,
+    /// Whose they are.
+    pub whose: Whose,
     /// The deadline is asked for after each of them.
     pub asks_deadline: bool,
 }
@@ -55,15 +66,39 @@ impl fmt::Display for Tally {
     }
 }
 
-/// Begins all transactions. The file of the last one has all octets that are to come, the others have a few.
+impl Plan {
+    /// The transaction of the PDU with this index.
+    fn transaction(&self, index: u32) -> u32 {
+        match self.whose {
+            Whose::Last => self.sessions,
+            Whose::Each => (index % self.sessions.max(1)).saturating_add(1),
+            Whose::Stranger => self.sessions.saturating_add(1),
+        }
+    }
+
+    /// How many PDUs of its transaction come before the one with this index.
+    fn before(&self, index: u32) -> u32 {
+        match self.whose {
+            Whose::Last | Whose::Stranger => index,
+            Whose::Each => index / self.sessions.max(1),
+        }
+    }
+
+    /// How many octets the file of a transaction has: all that are to come, and at least a few.
+    fn size(&self, number: u32) -> u32 {
+        let pieces = match self.whose {
+            Whose::Each => self.before(self.count).saturating_add(1),
+            Whose::Last | Whose::Stranger if number == self.sessions => self.count,
+            Whose::Last | Whose::Stranger => 1,
+        };
+        pieces.saturating_mul(PIECE)
+    }
+}
+
+/// Begins all transactions.
 fn begin<H: Hears>(alloc: Global, hearer: &mut H, plan: Plan) -> Result<(), Fault> {
     for number in 1..=plan.sessions {
-        let size = if number == plan.sessions {
-            plan.count.saturating_mul(PIECE)
-        } else {
-            100
-        };
-        let mut octets = metadata_pdu(alloc, &header(number), size)?;
+        let mut octets = metadata_pdu(alloc, &header(number), plan.size(number))?;
         if !hearer.begin(alloc, &mut octets) {
             return Err(Fault::NotAdmitted);
         }
@@ -74,17 +109,13 @@ fn begin<H: Hears>(alloc: Global, hearer: &mut H, plan: Plan) -> Result<(), Faul
 /// Hands in all File Data PDUs, from one buffer.
 pub fn count<H: Hears>(alloc: Global, hearer: &mut H, plan: Plan) -> Result<Tally, Fault> {
     begin(alloc, hearer, plan)?;
-    let number = if plan.is_stranger {
-        plan.sessions.saturating_add(1)
-    } else {
-        plan.sessions
-    };
-    let mut octets = data_pdu(alloc, &header(number))?;
+    let mut octets = data_pdu(alloc, &header(1))?;
     let mut stored = 0_u32;
     let mut last = Heard::Otherwise;
     let mut deadline = None;
-    for number in 0..plan.count {
-        set_offset(&mut octets, number.saturating_mul(PIECE));
+    for index in 0..plan.count {
+        set_number(&mut octets, plan.transaction(index));
+        set_offset(&mut octets, plan.before(index).saturating_mul(PIECE));
         last = hearer.data(alloc, &mut octets);
         if !matches!(last, Heard::Otherwise) {
             stored = stored.saturating_add(1);

@@ -1,8 +1,9 @@
-//! `cfdp_cost entity|receiver SESSIONS COUNT [immediate|deadline|stranger]`: File Data PDUs, so that their cost can be counted.
+//! `cfdp_cost entity|receiver SESSIONS COUNT [each|immediate|deadline|stranger]`: File Data PDUs, so that their cost can be counted.
 //!
 //! An entity begins SESSIONS transactions, 1 to 64, in acknowledged mode. Then COUNT File Data PDUs of 1,000 octets of the last
 //! transaction, 1 to 7,800, are handed in, in order, by `Entity::receive` or by `Receiver::receive`. They come from one buffer whose
-//! offset alone changes, nothing else is done between them, and no memory is asked for. With `immediate` the receiver asks for a
+//! number and offset alone change, nothing else is done between them, and no memory is asked for. With `each` they are PDUs of all
+//! transactions in turn. With `immediate` the receiver asks for a
 //! gap when it begins. With `deadline` the receiver is asked for its deadline after each PDU. With `stranger` 256 transactions are
 //! closed before, and the PDUs are of a transaction that never began.
 //!
@@ -19,7 +20,7 @@ mod pdus;
 
 use cfdp_entity::Entity;
 use cfdp_receiver::{NakMode, Receiver};
-use counting::{Plan, Tally, count};
+use counting::{Plan, Tally, Whose, count};
 use fault::Fault;
 use std::alloc::Global;
 use std::env;
@@ -29,8 +30,8 @@ use std::rt::Env;
 /// What PDUs are handed to, and what else is asked for.
 #[derive(Clone, Copy, PartialEq, Eq)]
 enum Way {
-    Entity,
-    Receiver(NakMode),
+    Entity(Whose),
+    Receiver(NakMode, Whose),
     /// The deadline of a receiver is asked for, too.
     Deadline,
     /// The PDUs are of a transaction that the receiver does not know.
@@ -40,7 +41,7 @@ enum Way {
 fn main(rt: HostRuntime) -> ExitCode {
     let Some((way, plan)) = read_words(&rt) else {
         let _ = eprintln!(rt;
-            "cfdp_cost entity|receiver SESSIONS COUNT [immediate|deadline|stranger]: 1 to 64, 1 to 7800"
+            "cfdp_cost entity|receiver SESSIONS COUNT [each|immediate|deadline|stranger]: 1 to 64, 1 to 7800"
         );
         return ExitCode::from(2);
     };
@@ -65,8 +66,8 @@ fn main(rt: HostRuntime) -> ExitCode {
 fn run(alloc: Global, way: Way, plan: Plan) -> Result<Tally, Fault> {
     let mut entity = hearing::entity(alloc)?;
     let nak_mode = match way {
-        Way::Entity => return count::<Entity>(alloc, &mut entity, plan),
-        Way::Receiver(nak_mode) => nak_mode,
+        Way::Entity(_) => return count::<Entity>(alloc, &mut entity, plan),
+        Way::Receiver(nak_mode, _) => nak_mode,
         Way::Deadline | Way::Stranger => NakMode::Deferred,
     };
     let mut receiver = hearing::receiver(alloc, entity, nak_mode)?;
@@ -87,7 +88,11 @@ fn read_words<R: AllocGlobal + Env>(rt: &R) -> Option<(Way, Plan)> {
     let plan = Plan {
         sessions: number_of(sessions.as_str(), 64)?,
         count: number_of(count.as_str(), 7_800)?,
-        is_stranger: way == Way::Stranger,
+        whose: match way {
+            Way::Entity(whose) | Way::Receiver(_, whose) => whose,
+            Way::Deadline => Whose::Last,
+            Way::Stranger => Whose::Stranger,
+        },
         asks_deadline: way == Way::Deadline,
     };
     Some((way, plan))
@@ -95,9 +100,11 @@ fn read_words<R: AllocGlobal + Env>(rt: &R) -> Option<(Way, Plan)> {
 
 fn way_of(word: &str, mode: &str) -> Option<Way> {
     match (word, mode) {
-        ("entity", "") => Some(Way::Entity),
-        ("receiver", "") => Some(Way::Receiver(NakMode::Deferred)),
-        ("receiver", "immediate") => Some(Way::Receiver(NakMode::Immediate)),
+        ("entity", "") => Some(Way::Entity(Whose::Last)),
+        ("entity", "each") => Some(Way::Entity(Whose::Each)),
+        ("receiver", "") => Some(Way::Receiver(NakMode::Deferred, Whose::Last)),
+        ("receiver", "each") => Some(Way::Receiver(NakMode::Deferred, Whose::Each)),
+        ("receiver", "immediate") => Some(Way::Receiver(NakMode::Immediate, Whose::Last)),
         ("receiver", "deadline") => Some(Way::Deadline),
         ("receiver", "stranger") => Some(Way::Stranger),
         _ => None,

@@ -9,6 +9,9 @@ use std::alloc::{AllocError, Global};
 /// How many octets of the file a File Data PDU brings.
 pub const PIECE: u32 = 1_000;
 
+/// Where the transaction sequence number is in a header.
+const NUMBER_AT: usize = 5;
+
 /// Where the offset is in a File Data PDU, after its header.
 const OFFSET_AT: usize = 10;
 
@@ -83,6 +86,13 @@ pub fn data_pdu(alloc: Global, header: &Header) -> Result<Vec<u8>, Fault>
     let mut octets = Vec::new(alloc);
     write_file_data(header, &data, &mut octets)?;
     Ok(octets)
+}
+
+/// Writes the number of its transaction into a PDU.
+pub fn set_number(pdu: &mut [u8], number: u32) {
+    if let Some(field) = pdu.get_mut(NUMBER_AT..NUMBER_AT + 4) {
+        field.copy_from_slice(&number.to_be_bytes());
+    }
 }
 
 /// Writes the offset of its octets into a File Data PDU.

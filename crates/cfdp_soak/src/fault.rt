@@ -28,6 +28,8 @@ pub enum Wrong {
     Dropped,
     #[error("a PDU of an answer was not written")]
     Unwritten,
+    #[error("the receiver hands on other events than it has to")]
+    HandedOn,
     #[error("a transaction is in different phases")]
     Phases,
     #[error("the receiver did not have each word: {0:?}")]

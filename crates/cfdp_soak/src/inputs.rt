@@ -75,7 +75,7 @@ impl Lines {
     }
 
     /// The number of the present transaction of a line.
-    fn number(&self, line: u64) -> u64 {
+    pub fn number(&self, line: u64) -> u64 {
         let ended = self.ended.get(line as usize).copied().unwrap_or(0);
         TRANSACTIONS.saturating_mul(ended).saturating_add(line)
     }

@@ -44,6 +44,7 @@ fn feed(
     twin.compare_stores(alloc)?;
     match twin.words.missing() {
         Some(word) => Err(Fault::Wrong(Wrong::Word(word))),
-        None => Ok(()),
+        None if twin.counts.are_all_met() => Ok(()),
+        None => Err(Fault::Wrong(Wrong::Tame)),
     }
 }

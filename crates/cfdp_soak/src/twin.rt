@@ -1,10 +1,11 @@
 //! A receiver over a filestore inside an arena, and beside it a core over a plain list that gets each event that the
-//! receiver hands on, by the table of inputs in docs/FORMATS.md.
+//! receiver hands on. Whether a PDU, an item or a cancel is handed on is judged by the table of inputs in
+//! docs/FORMATS.md; which timer was served is taken from the receiver's word.
 ghost use Rattle.std.specs.Prelude.{◌≡◌, ◌<◌, ◌^◌, IsTrue, false};
 ghost use Rattle.cfdp_pdus.specs.Canonical.{IsHeader};
 
 use crate::counts::Counts;
-use crate::events::{id, is_acknowledged};
+use crate::events::{TRANSACTIONS, id, is_acknowledged};
 use crate::fault::{Fault, Wrong};
 use crate::inputs::{Directed, Input, Lines};
 use crate::pair::{compare_stores, config, list};
@@ -20,7 +21,7 @@ use cfdp_pdus::{
 use cfdp_receiver::{
     Answer, Became, Handler, Mib, NakMode, NotMade, NotWritten, Receiver, Retries, Watch, Word,
 };
-use cfdp_sessions::Stage;
+use cfdp_sessions::{MOST_SESSIONS, Stage};
 use cfdp_status::TransactionId;
 use cfdp_transactions::{Core, Event, Phase, Reply, transaction_of};
 use std::alloc::Global;
@@ -187,6 +188,11 @@ fn directive_octets(
     Ok(octets)
 }
 
+/// Whether the core got an event.
+fn was_handed_on(answer: &Answer) -> bool {
+    matches!(answer.became(), Became::Replied(..))
+}
+
 impl Twin {
     /// Both have just begun.
     pub fn new(alloc: Global, setting: Setting) -> Result<Twin, Fault> {
@@ -232,7 +238,7 @@ impl Twin {
     ) -> Result<(), Fault> {
         self.wait(random, &input);
         let answer = match &input {
-            Input::Event(event) => self.hear(alloc, event)?,
+            Input::Event(event) => self.hear(alloc, lines, event)?,
             Input::Directive(id, directed) => {
                 let mut octets = directive_octets(alloc, *id, *directed)?;
                 self.receive(alloc, &mut octets)?
@@ -278,11 +284,41 @@ impl Twin {
         }
     }
 
+    /// How many sessions there are. Each line of transactions has one at most.
+    fn sessions(&self, lines: &Lines) -> usize {
+        let mut count = 0_usize;
+        for line in 0..TRANSACTIONS {
+            if self.receiver.session(id(lines.number(line))).is_some() {
+                count = count.saturating_add(1);
+            }
+        }
+        count
+    }
+
+    /// Whether the event of a PDU is to be handed on, by the table of inputs.
+    fn is_handed_on(&self, lines: &Lines, event: &Event) -> bool {
+        let id = about(event);
+        let is_metadata = matches!(event, Event::Metadata(..));
+        let Some(session) = self.receiver.session(id) else {
+            let is_closed = self.receiver.status(id) == TransactionStatus::Terminated;
+            return is_metadata && !is_closed && self.sessions(lines) < MOST_SESSIONS;
+        };
+        match session.stage {
+            Stage::Held(_) => is_metadata && is_acknowledged(id.number),
+            Stage::Known => true,
+            Stage::Over(_) | Stage::Waiting => false,
+        }
+    }
+
     /// A PDU with an event comes. An EOF PDU that is held comes after its Metadata.
-    fn hear(&mut self, alloc: Global, event: &Event) -> Result<Answer, Fault> {
+    fn hear(&mut self, alloc: Global, lines: &Lines, event: &Event) -> Result<Answer, Fault> {
+        let is_handed_on = self.is_handed_on(lines, event);
         let held = self.held(about(event));
         let mut octets = octets_of(alloc, event)?;
         let answer = self.receive(alloc, &mut octets)?;
+        if was_handed_on(&answer) != is_handed_on {
+            return Err(Fault::Wrong(Wrong::HandedOn));
+        }
         if let Became::Replied(_, reply) = answer.became() {
             self.follow(event, reply)?;
             if let (Event::Metadata(..), Some((header, eof))) = (event, held) {
@@ -320,9 +356,13 @@ impl Twin {
         answer
     }
 
-    /// An item is performed.
+    /// An item of the first transaction that has one is performed.
     fn work(&mut self) -> Result<Answer, Fault> {
+        let has_work = self.list.next_runnable().is_some();
         let answer = self.receiver.work(self.now);
+        if was_handed_on(&answer) != has_work {
+            return Err(Fault::Wrong(Wrong::HandedOn));
+        }
         if let Became::Replied(id, reply) = answer.became() {
             self.follow(&Event::Step(*id), reply)?;
         }
@@ -334,7 +374,8 @@ impl Twin {
         let answer = self.receiver.finish(alloc, self.now)?;
         if let Became::Said(id, _) = answer.became() {
             if self.list.phase(*id).is_some() {
-                let _reply = self.list.apply(&Event::Take(*id));
+                let reply = self.list.apply(&Event::Take(*id));
+                self.counts.count(&reply);
             }
         }
         Ok(answer)
@@ -342,7 +383,11 @@ impl Twin {
 
     /// The user cancels a transaction.
     fn cancel(&mut self, id: TransactionId) -> Result<Answer, Fault> {
+        let is_known = self.list.phase(id).is_some();
         let answer = self.receiver.cancel(self.now, id);
+        if was_handed_on(&answer) != is_known {
+            return Err(Fault::Wrong(Wrong::HandedOn));
+        }
         if let Became::Replied(_, reply) = answer.became() {
             self.follow(&Event::Cancel(id), reply)?;
         }
