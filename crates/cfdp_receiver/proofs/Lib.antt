@@ -9,6 +9,7 @@ pub mod Limits
 pub mod Asking
 pub mod Serving
 pub mod Knowing
+pub mod Again
 pub mod Delivering
 pub mod Turned
 pub mod Moments

@@ -35,7 +35,7 @@ use Rattle.cfdp_receiver.specs.State.{State, begin, AnswerFields, Input, Metadat
 use Rattle.cfdp_receiver.specs.Due as Due
 use Rattle.cfdp_receiver.specs.Handing as Handing
 use Rattle.cfdp_receiver.specs.Turning as Turning
-use Rattle.cfdp_receiver.specs.Laws.{due_name, session_name, touched_in, touched, OthersStay, UnrecognizedIsTrue, HadSession, TerminatedIsTrue, NoneAgain}
+use Rattle.cfdp_receiver.specs.Laws.{due_name, session_name, touched_in, touched, OthersStay, UnrecognizedIsTrue, HadSession, TerminatedIsTrue}
 use Rattle.cfdp_receiver.proofs.Sending.{heard_name}
 
 -- one of five, with the name that it is about
@@ -237,13 +237,6 @@ shape_of R V rs ForgetAsked = Forgets (Turning.quiet Became.Nothing) refl
 -- whatever the moment of R is: the parts speak of its sessions alone
 pub shape : (R : State) (i : Input) → Shape (Handing.later (now_of i) R) (touched R i) (Turning.parts R i)
 shape R i = shape_of (Handing.later (now_of i) R) (run R.world (Handing.handed R i)) (replies R.world (Handing.handed R i)) i
-
-pub none_again : NoneAgain
-none_again R now h m new closed =
-    let L = Handing.later now R in
-    cond_both (Handing.is_ours L h) (Handing.metadata_events L h m (session_of L (id_of h))) [] (λ (es : List Event). es ≡ [])
-    (λ e. ap (Handing.metadata_events L h m) new ∙ cond-true (is_closed L (id_of h) || is_full L) [] (MetadataCame h m ∷ []) (or_left (is_closed L (id_of h)) (is_full L) closed))
-    (λ e. refl)
 
 -- the others ---------------------------------------------------------------------------
 

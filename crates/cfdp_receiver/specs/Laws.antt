@@ -21,8 +21,11 @@
 --     sent_while R inputs id    how often its Finished PDU is sent, as long as it waits for the acknowledgement
 --     SentAtMost                at most as often as the limit says
 --     EntriesStay               events of others leave a transaction's entry in the core as it is
---     NoneAgain                 a Metadata PDU of a transaction that is closed and remembered is not handed on
-use Rattle.std.specs.Prelude.{◌≡◌, ◌≢◌, ◌⊎◌, ℕ, ◌+◌, ◌-◌, ◌*◌, ◌≤◌, ◌<◌, Bool, true, false, if◌then◌else◌, List, [], ◌∷◌, ◌++◌, map, min, length, Option, Some, None, is_some}
+--     IsPast R id, NoneAgain    a Metadata PDU of a transaction that is closed and remembered, is over or waits, is not handed on
+--     NotBegunAnew              one of a transaction that the core knows leaves the core as it is
+--     is_remembered R id        it is closed and remembered, or has a session that holds no EOF PDU
+--     AtMostOnce                while a transaction is remembered, no Metadata PDU of it changes the core
+use Rattle.std.specs.Prelude.{◌≡◌, ◌≢◌, ◌⊎◌, ℕ, ◌+◌, ◌-◌, ◌*◌, ◌≤◌, ◌<◌, Bool, true, false, ◌||◌, if◌then◌else◌, List, [], ◌∷◌, ◌++◌, map, min, length, Option, Some, None, is_some}
 use Rattle.std.specs.List.{AllByRecursion, flat_map}
 use Rattle.cfdp_status.specs.declared.transaction.TransactionId.{TransactionId}
 use Rattle.cfdp_leases.specs.Leases.{is_same}
@@ -35,8 +38,9 @@ use Rattle.cfdp_pdus.specs.Values.{MetadataFields}
 use Rattle.cfdp_pdus.specs.declared.header.Header.{Header}
 use Rattle.cfdp_pdus.specs.declared.eof.Eof.{Eof}
 use Rattle.cfdp_sessions.specs.Sessions.{SessionFields, name_of, AreDistinct}
+use Rattle.cfdp_sessions.specs.declared.session.Ending.{Ending}
 use Rattle.cfdp_sessions.specs.declared.session.Stage.{Stage}
-use Rattle.cfdp_sessions.specs.declared.session.Stage.TheVariants.{Held, Known, Waiting}
+use Rattle.cfdp_sessions.specs.declared.session.Stage.TheVariants.{Held, Known, Over, Waiting}
 use Rattle.cfdp_transactions.specs.Entry.{Entry, id_of, reach}
 use Rattle.cfdp_transactions.specs.ReceivedLaws.{octet_at}
 use Rattle.cfdp_transactions.specs.Received.{is_whole}
@@ -111,9 +115,37 @@ abbrev pub UnrecognizedIsTrue : Type 0
 UnrecognizedIsTrue =
     (R : State) (s : SessionFields) (id : TransactionId) (inputs : List Input) → session_of R id ≡ Some s → status_of (after_all R inputs) id ≢ Unrecognized
 
+-- it is closed; or it is over, and was never in the core; or its outcome was taken, and the acknowledgement is awaited
+pub data IsPast (R : State) (id : TransactionId) : Type 0 where
+  Past_closed : (none : session_of R id ≡ None) → (closed : is_closed R id ≡ true) → IsPast R id
+  Past_over : (s : SessionFields) → (ending : Ending) → (here : session_of R id ≡ Some s) → (over : s.stage ≡ Over ending) → IsPast R id
+  Past_waiting : (s : SessionFields) → (here : session_of R id ≡ Some s) → (waits : s.stage ≡ Waiting) → IsPast R id
+
 abbrev pub NoneAgain : Type 0
-NoneAgain =
-    (R : State) (now : ℕ) (h : Header) (m : MetadataFields) → session_of R (id_of h) ≡ None → is_closed R (id_of h) ≡ true → handed R (MetadataPdu now h m) ≡ []
+NoneAgain = (R : State) (now : ℕ) (h : Header) (m : MetadataFields) → IsPast R (id_of h) → handed R (MetadataPdu now h m) ≡ []
+
+abbrev pub NotBegunAnew : Type 0
+NotBegunAnew =
+    (R : State) (now : ℕ) (h : Header) (m : MetadataFields) (s : SessionFields) (entry : Entry) → session_of R (id_of h) ≡ Some s → s.stage ≡ Known →
+    entry_of R.world (id_of h) ≡ Some entry → (after R (MetadataPdu now h m)).world ≡ R.world
+
+-- where an EOF PDU is held, the first Metadata PDU is still to come
+abbrev pub is_begun_in : Stage → Bool
+is_begun_in (Held eof) = false
+is_begun_in stage = true
+
+abbrev pub is_begun : Option SessionFields → Bool
+is_begun None = false
+is_begun (Some s) = is_begun_in s.stage
+
+abbrev pub is_remembered : State → TransactionId → Bool
+is_remembered R id = is_closed R id || is_begun (session_of R id)
+
+abbrev pub AtMostOnce : Type 0
+AtMostOnce =
+    (mib : Mib) (W : World) (inputs : List Input) (now : ℕ) (h : Header) (m : MetadataFields) → Sound W → W.table ≡ [] →
+    is_remembered (after_all (begin mib W) inputs) (id_of h) ≡ true →
+    (after (after_all (begin mib W) inputs) (MetadataPdu now h m)).world ≡ (after_all (begin mib W) inputs).world
 
 pub record HadSession (R : State) (inputs : List Input) (id : TransactionId) : Type 0 where
   pub front : List Input

@@ -1,6 +1,6 @@
 //! What is true of the receiver, whatever comes. These functions do nothing: their contracts are the laws.
 
-ghost use Rattle.cfdp_receiver.specs.Laws.{HandsOn, HeadlineHolds, FewEvents, FewPdus, AcknowledgedOnce, OthersStay, UnrecognizedIsTrue, TerminatedIsTrue, ClosedIsOver, FinishedOnly, NoneAgain, NaksAsk, ExactlyMissing, FewNakPdus, FewRequests, ServedOnce, KnownIsEntry, AnsweredIsDelivered, AreApart, SentAtMost, EntriesStay};
+ghost use Rattle.cfdp_receiver.specs.Laws.{HandsOn, HeadlineHolds, FewEvents, FewPdus, AcknowledgedOnce, OthersStay, UnrecognizedIsTrue, TerminatedIsTrue, ClosedIsOver, FinishedOnly, NoneAgain, NotBegunAnew, AtMostOnce, NaksAsk, ExactlyMissing, FewNakPdus, FewRequests, ServedOnce, KnownIsEntry, AnsweredIsDelivered, AreApart, SentAtMost, EntriesStay};
 
 /// The world of a receiver is the core's own run of the events that its inputs handed on.
 pub fn hands_on()
@@ -40,10 +40,28 @@ pub fn unrecognized_is_true()
     ensures { UnrecognizedIsTrue }
 {}
 
-/// A Metadata PDU of a transaction that is closed and remembered is not handed to the core: its requests are not performed again.
+/// A Metadata PDU of a transaction that is closed and remembered, or is over, or waits for the acknowledgement of its Finished PDU, is not
+/// handed to the core: its requests are not performed again.
 pub fn none_again()
     ensures { NoneAgain }
 {}
+
+/// A Metadata PDU of a transaction that the core knows leaves the core as it is: its table and the filestore.
+pub fn not_begun_anew()
+    ensures { NotBegunAnew }
+{}
+
+/// Over an entity that begins without transactions: while a transaction is remembered, a Metadata PDU of it leaves the core as it is. So its
+/// requests are performed at most once. Remembered is what is closed and not yet forgotten, and what has a session, but while that holds an EOF
+/// PDU: then the first Metadata PDU is still to come.
+pub fn at_most_once()
+    ensures { AtMostOnce }
+{
+    cfdp_transactions::laws::only_take_removes();
+    cfdp_transactions::laws::take_removes();
+    cfdp_transactions::laws::next_is_sound();
+    cfdp_transactions::laws::next_is_promised();
+}
 
 /// An ACK PDU says 'terminated' only of a transaction that had a session here.
 pub fn terminated_is_true()
