@@ -1,6 +1,6 @@
 -- What an answer has.
 use Rattle.std.proofs.Common.{◌≡◌, ◌⊎◌, inl, inr, ℕ, ◌+◌, ◌≤◌, Bool, true, false, not, ◌&&◌, ◌||◌, ◌==◌, if◌then◌else◌, List, [], length, Option, Some, None, refl, sym, ap, subst, ◌∙◌, arith}
-use Rattle.std.proofs.lemmas.Bool.{cond_both, cond-true}
+use Rattle.std.proofs.lemmas.Bool.{cond_both, cond-true, or_parts, eqb-true}
 use Rattle.std.specs.List.{list_any}
 use Rattle.cfdp_status.specs.declared.transaction.TransactionId.{TransactionId}
 use Rattle.cfdp_leases.specs.Leases.{is_same}
@@ -29,7 +29,7 @@ use Rattle.cfdp_receiver.specs.State.{State, AnswerFields, Input, MetadataPdu, D
 use Rattle.cfdp_receiver.specs.Due as Due
 use Rattle.cfdp_receiver.specs.Handing as Handing
 use Rattle.cfdp_receiver.specs.Turning as Turning
-use Rattle.cfdp_receiver.specs.Laws.{FewPdus, AcknowledgedOnce}
+use Rattle.cfdp_receiver.specs.Laws.{FewPdus, FindsNoRoom, AcknowledgedOnce}
 
 abbrev Few : AnswerFields → Type 0
 Few a = (length a.acks ≤ 1) × (length a.keep_alives + length a.finished ≤ 1)
@@ -171,7 +171,7 @@ abbrev status_in : Turning.Parts → TransactionId → TransactionStatus
 status_in p id = session_status (found p.sessions id) (list_any (λ name. is_same name id) p.closed.names) p.closed.forgot
 
 abbrev Acked : State → Header → Eof → Turning.Parts → Type 0
-Acked R h eof p = (p.answer.acks ≡ Turning.acked h eof.condition (status_in p (id_of h))) ⊎ ((p.answer.acks ≡ []) × (is_full R ≡ true))
+Acked R h eof p = (p.answer.acks ≡ Turning.acked h eof.condition (status_in p (id_of h))) ⊎ ((p.answer.acks ≡ []) × FindsNoRoom R h eof)
 
 -- what is active is said to be
 acked_active : (R : State) (h : Header) (eof : Eof) (p : Turning.Parts) → p.answer.acks ≡ Turning.acked h eof.condition Active → IsFound p.sessions (id_of h) → Acked R h eof p
@@ -180,6 +180,10 @@ acked_active R h eof p acks f =
 
 pub heard_name : (R : State) (V : World) (s : SessionFields) → name_of (Turning.heard R V s) ≡ name_of s
 heard_name R V s = cond_both (Turning.is_news R.world V s) _ s (λ (t : SessionFields). name_of t ≡ name_of s) (λ e. refl) (λ e. refl)
+
+not_false : (b : Bool) → not b ≡ false → b ≡ true
+not_false true e = refl
+not_false false e = absurd cc
 
 acked_if : (R : State) (h : Header) (eof : Eof) (b : Bool) (p q : Turning.Parts) → Acked R h eof p → Acked R h eof q → Acked R h eof (if b then p else q)
 acked_if R h eof true p q hp hq = hp
@@ -202,18 +206,30 @@ acked_stage R V rs h eof s Known e =
 acked_stage R V rs h eof s (Over ending) e = acked_keeps R h eof s words.Idle e
 acked_stage R V rs h eof s Waiting e = acked_keeps R h eof s words.Idle e
 
-acked_full : (R : State) (h : Header) (eof : Eof) (p q : Turning.Parts) → p.answer.acks ≡ [] → Acked R h eof q → Acked R h eof (if is_full R then p else q)
-acked_full R h eof p q none hq = cond_both (is_full R) p q (Acked R h eof) (λ full. inr (none, full)) (λ free. hq)
+-- it would begin a transaction
+record IsFirst (R : State) (h : Header) (eof : Eof) : Type 0 where
+  unclosed : is_closed R (id_of h) ≡ false
+  faultless : eof.condition ≡ 0
+
+is_first : (R : State) (h : Header) (eof : Eof) → (is_closed R (id_of h) || not (eof.condition == 0) || not h.acknowledged) ≡ false → IsFirst R h eof
+is_first R h eof e =
+    let both = or_parts (is_closed R (id_of h) || not (eof.condition == 0)) (not h.acknowledged) e in
+    let first = or_parts (is_closed R (id_of h)) (not (eof.condition == 0)) both.0 in
+    record { unclosed = first.0; faultless = eqb-true eof.condition 0 (not_false (eof.condition == 0) first.1) }
+
+acked_full : (R : State) (h : Header) (eof : Eof) (p q : Turning.Parts) → session_of R (id_of h) ≡ None → IsFirst R h eof → p.answer.acks ≡ [] → Acked R h eof q →
+    Acked R h eof (if is_full R then p else q)
+acked_full R h eof p q none new quiet hq =
+    cond_both (is_full R) p q (Acked R h eof) (λ full. inr (quiet, record { none = none; unclosed = new.unclosed; faultless = new.faultless; full = full })) (λ free. hq)
 
 acked_eof : (R : State) (V : World) (rs : List Reply) (h : Header) (eof : Eof) (s : Option SessionFields) → session_of R (id_of h) ≡ s → Acked R h eof (Turning.eof_parts R V rs h eof s)
 acked_eof R V rs h eof None e =
     let new = Turning.begun R h (Held eof) in
     let full = Turning.keeps R (Turning.said_of h words.TableFull) in
     let holds = Turning.holds R h eof in
-    acked_if R h eof (is_closed R (id_of h) || not (eof.condition == 0) || not h.acknowledged)
-    (Turning.keeps R (Turning.acks_only h eof (status_of R (id_of h)) (Turning.absent R (id_of h)))) (if is_full R then full else holds) (inl refl) (
-    acked_full R h eof full holds refl (acked_active R h eof holds refl (found_added R.sessions new (id_of h) (same_self (id_of h))))
-    )
+    let kept = Turning.keeps R (Turning.acks_only h eof (status_of R (id_of h)) (Turning.absent R (id_of h))) in
+    cond_both (is_closed R (id_of h) || not (eof.condition == 0) || not h.acknowledged) kept (if is_full R then full else holds) (Acked R h eof) (λ b. inl refl) (λ b.
+    acked_full R h eof full holds e (is_first R h eof b) refl (acked_active R h eof holds refl (found_added R.sessions new (id_of h) (same_self (id_of h)))))
 acked_eof R V rs h eof (Some s) e = acked_stage R V rs h eof s s.stage e
 
 pub acknowledged_once : AcknowledgedOnce
@@ -222,5 +238,8 @@ acknowledged_once R now h eof mode ours =
     let i = EofPdu now h eof in
     let V = run R.world (Handing.handed R i) in
     let rs = replies R.world (Handing.handed R i) in
-    subst (Acked L h eof) (sym (cond-true (Handing.is_ours L h) (Turning.eof_parts L V rs h eof (session_of L (id_of h))) (Turning.keeps L (Turning.quiet (Turning.foreign h))) ours))
-    (acked_eof L V rs h eof (session_of L (id_of h)) refl)
+    elim (subst (Acked L h eof) (sym (cond-true (Handing.is_ours L h) (Turning.eof_parts L V rs h eof (session_of L (id_of h))) (Turning.keeps L (Turning.quiet (Turning.foreign h))) ours))
+    (acked_eof L V rs h eof (session_of L (id_of h)) refl)) [
+      | inl once ↦ inl once
+      | inr none ↦ inr (none.0, record { none = none.1.none; unclosed = none.1.unclosed; faultless = none.1.faultless; full = none.1.full })
+    ]

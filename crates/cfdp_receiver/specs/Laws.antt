@@ -1,7 +1,8 @@
 -- What is true of the receiver, whatever comes.
 --     HandsOn, HeadlineHolds    its world is the core's own, of the events that were handed on
 --     FewEvents, FewPdus        how many events an input hands on at most;  how many PDUs an answer has at most
---     AcknowledgedOnce          an EOF PDU that is taken is acknowledged once
+--     FindsNoRoom R h eof       an EOF PDU without a fault would begin a transaction, and there are 64 sessions
+--     AcknowledgedOnce          every other EOF PDU in acknowledged mode is acknowledged once
 --     touched R i               the transaction that an input is about
 --     OthersStay                the sessions of all others stay
 --     UnrecognizedIsTrue        this is said of no transaction that ever had a session
@@ -72,12 +73,19 @@ FewEvents = (R : State) (i : Input) → length (handed R i) ≤ 2
 abbrev pub FewPdus : Type 0
 FewPdus = (R : State) (i : Input) → (length (parts R i).answer.acks ≤ 1) × (length (parts R i).answer.keep_alives + length (parts R i).answer.finished ≤ 1)
 
--- or it begins a transaction for which there is no room, and is not taken
+-- an EOF PDU without a fault would begin a transaction, for which there is no room
+pub record FindsNoRoom (R : State) (h : Header) (eof : Eof) : Type 0 where
+  pub none : session_of R (id_of h) ≡ None
+  pub unclosed : is_closed R (id_of h) ≡ false
+  pub faultless : eof.condition ≡ 0
+  pub full : is_full R ≡ true
+
+-- or it finds no room, and is not taken
 abbrev pub AcknowledgedOnce : Type 0
 AcknowledgedOnce =
     (R : State) (now : ℕ) (h : Header) (eof : Eof) → h.acknowledged ≡ true → is_ours R h ≡ true →
     ((parts R (EofPdu now h eof)).answer.acks ≡ acked h eof.condition (status_of (after R (EofPdu now h eof)) (id_of h)))
-    ⊎ (((parts R (EofPdu now h eof)).answer.acks ≡ []) × (is_full R ≡ true))
+    ⊎ (((parts R (EofPdu now h eof)).answer.acks ≡ []) × FindsNoRoom R h eof)
 
 -- of an input that is about no transaction; then the name does not matter
 abbrev pub nobody : TransactionId

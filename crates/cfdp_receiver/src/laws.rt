@@ -25,7 +25,8 @@ pub fn few_pdus()
     ensures { FewPdus }
 {}
 
-/// An EOF PDU in acknowledged mode is acknowledged once, with its condition code and the status of its transaction after it.
+/// An EOF PDU in acknowledged mode is acknowledged once, with its condition code and the status of its transaction after it. The only one that is
+/// not is one without a fault, of a transaction that has no session and is not closed and remembered, while there are 64 sessions.
 pub fn acknowledged_once()
     ensures { AcknowledgedOnce }
 {}
