@@ -42,12 +42,12 @@ use Rattle.cfdp_receiver.specs.State.{State, Input, MetadataPdu, DataPdu, EofPdu
 use Rattle.cfdp_receiver.specs.Due as Dues
 use Rattle.cfdp_receiver.specs.Handing as Handing
 use Rattle.cfdp_receiver.specs.Turning as Turning
-use Rattle.cfdp_receiver.specs.Laws.{due_name, session_name, touched}
+use Rattle.cfdp_receiver.specs.Laws.{due_name, session_name, touched, is_work}
 use Rattle.cfdp_receiver.proofs.Distinct.{distinct_after}
 use Rattle.cfdp_receiver.proofs.Limits.{stage_due, alive_due, first_over_is, is_it}
 use Rattle.cfdp_receiver.proofs.Shapes.{others_stay}
 use Rattle.cfdp_progress.specs.Concluding.{has_nothing_left, WasConcluded, ConcludedWhenDone, FinishedIsSent}
-use Rattle.cfdp_progress.proofs.Apart.{is_work, other_than, entry_stays, run_sound}
+use Rattle.cfdp_receiver.proofs.Others.{other_than, others_keep_entries, run_sound}
 use Rattle.cfdp_progress.proofs.Turns.{heard_is, roused_is}
 
 -- ---- the entry, at events of its own
@@ -406,7 +406,7 @@ other_still next_sound promised R i id s sound here known p w other = record {
   session = s;
   here = others_stay R i id other ∙ here;
   known = known;
-  past = record { entry = p.entry; here = entry_stays next_sound promised R i id sound w other ∙ p.here; past = p.past };
+  past = record { entry = p.entry; here = others_keep_entries next_sound promised R i id sound w other ∙ p.here; past = p.past };
 }
 
 -- a PDU of its own, or of another transaction

@@ -36,7 +36,7 @@ use Rattle.cfdp_progress.specs.NakRounds.{heard_requests, IsServed, FirstRound}
 use Rattle.cfdp_progress.specs.Closing.{is_acknowledged, IsSentOnce, FinishedRound, finished_inputs, AreFinishedRounds, rounds_lost, WasClosed}
 use Rattle.cfdp_progress.specs.Concluding.{has_nothing_left, WasConcluded}
 use Rattle.cfdp_progress.specs.InAll.{EitherRound, as_finished, inputs_of, is_session_of, concludes, IsAcknowledgedAfter, IsWatched, AreEitherRounds, total_lost, lost_in_all, ClosedInAll}
-use Rattle.cfdp_progress.proofs.Apart.{run_sound}
+use Rattle.cfdp_receiver.proofs.Others.{run_sound}
 use Rattle.cfdp_progress.proofs.Pieces.{fits_of, few_of}
 use Rattle.cfdp_progress.proofs.Turns.{Before}
 use Rattle.cfdp_progress.proofs.Runs.{still_awaits, sound_all, distinct_all, mib_all, after_both, takes_none}

@@ -39,7 +39,7 @@ use Rattle.cfdp_receiver.specs.Turning.{after_all, all_handed}
 use Rattle.cfdp_receiver.specs.Laws.{is_known, knows, KnownIsEntry}
 use Rattle.cfdp_receiver.proofs.Handing.{hands_on}
 use Rattle.cfdp_progress.specs.Awaiting.{AwaitingAwaits}
-use Rattle.cfdp_progress.proofs.Apart.{other_than}
+use Rattle.cfdp_receiver.proofs.Others.{other_than}
 use Rattle.cfdp_progress.proofs.Configured.{next_config}
 
 -- an entry that waits for octets

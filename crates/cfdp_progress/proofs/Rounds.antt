@@ -25,7 +25,7 @@ use Rattle.cfdp_receiver.specs.Laws.{requests_of}
 use Rattle.cfdp_receiver.proofs.Distinct.{distinct_after}
 use Rattle.cfdp_progress.specs.Awaiting.{WasDelivered}
 use Rattle.cfdp_progress.specs.NakRounds.{heard_requests, AreAnswered, IsServed, NakRound, round_inputs, AreNakRounds, lost_of, all_lost, AreBelow, all_inputs, DeliveredAfterRounds, DeliveredAfterLosses}
-use Rattle.cfdp_progress.proofs.Apart.{run_sound}
+use Rattle.cfdp_receiver.proofs.Others.{run_sound}
 use Rattle.cfdp_progress.proofs.Pieces.{fits_of, few_of}
 use Rattle.cfdp_progress.proofs.Runs.{Left, over_inputs, still_awaits, before_of, sound_all, distinct_all, mib_all, was_later, was_after, was_before, never_waits}
 use Rattle.cfdp_progress.proofs.Turns.{Within, Before}

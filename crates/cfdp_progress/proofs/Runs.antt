@@ -30,11 +30,11 @@ use Rattle.cfdp_transactions.proofs.OctetsAndGaps.{gaps_are_missing}
 use Rattle.cfdp_receiver.specs.State.{State, Input, MetadataPdu, DataPdu, EofPdu, AckPdu, PromptPdu, OtherPdu, Expire, Work, Finish, CancelAsked, ForgetAsked, session_of}
 use Rattle.cfdp_receiver.specs.Handing as Handing
 use Rattle.cfdp_receiver.specs.Turning.{after, after_all}
-use Rattle.cfdp_receiver.specs.Laws.{touched}
+use Rattle.cfdp_receiver.specs.Laws.{touched, is_work}
 use Rattle.cfdp_receiver.proofs.Distinct.{distinct_after}
 use Rattle.cfdp_progress.specs.Awaiting.{EntryAwaits, TransactionAwaits, is_awaiting_entry, awaits_octets, GoesOn, piece_in, pieces_in, IsDelivered, WasDelivered, AnsweredTurns, is_named, is_kept_apart, AreKeptApart, StaysDelivered}
 use Rattle.cfdp_progress.specs.NakRounds.{IsAskedOnce}
-use Rattle.cfdp_progress.proofs.Apart.{is_work, entry_stays, work_stays, run_sound}
+use Rattle.cfdp_receiver.proofs.Others.{others_keep_entries, work_keeps_others, run_sound}
 use Rattle.cfdp_progress.proofs.Pieces.{fits_of}
 use Rattle.cfdp_progress.proofs.Turns.{Within, Before, Still, Is_done, step}
 
@@ -211,7 +211,7 @@ not_named id o h e = both_of (is_named id o) (not_true (is_named id o) h) (ap (i
 
 stays_one : NextIsSound → NextIsPromised → (R : State) (i : Input) (id : TransactionId) → Sound R.world → IsDelivered R.world id → is_work i ≡ false →
     is_same (touched R i) id ≡ false → IsDelivered (after R i).world id
-stays_one next_sound promised R i id sound d w other = delivered_same (after R i).world R.world id (entry_stays next_sound promised R i id sound w other) d
+stays_one next_sound promised R i id sound d w other = delivered_same (after R i).world R.world id (others_keep_entries next_sound promised R i id sound w other) d
 
 stays_step : NextIsSound → NextIsPromised → (R : State) (i : Input) (id : TransactionId) → Sound R.world → IsDelivered R.world id →
     is_kept_apart R id i ≡ true → IsDelivered (after R i).world id
@@ -223,7 +223,7 @@ stays_step next_sound promised R (DataPdu now h piece) id sound d apart = elim (
   | inr other ↦ stays_one next_sound promised R (DataPdu now h piece) id sound d refl other
 ]
 stays_step next_sound promised R (Work now) id sound d apart =
-    delivered_same (after R (Work now)).world R.world id (work_stays next_sound promised R now id sound (not_named id (next_runnable R.world.table) apart)) d
+    delivered_same (after R (Work now)).world R.world id (work_keeps_others next_sound promised R now id sound (not_named id (next_runnable R.world.table) apart)) d
 stays_step next_sound promised R (MetadataPdu now h m) id sound d apart =
     stays_one next_sound promised R (MetadataPdu now h m) id sound d refl (not_true (is_same (touched R (MetadataPdu now h m)) id) apart)
 stays_step next_sound promised R (EofPdu now h eof) id sound d apart =

@@ -42,7 +42,7 @@ use Rattle.cfdp_receiver.specs.State.{State, Input, MetadataPdu, DataPdu, EofPdu
 use Rattle.cfdp_receiver.specs.Due as Dues
 use Rattle.cfdp_receiver.specs.Handing as Handing
 use Rattle.cfdp_receiver.specs.Turning as Turning
-use Rattle.cfdp_receiver.specs.Laws.{due_name, session_name, touched}
+use Rattle.cfdp_receiver.specs.Laws.{due_name, session_name, touched, is_work}
 use Rattle.cfdp_receiver.proofs.Giving.{acknowledged_none}
 use Rattle.cfdp_receiver.proofs.Limits.{stage_due, alive_due, first_over_is, is_it}
 use Rattle.cfdp_receiver.proofs.Sending.{heard_name}
@@ -50,7 +50,8 @@ use Rattle.cfdp_receiver.proofs.Shapes.{others_stay}
 use Rattle.cfdp_progress.specs.Awaiting.{EntryAwaits, is_ignoring, is_given_up, breaks_off, piece_in, IsDelivered}
 use Rattle.cfdp_progress.specs.NakRounds.{is_asking, asks_again}
 use Rattle.cfdp_progress.proofs.Configured.{run_config}
-use Rattle.cfdp_progress.proofs.Apart.{none_runs, is_work, entry_stays, work_stays}
+use Rattle.cfdp_receiver.proofs.Others.{others_keep_entries, work_keeps_others}
+use Rattle.cfdp_progress.proofs.Apart.{none_runs}
 use Rattle.cfdp_progress.proofs.Pieces.{Comes, Goes_on, Is_over, comes}
 
 -- ---- what becomes of it
@@ -441,7 +442,7 @@ other_goes : NextIsSound → NextIsPromised → (R : State) (i : Input) (id : Tr
     Sound R.world → Before R id e eof s → is_work i ≡ false → is_same (touched R i) id ≡ false →
     Goes (Turning.after R i).world (Turning.after R i).sessions id eof e.received s.timer.count again
 other_goes next_sound promised R i id e eof s again sound b w other =
-    let entry = entry_stays next_sound promised R i id sound w other in
+    let entry = others_keep_entries next_sound promised R i id sound w other in
     Still e (awaits_still R.world (Turning.after R i).world id e eof (run_config R.world (Handing.handed R i)) entry b.core) refl s
     (others_stay R i id other ∙ b.here) b.known b.acknowledged (λ q. omega arith)
 
@@ -545,7 +546,7 @@ step next_sound promised R (OtherPdu now h) id e eof s sound d b on within =
 step next_sound promised R (Expire now) id e eof s sound d b on within = expire_goes next_sound promised R now id e eof s sound d b on
 step next_sound promised R (Work now) id e eof s sound d b on within =
     let V = (Turning.after R (Work now)).world in
-    let entry = work_stays next_sound promised R now id sound (runs_not R id e eof s sound b) in
+    let entry = work_keeps_others next_sound promised R now id sound (runs_not R id e eof s sound b) in
     Still e (awaits_still R.world V id e eof (run_config R.world (Handing.handed R (Work now))) entry b.core) refl s b.here b.known b.acknowledged
     (λ q. omega arith)
 step next_sound promised R (Finish now) id e eof s sound d b on within = finish_goes next_sound promised R now id e eof s sound d b

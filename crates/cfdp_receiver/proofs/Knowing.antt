@@ -1,7 +1,6 @@
 -- A session is known exactly where the core has an entry of its name.
 use Rattle.std.specs.Prelude.{if◌then◌else◌, slice_get, is_some, ◌==◌}
-use Rattle.std.proofs.Common.{◌≡◌, ◌≢◌, inl, inr, ℕ, Bool, true, false, not, ◌&&◌, ◌||◌, List, [], ◌∷◌, ◌++◌, Option, Some, None, refl, sym, ap, subst, ◌∙◌}
-use Rattle.std.specs.List.{AllByRecursion}
+use Rattle.std.proofs.Common.{◌≡◌, inl, inr, ℕ, Bool, true, false, not, ◌&&◌, ◌||◌, List, [], ◌∷◌, ◌++◌, Option, Some, None, refl, sym, ap, subst, ◌∙◌}
 use Rattle.std.proofs.lemmas.Bool.{cond_both, cond-true, cond-false, cases_Bool}
 use Rattle.cfdp_status.specs.declared.transaction.TransactionId.{TransactionId}
 use Rattle.cfdp_leases.specs.Leases.{is_same}
@@ -39,9 +38,9 @@ use Rattle.cfdp_receiver.specs.State.{State, begin, AnswerFields, Input, Metadat
 use Rattle.cfdp_receiver.specs.Due as Dues
 use Rattle.cfdp_receiver.specs.Handing as Handing
 use Rattle.cfdp_receiver.specs.Turning as Turning
-use Rattle.cfdp_receiver.specs.Laws.{nobody, due_name, session_name, touched_in, touched, is_known, knows, AreKnown, KnownIsEntry}
+use Rattle.cfdp_receiver.specs.Laws.{nobody, due_name, session_name, touched_in, touched, is_known, knows, AreKnown, KnownIsEntry, is_work}
 use Rattle.cfdp_receiver.proofs.Distinct.{distinct_after}
-use Rattle.cfdp_receiver.proofs.Handing.{entries_stay}
+use Rattle.cfdp_receiver.proofs.Others.{other_than, others_keep_entries, run_sound}
 use Rattle.cfdp_receiver.proofs.Shapes.{others_stay}
 use Rattle.cfdp_receiver.proofs.Limits.{stage_due, alive_due, first_over_is}
 use Rattle.cfdp_receiver.proofs.Sending.{heard_name}
@@ -404,10 +403,6 @@ fits_finish laws R (Some s) sound d is k =
 
 -- ---- each input, of the transaction that it is about
 
-abbrev is_work : Input → Bool
-is_work (Work now) = true
-is_work i = false
-
 fits_ours_none : (R : State) (h : Header) (p : Turning.Parts) → AreKnown R → Fits R (id_of h) [] (λ V rs. p) → Fits R (id_of h) [] (λ V rs. Turning.where_ours R h p)
 fits_ours_none R h p known f =
     fits_none_if R (id_of h) (Handing.is_ours R h) p (Turning.keeps R (Turning.quiet (Turning.foreign h))) f (fits_keeps R (id_of h) (session_of R (id_of h)) silent (refl, known (id_of h)))
@@ -440,67 +435,6 @@ fits_touched laws R ForgetAsked sound d known w = known nobody
 
 -- ---- the others
 
-abbrev NotAbout : TransactionId → List Event → Type 0
-NotAbout id es = AllByRecursion (λ v. id ≢ about v) es
-
-not_if : (id : TransactionId) (b : Bool) (es fs : List Event) → NotAbout id es → NotAbout id fs → NotAbout id (if b then es else fs)
-not_if id true es fs he hf = he
-not_if id false es fs he hf = hf
-
-not_known : (id : TransactionId) (stage : Stage) (es : List Event) → NotAbout id es → NotAbout id (Handing.where_known stage es)
-not_known id (Held eof) es h = tt
-not_known id Known es h = h
-not_known id (OverStage ending) es h = tt
-not_known id Waiting es h = tt
-
-not_session : (id : TransactionId) (o : Option SessionFields) (es : List Event) → NotAbout id es → NotAbout id (Handing.of_session o es)
-not_session id None es h = tt
-not_session id (Some s) es h = not_known id s.stage es h
-
-other_than : (n id : TransactionId) → is_same n id ≡ false → id ≢ n
-other_than n id other e = both_of (is_same n id) other (ap (is_same n) e ∙ same_self n)
-
-not_metadata_stage : (id : TransactionId) (h : Header) (m : MetadataFields) (s : SessionFields) (stage : Stage) → id ≢ id_of h → name_of s ≡ id_of h → NotAbout id (Handing.metadata_in_stage h m s stage)
-not_metadata_stage id h m s (Held eof) ne name = not_if id h.acknowledged (MetadataCame h m ∷ EofCame s.header eof ∷ []) [] (ne, ((λ e. ne (e ∙ name)), tt)) tt
-not_metadata_stage id h m s Known ne name = (ne, tt)
-not_metadata_stage id h m s (OverStage ending) ne name = tt
-not_metadata_stage id h m s Waiting ne name = tt
-
-not_metadata : (R : State) (id : TransactionId) (h : Header) (m : MetadataFields) (o : Option SessionFields) → id ≢ id_of h → session_of R (id_of h) ≡ o → NotAbout id (Handing.metadata_events R h m o)
-not_metadata R id h m None ne here = not_if id (is_closed R (id_of h) || is_full R) [] (MetadataCame h m ∷ []) tt (ne, tt)
-not_metadata R id h m (Some s) ne here = not_metadata_stage id h m s s.stage ne (found_name R.sessions (id_of h) s here)
-
-not_limit : (id n : TransactionId) (checks : Bool) (how : Handler) → id ≢ n → NotAbout id (Handing.limit_events n checks how)
-not_limit id n checks handlers.Ignore ne = tt
-not_limit id n true handlers.Cancel ne = (ne, tt)
-not_limit id n false handlers.Cancel ne = (ne, tt)
-not_limit id n true handlers.Abandon ne = (ne, tt)
-not_limit id n false handlers.Abandon ne = (ne, tt)
-
-not_due : (R : State) (id : TransactionId) (due : Dues.Due) → id ≢ due_name due → NotAbout id (Handing.due_events R due)
-not_due R id Dues.Nothing_due ne = tt
-not_due R id (Dues.Alive_due s) ne = tt
-not_due R id (Dues.Stage_due s false) ne = not_known id s.stage _ (not_if id (Handing.makes_checks s.header.acknowledged (at_of R.world s)) (Check (name_of s) ∷ []) [] (ne, tt) tt)
-not_due R id (Dues.Stage_due s true) ne =
-    not_known id s.stage _ (not_limit id (name_of s) (Handing.makes_checks s.header.acknowledged (at_of R.world s)) (Dues.handler_at R.mib s.header.acknowledged (at_of R.world s)) ne)
-
-not_take : (id : TransactionId) (o : Option SessionFields) → id ≢ session_name o → NotAbout id (Handing.take_of o)
-not_take id None ne = tt
-not_take id (Some s) ne = not_known id s.stage (Take (name_of s) ∷ []) (ne, tt)
-
-not_handed : (R : State) (i : Input) (id : TransactionId) → is_work i ≡ false → id ≢ touched_in R i → NotAbout id (Handing.events_of R i)
-not_handed R (MetadataPdu now h m) id w ne = not_if id (Handing.is_ours R h) (Handing.metadata_events R h m (session_of R (id_of h))) [] (not_metadata R id h m (session_of R (id_of h)) ne refl) tt
-not_handed R (DataPdu now h piece) id w ne = not_if id (Handing.is_ours R h) (Handing.of_session (session_of R (id_of h)) (DataCame h piece ∷ [])) [] (not_session id (session_of R (id_of h)) (DataCame h piece ∷ []) (ne, tt)) tt
-not_handed R (EofPdu now h eof) id w ne = not_if id (Handing.is_ours R h) (Handing.of_session (session_of R (id_of h)) (EofCame h eof ∷ [])) [] (not_session id (session_of R (id_of h)) (EofCame h eof ∷ []) (ne, tt)) tt
-not_handed R (AckPdu now h ack) id w ne = tt
-not_handed R (PromptPdu now h prompt) id w ne = tt
-not_handed R (OtherPdu now h) id w ne = tt
-not_handed R (Expire now) id w ne = not_due R id (Dues.first_due R R.sessions) ne
-not_handed R (Work now) id w ne = absurd cc
-not_handed R (Finish now) id w ne = not_take id (Dues.first_over R.world R.sessions) ne
-not_handed R (CancelAsked now n) id w ne = not_session id (session_of R n) (Cancel n ∷ []) (ne, tt)
-not_handed R ForgetAsked id w ne = tt
-
 -- a step leaves each entry there, and makes none
 step_own : Laws → (W : World) (id : TransactionId) (o : Option Entry) → Sound W → entry_of W id ≡ o → is_there (next W (Step id)).0 id ≡ is_there W id
 step_own laws W id None sound here = ap (λ (x : Option Entry). is_there (stepped W (index_of W id) x).0 id) here
@@ -515,10 +449,6 @@ step_same laws promised W (Some n) id sound = elim (cases_Bool (is_same n id)) [
 
 -- ---- all inputs
 
-run_sound : NextIsSound → (W : World) (es : List Event) → Sound W → Sound (run W es)
-run_sound next_sound W [] s = s
-run_sound next_sound W (v ∷ vs) s = run_sound next_sound (next W v).0 vs (next_sound W v s)
-
 known_but_work : Laws → NextIsSound → NextIsPromised → (R : State) (i : Input) → Sound R.world → AreDistinct R.sessions → AreKnown R → is_work i ≡ false → AreKnown (Turning.after R i)
 known_but_work laws next_sound promised R i sound d known w id =
     let L = Handing.later (now_of i) R in
@@ -526,8 +456,7 @@ known_but_work laws next_sound promised R i sound d known w id =
       | inl same ↦
           subst (λ (n : TransactionId). is_there (Turning.after R i).world n ≡ knows (session_of (Turning.after R i) n)) (same_is (touched R i) id same) (fits_touched laws L i sound d known w)
       | inr other ↦
-          let entry : entry_of (run R.world (Handing.handed R i)) id ≡ entry_of R.world id =
-          entries_stay next_sound promised R.world (Handing.handed R i) id sound (not_handed L i id w (other_than (touched R i) id other)) in
+          let entry : entry_of (run R.world (Handing.handed R i)) id ≡ entry_of R.world id = others_keep_entries next_sound promised R i id sound w other in
           ap is_some entry ∙ known id ∙ ap knows (sym (others_stay R i id other))
     ]
 

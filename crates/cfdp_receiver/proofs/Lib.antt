@@ -8,6 +8,7 @@ pub mod Rows
 pub mod Limits
 pub mod Asking
 pub mod Serving
+pub mod Others
 pub mod Knowing
 pub mod Again
 pub mod Delivering

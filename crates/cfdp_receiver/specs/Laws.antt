@@ -22,6 +22,8 @@
 --     sent_while R inputs id    how often its Finished PDU is sent, as long as it waits for the acknowledgement
 --     SentAtMost                at most as often as the limit says
 --     EntriesStay               events of others leave a transaction's entry in the core as it is
+--     OthersKeepEntries         so does an input that is about another
+--     WorkKeepsOthers           an item that is performed for one transaction leaves the entries of all others as they are
 --     IsPast R id, NoneAgain    a Metadata PDU of a transaction that is closed and remembered, is over or waits, is not handed on
 --     NotBegunAnew              one of a transaction that the core knows leaves the core as it is
 --     is_remembered R id        it is closed and remembered, or has a session that holds no EOF PDU
@@ -49,7 +51,7 @@ use Rattle.cfdp_transactions.specs.declared.event.Event.{Event}
 use Rattle.cfdp_transactions.specs.declared.event.Event.TheVariants.{Data as DataCame}
 use Rattle.cfdp_transactions.specs.declared.phase.Phase.TheVariants.{Awaiting, Executing, Ended}
 use Rattle.cfdp_transactions.specs.Events.{about}
-use Rattle.cfdp_transactions.specs.World.{World, bound, entry_of}
+use Rattle.cfdp_transactions.specs.World.{World, bound, entry_of, next_runnable}
 use Rattle.cfdp_transactions.specs.Next.{run}
 use Rattle.cfdp_transactions.specs.Sound.{Sound}
 use Rattle.cfdp_transactions.specs.Headline.{Promised, AtEach}
@@ -284,3 +286,18 @@ SentAtMost =
 abbrev pub EntriesStay : Type 0
 EntriesStay =
     (W : World) (events : List Event) (id : TransactionId) → Sound W → AllByRecursion (λ v. id ≢ about v) events → entry_of (run W events) id ≡ entry_of W id
+
+-- of the entry, Work is about the transaction whose item is next
+abbrev pub is_work : Input → Bool
+is_work (Work now) = true
+is_work i = false
+
+abbrev pub OthersKeepEntries : Type 0
+OthersKeepEntries =
+    (R : State) (i : Input) (id : TransactionId) → Sound R.world → is_work i ≡ false → is_same (touched R i) id ≡ false →
+    entry_of (after R i).world id ≡ entry_of R.world id
+
+abbrev pub WorkKeepsOthers : Type 0
+WorkKeepsOthers =
+    (R : State) (now : ℕ) (id : TransactionId) → Sound R.world → next_runnable R.world.table ≢ Some id →
+    entry_of (after R (Work now)).world id ≡ entry_of R.world id

@@ -1,6 +1,6 @@
 //! What is true of the receiver, whatever comes. These functions do nothing: their contracts are the laws.
 
-ghost use Rattle.cfdp_receiver.specs.Laws.{HandsOn, HeadlineHolds, FewEvents, FewPdus, AcknowledgedOnce, OthersStay, UnrecognizedIsTrue, TerminatedIsTrue, ClosedIsOver, FinishedOnly, NoneAgain, NotBegunAnew, AtMostOnce, NaksAsk, ExactlyMissing, FewNakPdus, FewRequests, ServedOnce, KnownIsEntry, AnsweredIsDelivered, AreApart, SentAtMost, EntriesStay};
+ghost use Rattle.cfdp_receiver.specs.Laws.{HandsOn, HeadlineHolds, FewEvents, FewPdus, AcknowledgedOnce, OthersStay, UnrecognizedIsTrue, TerminatedIsTrue, ClosedIsOver, FinishedOnly, NoneAgain, NotBegunAnew, AtMostOnce, NaksAsk, ExactlyMissing, FewNakPdus, FewRequests, ServedOnce, KnownIsEntry, AnsweredIsDelivered, AreApart, SentAtMost, EntriesStay, OthersKeepEntries, WorkKeepsOthers};
 
 /// The world of a receiver is the core's own run of the events that its inputs handed on.
 pub fn hands_on()
@@ -82,6 +82,22 @@ pub fn finished_only()
 /// Events of other transactions leave a transaction's entry in the core as it is.
 pub fn entries_stay()
     ensures { EntriesStay }
+{
+    cfdp_transactions::laws::next_is_sound();
+    cfdp_transactions::laws::next_is_promised();
+}
+
+/// An input that is about one transaction leaves the entries of all others in the core as they are.
+pub fn others_keep_entries()
+    ensures { OthersKeepEntries }
+{
+    cfdp_transactions::laws::next_is_sound();
+    cfdp_transactions::laws::next_is_promised();
+}
+
+/// An item that is performed leaves the entries of all transactions in the core as they are, but that of the transaction whose item it is.
+pub fn work_keeps_others()
+    ensures { WorkKeepsOthers }
 {
     cfdp_transactions::laws::next_is_sound();
     cfdp_transactions::laws::next_is_promised();
