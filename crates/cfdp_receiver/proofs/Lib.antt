@@ -5,6 +5,7 @@ pub mod Shapes
 pub mod Distinct
 pub mod RowWords
 pub mod Rows
+pub mod OctetRows
 pub mod Limits
 pub mod Asking
 pub mod Serving

@@ -59,7 +59,7 @@ id n = record { source = 1; number = n }
 abbrev pub M : MetadataFields
 M = record { closure = true; checksum_type = 0; size = 15; source_name = codes "s"; destination_name = codes "f"; requests = [] }
 
-abbrev octets : List ℕ
+abbrev pub octets : List ℕ
 octets = 0 ∷ 1 ∷ 2 ∷ 3 ∷ 4 ∷ 5 ∷ 6 ∷ 7 ∷ 8 ∷ 9 ∷ 10 ∷ 11 ∷ 12 ∷ 13 ∷ 14 ∷ []
 
 abbrev pub D : ℕ → ℕ → FileDataFields

@@ -1,6 +1,6 @@
 -- Worked rows: what is answered to each input, computed from the definitions.
-use Rattle.std.proofs.Common.{◌≡◌, ℕ, ◌+◌, ◌*◌, List, [], ◌∷◌, refl, ap}
-use Rattle.std.specs.Prelude.{true, false, Some, codes, max}
+use Rattle.std.proofs.Common.{◌≡◌, ℕ, ◌+◌, ◌*◌, List, [], ◌∷◌, refl, ap, ◌∙◌}
+use Rattle.std.specs.Prelude.{pos, true, false, Some, codes, map, max, slice_set}
 use Rattle.cfdp_actions.specs.Filestore.{empty_filestore, blocks_of, blocks}
 use Rattle.cfdp_actions.specs.Actions.{Install, Perform, CreateFile, row, free_row, table, create, install}
 use Rattle.cfdp_checksum.specs.Checksum.{weighed_from}
@@ -15,7 +15,8 @@ use Rattle.cfdp_status.specs.declared.action.Action.TheVariants as action
 use Rattle.cfdp_states.specs.Alone.{statuses, steps, peak}
 use Rattle.cfdp_transactions.specs.declared.event.Event.{Event}
 use Rattle.cfdp_transactions.specs.declared.event.Event.TheVariants.{Metadata as MetadataCame, Eof as EofCame}
-use Rattle.cfdp_transactions.specs.declared.phase.Phase.TheVariants.{Receiving}
+use Rattle.cfdp_transactions.specs.Entry.{Entry}
+use Rattle.cfdp_transactions.specs.declared.phase.Phase.TheVariants.{Receiving, Executing}
 use Rattle.cfdp_transactions.specs.declared.reply.Reply.{Reply as ReplyOf}
 use Rattle.cfdp_transactions.specs.declared.reply.Reply.TheVariants as Reply
 use Rattle.cfdp_transactions.specs.Admission.{new_entry}
@@ -28,10 +29,10 @@ use Rattle.cfdp_receiver.specs.declared.answer.Word.TheVariants as words
 use Rattle.cfdp_receiver.specs.declared.mib.Handler.TheVariants as handlers
 use Rattle.cfdp_receiver.specs.declared.mib.Mib.{Mib}
 use Rattle.cfdp_receiver.specs.declared.mib.NakMode.TheVariants as modes
-use Rattle.cfdp_receiver.specs.State.{State, AnswerFields, Input, MetadataPdu, DataPdu, EofPdu, AckPdu, PromptPdu, Expire, Work, Finish, CancelAsked, now_of}
+use Rattle.cfdp_receiver.specs.State.{State, AnswerFields, Input, MetadataPdu, DataPdu, EofPdu, AckPdu, PromptPdu, Expire, Work, Finish, CancelAsked, now_of, turned}
 use Rattle.cfdp_receiver.specs.Handing.{later}
-use Rattle.cfdp_receiver.specs.Turning.{Parts, parts_of, after, all_answers}
-use Rattle.cfdp_receiver.proofs.RowWords.{mib, fresh, header, header_un, id, M, D, E, finished_ack, ack, nak, alive, says, replies, described, segment, pdu_of, ended, nothing}
+use Rattle.cfdp_receiver.specs.Turning.{Parts, parts_of, after, after_all, all_answers}
+use Rattle.cfdp_receiver.proofs.RowWords.{mib, fresh, header, header_un, id, M, octets, D, E, finished_ack, ack, nak, alive, says, replies, described, segment, pdu_of, ended, nothing}
 
 -- ---- an input that hands on an event, and then others: its answer and those to what follows, by what the core makes of the first
 
@@ -105,7 +106,10 @@ unfolding statuses steps peak row free_row table install step_bound blocks block
 in_order = simp look_ups
 
 -- the middle comes first; the EOF PDU comes twice; the gaps come from the last to the first
-two_gaps : all_answers (live mib) (data_at 0 4 8 ∷ EofPdu 0 (header 5) E ∷ EofPdu 0 (header 5) E ∷ data_at 0 8 15 ∷ data_at 0 0 4 ∷ []) ≡
+abbrev from_last : List Input
+from_last = data_at 0 4 8 ∷ EofPdu 0 (header 5) E ∷ EofPdu 0 (header 5) E ∷ data_at 0 8 15 ∷ data_at 0 0 4 ∷ []
+
+two_gaps : all_answers (live mib) from_last ≡
     stored 4 8
     ∷ record (replies 5 Reply.Waiting) { acks = ack 5 0 Active ∷ []; naks = nak 5 0 15 ((0, 4) ∷ (8, 15) ∷ []) ∷ []; indications = tells.EofRecv (id 5) ∷ [] }
     ∷ record (replies 5 Reply.Duplicate) { acks = ack 5 0 Active ∷ [] }
@@ -114,6 +118,32 @@ two_gaps : all_answers (live mib) (data_at 0 4 8 ∷ EofPdu 0 (header 5) E ∷ E
     ∷ []
 unfolding blocks_of weighed_from
 two_gaps = refl
+
+-- all octets are there then, and one block is taken
+abbrev all_there : Entry
+all_there = record (new_entry (header 5) M (Executing 0) 0 (Install (codes "f" ∷ []) ∷ []) 2 2) {
+  eof = Some E;
+  complete = true;
+  received = map (λ octet. Some octet) octets;
+  blocks_spent = pos 1;
+}
+
+abbrev gathered : State
+gathered = record (live mib) {
+  world = record (with_entry (header 5)) { filestore = record empty_filestore { staged = slice_set empty_filestore.staged 0 octets }; table = all_there ∷ [] };
+}
+
+gathers : after_all (live mib) from_last ≡ gathered
+unfolding blocks_of weighed_from
+gathers = refl
+
+-- and the file is installed, and its Finished PDU is sent
+finished_from_gathered : all_answers gathered (Work 0 ∷ Finish 0 ∷ []) ≡ replies 5 Reply.Installed ∷ delivered ∷ []
+unfolding statuses steps peak row free_row table install step_bound blocks blocks_of weighed_from finished_field
+finished_from_gathered = simp look_ups
+
+finished_after_gaps : all_answers (after_all (live mib) from_last) (Work 0 ∷ Finish 0 ∷ []) ≡ replies 5 Reply.Installed ∷ delivered ∷ []
+finished_after_gaps = ap (λ (R : State). all_answers R (Work 0 ∷ Finish 0 ∷ [])) gathers ∙ finished_from_gathered
 
 -- immediate: the gap is asked for when it begins
 at_once : all_answers (live (record mib { nak_mode = modes.Immediate })) (data_at 0 0 4 ∷ data_at 0 8 12 ∷ []) ≡
@@ -269,9 +299,9 @@ joined : (inputs : List Input) →
     ≡ record (replies 5 (Reply.Admitted 2 2)) { naks = nak 5 0 15 ((0, 15) ∷ []) ∷ []; indications = described 5 ∷ [] } ∷ all_answers resumed inputs
 joined inputs = ap (all_on holding (MetadataPdu 0 (header 5) M) (EofCame (header 5) E ∷ []) inputs) admitted
 
-after_the_join : all_answers resumed (data_at 0 0 15 ∷ []) ≡ completed 0 15 ∷ []
-unfolding blocks_of weighed_from
-after_the_join = refl
+after_the_join : all_answers resumed (data_at 0 0 15 ∷ Work 0 ∷ Finish 0 ∷ []) ≡ completed 0 15 ∷ replies 5 Reply.Installed ∷ delivered ∷ []
+unfolding statuses steps peak row free_row table install step_bound blocks blocks_of weighed_from finished_field
+after_the_join = simp look_ups
 
 -- ---- a list with a request: cancelled, closed, and the Metadata PDU again
 
@@ -307,3 +337,39 @@ not_again :
     ∷ []
 unfolding blocks_of weighed_from finished_field
 not_again = refl
+
+-- ---- a large file: an octet past the greatest size, and then its EOF PDU
+
+abbrev large_header : Header
+large_header = record (header 8) { large = true }
+
+abbrev unbounded : MetadataFields
+unbounded = record M { size = 0 }
+
+abbrev with_large : World
+with_large = record { config = config; filestore = empty_filestore; table = new_entry large_header unbounded Receiving 0 (Install (codes "f" ∷ []) ∷ []) 21 2 ∷ [] }
+
+admitted_large : next (start config) (MetadataCame large_header unbounded) ≡ (with_large, Reply.Admitted 21 2)
+unfolding statuses steps peak row free_row install step_bound blocks blocks_of
+admitted_large = simp look_ups
+
+abbrev live_large : State
+live_large = after_on (fresh mib) (MetadataPdu 0 large_header unbounded) [] (with_large, Reply.Admitted 21 2)
+
+first_large : (inputs : List Input) →
+    all_answers (fresh mib) (MetadataPdu 0 large_header unbounded ∷ inputs)
+    ≡ record (replies 8 (Reply.Admitted 21 2)) { indications = tells.MetadataRecv (id 8) (record { size = 0; closure = true; checksum_type = 0 }) ∷ [] }
+    ∷ all_answers live_large inputs
+first_large inputs = ap (all_on (fresh mib) (MetadataPdu 0 large_header unbounded) [] inputs) admitted_large
+
+too_large :
+    all_answers live_large (DataPdu 1 large_header (record { offset = 4294967296; octets = 0x78 ∷ [] }) ∷ Finish 1 ∷ EofPdu 2 large_header (record E { checksum = 0; size = 1 }) ∷ []) ≡
+    replies 8 (Reply.Faulted 6)
+    ∷ record (says 8 words.Finished) {
+      finished = (0x29 ∷ 0 ∷ 5 ∷ 0 ∷ 1 ∷ 8 ∷ 2 ∷ 5 ∷ 0x64 ∷ 6 ∷ 1 ∷ 2 ∷ []) ∷ [];
+      indications = ended 8 6 true 0 ∷ [];
+    }
+    ∷ record (says 8 words.Idle) { acks = (turned large_header, record { directive = 4; condition = 0; status = Active }) ∷ [] }
+    ∷ []
+unfolding blocks_of weighed_from finished_field
+too_large = refl
