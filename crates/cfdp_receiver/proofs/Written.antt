@@ -6,8 +6,9 @@ use Rattle.std.specs.Result.{result_unwrap_or}
 use Rattle.std.proofs.Common.{◌≡◌, ◌≢◌, inl, inr, ℕ, zero, suc, ◌+◌, ◌-◌, ◌*◌, ◌/◌, ◌^◌, ◌<◌, ◌≤◌, ◌==◌, Bool, true, false, List, [], ◌∷◌, ◌++◌, map, length}
 use Rattle.std.proofs.Common.{take, drop, Option, Some, None, refl, sym, ap, subst, ◌∙◌, append_assoc, arith}
 use Rattle.std.proofs.Math.Nat.{mul-add-div}
+use Rattle.std.proofs.Math.Seq.{drop-append_seam}
 use Rattle.std.proofs.lemmas.Bool.{cases_lt, cond-true, le-leb, lt-leb, false≢true}
-use Rattle.std.proofs.lemmas.List.{take_all, take_at, take-append-le, length-append, length-take, length-drop, length-map}
+use Rattle.std.proofs.lemmas.List.{take_all, take_at, take-append-le, drop-append-le, take-append-drop, drop-drop, length-append, length-take, length-drop, length-map}
 use Rattle.std.proofs.lemmas.Nat.{div-mul-add}
 use Rattle.std.proofs.lemmas.List.Elements.{All-take, All-drop, All-get_or}
 use Rattle.std.proofs.lemmas.Option.{slice_get_past}
@@ -178,6 +179,7 @@ sequence_at h most low high number rs now nak view here =
 pub record IsPut (found : Option (List ℕ)) (old new : List ℕ) (r : Result ℕ NotWritten) : Type 0 where
   pub ok : IfOk r (λ len. found ≡ Some (take len new))
   pub room : IfOk r (λ len. len ≤ length old)
+  pub rest : IfOk r (λ len. drop len new ≡ drop len old)
   pub err : IfErr r (IsNotWritten 0 found (length old))
   pub unchanged : OnErr r (new ≡ old)
 
@@ -193,6 +195,11 @@ put_is octets old new (Some m) (Ok n) found is fits len written unchanged ok err
     record {
       ok = is ∙ ap Some (sym (ap (take n) written ∙ take_at octets (drop (length octets) old) n (omega (arith, same, len))));
       room = omega (arith, same, len, fits.0 refl);
+      rest =
+          ap (λ (k : ℕ). drop k new) (sym same ∙ len)
+          ∙ ap (drop (length octets)) written
+          ∙ drop-append_seam octets (drop (length octets) old)
+          ∙ ap (λ (k : ℕ). drop k old) (sym len ∙ same);
       err = tt;
       unchanged = tt;
     }
@@ -203,7 +210,7 @@ put_is octets old new None (Err why) found is fits len written unchanged ok err 
       | inl short ↦ short
       | inr long ↦ absurd (false≢true (fits.1 long))
     ] in
-    record { ok = tt; room = tt; err = too_short octets old found why is err.1 short; unchanged = unchanged }
+    record { ok = tt; room = tt; rest = tt; err = too_short octets old found why is err.1 short; unchanged = unchanged }
 
 regrouped : (a b c d : List (List ℕ)) → ((a ++ b) ++ c) ++ d ≡ a ++ (b ++ (c ++ d))
 regrouped a b c d = simp append_assoc
@@ -274,3 +281,44 @@ sent_is mib found old part new len room n r crc is fits left same ok err no_room
       cond-true mib.has_crc (sealed_or octets (sealed octets)) octets crc
           ∙ sealed_by octets (part ++ drop room old) new len n r front h (nothing_left old part len room short left same) last_is,
     )
+
+-- within the buffer
+pub sent_within : (old part new : List ℕ) (len room n : ℕ) (r : Result ℕ SealFault) → len ≤ length (take room old) → room ≡ length old - 2 →
+    IfOk r (λ whole. sealed (take len (part ++ drop room old)) ≡ Ok (take whole new)) → IfOk r (λ whole. whole ≡ len + 2) → n ≡ result_unwrap_or r len →
+    n ≤ length old
+sent_within old part new len room n (Err fault) fits left ok is last = omega (arith, length-take room old, fits, last)
+sent_within old part new len room n (Ok whole) fits left ok is last = elim (cases_lt (length old) 2) [
+  | inl short ↦
+      let none : len ≡ 0 = omega (arith, length-take room old, fits, left, short) in
+      let done : IsOk (sealed (take len (part ++ drop room old))) = subst IsOk (sym ok) refl in
+      absurd (nothing_sealed (subst (λ (k : ℕ). IsOk (sealed (take k (part ++ drop room old)))) none done))
+  | inr long ↦ omega (arith, length-take room old, fits, left, long, is, last)
+]
+
+-- the octets after a PDU in the front of a buffer
+kept_after : (old part : List ℕ) (len room : ℕ) → len ≤ length (take room old) → length part ≡ length (take room old) →
+    drop len part ≡ drop len (take room old) → drop len (part ++ drop room old) ≡ drop len old
+kept_after old part len room fits same kept =
+    drop-append-le len part (drop room old) (omega (arith, fits, same))
+    ∙ ap (λ (xs : List ℕ). xs ++ drop room old) kept
+    ∙ sym (drop-append-le len (take room old) (drop room old) fits)
+    ∙ ap (drop len) (take-append-drop room old)
+
+pub sent_rest : (old part new : List ℕ) (len room n : ℕ) (r : Result ℕ SealFault) → len ≤ length (take room old) → length part ≡ length (take room old) →
+    drop len part ≡ drop len (take room old) → IfOk r (λ whole. whole ≡ len + 2) →
+    IfOk r (λ whole. drop whole new ≡ drop whole (part ++ drop room old)) → OnErr r (new ≡ part ++ drop room old) → n ≡ result_unwrap_or r len →
+    drop n new ≡ drop n old
+sent_rest old part new len room n (Err fault) fits same kept is rest unchanged last =
+    ap (drop n) unchanged
+    ∙ ap (λ (k : ℕ). drop k (part ++ drop room old)) last
+    ∙ kept_after old part len room fits same kept
+    ∙ ap (λ (k : ℕ). drop k old) (sym last)
+sent_rest old part new len room n (Ok whole) fits same kept is rest unchanged last =
+    let further : (xs : List ℕ) → drop n xs ≡ drop 2 (drop len xs) =
+    λ xs. ap (λ (k : ℕ). drop k xs) (last ∙ is) ∙ sym (drop-drop 2 len xs) in
+    ap (λ (k : ℕ). drop k new) last
+    ∙ rest
+    ∙ ap (λ (k : ℕ). drop k (part ++ drop room old)) (sym last)
+    ∙ further (part ++ drop room old)
+    ∙ ap (drop 2) (kept_after old part len room fits same kept)
+    ∙ sym (further old)

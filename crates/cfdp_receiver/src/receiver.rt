@@ -1,6 +1,6 @@
 //! The receiving entity.
 
-ghost use Rattle.std.specs.Prelude.{◌≡◌, ◌<◌, ◌^◌, ℕ, max, is_some, length, slice_get, take, List, IfErr, IfNone, IfOk, IfSome, IsOk, None, OnErr, Ok, Some};
+ghost use Rattle.std.specs.Prelude.{◌≡◌, ◌≤◌, ◌<◌, ◌^◌, ℕ, max, is_some, drop, length, slice_get, take, List, IfErr, IfNone, IfOk, IfSome, IsOk, None, OnErr, Ok, Some};
 ghost use Rattle.std.specs.Option.{option_copied};
 ghost use Rattle.cfdp_transactions.specs.World.{next_runnable};
 ghost use Rattle.cfdp_pdus.specs.Canonical.{IsHeader, IsSizedEof};
@@ -367,13 +367,17 @@ impl Receiver {
     }
 
     /// Writes the PDU with this number of an answer, counted from 0, to the front of a buffer, and returns its length in octets. It has a CRC
-    /// where the management information base says so. The answer is that of the last input. Takes no memory. Cost: the octets.
+    /// where the management information base says so. The octets after it are as before. The answer is that of the last input. Takes no
+    /// memory. Cost: the octets.
     ///
     /// # Errors
     ///
     /// [`NotWritten::NoMore`] where the answer has no such PDU, else [`NotWritten::TooShort`] where the buffer has no room for it.
     pub fn write(&self, answer: &Answer, number: usize, out: &mut [u8]) -> Result<usize, NotWritten>
         ensures ok { IfOk result (λ len. (octets : List ℕ) × (slice_get (pdus_of self.now answer.now) number ≡ Some octets) × (as_sent self.now.state.mib octets ≡ take len out.new)) }
+        // So the length is that of the octets as sent.
+        ensures room { IfOk result (λ len. len ≤ length out.old) }
+        ensures rest { IfOk result (λ len. drop len out.new ≡ drop len out.old) }
         ensures err { IfErr result (IsNotWritten (crc_len self.now.state.mib) (slice_get (pdus_of self.now answer.now) number) (length out.old)) }
         ensures unchanged { OnErr result (out.new ≡ out.old) }
     {

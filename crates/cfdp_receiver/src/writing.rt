@@ -1,6 +1,6 @@
 //! The PDUs of an answer are written.
 
-ghost use Rattle.std.specs.Prelude.{◌≡◌, ◌≤◌, length, map, slice_get, take, IfErr, IfOk, OnErr, None, Some};
+ghost use Rattle.std.specs.Prelude.{◌≡◌, ◌≤◌, drop, length, map, slice_get, take, IfErr, IfOk, OnErr, None, Some};
 ghost use Rattle.std.specs.Option.{option_map};
 ghost use Rattle.cfdp_receiver.specs.Machine.{MachineFields, finished_for};
 ghost use Rattle.cfdp_receiver.specs.declared.receiver.NotWritten.TheVariants.{TooShort};
@@ -56,6 +56,7 @@ impl NakSequence {
     fn put(&self, number: usize, out: &mut [u8]) -> Result<usize, NotWritten>
         ensures ok { IfOk result (λ len. slice_get (map nak_octets self.now) number ≡ Some (take len out.new)) }
         ensures room { IfOk result (λ len. len ≤ length out.old) }
+        ensures rest { IfOk result (λ len. drop len out.new ≡ drop len out.old) }
         ensures err { IfErr result (IsNotWritten 0 (slice_get (map nak_octets self.now) number) (length out.old)) }
         ensures unchanged { OnErr result (out.new ≡ out.old) }
     {
@@ -91,6 +92,7 @@ impl Machine {
     ) -> Result<usize, NotWritten>
         ensures ok { IfOk result (λ len. slice_get (pdus_of self.now answer.now) number ≡ Some (take len out.new)) }
         ensures room { IfOk result (λ len. len ≤ length out.old) }
+        ensures rest { IfOk result (λ len. drop len out.new ≡ drop len out.old) }
         ensures err { IfErr result (IsNotWritten 0 (slice_get (pdus_of self.now answer.now) number) (length out.old)) }
         ensures unchanged { OnErr result (out.new ≡ out.old) }
     {
@@ -112,6 +114,7 @@ impl Machine {
     ) -> Result<usize, NotWritten>
         ensures ok { IfOk result (λ len. slice_get (after_ack self.now answer.now) number ≡ Some (take len out.new)) }
         ensures room { IfOk result (λ len. len ≤ length out.old) }
+        ensures rest { IfOk result (λ len. drop len out.new ≡ drop len out.old) }
         ensures err { IfErr result (IsNotWritten 0 (slice_get (after_ack self.now answer.now) number) (length out.old)) }
         ensures unchanged { OnErr result (out.new ≡ out.old) }
     {
@@ -134,6 +137,7 @@ impl Machine {
     ) -> Result<usize, NotWritten>
         ensures ok { IfOk result (λ len. slice_get (after_naks self.now answer.now) number ≡ Some (take len out.new)) }
         ensures room { IfOk result (λ len. len ≤ length out.old) }
+        ensures rest { IfOk result (λ len. drop len out.new ≡ drop len out.old) }
         ensures err { IfErr result (IsNotWritten 0 (slice_get (after_naks self.now answer.now) number) (length out.old)) }
         ensures unchanged { OnErr result (out.new ≡ out.old) }
     {
@@ -155,6 +159,7 @@ impl Machine {
     ) -> Result<usize, NotWritten>
         ensures ok { IfOk result (λ len. slice_get (map (finished_for self.now) answer.now.finished) left ≡ Some (take len out.new)) }
         ensures room { IfOk result (λ len. len ≤ length out.old) }
+        ensures rest { IfOk result (λ len. drop len out.new ≡ drop len out.old) }
         ensures err { IfErr result (IsNotWritten 0 (slice_get (map (finished_for self.now) answer.now.finished) left) (length out.old)) }
         ensures unchanged { OnErr result (out.new ≡ out.old) }
     {

@@ -68,3 +68,15 @@ returns-clause-err c =
     let done = c.written.ensures in
     (put_is (nak_pdu s.header p.scope p.requests.now) c.args.out.now c.put_nak.new.out c.put_nak.result c.written.result _
     is put.fits put.len put.written put.unchanged done.ok done.err).err
+
+pub returns-clause-rest : goal.returns-clause-rest
+returns-clause-rest c =
+    let s = c.self.inside in
+    let p = c.in-Some.part in
+    let n = c.args.number in
+    let h = here s.most s.low s.high n c.deref.result.now s.requests.items p.requests.now p.scope c.deref.ensures.0 c.in-Some.ensures in
+    let is = sequence_at s.header s.most s.low s.high n s.requests.items c.args.self.now _ (sym c.self.view_is) h in
+    let put = c.put_nak.ensures in
+    let done = c.written.ensures in
+    (put_is (nak_pdu s.header p.scope p.requests.now) c.args.out.now c.put_nak.new.out c.put_nak.result c.written.result _
+    is put.fits put.len put.written put.unchanged done.ok done.err).rest

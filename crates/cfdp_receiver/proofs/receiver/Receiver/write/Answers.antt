@@ -3,7 +3,7 @@ use Rattle.std.specs.Prelude.{slice_get}
 use Rattle.cfdp_receiver.specs.Machine.{MachineFields}
 use Rattle.cfdp_receiver.specs.Sent.{pdus_of}
 use Rattle.cfdp_receiver.specs.declared.receiver.Receiver.TheInside.{Inside}
-use Rattle.cfdp_receiver.proofs.Written.{sent_is}
+use Rattle.cfdp_receiver.proofs.Written.{sent_is, sent_rest, sent_within}
 use Rattle.cfdp_receiver.proofs.receiver.Receiver.write.Goals as goal
 
 pub returns-clause-ok : goal.returns-clause-ok
@@ -19,3 +19,17 @@ returns-clause-ok c =
     let room = c.saturating_sub-room.result in
     sent_is a.self.now.state.mib _ a.out.now c.put-2.new.out c.seal.new.buffer len room c.unwrap_or.result c.seal.result crc is
     c.in_ok-len.ensures.room c.saturating_sub-room.ensures c.put-2.auto.out s.ok s.err s.no_room s.no_room_last s.unchanged c.unwrap_or.ensures
+
+pub returns-clause-room : goal.returns-clause-room
+returns-clause-room c =
+    let s = c.seal.ensures in
+    let put = c.in_ok-len.ensures in
+    sent_within c.args.out.now c.put-2.new.out c.seal.new.buffer c.in_ok-len.len c.saturating_sub-room.result c.unwrap_or.result c.seal.result
+    put.room c.saturating_sub-room.ensures s.ok s.whole c.unwrap_or.ensures
+
+pub returns-clause-rest : goal.returns-clause-rest
+returns-clause-rest c =
+    let s = c.seal.ensures in
+    let put = c.in_ok-len.ensures in
+    sent_rest c.args.out.now c.put-2.new.out c.seal.new.buffer c.in_ok-len.len c.saturating_sub-room.result c.unwrap_or.result c.seal.result
+    put.room c.put-2.auto.out put.rest s.whole s.rest s.unchanged c.unwrap_or.ensures
