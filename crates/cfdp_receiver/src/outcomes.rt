@@ -1,6 +1,6 @@
 //! Items that are performed, outcomes that are taken, and the user's own requests.
 
-ghost use Rattle.std.specs.Prelude.{◌≡◌, ◌<◌, ◌≤◌, length, slice_get, vec_len, Some, None, IfOk, IfSome, IfNone, OnErr};
+ghost use Rattle.std.specs.Prelude.{◌≡◌, ◌<◌, ◌≤◌, length, slice_get, vec_len, Some, None, IfOk, IfSome, IfNone, IsOk, OnErr};
 ghost use Rattle.cfdp_sessions.specs.declared.session.Stage.TheVariants.{Known as KnownStage, Over as OverStage};
 ghost use Rattle.cfdp_transactions.specs.declared.outcome.Outcome.{Outcome as OutcomeOf};
 ghost use Rattle.cfdp_transactions.specs.Writable.{IsWritable, finished_octets, longest_finished};
@@ -80,6 +80,7 @@ impl Machine {
     pub(crate) fn finish(&mut self, alloc: Global, now: u64) -> Result<Answer, AllocError>
         requires { AreKnown self.old.state }
         ensures ok { IfOk result (λ answer. Turns (at_moment now self.old) self.new answer (Finish now)) }
+        ensures lean { first_over self.old.state.world self.old.state.sessions ≡ None → IsOk result }
         ensures unchanged { OnErr result (self.new ≡ self.old) }
     {
         self.sessions.distinct();

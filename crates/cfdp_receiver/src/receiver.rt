@@ -286,11 +286,12 @@ impl Receiver {
     ///
     /// # Errors
     ///
-    /// [`AllocError`] when out of memory: the receiver is as before, and the call can be made again.
+    /// [`AllocError`] when out of memory, where a transaction is over: the receiver is as before, and the call can be made again.
     ///
     /// Cost: at most one pass over the 64 sessions, a copy of the requests' names, and the octets of the PDU.
     pub fn finish(&mut self, alloc: Global, now: u64) -> Result<Answer, AllocError>
         ensures ok { IfOk result (λ answer. turn self.old.state (Finish now) ≡ (self.new.state, answer_in self.new answer)) }
+        ensures lean { first_over self.old.state.world self.old.state.sessions ≡ None → IsOk result }
         ensures unchanged { OnErr result (self.new ≡ self.old) }
     {
         self.stays_whole();
