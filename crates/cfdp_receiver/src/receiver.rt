@@ -1,6 +1,6 @@
 //! The receiving entity.
 
-ghost use Rattle.std.specs.Prelude.{◌≡◌, ◌≤◌, ◌<◌, ◌^◌, ℕ, max, is_some, drop, length, slice_get, take, List, IfErr, IfNone, IfOk, IfSome, IsOk, None, OnErr, Ok, Some};
+ghost use Rattle.std.specs.Prelude.{◌≡◌, ◌≤◌, ◌<◌, ◌^◌, ℕ, [], max, is_some, drop, length, slice_get, take, List, IfErr, IfNone, IfOk, IfSome, IsOk, None, OnErr, OnOk, Ok, Some};
 ghost use Rattle.std.specs.Option.{option_copied};
 ghost use Rattle.cfdp_transactions.specs.World.{next_runnable};
 ghost use Rattle.cfdp_pdus.specs.Canonical.{IsHeader, IsSizedEof};
@@ -15,7 +15,7 @@ ghost use Rattle.cfdp_receiver.specs.declared.reading.Dropped.TheVariants.{Pdu a
 ghost use Rattle.cfdp_receiver.specs.State.{AckPdu, CancelAsked, DataPdu, EofPdu, MetadataPdu, OtherPdu, PromptPdu, Expire, Finish, ForgetAsked, Input, Work, begin, session_of, status_of};
 ghost use Rattle.cfdp_receiver.specs.Due.{first_due, first_over};
 ghost use Rattle.cfdp_receiver.specs.Heard.{IsDropped, IsUnread, heard, input_at};
-ghost use Rattle.cfdp_receiver.specs.Machine.{AtIndex, IsInOrder, IsNotMade, IsWhole, answer_in, has_come, is_any_due};
+ghost use Rattle.cfdp_receiver.specs.Machine.{AtIndex, IsInOrder, IsNotMade, IsWhole, answer_in, first_fault, has_come, is_any_due};
 ghost use Rattle.cfdp_receiver.specs.Sent.{IsNotWritten, as_sent, crc_len, longest_sealed, pdus_of};
 ghost use Rattle.cfdp_receiver.specs.Turning.{after, turn};
 
@@ -93,6 +93,8 @@ impl Receiver {
     /// sessions and of 256 names, which is all that it takes but for Metadata PDUs and outcomes.
     pub fn new(alloc: Global, mib: Mib, entity: Entity) -> Result<Receiver, NotMade>
         ensures ok { IfOk result (λ receiver. receiver.state ≡ begin mib entity) }
+        ensures fit { OnOk result (first_fault mib ≡ None) }
+        ensures free { OnOk result (entity.table ≡ []) }
         ensures err { IfErr result (IsNotMade mib entity) }
     {
         if let Some(fault) = mib.fault() {

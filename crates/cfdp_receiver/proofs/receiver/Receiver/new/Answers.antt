@@ -22,3 +22,11 @@ returns-in-Err-clause-err c =
     ap (λ (X : World). is_some (slice_get (map name_of X.table) 0)) (sym c.core.ensures) ∙ ap is_some (sym c.transaction_at.ensures) ∙ sym c.is_some.ensures
     ∙ c.if-is_some.false in
     (sym c.fault.ensures.fault ∙ c.in_default.is, none_named W.table none)
+
+pub returns-in-Ok-clause-free : goal.returns-in-Ok-clause-free
+returns-in-Ok-clause-free c =
+    let W = c.args.entity in
+    let none =
+    ap (λ (X : World). is_some (slice_get (map name_of X.table) 0)) (sym c.core.ensures) ∙ ap is_some (sym c.transaction_at.ensures) ∙ sym c.is_some.ensures
+    ∙ c.if-is_some.false in
+    none_named W.table none
