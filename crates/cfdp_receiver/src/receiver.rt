@@ -1,6 +1,6 @@
 //! The receiving entity.
 
-ghost use Rattle.std.specs.Prelude.{◌≡◌, ◌≤◌, ◌<◌, ◌^◌, ℕ, [], max, is_some, drop, length, slice_get, take, List, IfErr, IfNone, IfOk, IfSome, IsOk, None, OnErr, OnOk, Ok, Some};
+ghost use Rattle.std.specs.Prelude.{◌≡◌, ◌≤◌, ◌<◌, ◌^◌, ℕ, [], max, is_some, drop, length, slice_get, take, true, List, IfErr, IfNone, IfOk, IfSome, IsOk, None, OnErr, OnOk, Ok, Some};
 ghost use Rattle.std.specs.Option.{option_copied};
 ghost use Rattle.cfdp_transactions.specs.World.{next_runnable};
 ghost use Rattle.cfdp_pdus.specs.Canonical.{IsHeader, IsSizedEof};
@@ -8,16 +8,19 @@ ghost use Rattle.cfdp_pdus.specs.First.{pdu_at};
 ghost use Rattle.cfdp_pdus.specs.Sound.{IsNoFileData};
 ghost use Rattle.cfdp_pdus.specs.declared.fault.PduFault.TheVariants.{Memory as NoMemory};
 ghost use Rattle.cfdp_transactions.specs.declared.event.Event.TheVariants.{Metadata as MetadataCame};
-ghost use Rattle.cfdp_sessions.specs.Sessions.{name_of};
+ghost use Rattle.cfdp_sessions.specs.Sessions.{AreDistinct, name_of};
+ghost use Rattle.cfdp_status.specs.declared.transaction.TransactionId.{TransactionId as TransactionIdOf};
+ghost use Rattle.cfdp_transactions.specs.Sound.{Sound};
 ghost use Rattle.cfdp_transactions.specs.Entry.{id_of};
 ghost use Rattle.cfdp_transactions.specs.Writable.{IsReadable};
 ghost use Rattle.cfdp_receiver.specs.declared.reading.Dropped.TheVariants.{Pdu as PduDropped};
-ghost use Rattle.cfdp_receiver.specs.State.{AckPdu, CancelAsked, DataPdu, EofPdu, MetadataPdu, OtherPdu, PromptPdu, Expire, Finish, ForgetAsked, Input, Work, begin, session_of, status_of};
-ghost use Rattle.cfdp_receiver.specs.Due.{first_due, first_over};
+ghost use Rattle.cfdp_receiver.specs.State.{AckPdu, CancelAsked, DataPdu, EofPdu, MetadataPdu, OtherPdu, PromptPdu, Expire, Finish, ForgetAsked, Input, Work, begin, is_closed, session_of, status_of};
+ghost use Rattle.cfdp_receiver.specs.Due.{IsSet, first_due, first_over};
+ghost use Rattle.cfdp_receiver.specs.Laws.{AreKnown};
 ghost use Rattle.cfdp_receiver.specs.Heard.{IsDropped, IsUnread, heard, input_at};
 ghost use Rattle.cfdp_receiver.specs.Machine.{AtIndex, IsInOrder, IsNotMade, IsWhole, answer_in, first_fault, has_come, is_any_due};
 ghost use Rattle.cfdp_receiver.specs.Sent.{IsNotWritten, as_sent, crc_len, longest_sealed, pdus_of};
-ghost use Rattle.cfdp_receiver.specs.Turning.{after, turn};
+ghost use Rattle.cfdp_receiver.specs.Turning.{after, most_requests, turn};
 
 use crate::answering::{Answer, Unsent};
 use crate::machine::Machine;
@@ -61,7 +64,7 @@ pub enum NotWritten {
 /// each answer before the next input, and sleeps until [`Receiver::deadline`].
 ///
 /// Contracts see its state, of which each call makes one turn; no two of its sessions have one name, a session is known exactly where the
-/// core has an entry, and no transaction that is closed and remembered has a session.
+/// core has an entry, and no transaction that is closed and remembered has a session ([`Receiver::whole`]).
 #[derive(Drop)]
 pub struct Receiver {
     machine: Machine,
@@ -107,6 +110,19 @@ impl Receiver {
             Ok(machine) => Ok(Receiver { machine }),
             Err(_) => Err(NotMade::Memory),
         }
+    }
+
+    /// What is true at all times: what the laws in [`crate::laws`] ask of a state holds of this one. Does nothing.
+    pub fn whole(&self)
+        ensures sound { Sound self.now.state.world }
+        ensures distinct { AreDistinct self.now.state.sessions }
+        ensures known { AreKnown self.now.state }
+        ensures over { (id : TransactionIdOf) → is_closed self.now.state id ≡ true → session_of self.now.state id ≡ None }
+        ensures set { IsSet self.now.state.mib }
+        ensures asks { 1 ≤ most_requests self.now.state.mib }
+    {
+        self.machine.entity.sound();
+        self.machine.sessions.distinct();
     }
 
     /// What is true at all times stays true at each input. Does nothing.
