@@ -68,9 +68,10 @@ impl NakSequence {
 }
 
 impl Answer {
-    /// How many PDUs it has.
+    /// How many PDUs it has, 36 at most: one ACK PDU, 33 NAK PDUs, one Keep Alive PDU and one Finished PDU.
     pub fn pdu_count(&self) -> usize
-        ensures { (M : MachineFields) → result ≡ length (pdus_of M self.now) }
+        ensures value { (M : MachineFields) → result ≡ length (pdus_of M self.now) }
+        ensures few { result ≤ 36 }
     {
         usize::from(self.ack.is_some())
             + match &self.naks {
