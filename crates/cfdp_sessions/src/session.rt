@@ -1,6 +1,7 @@
 //! What is kept of one transaction.
 
 ghost use Rattle.std.specs.Prelude.{◌≡◌};
+ghost use Rattle.cfdp_leases.specs.Leases.{is_same};
 ghost use Rattle.cfdp_sessions.specs.Sessions.{name_of};
 
 use cfdp_pdus::{Eof, Header};
@@ -71,5 +72,12 @@ impl Session {
         ensures { result ≡ name_of self.now }
     {
         transaction_of(&self.header)
+    }
+
+    /// Whether it is the session of this transaction. The number is compared first: of one sender all transactions have one source.
+    pub(crate) fn has_name(&self, id: TransactionId) -> bool
+        ensures { result ≡ is_same (name_of self.now) id }
+    {
+        self.header.number == id.number && self.header.source == id.source
     }
 }

@@ -77,7 +77,7 @@ impl Sessions {
     fn is_at(&self, index: usize, id: TransactionId) -> bool
         ensures { result ≡ true → place_of self.now id ≡ index }
     {
-        index < self.list.len() && self.list[index].name() == id
+        index < self.list.len() && self.list[index].has_name(id)
     }
 
     /// The index of a transaction's session: the number of sessions where it has none.
@@ -89,7 +89,7 @@ impl Sessions {
         }
         let mut place = 0usize;
         for session in &self.list {
-            if session.name() == id {
+            if session.has_name(id) {
                 return place;
             }
             place += 1;
