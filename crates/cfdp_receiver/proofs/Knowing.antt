@@ -108,7 +108,7 @@ none_stays R s Known before = before
 none_stays R s (OverStage ending) before = before
 none_stays R s Waiting before = before
 
-heard_stage : (R : State) (V : World) (s : SessionFields) → (Turning.heard R V s).stage ≡ s.stage
+pub heard_stage : (R : State) (V : World) (s : SessionFields) → (Turning.heard R V s).stage ≡ s.stage
 heard_stage R V s = cond_both (Turning.is_news R.world V s) (record s { timer = restarted R.now }) s (λ (t : SessionFields). t.stage ≡ s.stage) (λ e. refl) (λ e. refl)
 
 -- a stage that is known where there is an entry
@@ -126,7 +126,7 @@ added_by x xs new id true is none later = absurd (some_none x (sym (cond-true (i
 added_by x xs new id false is none later =
     cond-false (is_same (name_of x) id) (Some x) (found (xs ++ new ∷ []) id) is ∙ later (sym (cond-false (is_same (name_of x) id) (Some x) (found xs id) is) ∙ none)
 
-added_found : (ss : List SessionFields) (new : SessionFields) (id : TransactionId) → name_of new ≡ id → found ss id ≡ None → found (ss ++ new ∷ []) id ≡ Some new
+pub added_found : (ss : List SessionFields) (new : SessionFields) (id : TransactionId) → name_of new ≡ id → found ss id ≡ None → found (ss ++ new ∷ []) id ≡ Some new
 added_found [] new id name none = cond-true (is_same (name_of new) id) (Some new) None (ap (λ (n : TransactionId). is_same n id) name ∙ same_self id)
 added_found (x ∷ xs) new id name none = added_by x xs new id (is_same (name_of x) id) refl none (added_found xs new id name)
 

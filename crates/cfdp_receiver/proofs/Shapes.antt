@@ -142,7 +142,7 @@ shape_gives_up R s condition handlers.Abandon At_executing was = Puts _ _ refl r
 shape_gives_up R s condition handlers.Abandon At_over was = Puts _ _ refl refl
 
 -- whose timer is due is a session that is found by its name
-abbrev IsDueOf : List SessionFields → Due.Due → Type 0
+abbrev pub IsDueOf : List SessionFields → Due.Due → Type 0
 IsDueOf ss Due.Nothing_due = ⊤
 IsDueOf ss (Due.Alive_due s) = IsFound ss (name_of s)
 IsDueOf ss (Due.Stage_due s limit) = IsFound ss (name_of s)
@@ -161,7 +161,7 @@ due_by_is Limit alive x xs later d = found_self x xs
 due_by_is NotDue true x xs later d = found_self x xs
 due_by_is NotDue false x xs later d = due_later x xs later d
 
-due_is : (R : State) (ss : List SessionFields) → IsDueOf ss (Due.first_due R ss)
+pub due_is : (R : State) (ss : List SessionFields) → IsDueOf ss (Due.first_due R ss)
 due_is R [] = tt
 due_is R (x ∷ xs) = due_by_is (Due.expiry_of R x) (Due.is_alive_due R x) x xs (Due.first_due R xs) (due_is R xs)
 

@@ -10,7 +10,7 @@
 --     TerminatedIsTrue          this is said only of a transaction that had one
 --     ClosedIsOver              a transaction that is closed and remembered has no session
 --     Sent, FinishedOnly        when a Finished PDU is sent, and which
---     Asked, NaksAsk            what the NAK PDUs of an answer ask for
+--     Asked, is_data, NaksAsk   what the NAK PDUs of an answer ask for, and of which session
 --     ExactlyMissing            each missing offset once, and no other
 --     FewNakPdus, FewRequests   how many NAK PDUs they are at most;  how many requests
 --     due_of, timers_due        how many timers are due, of a session and of several
@@ -34,7 +34,7 @@ use Rattle.cfdp_status.specs.declared.transaction.TransactionId.{TransactionId}
 use Rattle.cfdp_leases.specs.Leases.{is_same}
 use Rattle.cfdp_directives.specs.declared.ack.TransactionStatus.TheVariants.{Terminated, Unrecognized}
 use Rattle.cfdp_directives.specs.Reading.{NakFields}
-use Rattle.cfdp_retransmission.specs.Coming.{Piece, AreKept, Answers, covers, one_if}
+use Rattle.cfdp_retransmission.specs.Coming.{Piece, AreKept, Answers, continues, covers, one_if}
 use Rattle.cfdp_retransmission.specs.declared.timer.Expiry.{Expiry}
 use Rattle.cfdp_retransmission.specs.declared.timer.Expiry.TheVariants.{NotDue, Again, Limit}
 use Rattle.cfdp_pdus.specs.Values.{MetadataFields}
@@ -44,7 +44,7 @@ use Rattle.cfdp_sessions.specs.Sessions.{SessionFields, name_of, AreDistinct}
 use Rattle.cfdp_sessions.specs.declared.session.Ending.{Ending}
 use Rattle.cfdp_sessions.specs.declared.session.Stage.{Stage}
 use Rattle.cfdp_sessions.specs.declared.session.Stage.TheVariants.{Held, Known, Over, Waiting}
-use Rattle.cfdp_transactions.specs.Entry.{Entry, id_of, reach}
+use Rattle.cfdp_transactions.specs.Entry.{Entry, id_of, gaps, reach}
 use Rattle.cfdp_transactions.specs.ReceivedLaws.{octet_at}
 use Rattle.cfdp_transactions.specs.Received.{is_whole}
 use Rattle.cfdp_transactions.specs.declared.event.Event.{Event}
@@ -61,7 +61,7 @@ use Rattle.cfdp_receiver.specs.declared.mib.Mib.{Mib}
 use Rattle.cfdp_receiver.specs.State.{State, begin, Input, MetadataPdu, DataPdu, EofPdu, AckPdu, PromptPdu, OtherPdu, Expire, Work, Finish, CancelAsked, ForgetAsked, now_of, status_of, session_of, is_closed, is_full}
 use Rattle.cfdp_receiver.specs.Due.{Due, Nothing_due, Stage_due, Alive_due, IsSet, expiry_of, is_alive_due, first_due, first_over}
 use Rattle.cfdp_receiver.specs.Handing.{is_ours, later, handed}
-use Rattle.cfdp_receiver.specs.Turning.{outcome_for, most_requests, sequence, all_of, gaps_after, parts, after, after_all, all_handed, acked}
+use Rattle.cfdp_receiver.specs.Turning.{outcome_for, most_requests, sequence, all_of, gaps_after, progress_at, is_immediate, parts, after, after_all, all_handed, acked}
 
 abbrev pub HandsOn : Type 0
 HandsOn = (R : State) (inputs : List Input) → (after_all R inputs).world ≡ run R.world (all_handed R inputs)
@@ -186,26 +186,37 @@ pub data Sent (R : State) (i : Input) (sent : List (List ℕ)) : Type 0 where
 abbrev pub FinishedOnly : Type 0
 FinishedOnly = (R : State) (i : Input) → Sent (later (now_of i) R) i (parts R i).answer.finished
 
--- none; or of a held session the Metadata PDU and the whole file; or of one that the core knows the gaps from an offset on, before the input
--- or after it
-pub data Asked (R : State) (V : World) (sent : List NakFields) : Type 0 where
-  Asks_none : (e : sent ≡ []) → Asked R V sent
-  Asks_all : (s : SessionFields) → (eof : Eof) → (low : ℕ) → (held : s.stage ≡ Held eof) → (e : sent ≡ sequence R.mib s.header low eof.size (all_of eof.size)) → Asked R V sent
-  Asks_gaps : (s : SessionFields) → (W : World) → (entry : Entry) → (low : ℕ) → (when : (W ≡ R.world) ⊎ (W ≡ V)) → (known : s.stage ≡ Known) →
-      (here : entry_of W (name_of s) ≡ Some entry) → (e : sent ≡ sequence R.mib s.header low (reach entry) (gaps_after low entry)) → Asked R V sent
+-- what the NAK PDUs of one answer ask for: U is the world before the input, N the state after it, id the transaction that it is about. None; or,
+-- in acknowledged mode, of its session that holds an EOF PDU, the Metadata PDU and the whole file; or of one that the core knows, all gaps; or,
+-- after a File Data PDU, the gaps that began after all that was there before, of which there is one at least
+pub data Asked (U : World) (data_came : Bool) (N : State) (id : TransactionId) (sent : List NakFields) : Type 0 where
+  Asks_none : (e : sent ≡ []) → Asked U data_came N id sent
+  Asks_all : (s : SessionFields) → (eof : Eof) → (here : session_of N id ≡ Some s) → (mode : s.header.acknowledged ≡ true) → (held : s.stage ≡ Held eof) →
+      (e : sent ≡ sequence N.mib s.header 0 eof.size (all_of eof.size)) → Asked U data_came N id sent
+  Asks_gaps : (s : SessionFields) → (entry : Entry) → (here : session_of N id ≡ Some s) → (mode : s.header.acknowledged ≡ true) → (known : s.stage ≡ Known) →
+      (there : entry_of N.world id ≡ Some entry) → (other : data_came ≡ false) → (e : sent ≡ sequence N.mib s.header 0 (reach entry) (gaps entry)) →
+      Asked U data_came N id sent
+  Asks_new : (s : SessionFields) → (entry : Entry) → (low : ℕ) → (here : session_of N id ≡ Some s) → (mode : s.header.acknowledged ≡ true) →
+      (known : s.stage ≡ Known) → (there : entry_of N.world id ≡ Some entry) → (came : data_came ≡ true) → (immediate : is_immediate N.mib.nak_mode ≡ true) →
+      (from : low ≡ progress_at (entry_of U id)) → (some : 1 ≤ length (gaps_after low entry)) →
+      (e : sent ≡ sequence N.mib s.header low (reach entry) (gaps_after low entry)) → Asked U data_came N id sent
+
+abbrev pub is_data : Input → Bool
+is_data (DataPdu now h piece) = true
+is_data i = false
 
 abbrev pub NaksAsk : Type 0
-NaksAsk = (R : State) (i : Input) → Asked (later (now_of i) R) (run R.world (handed R i)) (parts R i).answer.naks
+NaksAsk = (R : State) (i : Input) → Asked R.world (is_data i) (after R i) (touched R i) (parts R i).answer.naks
 
 abbrev pub requests_of : List NakFields → List (ℕ × ℕ)
 requests_of naks = flat_map (λ nak. nak.requests) naks
 
--- of a sequence from offset 0 on
+-- of a sequence from an offset on that is 0, or comes right after an octet that was received
 abbrev pub ExactlyMissing : Type 0
 ExactlyMissing =
-    (mib : Mib) (h : Header) (entry : Entry) (i : ℕ) → 1 ≤ most_requests mib →
-    (i < reach entry → octet_at entry.received i ≡ None → covers i (requests_of (sequence mib h 0 (reach entry) (gaps_after 0 entry))) ≡ 1)
-    × ((i < reach entry → octet_at entry.received i ≡ None → ⊥) → covers i (requests_of (sequence mib h 0 (reach entry) (gaps_after 0 entry))) ≡ 0)
+    (mib : Mib) (h : Header) (entry : Entry) (low i : ℕ) → 1 ≤ most_requests mib → continues entry.received low ≡ true →
+    (low ≤ i → i < reach entry → octet_at entry.received i ≡ None → covers i (requests_of (sequence mib h low (reach entry) (gaps_after low entry))) ≡ 1)
+    × ((low ≤ i → i < reach entry → octet_at entry.received i ≡ None → ⊥) → covers i (requests_of (sequence mib h low (reach entry) (gaps_after low entry))) ≡ 0)
 
 abbrev pub FewNakPdus : Type 0
 FewNakPdus =
