@@ -50,7 +50,7 @@ use Rattle.cfdp_receiver.proofs.Shapes.{IsDueOf, due_is}
 abbrev with_parts : State → World → Turning.Parts → State
 with_parts R V p = record { world = V; mib = R.mib; now = R.now; sessions = p.sessions; closed = p.closed }
 
-from_zero : (xs : List Range) → filter (λ (g : Range). nat_le 0 g.0) xs ≡ xs
+pub from_zero : (xs : List Range) → filter (λ (g : Range). nat_le 0 g.0) xs ≡ xs
 from_zero [] = refl
 from_zero (x ∷ xs) =
     cond-true (nat_le 0 x.0) (x ∷ filter (λ (g : Range). nat_le 0 g.0) xs) (filter (λ (g : Range). nat_le 0 g.0) xs) (le-leb 0 x.0 (omega arith))
@@ -377,9 +377,10 @@ Exact limit received found i =
 exact_below : (limit : ℕ) (received : Received) (i : ℕ) → Exact limit received (gaps_below limit received) i
 exact_below limit received i =
     let found = gaps_below limit received in
-    let all = asks_for_all 1 0 limit found (omega arith) in
-    (λ low missing. ap (covers i) (sym all) ∙ asked_once 1 limit received i (omega arith) low missing,
-    λ other. ap (covers i) (sym all) ∙ not_asked 1 limit received i (omega arith) other)
+    let all = asks_for_all 1 0 limit found (omega arith) in (
+      λ low missing. ap (covers i) (sym all) ∙ asked_once 1 limit received i (omega arith) low missing,
+      λ other. ap (covers i) (sym all) ∙ not_asked 1 limit received i (omega arith) other,
+    )
 
 -- where no file data is taken nothing is asked for
 exact_none : (received : Received) (i : ℕ) → Exact 0 received [] i
@@ -447,12 +448,13 @@ covers_after entry (suc at) i h from =
 pub exactly_missing : ExactlyMissing
 exactly_missing mib h entry low i some joined =
     let all = asks_for mib h low (reach entry) (Turning.gaps_after low entry) some in
-    let exact = exact_in entry entry.phase i in
-    (λ from inside missing. ap (covers i) all ∙ covers_after entry low i joined from ∙ exact.0 inside missing,
-    λ other. ap (covers i) all ∙ elim (cases_lt i low) [
-      | inl before ↦ covers_before (gaps entry) low i before
-      | inr from ↦ covers_after entry low i joined from ∙ exact.1 (λ inside missing. other from inside missing)
-    ])
+    let exact = exact_in entry entry.phase i in (
+      λ from inside missing. ap (covers i) all ∙ covers_after entry low i joined from ∙ exact.0 inside missing,
+      λ other. ap (covers i) all ∙ elim (cases_lt i low) [
+        | inl before ↦ covers_before (gaps entry) low i before
+        | inr from ↦ covers_after entry low i joined from ∙ exact.1 (λ inside missing. other from inside missing)
+      ],
+    )
 
 map_len : (h : Header) (xs : List Nak) → length (map (with_header h) xs) ≡ length xs
 map_len h [] = refl

@@ -12,6 +12,8 @@
 --     Sent, FinishedOnly        when a Finished PDU is sent, and which
 --     Asked, is_data, NaksAsk   what the NAK PDUs of an answer ask for, and of which session
 --     ExactlyMissing            each missing offset once, and no other
+--     asks_metadata requests    how often the Metadata PDU is asked for
+--     AsksOnce, NaksAskOnce     of the NAK PDUs of an answer: each missing octet once, and the Metadata PDU exactly where none came
 --     FewNakPdus, FewRequests   how many NAK PDUs they are at most;  how many requests
 --     due_of, timers_due        how many timers are due, of a session and of several
 --     ServedOnce                at one moment each timer that is due is served once
@@ -28,7 +30,7 @@
 --     NotBegunAnew              one of a transaction that the core knows leaves the core as it is
 --     is_remembered R id        it is closed and remembered, or has a session that holds no EOF PDU
 --     AtMostOnce                while a transaction is remembered, no Metadata PDU of it changes the core
-use Rattle.std.specs.Prelude.{◌≡◌, ◌≢◌, ◌⊎◌, ℕ, ◌+◌, ◌-◌, ◌*◌, ◌≤◌, ◌<◌, Bool, true, false, ◌||◌, if◌then◌else◌, List, [], ◌∷◌, ◌++◌, map, min, length, Option, Some, None, is_some}
+use Rattle.std.specs.Prelude.{◌≡◌, ◌≢◌, ◌⊎◌, ℕ, ◌+◌, ◌-◌, ◌*◌, ◌≤◌, ◌<◌, ◌==◌, ◌&&◌, Bool, true, false, ◌||◌, if◌then◌else◌, List, [], ◌∷◌, ◌++◌, map, min, length, Option, Some, None, is_some}
 use Rattle.std.specs.List.{AllByRecursion, flat_map}
 use Rattle.cfdp_status.specs.declared.transaction.TransactionId.{TransactionId}
 use Rattle.cfdp_leases.specs.Leases.{is_same}
@@ -217,6 +219,37 @@ ExactlyMissing =
     (mib : Mib) (h : Header) (entry : Entry) (low i : ℕ) → 1 ≤ most_requests mib → continues entry.received low ≡ true →
     (low ≤ i → i < reach entry → octet_at entry.received i ≡ None → covers i (requests_of (sequence mib h low (reach entry) (gaps_after low entry))) ≡ 1)
     × ((low ≤ i → i < reach entry → octet_at entry.received i ≡ None → ⊥) → covers i (requests_of (sequence mib h low (reach entry) (gaps_after low entry))) ≡ 0)
+
+-- how often the Metadata PDU is among the requests
+abbrev pub asks_metadata : List (ℕ × ℕ) → ℕ
+asks_metadata [] = 0
+asks_metadata (r ∷ rs) = one_if ((r.0 == 0) && (r.1 == 0)) + asks_metadata rs
+
+-- where what is asked for begins: after a File Data PDU at the end of all that was there before
+abbrev pub asks_from : World → Bool → TransactionId → ℕ
+asks_from U true id = progress_at (entry_of U id)
+asks_from U false id = 0
+
+-- the octet at an offset from `low` on, below the reach, is missing
+abbrev pub IsAsked : Entry → ℕ → ℕ → Type 0
+IsAsked entry low at = (low ≤ at) × (at < reach entry) × (octet_at entry.received at ≡ None)
+
+-- of all requests of an answer with NAK PDUs. Where the EOF PDU is held: the Metadata PDU once, and each octet of the file once. Where the core
+-- knows the transaction: never the Metadata PDU, each missing octet once, and no other; after a File Data PDU this is said where the last octet
+-- that was there before is there
+pub data AsksOnce (U : World) (data_came : Bool) (N : State) (id : TransactionId) (at : ℕ) (requests : List (ℕ × ℕ)) : Type 0 where
+  Once_held : (s : SessionFields) → (eof : Eof) → (here : session_of N id ≡ Some s) → (held : s.stage ≡ Held eof) → (metadata : asks_metadata requests ≡ 1) →
+      (inside : at < eof.size → covers at requests ≡ 1) → (outside : eof.size ≤ at → covers at requests ≡ 0) → AsksOnce U data_came N id at requests
+  Once_known : (s : SessionFields) → (entry : Entry) → (here : session_of N id ≡ Some s) → (known : s.stage ≡ Known) → (there : entry_of N.world id ≡ Some entry) →
+      (metadata : asks_metadata requests ≡ 0) →
+      (exactly : continues entry.received (asks_from U data_came id) ≡ true →
+      (IsAsked entry (asks_from U data_came id) at → covers at requests ≡ 1) × ((IsAsked entry (asks_from U data_came id) at → ⊥) → covers at requests ≡ 0)) →
+      AsksOnce U data_came N id at requests
+
+abbrev pub NaksAskOnce : Type 0
+NaksAskOnce =
+    (R : State) (i : Input) (at : ℕ) → 1 ≤ most_requests R.mib →
+    ((parts R i).answer.naks ≡ []) ⊎ AsksOnce R.world (is_data i) (after R i) (touched R i) at (requests_of (parts R i).answer.naks)
 
 abbrev pub FewNakPdus : Type 0
 FewNakPdus =

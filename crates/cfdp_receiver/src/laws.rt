@@ -1,6 +1,6 @@
 //! What is true of the receiver, whatever comes. These functions do nothing: their contracts are the laws.
 
-ghost use Rattle.cfdp_receiver.specs.Laws.{HandsOn, HeadlineHolds, FewEvents, FewPdus, AcknowledgedOnce, OthersStay, UnrecognizedIsTrue, TerminatedIsTrue, ClosedIsOver, FinishedOnly, NoneAgain, NotBegunAnew, AtMostOnce, NaksAsk, ExactlyMissing, FewNakPdus, FewRequests, ServedOnce, KnownIsEntry, AnsweredIsDelivered, AreApart, SentAtMost, EntriesStay, OthersKeepEntries, WorkKeepsOthers};
+ghost use Rattle.cfdp_receiver.specs.Laws.{HandsOn, HeadlineHolds, FewEvents, FewPdus, AcknowledgedOnce, OthersStay, UnrecognizedIsTrue, TerminatedIsTrue, ClosedIsOver, FinishedOnly, NoneAgain, NotBegunAnew, AtMostOnce, NaksAsk, ExactlyMissing, NaksAskOnce, FewNakPdus, FewRequests, ServedOnce, KnownIsEntry, AnsweredIsDelivered, AreApart, SentAtMost, EntriesStay, OthersKeepEntries, WorkKeepsOthers};
 
 /// The world of a receiver is the core's own run of the events that its inputs handed on.
 pub fn hands_on()
@@ -113,14 +113,23 @@ pub fn sent_at_most()
     ensures { SentAtMost }
 {}
 
-/// The NAK PDUs of an answer are a sequence for one session: of a held one for its Metadata PDU and the whole file, of another for its gaps.
+/// The NAK PDUs of an answer are one sequence, of the session in acknowledged mode that the input is about: of a held one for its Metadata PDU and
+/// the whole file, of one that the core knows for all its gaps, or, after a File Data PDU in immediate mode, for those that began after all
+/// that was there before.
 pub fn naks_ask()
     ensures { NaksAsk }
 {}
 
-/// A sequence for the gaps of a transaction has each offset that is missing in exactly one request, and no other offset.
+/// A sequence for the gaps of a transaction, from offset 0 or right after an octet that was received, has each offset that is missing from there
+/// on in exactly one request, and no other offset.
 pub fn exactly_missing()
     ensures { ExactlyMissing }
+{}
+
+/// The NAK PDUs of an answer ask for each octet that is missing exactly once and for no other, and for the Metadata PDU exactly if none came.
+/// After a File Data PDU this is said of what follows all that was there before, if the last octet of that is still there.
+pub fn naks_ask_once()
+    ensures { NaksAskOnce }
 {}
 
 /// A NAK sequence has no more PDUs than its requests need.
