@@ -9,6 +9,7 @@ pub mod OctetRows
 pub mod Limits
 pub mod Asking
 pub mod Once
+pub mod Acknowledging
 pub mod Serving
 pub mod Others
 pub mod Knowing

@@ -166,7 +166,7 @@ due_is R [] = tt
 due_is R (x ∷ xs) = due_by_is (Due.expiry_of R x) (Due.is_alive_due R x) x xs (Due.first_due R xs) (due_is R xs)
 
 -- and so is what is over
-abbrev IsOverOf : List SessionFields → Option SessionFields → Type 0
+abbrev pub IsOverOf : List SessionFields → Option SessionFields → Type 0
 IsOverOf ss None = ⊤
 IsOverOf ss (Some s) = IsFound ss (name_of s)
 
@@ -174,7 +174,7 @@ over_later : (x : SessionFields) (xs : List SessionFields) (o : Option SessionFi
 over_later x xs None d = tt
 over_later x xs (Some s) d = found_either x xs (name_of s) d
 
-over_is : (W : World) (ss : List SessionFields) → IsOverOf ss (Due.first_over W ss)
+pub over_is : (W : World) (ss : List SessionFields) → IsOverOf ss (Due.first_over W ss)
 over_is W [] = tt
 over_is W (x ∷ xs) =
     cond_both (Due.is_over (at_of W x)) (Some x) (Due.first_over W xs) (IsOverOf (x ∷ xs)) (λ e. found_self x xs) (λ e. over_later x xs (Due.first_over W xs) (over_is W xs))

@@ -23,6 +23,8 @@
 --     AreApart                  no two sessions have one name
 --     sent_while R inputs id    how often its Finished PDU is sent, as long as it waits for the acknowledgement
 --     SentAtMost                at most as often as the limit says
+--     sent_closed R inputs id   how often it is sent, as long as the transaction is closed and remembered
+--     NoneAfterAck              an ACK PDU of a Finished PDU closes the transaction, and then none is sent
 --     EntriesStay               events of others leave a transaction's entry in the core as it is
 --     OthersKeepEntries         so does an input that is about another
 --     WorkKeepsOthers           an item that is performed for one transaction leaves the entries of all others as they are
@@ -36,6 +38,7 @@ use Rattle.cfdp_status.specs.declared.transaction.TransactionId.{TransactionId}
 use Rattle.cfdp_leases.specs.Leases.{is_same}
 use Rattle.cfdp_directives.specs.declared.ack.TransactionStatus.TheVariants.{Terminated, Unrecognized}
 use Rattle.cfdp_directives.specs.Reading.{NakFields}
+use Rattle.cfdp_directives.specs.declared.ack.Ack.{Ack}
 use Rattle.cfdp_retransmission.specs.Coming.{Piece, AreKept, Answers, continues, covers, one_if}
 use Rattle.cfdp_retransmission.specs.declared.timer.Expiry.{Expiry}
 use Rattle.cfdp_retransmission.specs.declared.timer.Expiry.TheVariants.{NotDue, Again, Limit}
@@ -345,3 +348,16 @@ abbrev pub WorkKeepsOthers : Type 0
 WorkKeepsOthers =
     (R : State) (now : ℕ) (id : TransactionId) → Sound R.world → next_runnable R.world.table ≢ Some id →
     entry_of (after R (Work now)).world id ≡ entry_of R.world id
+
+-- how often a Finished PDU of a transaction is sent, as long as it is closed and remembered
+abbrev pub sent_closed : State → List Input → TransactionId → ℕ
+sent_closed R [] id = 0
+sent_closed R (i ∷ is) id = if is_closed R id then sent_for R i id + sent_closed (after R i) is id else 0
+
+-- the ACK PDU of a Finished PDU has directive code 5
+abbrev pub NoneAfterAck : Type 0
+NoneAfterAck =
+    (R : State) (now : ℕ) (h : Header) (ack : Ack) (s : SessionFields) (inputs : List Input) → AreDistinct R.sessions → is_ours R h ≡ true → ack.directive ≡ 5 →
+    session_of R (id_of h) ≡ Some s → s.stage ≡ Waiting →
+    (session_of (after R (AckPdu now h ack)) (id_of h) ≡ None) × (is_closed (after R (AckPdu now h ack)) (id_of h) ≡ true)
+    × (sent_closed (after R (AckPdu now h ack)) inputs (id_of h) ≡ 0)

@@ -1,6 +1,6 @@
 //! What is true of the receiver, whatever comes. These functions do nothing: their contracts are the laws.
 
-ghost use Rattle.cfdp_receiver.specs.Laws.{HandsOn, HeadlineHolds, FewEvents, FewPdus, AcknowledgedOnce, OthersStay, UnrecognizedIsTrue, TerminatedIsTrue, ClosedIsOver, FinishedOnly, NoneAgain, NotBegunAnew, AtMostOnce, NaksAsk, ExactlyMissing, NaksAskOnce, FewNakPdus, FewRequests, ServedOnce, KnownIsEntry, AnsweredIsDelivered, AreApart, SentAtMost, EntriesStay, OthersKeepEntries, WorkKeepsOthers};
+ghost use Rattle.cfdp_receiver.specs.Laws.{HandsOn, HeadlineHolds, FewEvents, FewPdus, AcknowledgedOnce, OthersStay, UnrecognizedIsTrue, TerminatedIsTrue, ClosedIsOver, FinishedOnly, NoneAgain, NotBegunAnew, AtMostOnce, NaksAsk, ExactlyMissing, NaksAskOnce, FewNakPdus, FewRequests, ServedOnce, KnownIsEntry, AnsweredIsDelivered, AreApart, SentAtMost, NoneAfterAck, EntriesStay, OthersKeepEntries, WorkKeepsOthers};
 
 /// The world of a receiver is the core's own run of the events that its inputs handed on.
 pub fn hands_on()
@@ -111,6 +111,12 @@ pub fn are_apart()
 /// The Finished PDU of a transaction is sent at most as often as the ACK limit says, the first time included, unless the limit is ignored.
 pub fn sent_at_most()
     ensures { SentAtMost }
+{}
+
+/// An ACK PDU of a Finished PDU closes a transaction that waits for it. After that, as long as the transaction is remembered, no Finished PDU of it
+/// is sent.
+pub fn none_after_ack()
+    ensures { NoneAfterAck }
 {}
 
 /// The NAK PDUs of an answer are one sequence, of the session in acknowledged mode that the input is about: of a held one for its Metadata PDU and
