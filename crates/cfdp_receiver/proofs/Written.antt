@@ -16,15 +16,19 @@ use Rattle.cfdp_crc.specs.Seal.{plain_len, sealed}
 use Rattle.cfdp_crc.specs.declared.sealing.SealFault.{SealFault}
 use Rattle.cfdp_crc.specs.declared.sealing.SealFault.TheVariants.{NotAPdu, HasCrc, TooLong, NoRoom}
 use Rattle.cfdp_pdus.specs.Bits.{fss}
+use Rattle.cfdp_pdus.specs.Canonical.{IsHeader}
+use Rattle.cfdp_transactions.specs.Writable.{longest_finished}
 use Rattle.cfdp_pdus.specs.Placing.{filled}
 use Rattle.cfdp_pdus.specs.declared.header.Header.{Header}
-use Rattle.cfdp_directives.specs.Reading.{NakFields}
-use Rattle.cfdp_directives.specs.Spelling.{IsSizedRange, ack_pdu, keep_alive_pdu, nak_pdu}
+use Rattle.cfdp_pdus.proofs.WriteSteps.{location_len, pdu_len}
+use Rattle.cfdp_directives.proofs.Lengths.{nak_len}
+use Rattle.cfdp_directives.specs.Reading.{NakFields, pair_len}
+use Rattle.cfdp_directives.specs.Spelling.{IsSizedRange, ack_field, ack_pdu, keep_alive_field, keep_alive_pdu, nak_field, nak_pdu}
 use Rattle.cfdp_directives.specs.declared.ack.Ack.{Ack}
 use Rattle.cfdp_directives.specs.declared.keep_alive.KeepAlive.{KeepAlive}
 use Rattle.cfdp_retransmission.specs.Naks.{Range, Nak, front_end, scope_of, naks_in, naks}
 use Rattle.cfdp_receiver.specs.declared.receiver.NotWritten.{NotWritten}
-use Rattle.cfdp_receiver.specs.declared.receiver.NotWritten.TheVariants.{TooShort}
+use Rattle.cfdp_receiver.specs.declared.receiver.NotWritten.TheVariants.{NoMore, TooShort}
 use Rattle.cfdp_receiver.specs.declared.mib.Mib.{Mib}
 use Rattle.cfdp_receiver.specs.Machine.{AnswerParts, MachineFields, finished_for, listed, sequence_of}
 use Rattle.cfdp_receiver.specs.Sent.{IsNotWritten, after_ack, as_sent, nak_octets, pdus_of, sealed_or}
@@ -322,3 +326,39 @@ sent_rest old part new len room n (Ok whole) fits same kept is rest unchanged la
     ∙ further (part ++ drop room old)
     ∙ ap (drop 2) (kept_after old part len room fits same kept)
     ∙ sym (further old)
+
+-- ---- room that is always enough
+
+ack_length : (h : Header) (ack : Ack) → length (ack_pdu h ack) ≡ 4 + 2 * h.id_len + h.number_len + 3
+unfolding ack_field
+ack_length h ack = pdu_len false h (ack_field ack)
+
+pub ack_short : (h : Header) (ack : Ack) → IsHeader h → length (ack_pdu h ack) ≤ longest_finished
+ack_short h ack is = omega (arith, ack_length h ack, is.id_high, is.number_high)
+
+-- the progress has as many octets as in a fault location
+keep_alive_length : (h : Header) (k : KeepAlive) → length (keep_alive_pdu h k) ≡ 4 + 2 * h.id_len + h.number_len + (1 + fss h.large)
+unfolding keep_alive_field
+keep_alive_length h k = omega (arith, pdu_len false h (keep_alive_field h.large k), location_len (fss h.large) k.progress)
+
+size_short : (large : Bool) → fss large ≤ 8
+size_short true = omega arith
+size_short false = omega arith
+
+pub keep_alive_short : (h : Header) (k : KeepAlive) → IsHeader h → length (keep_alive_pdu h k) ≤ longest_finished
+keep_alive_short h k is = omega (arith, keep_alive_length h k, size_short h.large, is.id_high, is.number_high)
+
+field_short : (large : Bool) (n : ℕ) → n ≤ 33 → 1 + pair_len large * (1 + n) ≤ 545
+field_short true n few = omega arith
+field_short false n few = omega arith
+
+pub nak_short : (h : Header) (scope : Range) (rs : List Range) → IsHeader h → length rs ≤ 33 → length (nak_pdu h scope rs) ≤ longest_finished
+nak_short h scope rs is few =
+    omega (arith, pdu_len false h (nak_field h.large scope rs), nak_len h.large scope rs, field_short h.large (length rs) few, is.id_high, is.number_high)
+
+pub put_enough : (octets old : List ℕ) (r : Option ℕ) (result : Result ℕ NotWritten) → IsSome r ↔ (length octets ≤ length old) →
+    IfOk result (λ n. r ≡ Some n) → IfErr result (λ why. (r ≡ None) × (why ≡ TooShort)) → length octets ≤ longest_finished → longest_finished ≤ length old →
+    IfErr result (λ why. why ≡ NoMore)
+put_enough octets old r (Ok n) fits ok err short room = tt
+put_enough octets old (Some m) (Err why) fits ok err short room = absurd (cc)
+put_enough octets old None (Err why) fits ok err short room = absurd (false≢true (fits.1 (omega (arith, short, room))))

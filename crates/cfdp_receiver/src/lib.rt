@@ -10,6 +10,7 @@ mod answer;
 mod answering;
 mod at;
 mod coming;
+mod concluded;
 pub mod laws;
 mod machine;
 mod mib;

@@ -15,6 +15,7 @@ ghost use Rattle.cfdp_receiver.specs.Machine.{AtIndex, IsMib, IsSessionAt, IsTak
 ghost use Rattle.cfdp_receiver.specs.Turning.{absent, all_of, asks, asks_entry, asks_where_awaiting, begun, gaps_after, is_immediate, is_news, most_requests, progress_at, sequence};
 
 use crate::answering::{Answer, NakSequence};
+use crate::concluded::Concluded;
 use crate::{At, Mib, NakMode, Word};
 use arrayvec::ArrayVec;
 use cfdp_directives::Range;
@@ -39,8 +40,7 @@ pub(crate) struct Machine {
     pub(crate) latest: u64,
     pub(crate) sessions: Sessions,
     pub(crate) closed: Closed,
-    /// The Finished PDU of the transaction that was closed last when its outcome was taken.
-    pub(crate) concluded: Vec<u8>,
+    pub(crate) concluded: Concluded,
 }
 
 impl Model for Machine {
@@ -52,7 +52,7 @@ impl Model for Machine {
 
     ghost coded = { Prim.hlevel (codes, nodes_code) };
 
-    ghost view = { λ m. record { state = record { world = m.entity; mib = m.mib; now = m.latest; sessions = m.sessions; closed = m.closed }; concluded = m.concluded.items } };
+    ghost view = { λ m. record { state = record { world = m.entity; mib = m.mib; now = m.latest; sessions = m.sessions; closed = m.closed }; concluded = m.concluded } };
 
     ghost invariant = { λ m. IsMib m.mib };
 }
@@ -70,7 +70,7 @@ impl Machine {
             latest: 0,
             sessions: Sessions::new(alloc)?,
             closed: Closed::new(alloc)?,
-            concluded: Vec::new(alloc),
+            concluded: Concluded::none(alloc),
         })
     }
 

@@ -11,6 +11,7 @@ ghost use Rattle.cfdp_receiver.specs.Machine.{AtIndex, Concludes, Turns, at_mome
 ghost use Rattle.cfdp_receiver.specs.Turning.{conclusion_of, stage_outcome};
 
 use crate::answering::{Answer, turned};
+use crate::concluded::Concluded;
 use crate::machine::Machine;
 use crate::{At, Conclusion, Indication, Word};
 use cfdp_pdus::Finished;
@@ -163,7 +164,7 @@ impl Machine {
                 .with_indication(told);
         }
         self.close(index, id);
-        self.concluded = octets;
+        self.concluded = Concluded::of(octets);
         Answer::said(id, Word::Closed)
             .with_finished(id)
             .with_indication(told)
@@ -171,11 +172,12 @@ impl Machine {
 
     /// The Finished PDU of a transaction that waits for its acknowledgement, or that was closed last when its outcome was taken.
     pub(crate) fn finished_octets(&self, id: TransactionId) -> &[u8]
-        ensures { result.now ≡ finished_for self.now id }
+        ensures octets { result.now ≡ finished_for self.now id }
+        ensures short { length result.now ≤ longest_finished }
     {
         match self.sessions.find(id) {
             Some(index) => &self.session(index).finished,
-            None => &self.concluded,
+            None => self.concluded.octets(),
         }
     }
 

@@ -14,6 +14,7 @@ ghost use Rattle.cfdp_transactions.specs.Sound.{Sound};
 ghost use Rattle.cfdp_transactions.specs.Entry.{id_of};
 ghost use Rattle.cfdp_transactions.specs.Writable.{IsReadable};
 ghost use Rattle.cfdp_receiver.specs.declared.reading.Dropped.TheVariants.{Pdu as PduDropped};
+ghost use Rattle.cfdp_receiver.specs.declared.receiver.NotWritten.TheVariants.{NoMore};
 ghost use Rattle.cfdp_receiver.specs.State.{AckPdu, CancelAsked, DataPdu, EofPdu, MetadataPdu, OtherPdu, PromptPdu, Expire, Finish, ForgetAsked, Input, Work, begin, is_closed, session_of, status_of};
 ghost use Rattle.cfdp_receiver.specs.Due.{IsSet, first_due, first_over};
 ghost use Rattle.cfdp_receiver.specs.Laws.{AreKnown};
@@ -378,7 +379,7 @@ impl Receiver {
         &self.machine.entity
     }
 
-    /// How many octets a PDU that [`Receiver::write`] writes has at most.
+    /// How many octets a PDU that [`Receiver::write`] writes has at most: 16,490, or those of the longest NAK PDU, if these are more.
     pub fn longest(&self) -> usize
         ensures { result ≡ max longest_sealed self.now.state.mib.longest_nak }
     {
@@ -391,13 +392,16 @@ impl Receiver {
     ///
     /// # Errors
     ///
-    /// [`NotWritten::NoMore`] where the answer has no such PDU, else [`NotWritten::TooShort`] where the buffer has no room for it.
+    /// [`NotWritten::NoMore`] where the answer has no such PDU, else [`NotWritten::TooShort`] where the buffer has no room for it, which it
+    /// has if it has [`Receiver::longest`] octets.
     pub fn write(&self, answer: &Answer, number: usize, out: &mut [u8]) -> Result<usize, NotWritten>
         ensures ok { IfOk result (λ len. (octets : List ℕ) × (slice_get (pdus_of self.now answer.now) number ≡ Some octets) × (as_sent self.now.state.mib octets ≡ take len out.new)) }
         // So the length is that of the octets as sent.
         ensures room { IfOk result (λ len. len ≤ length out.old) }
         ensures rest { IfOk result (λ len. drop len out.new ≡ drop len out.old) }
         ensures err { IfErr result (IsNotWritten (crc_len self.now.state.mib) (slice_get (pdus_of self.now answer.now) number) (length out.old)) }
+        // A buffer with `longest` octets is never too short, whatever the answer.
+        ensures enough { max longest_sealed self.now.state.mib.longest_nak ≤ length out.old → IfErr result (λ why. why ≡ NoMore) }
         ensures unchanged { OnErr result (out.new ≡ out.old) }
     {
         if !self.machine.mib.has_crc {

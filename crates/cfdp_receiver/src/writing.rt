@@ -3,9 +3,10 @@
 ghost use Rattle.std.specs.Prelude.{◌≡◌, ◌≤◌, drop, length, map, slice_get, take, IfErr, IfOk, OnErr, None, Some};
 ghost use Rattle.std.specs.Option.{option_map};
 ghost use Rattle.cfdp_receiver.specs.Machine.{MachineFields, finished_for};
-ghost use Rattle.cfdp_receiver.specs.declared.receiver.NotWritten.TheVariants.{TooShort};
+ghost use Rattle.cfdp_receiver.specs.declared.receiver.NotWritten.TheVariants.{NoMore, TooShort};
 ghost use Rattle.cfdp_receiver.specs.Sent.{IsNotWritten, after_ack, after_naks, nak_octets, pdus_of};
 ghost use Rattle.cfdp_retransmission.specs.Naks.{naks};
+ghost use Rattle.cfdp_transactions.specs.Writable.{longest_finished};
 
 use crate::NotWritten;
 use crate::answering::{Answer, NakSequence};
@@ -58,6 +59,7 @@ impl NakSequence {
         ensures room { IfOk result (λ len. len ≤ length out.old) }
         ensures rest { IfOk result (λ len. drop len out.new ≡ drop len out.old) }
         ensures err { IfErr result (IsNotWritten 0 (slice_get (map nak_octets self.now) number) (length out.old)) }
+        ensures enough { longest_finished ≤ length out.old → IfErr result (λ why. why ≡ NoMore) }
         ensures unchanged { OnErr result (out.new ≡ out.old) }
     {
         let Some(part) = nth_part(&self.requests, self.low, self.high, self.most, number) else {
@@ -95,6 +97,7 @@ impl Machine {
         ensures room { IfOk result (λ len. len ≤ length out.old) }
         ensures rest { IfOk result (λ len. drop len out.new ≡ drop len out.old) }
         ensures err { IfErr result (IsNotWritten 0 (slice_get (pdus_of self.now answer.now) number) (length out.old)) }
+        ensures enough { longest_finished ≤ length out.old → IfErr result (λ why. why ≡ NoMore) }
         ensures unchanged { OnErr result (out.new ≡ out.old) }
     {
         let Some((header, ack)) = &answer.ack else {
@@ -117,6 +120,7 @@ impl Machine {
         ensures room { IfOk result (λ len. len ≤ length out.old) }
         ensures rest { IfOk result (λ len. drop len out.new ≡ drop len out.old) }
         ensures err { IfErr result (IsNotWritten 0 (slice_get (after_ack self.now answer.now) number) (length out.old)) }
+        ensures enough { longest_finished ≤ length out.old → IfErr result (λ why. why ≡ NoMore) }
         ensures unchanged { OnErr result (out.new ≡ out.old) }
     {
         let Some(naks) = &answer.naks else {
@@ -140,6 +144,7 @@ impl Machine {
         ensures room { IfOk result (λ len. len ≤ length out.old) }
         ensures rest { IfOk result (λ len. drop len out.new ≡ drop len out.old) }
         ensures err { IfErr result (IsNotWritten 0 (slice_get (after_naks self.now answer.now) number) (length out.old)) }
+        ensures enough { longest_finished ≤ length out.old → IfErr result (λ why. why ≡ NoMore) }
         ensures unchanged { OnErr result (out.new ≡ out.old) }
     {
         let Some((header, keep_alive)) = &answer.keep_alive else {
@@ -162,6 +167,7 @@ impl Machine {
         ensures room { IfOk result (λ len. len ≤ length out.old) }
         ensures rest { IfOk result (λ len. drop len out.new ≡ drop len out.old) }
         ensures err { IfErr result (IsNotWritten 0 (slice_get (map (finished_for self.now) answer.now.finished) left) (length out.old)) }
+        ensures enough { longest_finished ≤ length out.old → IfErr result (λ why. why ≡ NoMore) }
         ensures unchanged { OnErr result (out.new ≡ out.old) }
     {
         let Some(id) = answer.finished else {

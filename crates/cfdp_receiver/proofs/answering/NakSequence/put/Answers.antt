@@ -4,7 +4,7 @@ use Rattle.cfdp_pdus.specs.declared.header.Header.{Header}
 use Rattle.cfdp_directives.specs.Spelling.{nak_pdu}
 use Rattle.cfdp_retransmission.specs.Naks.{Range, naks}
 use Rattle.cfdp_receiver.specs.Machine.{IsAsking}
-use Rattle.cfdp_receiver.proofs.Written.{FitsPdu, fits_pdu, sequence_at, put_is}
+use Rattle.cfdp_receiver.proofs.Written.{FitsPdu, fits_pdu, nak_short, sequence_at, put_enough, put_is}
 use Rattle.cfdp_receiver.proofs.answering.NakSequence.put.Goals as goal
 
 here : (most low high number : ℕ) (slice rs requests : List Range) (scope : Range) → slice ≡ rs →
@@ -80,3 +80,15 @@ returns-clause-rest c =
     let done = c.written.ensures in
     (put_is (nak_pdu s.header p.scope p.requests.now) c.args.out.now c.put_nak.new.out c.put_nak.result c.written.result _
     is put.fits put.len put.written put.unchanged done.ok done.err).rest
+
+pub returns-clause-enough : goal.returns-clause-enough
+returns-clause-enough c =
+    let s = c.self.inside in
+    let p = c.in-Some.part in
+    let n = c.args.number in
+    let fit = fits s.header s.most s.low s.high n c.deref.result.now s.requests.items p.requests.now p.scope c.self.invariant c.deref.ensures.0 c.in-Some.ensures in
+    let most : length c.deref.result.now ≤ 33 = c.deref.ensures.1 in
+    let same = ap (λ (xs : List Range). length xs) c.deref.ensures.0 in
+    let done = c.written.ensures in
+    put_enough (nak_pdu s.header p.scope p.requests.now) c.args.out.now c.put_nak.result c.written.result c.put_nak.ensures.fits done.ok done.err
+    (nak_short s.header p.scope p.requests.now c.self.invariant.header (omega (arith, fit.few, most, same)))

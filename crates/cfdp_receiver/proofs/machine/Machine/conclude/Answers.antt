@@ -48,7 +48,7 @@ returns-then-session-2 c outcome sent conclusion octets session at =
         sessions = c.wait.new.self;
         closed = c.self.inside.closed;
       };
-      concluded = c.self.inside.concluded.items;
+      concluded = c.self.inside.concluded;
     } in
     let done = concludes_waiting M c.args.index a s outcome c.session-session.ensures field (sym sent ∙ c.if-not-is_sent.false) acked said in
     subst (λ (x : SessionFields). Concludes M N a x outcome) (some_same s session (sym c.session-session.ensures ∙ at))
@@ -70,9 +70,9 @@ returns c outcome sent conclusion octets session at =
     ∙ ap (λ (n : TransactionId). ended_and_sent n c.args.conclusion words.Closed) c.name-id.ensures
     ∙ ap (λ (k : Conclusion). ended_and_sent (name_of s) k words.Closed) conclusion in
     let same =
-    ap (λ (X : MachineFields). record X { concluded = c.args.octets.items }) (c.self-2.view_is ∙ c.close-2.ensures)
-    ∙ ap (λ (n : TransactionId). closed_with M n c.args.octets.items) c.name-id.ensures
-    ∙ ap (closed_with M (name_of s)) octets in
+    ap (λ (X : MachineFields). record X { concluded = c.of.result }) (c.self-2.view_is ∙ c.close-2.ensures)
+    ∙ ap (λ (n : TransactionId). closed_with M n c.of.result) c.name-id.ensures
+    ∙ ap (closed_with M (name_of s)) (c.of.ensures ∙ octets) in
     let distinct = subst (λ (X : MachineFields). AreDistinct X.state.sessions) c.self.view_is c.distinct.ensures in
     let N : MachineFields = record {
       state = record {
@@ -82,7 +82,7 @@ returns c outcome sent conclusion octets session at =
         sessions = c.self-2.inside.sessions;
         closed = c.self-2.inside.closed;
       };
-      concluded = c.args.octets.items;
+      concluded = c.of.result;
     } in
     let done = concludes_closed M a s outcome distinct field (sym sent ∙ c.if-not-is_sent.false) acked said in
     subst (λ (x : SessionFields). Concludes M N a x outcome) (some_same s session (sym c.session-session.ensures ∙ at))

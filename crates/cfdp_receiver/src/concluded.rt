@@ -1,0 +1,52 @@
+//! The Finished PDU that is kept beside the sessions.
+
+ghost use Rattle.std.specs.Prelude.{◌≡◌, ◌≤◌, [], length, vec_len};
+ghost use Rattle.cfdp_transactions.specs.Writable.{longest_finished};
+
+use std::alloc::Global;
+use std::marker::Model;
+
+/// The octets of the Finished PDU of the transaction that was closed last when its outcome was taken: none before the first. They are
+/// 16,488 at most.
+#[derive(Drop)]
+pub(crate) struct Concluded {
+    octets: Vec<u8>,
+}
+
+impl Model for Concluded {
+    ghost use Rattle.std.specs.Prelude.{ℕ, List, ◌≤◌, vec_len};
+    ghost use Rattle.cfdp_transactions.specs.Writable.{longest_finished};
+
+    ghost Value = { List ℕ };
+
+    ghost view = { λ c. c.octets.items };
+
+    ghost invariant = { λ c. vec_len c.octets ≤ longest_finished };
+}
+
+impl Concluded {
+    /// No octets.
+    pub(crate) fn none(alloc: Global) -> Concluded
+        ensures { result ≡ [] }
+    {
+        Concluded {
+            octets: Vec::new(alloc),
+        }
+    }
+
+    /// These octets.
+    pub(crate) fn of(octets: Vec<u8>) -> Concluded
+        requires { vec_len octets ≤ longest_finished }
+        ensures { result ≡ octets.items }
+    {
+        Concluded { octets }
+    }
+
+    /// Its octets.
+    pub(crate) fn octets(&self) -> &[u8]
+        ensures octets { result.now ≡ self.now }
+        ensures short { length result.now ≤ longest_finished }
+    {
+        &self.octets
+    }
+}
