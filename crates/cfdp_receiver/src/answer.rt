@@ -80,7 +80,7 @@ pub enum Word {
 /// What became of an input, in a word: for a log.
 #[derive(Drop)]
 pub enum Became {
-    /// There was nothing to do: no timer is due, no item is to be performed, no outcome is there.
+    /// There was nothing to do: no timer is due, no item is to be performed, no outcome is there. Also of names that are forgotten.
     Nothing,
     /// The PDU is not for the receiver of a file.
     NotOurs,
