@@ -1,5 +1,5 @@
 -- A Metadata PDU that comes again.
-use Rattle.std.proofs.Common.{◌≡◌, inl, inr, ℕ, true, ◌||◌, List, [], ◌∷◌, Option, Some, None, refl, sym, ap, ◌∙◌}
+use Rattle.std.proofs.Common.{◌≡◌, inl, inr, ℕ, true, ◌||◌, List, [], ◌∷◌, Option, Some, None, refl, ap, ◌∙◌}
 use Rattle.std.specs.Prelude.{◌==◌, is_some}
 use Rattle.std.proofs.lemmas.Bool.{cond_both, cond-true, or_left, or_cases}
 use Rattle.cfdp_pdus.specs.Values.{MetadataFields}
@@ -7,7 +7,6 @@ use Rattle.cfdp_pdus.specs.declared.header.Header.{Header}
 use Rattle.cfdp_sessions.specs.Sessions.{SessionFields}
 use Rattle.cfdp_sessions.specs.declared.session.Stage.{Stage}
 use Rattle.cfdp_sessions.specs.declared.session.Stage.TheVariants.{Held, Known, Over, Waiting}
-use Rattle.cfdp_sessions.proofs.Names.{no_some}
 use Rattle.cfdp_transactions.specs.Admission.{metadata_came}
 use Rattle.cfdp_transactions.specs.Entries.{OnlyTakeRemoves, TakeRemoves}
 use Rattle.cfdp_transactions.specs.Entry.{Entry, id_of}

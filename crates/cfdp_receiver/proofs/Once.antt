@@ -1,8 +1,8 @@
 -- How often the NAK PDUs of an answer ask for an octet, and for the Metadata PDU.
-use Rattle.std.specs.Prelude.{if◌then◌else◌, nat_le, nat_lt}
+use Rattle.std.specs.Prelude.{nat_le}
 use Rattle.std.specs.List.{filter}
 use Rattle.std.proofs.Common.{◌≡◌, ◌⊎◌, inl, inr, ℕ, ◌+◌, ◌<◌, ◌≤◌, Bool, true, false, ◌&&◌, ◌==◌, List, [], ◌∷◌, length, refl, sym, ap, subst, ◌∙◌, arith}
-use Rattle.std.proofs.lemmas.Bool.{cond_both, cond-true, cond-false, cases_Bool, cases_lt, le-leb, lt-leb, lt-ltb, le-ltb, eqb-true, ne_eqb}
+use Rattle.std.proofs.lemmas.Bool.{cond_both, cond-false, cases_Bool, le-leb, lt-ltb, le-ltb, eqb-true, ne_eqb}
 use Rattle.cfdp_status.specs.declared.transaction.TransactionId.{TransactionId}
 use Rattle.cfdp_directives.specs.Reading.{NakFields}
 use Rattle.cfdp_retransmission.specs.Coming.{continues, covers, one_if}
@@ -14,9 +14,9 @@ use Rattle.cfdp_transactions.specs.declared.phase.Phase.{Phase}
 use Rattle.cfdp_transactions.specs.declared.phase.Phase.TheVariants.{Receiving, Awaiting, Executing, Refused, Done, Ended}
 use Rattle.cfdp_transactions.specs.World.{World}
 use Rattle.cfdp_transactions.proofs.OctetsAndGaps.{gaps_are_runs}
-use Rattle.cfdp_receiver.specs.State.{State, Input}
+use Rattle.cfdp_receiver.specs.State.{State}
 use Rattle.cfdp_receiver.specs.Turning as Turning
-use Rattle.cfdp_receiver.specs.Laws.{touched, Asked, Asks_none, Asks_all, Asks_gaps, Asks_new, is_data, requests_of, asks_metadata, asks_from, AsksOnce, Once_held, Once_known, NaksAskOnce}
+use Rattle.cfdp_receiver.specs.Laws.{touched, Asked, Asks_none, Asks_all, Asks_gaps, Asks_new, is_data, requests_of, asks_metadata, AsksOnce, Once_held, Once_known, NaksAskOnce}
 use Rattle.cfdp_receiver.proofs.Asking.{naks_ask, asks_for, exactly_missing, from_zero}
 
 -- ---- the Metadata PDU
