@@ -8,6 +8,7 @@ pub mod Rows
 pub mod OctetRows
 pub mod Limits
 pub mod Asking
+pub mod LastThere
 pub mod Once
 pub mod Acknowledging
 pub mod Serving

@@ -13,7 +13,8 @@
 --     Asked, is_data, NaksAsk   what the NAK PDUs of an answer ask for, and of which session
 --     ExactlyMissing            each missing offset once, and no other
 --     asks_metadata requests    how often the Metadata PDU is asked for
---     AsksOnce, NaksAskOnce     of the NAK PDUs of an answer: each missing octet once, and the Metadata PDU exactly where none came
+--     asks_from, IsAsked        from where on octets are asked for;  the octet at an offset is missing there
+--     AsksOnce, AsksOnceIn, NaksAskOnce      of the NAK PDUs of an answer: each missing octet once, and the Metadata PDU exactly where none came
 --     FewNakPdus, FewRequests   how many NAK PDUs they are at most;  how many requests
 --     due_of, timers_due        how many timers are due, of a session and of several
 --     ServedOnce                at one moment each timer that is due is served once
@@ -238,21 +239,23 @@ abbrev pub IsAsked : Entry → ℕ → ℕ → Type 0
 IsAsked entry low at = (low ≤ at) × (at < reach entry) × (octet_at entry.received at ≡ None)
 
 -- of all requests of an answer with NAK PDUs. Where the EOF PDU is held: the Metadata PDU once, and each octet of the file once. Where the core
--- knows the transaction: never the Metadata PDU, each missing octet once, and no other; after a File Data PDU this is said where the last octet
--- that was there before is there
+-- knows the transaction: never the Metadata PDU, each missing octet once, and no other
 pub data AsksOnce (U : World) (data_came : Bool) (N : State) (id : TransactionId) (at : ℕ) (requests : List (ℕ × ℕ)) : Type 0 where
   Once_held : (s : SessionFields) → (eof : Eof) → (here : session_of N id ≡ Some s) → (held : s.stage ≡ Held eof) → (metadata : asks_metadata requests ≡ 1) →
       (inside : at < eof.size → covers at requests ≡ 1) → (outside : eof.size ≤ at → covers at requests ≡ 0) → AsksOnce U data_came N id at requests
   Once_known : (s : SessionFields) → (entry : Entry) → (here : session_of N id ≡ Some s) → (known : s.stage ≡ Known) → (there : entry_of N.world id ≡ Some entry) →
       (metadata : asks_metadata requests ≡ 0) →
-      (exactly : continues entry.received (asks_from U data_came id) ≡ true →
-      (IsAsked entry (asks_from U data_came id) at → covers at requests ≡ 1) × ((IsAsked entry (asks_from U data_came id) at → ⊥) → covers at requests ≡ 0)) →
-      AsksOnce U data_came N id at requests
+      (inside : IsAsked entry (asks_from U data_came id) at → covers at requests ≡ 1) →
+      (outside : (IsAsked entry (asks_from U data_came id) at → ⊥) → covers at requests ≡ 0) → AsksOnce U data_came N id at requests
+
+-- of a state R, as each is that an entity comes to which began without transactions
+abbrev pub AsksOnceIn : State → Input → ℕ → Type 0
+AsksOnceIn R i at =
+    ((parts R i).answer.naks ≡ []) ⊎ AsksOnce R.world (is_data i) (after R i) (touched R i) at (requests_of (parts R i).answer.naks)
 
 abbrev pub NaksAskOnce : Type 0
 NaksAskOnce =
-    (R : State) (i : Input) (at : ℕ) → 1 ≤ most_requests R.mib →
-    ((parts R i).answer.naks ≡ []) ⊎ AsksOnce R.world (is_data i) (after R i) (touched R i) at (requests_of (parts R i).answer.naks)
+    (mib : Mib) (W : World) (inputs : List Input) (i : Input) (at : ℕ) → W.table ≡ [] → 1 ≤ most_requests mib → AsksOnceIn (after_all (begin mib W) inputs) i at
 
 abbrev pub FewNakPdus : Type 0
 FewNakPdus =

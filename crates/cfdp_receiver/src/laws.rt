@@ -132,8 +132,8 @@ pub fn exactly_missing()
     ensures { ExactlyMissing }
 {}
 
-/// The NAK PDUs of an answer ask for each octet that is missing exactly once and for no other, and for the Metadata PDU exactly if none came.
-/// After a File Data PDU this is said of what follows all that was there before, if the last octet of that is still there.
+/// Over an entity that begins without transactions: the NAK PDUs of an answer ask for each octet that is missing exactly once and for no other, and
+/// for the Metadata PDU exactly if none came. After a File Data PDU what is asked for follows all that was there before.
 pub fn naks_ask_once()
     ensures { NaksAskOnce }
 {}
