@@ -19,7 +19,8 @@ use Rattle.cfdp_receiver.proofs.Shapes.{Shape, Keeps, Puts, Adds, Closes, Forget
 
 -- ---- no session begins while the name is closed
 
-none_by : (R : State) (t : TransactionId) (p : Turning.Parts) → Shape R t p → (id : TransactionId) → found R.sessions id ≡ None → closed_in R.closed.names id ≡ true →
+none_by : (R : State) (t : TransactionId) (p : Turning.Parts) → Shape R t p → (id : TransactionId) → found R.sessions id ≡ None →
+    closed_in R.closed.names id ≡ true →
     found p.sessions id ≡ None
 none_by R t p (Keeps a e) id none closed = ap (λ (q : Turning.Parts). found q.sessions id) e ∙ none
 none_by R t p (Puts s a name e) id none closed = ap (λ (q : Turning.Parts). found q.sessions id) e ∙ replaced_none R.sessions s id none
@@ -59,7 +60,8 @@ none_closed R (i ∷ is) id none =
 
 -- ---- the acknowledgement
 
-ack_closes : (R : State) (now : ℕ) (h : Header) (ack : Ack) (s : SessionFields) → Handing.is_ours R h ≡ true → ack.directive ≡ 5 → session_of R (id_of h) ≡ Some s →
+ack_closes : (R : State) (now : ℕ) (h : Header) (ack : Ack) (s : SessionFields) → Handing.is_ours R h ≡ true → ack.directive ≡ 5 →
+    session_of R (id_of h) ≡ Some s →
     s.stage ≡ Waiting → Turning.parts R (AckPdu now h ack) ≡ Turning.closes (Handing.later now R) (name_of s) (Turning.said_of h words.Acknowledged)
 ack_closes R now h ack s ours directive here waits =
     let L = Handing.later now R in

@@ -56,7 +56,8 @@ from_zero (x ∷ xs) =
     cond-true (nat_le 0 x.0) (x ∷ filter (λ (g : Range). nat_le 0 g.0) xs) (filter (λ (g : Range). nat_le 0 g.0) xs) (le-leb 0 x.0 (omega arith))
     ∙ ap (λ (rest : List Range). x ∷ rest) (from_zero xs)
 
-asked_entry : (U : World) (N : State) (id : TransactionId) (s : SessionFields) (entry : Option Entry) → session_of N id ≡ Some s → s.header.acknowledged ≡ true →
+asked_entry : (U : World) (N : State) (id : TransactionId) (s : SessionFields) (entry : Option Entry) → session_of N id ≡ Some s →
+    s.header.acknowledged ≡ true →
     s.stage ≡ Known → entry_of N.world id ≡ entry → Asked U false N id (Turning.asks_entry N.mib s.header 0 entry)
 asked_entry U N id s None here mode known there = Asks_none refl
 asked_entry U N id s (Some e) here mode known there =
@@ -93,40 +94,50 @@ asked_session U N id s b mode =
     subst (Asked U false N id) (asks_same N N.world id s 0 b)
     (asked_stage U N id b.t b.t.stage b.here (ap (λ (h : Header). h.acknowledged) b.header ∙ mode) refl)
 
-asked_if : (U : World) (d : Bool) (N : State) (id : TransactionId) (b : Bool) (xs : List NakFields) → (b ≡ true → Asked U d N id xs) → Asked U d N id (if b then xs else [])
+asked_if : (U : World) (d : Bool) (N : State) (id : TransactionId) (b : Bool) (xs : List NakFields) → (b ≡ true → Asked U d N id xs) →
+    Asked U d N id (if b then xs else [])
 asked_if U d N id b xs h = cond_both b xs [] (Asked U d N id) h (λ e. Asks_none refl)
 
-asked_awaiting : (U : World) (N : State) (id : TransactionId) (s : SessionFields) → Becomes N id s → Asked U false N id (Turning.asks_where_awaiting N.mib N.world s)
+asked_awaiting : (U : World) (N : State) (id : TransactionId) (s : SessionFields) → Becomes N id s →
+    Asked U false N id (Turning.asks_where_awaiting N.mib N.world s)
 asked_awaiting U N id s b =
     let awaits = Turning.is_awaiting_at (at_of N.world s) in
-    asked_if U false N id (s.header.acknowledged && awaits) (Turning.asks N.mib N.world s) (λ e. asked_session U N id s b (and_parts s.header.acknowledged awaits e).0)
+    asked_if U false N id (s.header.acknowledged && awaits) (Turning.asks N.mib N.world s)
+    (λ e. asked_session U N id s b (and_parts s.header.acknowledged awaits e).0)
 
 -- ---- by the input
 
 abbrev AskedIn : State → World → Bool → TransactionId → Turning.Parts → Type 0
 AskedIn R V d id p = Asked R.world d (with_parts R V p) id p.answer.naks
 
-if_parts : (R : State) (V : World) (d : Bool) (id : TransactionId) (b : Bool) (p q : Turning.Parts) → AskedIn R V d id p → AskedIn R V d id q → AskedIn R V d id (if b then p else q)
+if_parts : (R : State) (V : World) (d : Bool) (id : TransactionId) (b : Bool) (p q : Turning.Parts) → AskedIn R V d id p → AskedIn R V d id q →
+    AskedIn R V d id (if b then p else q)
 if_parts R V d id true p q hp hq = hp
 if_parts R V d id false p q hp hq = hq
 
-when_parts : (R : State) (V : World) (d : Bool) (id : TransactionId) (b : Bool) (p q : Turning.Parts) → (b ≡ true → AskedIn R V d id p) → (b ≡ false → AskedIn R V d id q) →
+when_parts : (R : State) (V : World) (d : Bool) (id : TransactionId) (b : Bool) (p q : Turning.Parts) → (b ≡ true → AskedIn R V d id p) →
+    (b ≡ false → AskedIn R V d id q) →
     AskedIn R V d id (if b then p else q)
 when_parts R V d id b p q hp hq = cond_both b p q (AskedIn R V d id) hp hq
 
 -- the session that is put is found
-becomes_put : (R : State) (V : World) (id : TransactionId) (s new : SessionFields) (a : AnswerFields) → IsFound R.sessions id → name_of new ≡ id → new.header ≡ s.header → new.stage ≡ s.stage →
+becomes_put : (R : State) (V : World) (id : TransactionId) (s new : SessionFields) (a : AnswerFields) → IsFound R.sessions id → name_of new ≡ id →
+    new.header ≡ s.header → new.stage ≡ s.stage →
     Becomes (with_parts R V (Turning.puts R new a)) id s
 becomes_put R V id s new a was name header stage = record { t = new; here = replaced_self R.sessions new id was name; header = header; stage = stage }
 
 heard_header : (R : State) (V : World) (s : SessionFields) → (Turning.heard R V s).header ≡ s.header
-heard_header R V s = cond_both (Turning.is_news R.world V s) (record s { timer = restarted R.now }) s (λ (t : SessionFields). t.header ≡ s.header) (λ e. refl) (λ e. refl)
+heard_header R V s =
+    cond_both (Turning.is_news R.world V s) (record s { timer = restarted R.now }) s (λ (t : SessionFields). t.header ≡ s.header) (λ e. refl) (λ e. refl)
 
-becomes_heard : (R : State) (V : World) (id : TransactionId) (s : SessionFields) (a : AnswerFields) → session_of R id ≡ Some s → Becomes (with_parts R V (Turning.puts R (Turning.heard R V s) a)) id s
+becomes_heard : (R : State) (V : World) (id : TransactionId) (s : SessionFields) (a : AnswerFields) → session_of R id ≡ Some s →
+    Becomes (with_parts R V (Turning.puts R (Turning.heard R V s) a)) id s
 becomes_heard R V id s a here =
-    becomes_put R V id s (Turning.heard R V s) a (s, here) (ap id_of (heard_header R V s) ∙ found_name R.sessions id s here) (heard_header R V s) (heard_stage R V s)
+    becomes_put R V id s (Turning.heard R V s) a (s, here) (ap id_of (heard_header R V s) ∙ found_name R.sessions id s here) (heard_header R V s)
+    (heard_stage R V s)
 
-asked_metadata_stage : (R : State) (V : World) (rs : List Reply) (h : Header) (m : MetadataFields) (s : SessionFields) (stage : Stage) → session_of R (id_of h) ≡ Some s →
+asked_metadata_stage : (R : State) (V : World) (rs : List Reply) (h : Header) (m : MetadataFields) (s : SessionFields) (stage : Stage) →
+    session_of R (id_of h) ≡ Some s →
     AskedIn R V false (id_of h) (Turning.metadata_stage R V rs h m s stage)
 asked_metadata_stage R V rs h m s (Held eof) here =
     let new = Turning.begun R h (Turning.stage_in (entry_of V (id_of h)) true h.destination) in
@@ -150,7 +161,8 @@ some_gaps low e h = elim (cases_lt 0 (length (Turning.gaps_after low e))) [
   | inr none ↦ absurd (both_of (not (length (Turning.gaps_after low e) == 0)) (ap not (eq-eqb (length (Turning.gaps_after low e)) 0 (omega (arith, none)))) h)
 ]
 
-asked_new_entry : (U : World) (N : State) (id : TransactionId) (s : SessionFields) (low : ℕ) (entry : Option Entry) → session_of N id ≡ Some s → s.header.acknowledged ≡ true →
+asked_new_entry : (U : World) (N : State) (id : TransactionId) (s : SessionFields) (low : ℕ) (entry : Option Entry) → session_of N id ≡ Some s →
+    s.header.acknowledged ≡ true →
     s.stage ≡ Known → entry_of N.world id ≡ entry → Turning.is_immediate N.mib.nak_mode ≡ true → low ≡ Turning.progress_at (entry_of U id) →
     not (length (filter (λ (g : Range). nat_le low g.0) (Turning.gaps_at entry)) == 0) ≡ true → Asked U true N id (Turning.asks_entry N.mib s.header low entry)
 asked_new_entry U N id s low None here mode known there immediate from some = Asks_none refl
@@ -170,12 +182,14 @@ asked_new : (U : World) (N : State) (id : TransactionId) (s : SessionFields) (lo
 asked_new U N id s low b known mode immediate from some =
     let name = becomes_name N id s b in
     let is : b.t.stage ≡ Known = b.stage ∙ known in
-    subst (Asked U true N id) (ap (λ (stage : Stage). Turning.asks_stage N.mib b.t.header low stage (entry_of N.world id)) (sym is) ∙ asks_same N N.world id s low b)
+    subst (Asked U true N id)
+    (ap (λ (stage : Stage). Turning.asks_stage N.mib b.t.header low stage (entry_of N.world id)) (sym is) ∙ asks_same N N.world id s low b)
     (asked_new_entry U N id b.t low (entry_of N.world id) b.here (ap (λ (h : Header). h.acknowledged) b.header ∙ mode) is refl immediate
     (subst (λ (n : TransactionId). low ≡ Turning.progress_at (entry_of U n)) (sym name) from)
     (subst (λ (n : TransactionId). not (length (filter (λ (g : Range). nat_le low g.0) (Turning.gaps_at (entry_of N.world n))) == 0) ≡ true) (sym name) some))
 
-asked_takes : (R : State) (V : World) (rs : List Reply) (h : Header) (piece : FileDataFields) (s : SessionFields) → session_of R (id_of h) ≡ Some s → s.stage ≡ Known →
+asked_takes : (R : State) (V : World) (rs : List Reply) (h : Header) (piece : FileDataFields) (s : SessionFields) → session_of R (id_of h) ≡ Some s →
+    s.stage ≡ Known →
     AskedIn R V true (id_of h) (Turning.takes_data R V rs h piece s)
 asked_takes R V rs h piece s here known =
     let p = Turning.takes_data R V rs h piece s in
@@ -184,7 +198,8 @@ asked_takes R V rs h piece s here known =
     let some = not (length (filter (λ (g : Range). nat_le low g.0) (Turning.gaps_at (entry_of V (name_of s)))) == 0) in
     let immediate = Turning.is_immediate R.mib.nak_mode in
     let receives = Due.is_receiving_at (at_of V s) in
-    asked_if R.world true N (id_of h) (immediate && s.header.acknowledged && receives && some) (Turning.asks_stage R.mib s.header low s.stage (entry_of V (name_of s))) (λ e.
+    asked_if R.world true N (id_of h) (immediate && s.header.acknowledged && receives && some)
+    (Turning.asks_stage R.mib s.header low s.stage (entry_of V (name_of s))) (λ e.
     let first = and_parts (immediate && s.header.acknowledged && receives) some e in
     let second = and_parts (immediate && s.header.acknowledged) receives first.0 in
     let third = and_parts immediate s.header.acknowledged second.0 in
@@ -213,7 +228,8 @@ not_false : (b : Bool) → not b ≡ false → b ≡ true
 not_false true e = refl
 not_false false e = absurd cc
 
-asked_holds : (R : State) (V : World) (h : Header) (eof : Eof) → session_of R (id_of h) ≡ None → h.acknowledged ≡ true → AskedIn R V false (id_of h) (Turning.holds R h eof)
+asked_holds : (R : State) (V : World) (h : Header) (eof : Eof) → session_of R (id_of h) ≡ None → h.acknowledged ≡ true →
+    AskedIn R V false (id_of h) (Turning.holds R h eof)
 asked_holds R V h eof none mode =
     let new = Turning.begun R h (Held eof) in
     Asks_all new eof (added_found R.sessions new (id_of h) refl none) mode refl refl
@@ -231,7 +247,8 @@ asked_eof R V rs h eof (Some s) here = asked_eof_stage R V rs h eof s s.stage he
 
 -- ---- ACK and Prompt
 
-asked_ack_stage : (R : State) (V : World) (h : Header) (ack : Ack) (s : SessionFields) (stage : Stage) → AskedIn R V false (id_of h) (Turning.ack_stage R h ack s stage)
+asked_ack_stage : (R : State) (V : World) (h : Header) (ack : Ack) (s : SessionFields) (stage : Stage) →
+    AskedIn R V false (id_of h) (Turning.ack_stage R h ack s stage)
 asked_ack_stage R V h ack s (Held eof) = Asks_none refl
 asked_ack_stage R V h ack s Known = Asks_none refl
 asked_ack_stage R V h ack s (Over ending) = Asks_none refl
@@ -243,14 +260,17 @@ asked_ack R V h ack (Some s) = asked_ack_stage R V h ack s s.stage
 
 roused_is : (R : State) (s : SessionFields) → ((Turning.roused R s).header ≡ s.header) × ((Turning.roused R s).stage ≡ s.stage)
 roused_is R s =
-    cond_both (Due.is_receiving_at (at_of R.world s)) (record s { timer = restarted R.now }) s (λ (t : SessionFields). (t.header ≡ s.header) × (t.stage ≡ s.stage)) (λ e. (refl, refl)) (λ e. (refl, refl))
+    cond_both (Due.is_receiving_at (at_of R.world s)) (record s { timer = restarted R.now }) s
+    (λ (t : SessionFields). (t.header ≡ s.header) × (t.stage ≡ s.stage)) (λ e. (refl, refl)) (λ e. (refl, refl))
 
-becomes_roused : (R : State) (V : World) (id : TransactionId) (s : SessionFields) (a : AnswerFields) → session_of R id ≡ Some s → Becomes (with_parts R V (Turning.puts R (Turning.roused R s) a)) id s
+becomes_roused : (R : State) (V : World) (id : TransactionId) (s : SessionFields) (a : AnswerFields) → session_of R id ≡ Some s →
+    Becomes (with_parts R V (Turning.puts R (Turning.roused R s) a)) id s
 becomes_roused R V id s a here =
     let is = roused_is R s in
     becomes_put R V id s (Turning.roused R s) a (s, here) (ap id_of is.0 ∙ found_name R.sessions id s here) is.0 is.1
 
-asked_prompted : (R : State) (V : World) (h : Header) (s : SessionFields) (prompt : Prompt) → V ≡ R.world → session_of R (id_of h) ≡ Some s → s.header.acknowledged ≡ true →
+asked_prompted : (R : State) (V : World) (h : Header) (s : SessionFields) (prompt : Prompt) → V ≡ R.world → session_of R (id_of h) ≡ Some s →
+    s.header.acknowledged ≡ true →
     AskedIn R V false (id_of h) (Turning.puts R (Turning.roused R s) (Turning.prompted R h s prompt))
 asked_prompted R V h s prompts.Nak same here mode =
     let p = Turning.puts R (Turning.roused R s) (Turning.prompted R h s prompts.Nak) in
@@ -263,12 +283,14 @@ asked_prompt : (R : State) (V : World) (h : Header) (prompt : Prompt) (s : Optio
 asked_prompt R V h prompt None same here = Asks_none refl
 asked_prompt R V h prompt (Some s) same here =
     let takes = Turning.takes_prompts (at_of R.world s) in
-    when_parts R V false (id_of h) (s.header.acknowledged && takes) (Turning.puts R (Turning.roused R s) (Turning.prompted R h s prompt)) (Turning.keeps R (Turning.said_of h words.Idle))
+    when_parts R V false (id_of h) (s.header.acknowledged && takes) (Turning.puts R (Turning.roused R s) (Turning.prompted R h s prompt))
+    (Turning.keeps R (Turning.said_of h words.Idle))
     (λ e. asked_prompted R V h s prompt same here (and_parts s.header.acknowledged takes e).0) (λ e. Asks_none refl)
 
 -- ---- timers
 
-if_answer : (U : World) (N : State) (id : TransactionId) (b : Bool) (a c : AnswerFields) → (b ≡ true → Asked U false N id a.naks) → c.naks ≡ [] → Asked U false N id (if b then a else c).naks
+if_answer : (U : World) (N : State) (id : TransactionId) (b : Bool) (a c : AnswerFields) → (b ≡ true → Asked U false N id a.naks) → c.naks ≡ [] →
+    Asked U false N id (if b then a else c).naks
 if_answer U N id b a c ha none = cond_both b a c (λ (x : AnswerFields). Asked U false N id x.naks) ha (λ e. Asks_none none)
 
 asked_again : (R : State) (N : State) (s : SessionFields) → N.mib ≡ R.mib → Becomes N (name_of s) s → s.header.acknowledged ≡ true →
@@ -276,7 +298,8 @@ asked_again : (R : State) (N : State) (s : SessionFields) → N.mib ≡ R.mib �
 asked_again R N s mib b mode =
     subst (λ (m : Mib). Asked R.world false N (name_of s) (Turning.asks m N.world s)) mib (asked_session R.world N (name_of s) s b mode)
 
-asked_repeats : (R : State) (N : State) (s : SessionFields) (at : At) → N.mib ≡ R.mib → Becomes N (name_of s) s → Asked R.world false N (name_of s) (Turning.repeats R N.world s at).naks
+asked_repeats : (R : State) (N : State) (s : SessionFields) (at : At) → N.mib ≡ R.mib → Becomes N (name_of s) s →
+    Asked R.world false N (name_of s) (Turning.repeats R N.world s at).naks
 asked_repeats R N s At_waiting mib b = Asks_none refl
 asked_repeats R N s At_held mib b = if_answer R.world N (name_of s) s.header.acknowledged _ _ (asked_again R N s mib b) refl
 asked_repeats R N s At_receiving mib b = if_answer R.world N (name_of s) s.header.acknowledged _ _ (asked_again R N s mib b) refl
@@ -284,7 +307,8 @@ asked_repeats R N s (At_awaiting made) mib b = if_answer R.world N (name_of s) s
 asked_repeats R N s At_executing mib b = if_answer R.world N (name_of s) s.header.acknowledged _ _ (asked_again R N s mib b) refl
 asked_repeats R N s At_over mib b = if_answer R.world N (name_of s) s.header.acknowledged _ _ (asked_again R N s mib b) refl
 
-asked_gives_up : (R : State) (V : World) (s : SessionFields) (condition : ℕ) (how : Handler) (at : At) → AskedIn R V false (name_of s) (Turning.gives_up R s condition how at)
+asked_gives_up : (R : State) (V : World) (s : SessionFields) (condition : ℕ) (how : Handler) (at : At) →
+    AskedIn R V false (name_of s) (Turning.gives_up R s condition how at)
 asked_gives_up R V s condition handlers.Ignore at = Asks_none refl
 asked_gives_up R V s condition handlers.Cancel At_waiting = Asks_none refl
 asked_gives_up R V s condition handlers.Cancel At_held = Asks_none refl
@@ -304,7 +328,8 @@ asked_due R V Due.Nothing_due d = Asks_none refl
 asked_due R V (Due.Alive_due s) d = Asks_none refl
 asked_due R V (Due.Stage_due s false) d =
     let p = Turning.due_parts R V (Due.Stage_due s false) in
-    asked_repeats R (with_parts R V p) s (at_of R.world s) refl (becomes_put R V (name_of s) s (record s { timer = passed R.now s.timer Again }) p.answer d refl refl refl)
+    asked_repeats R (with_parts R V p) s (at_of R.world s) refl
+    (becomes_put R V (name_of s) s (record s { timer = passed R.now s.timer Again }) p.answer d refl refl refl)
 asked_due R V (Due.Stage_due s true) d = asked_gives_up R V s _ _ _
 
 -- ---- outcomes and the user's requests
@@ -319,7 +344,8 @@ asked_finish : (R : State) (V : World) (s : Option SessionFields) → AskedIn R 
 asked_finish R V None = Asks_none refl
 asked_finish R V (Some s) = asked_session_over R V s (Turning.outcome_for s (entry_of R.world (name_of s)))
 
-asked_cancel_stage : (R : State) (V : World) (rs : List Reply) (id : TransactionId) (s : SessionFields) (stage : Stage) → AskedIn R V false id (Turning.cancel_stage R rs s stage)
+asked_cancel_stage : (R : State) (V : World) (rs : List Reply) (id : TransactionId) (s : SessionFields) (stage : Stage) →
+    AskedIn R V false id (Turning.cancel_stage R rs s stage)
 asked_cancel_stage R V rs id s (Held eof) = Asks_none refl
 asked_cancel_stage R V rs id s Known = Asks_none refl
 asked_cancel_stage R V rs id s (Over ending) = Asks_none refl
@@ -335,7 +361,8 @@ asked_cancel R V rs id (Some s) = asked_cancel_stage R V rs id s s.stage
 abbrev SameForPrompts : State → World → Input → Type 0
 SameForPrompts R V i = (now : ℕ) (h : Header) (prompt : Prompt) → i ≡ PromptPdu now h prompt → V ≡ R.world
 
-asked_ours : (R : State) (V : World) (d : Bool) (h : Header) (p : Turning.Parts) → AskedIn R V d (id_of h) p → AskedIn R V d (id_of h) (Turning.where_ours R h p)
+asked_ours : (R : State) (V : World) (d : Bool) (h : Header) (p : Turning.Parts) → AskedIn R V d (id_of h) p →
+    AskedIn R V d (id_of h) (Turning.where_ours R h p)
 asked_ours R V d h p hp = if_parts R V d (id_of h) (Handing.is_ours R h) p (Turning.keeps R (Turning.quiet (Turning.foreign h))) hp (Asks_none refl)
 
 asked_of : (R : State) (V : World) (rs : List Reply) (i : Input) → SameForPrompts R V i → AskedIn R V (is_data i) (touched_in R i) (Turning.parts_of R V rs i)
@@ -366,7 +393,8 @@ requests_are h [] = refl
 requests_are h (x ∷ xs) = ap (λ (rest : List Range). x.requests ++ rest) (requests_are h xs)
 
 -- the requests of a sequence are those that it was made for
-pub asks_for : (mib : Mib) (h : Header) (low high : ℕ) (requests : List Range) → 1 ≤ Turning.most_requests mib → requests_of (Turning.sequence mib h low high requests) ≡ requests
+pub asks_for : (mib : Mib) (h : Header) (low high : ℕ) (requests : List Range) → 1 ≤ Turning.most_requests mib →
+    requests_of (Turning.sequence mib h low high requests) ≡ requests
 asks_for mib h low high requests some =
     requests_are h (naks (Turning.most_requests mib) low high requests) ∙ asks_for_all (Turning.most_requests mib) low high requests some
 
@@ -471,7 +499,8 @@ fewer : (low : ℕ) (xs : List Range) → length (filter (λ (g : Range). nat_le
 fewer low [] = omega arith
 fewer low (x ∷ xs) =
     let rest = filter (λ (g : Range). nat_le low g.0) xs in
-    cond_both (nat_le low x.0) (x ∷ rest) rest (λ (ys : List Range). length ys ≤ length (x ∷ xs)) (λ e. omega (arith, fewer low xs)) (λ e. omega (arith, fewer low xs))
+    cond_both (nat_le low x.0) (x ∷ rest) rest (λ (ys : List Range). length ys ≤ length (x ∷ xs)) (λ e. omega (arith, fewer low xs))
+    (λ e. omega (arith, fewer low xs))
 
 few_in : (W : World) (entry : Entry) (phase : Phase) → (IsTrue (is_live phase) → pieces entry.received ≤ 32) → length (gaps_in phase entry) ≤ 33
 few_in W entry Receiving h = omega (arith, few_gaps (length entry.received) entry.received, h refl)

@@ -128,7 +128,8 @@ module _ (W : World) (all : Each LastThere W.table) where
     step_items_last n [] = all
     step_items_last n (item ∷ items) =
         let o = act_now W e item in
-        cond_both (succeeded o.answer) _ _ Stays (λ _. changed_last o.changes (entry_after e n item items o) (none_or (is_install item))) (λ _. ends_last (entry_failed e o) 4)
+        cond_both (succeeded o.answer) _ _ Stays (λ _. changed_last o.changes (entry_after e n item items o) (none_or (is_install item)))
+        (λ _. ends_last (entry_failed e o) 4)
 
     step_last : (phase : Phase) → Stays (step_in phase W k e)
     step_last (Executing n) = step_items_last n (drop n e.items)
@@ -190,7 +191,8 @@ module _ (W : World) (all : Each LastThere W.table) where
       (λ _. cond_both (has_file m && not (is_known_checksum m.checksum_type)) _ _ Stays (λ _. added_last (refused_entry h m (Ended 11)) refl)
       (λ _. judged_last h m (verdict W.config.prefixes W.filestore (leases_of W.table) (spare W) (proposal_of W.config m)))))
 
-  found_last : (f : Option Entry → World × Reply) (k : ℕ) → Stays (f None) → ((e : Entry) → slice_get W.table k ≡ Some e → Stays (f (Some e))) → (o : Option Entry) → slice_get W.table k ≡ o → Stays (f o)
+  found_last : (f : Option Entry → World × Reply) (k : ℕ) → Stays (f None) → ((e : Entry) → slice_get W.table k ≡ Some e → Stays (f (Some e))) →
+      (o : Option Entry) → slice_get W.table k ≡ o → Stays (f o)
   found_last f k unknown known None at = unknown
   found_last f k unknown known (Some e) at = known e at
 
@@ -201,10 +203,12 @@ module _ (W : World) (all : Each LastThere W.table) where
   next_last (MetadataCame h m) = for_us_last h _ (metadata_last h m (entry_of W (id_of h)))
   next_last (DataCame h piece) =
       let k = index_of W (id_of h) in
-      for_us_last h (data_came W k piece (entry_of W (id_of h))) (found_last (λ o. data_came W k piece o) k all (λ e at. data_last W all k e at piece) (entry_of W (id_of h)) refl)
+      for_us_last h (data_came W k piece (entry_of W (id_of h)))
+      (found_last (λ o. data_came W k piece o) k all (λ e at. data_last W all k e at piece) (entry_of W (id_of h)) refl)
   next_last (EofCame h eof) =
       let k = index_of W (id_of h) in
-      for_us_last h (eof_came W k eof (entry_of W (id_of h))) (found_last (λ o. eof_came W k eof o) k all (λ e at. eof_last W all k e at eof) (entry_of W (id_of h)) refl)
+      for_us_last h (eof_came W k eof (entry_of W (id_of h)))
+      (found_last (λ o. eof_came W k eof o) k all (λ e at. eof_last W all k e at eof) (entry_of W (id_of h)) refl)
   next_last (Step id) = let k = index_of W id in found_last (λ o. stepped W k o) k all (λ e at. step_last W all k e at e.phase) (entry_of W id) refl
   next_last (Cancel id) = let k = index_of W id in found_last (λ o. cancelled W k o) k all (λ e at. cancelled_last W all k e at) (entry_of W id) refl
   next_last (Check id) = let k = index_of W id in found_last (λ o. checked W k o) k all (λ e at. check_last W all k e at e.phase) (entry_of W id) refl
@@ -265,7 +269,8 @@ module _ (W : World) (id : TransactionId) (e : Entry) (here : entry_of W id ≡ 
 
     eof_joined : (eof : Option Eof) → JoinedIn id low (after_eof eof U k grown)
     eof_joined None = kept_here replies.Stored
-    eof_joined (Some eof) = cond_both (is_whole eof.size more) _ _ (JoinedIn id low) (λ _. whole_joined U grown eof.checksum named refl) (λ _. kept_here replies.Stored)
+    eof_joined (Some eof) =
+        cond_both (is_whole eof.size more) _ _ (JoinedIn id low) (λ _. whole_joined U grown eof.checksum named refl) (λ _. kept_here replies.Stored)
 
     stored_joined : (phase : Phase) → JoinedIn id low (stored phase U k grown)
     stored_joined (Awaiting checks) = eof_joined e.eof

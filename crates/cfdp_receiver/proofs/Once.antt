@@ -67,7 +67,8 @@ record AllOnce (size at : ℕ) (xs : List Range) : Type 0 where
   outside : size ≤ at → covers at xs ≡ 0
 
 nothing_once : (at : ℕ) → AllOnce 0 at ((0, 0) ∷ [])
-nothing_once at = record { metadata = refl; inside = λ h. absurd (omega (arith, h)); outside = λ h. rw (le-leb 0 at (omega arith), le-ltb at 0 (omega arith)) refl }
+nothing_once at =
+    record { metadata = refl; inside = λ h. absurd (omega (arith, h)); outside = λ h. rw (le-leb 0 at (omega arith), le-ltb at 0 (omega arith)) refl }
 
 file_once : (size at : ℕ) → (size == 0) ≡ false → AllOnce size at ((0, 0) ∷ (0, size) ∷ [])
 file_once size at some = record {
@@ -90,8 +91,10 @@ all_once size at = elim (cases_Bool (size == 0)) [
 abbrev GoesOn : World → Bool → State → TransactionId → Type 0
 GoesOn U data_came N id = data_came ≡ true → (now : Entry) → entry_of N.world id ≡ Some now → Joined (Turning.progress_at (entry_of U id)) now
 
-once_new : (U : World) (N : State) (id : TransactionId) (at : ℕ) (sent : List NakFields) (s : SessionFields) (entry : Entry) (low : ℕ) → 1 ≤ Turning.most_requests N.mib →
-    session_of N id ≡ Some s → s.stage ≡ Known → entry_of N.world id ≡ Some entry → low ≡ Turning.progress_at (entry_of U id) → continues entry.received low ≡ true →
+once_new : (U : World) (N : State) (id : TransactionId) (at : ℕ) (sent : List NakFields) (s : SessionFields) (entry : Entry) (low : ℕ) →
+    1 ≤ Turning.most_requests N.mib →
+    session_of N id ≡ Some s → s.stage ≡ Known → entry_of N.world id ≡ Some entry → low ≡ Turning.progress_at (entry_of U id) →
+    continues entry.received low ≡ true →
     sent ≡ Turning.sequence N.mib s.header low (reach entry) (Turning.gaps_after low entry) → AsksOnce U true N id at (requests_of sent)
 once_new U N id at sent s entry low most here known there from joined e =
     let all = ap requests_of e ∙ asks_for N.mib s.header low (reach entry) (Turning.gaps_after low entry) most in
@@ -106,7 +109,8 @@ no_gaps low entry none some =
     let zero_long : length (Turning.gaps_after low entry) ≡ 0 = ap (λ (xs : List Range). length (filter (λ (g : Range). nat_le low g.0) xs)) none in
     absurd (omega (arith, zero_long, some))
 
-once_in : (U : World) (data_came : Bool) (N : State) (id : TransactionId) (at : ℕ) (sent : List NakFields) → 1 ≤ Turning.most_requests N.mib → GoesOn U data_came N id →
+once_in : (U : World) (data_came : Bool) (N : State) (id : TransactionId) (at : ℕ) (sent : List NakFields) → 1 ≤ Turning.most_requests N.mib →
+    GoesOn U data_came N id →
     Asked U data_came N id sent → (sent ≡ []) ⊎ AsksOnce U data_came N id at (requests_of sent)
 once_in U data_came N id at sent most on (Asks_none e) = inl e
 once_in U data_came N id at sent most on (Asks_all s eof here mode held e) =
@@ -142,13 +146,15 @@ data_follows R h piece (Some e) all here now there =
     subst (λ (o : Option Entry). Joined (Turning.progress_at o) now) (sym here)
     (next_joined R.world h piece e (progress e) here (all (index_of R.world (id_of h)) e here) now there)
 
-stage_follows : (R : State) (id : TransactionId) (stage : Stage) (es : List Event) → FollowsIn R id [] → FollowsIn R id es → FollowsIn R id (Handing.where_known stage es)
+stage_follows : (R : State) (id : TransactionId) (stage : Stage) (es : List Event) → FollowsIn R id [] → FollowsIn R id es →
+    FollowsIn R id (Handing.where_known stage es)
 stage_follows R id (Held eof) es none some = none
 stage_follows R id Known es none some = some
 stage_follows R id (Over ending) es none some = none
 stage_follows R id Waiting es none some = none
 
-session_follows : (R : State) (id : TransactionId) (o : Option SessionFields) (es : List Event) → FollowsIn R id [] → FollowsIn R id es → FollowsIn R id (Handing.of_session o es)
+session_follows : (R : State) (id : TransactionId) (o : Option SessionFields) (es : List Event) → FollowsIn R id [] → FollowsIn R id es →
+    FollowsIn R id (Handing.of_session o es)
 session_follows R id None es none some = none
 session_follows R id (Some s) es none some = stage_follows R id s.stage es none some
 
@@ -157,7 +163,8 @@ goes_on R (DataPdu now h piece) all d =
     let L = Handing.later now R in
     let none = nothing_follows R (id_of h) all in
     cond_both (Handing.is_ours L h) (Handing.of_session (session_of L (id_of h)) (DataCame h piece ∷ [])) [] (FollowsIn R (id_of h))
-    (λ e. session_follows R (id_of h) (session_of L (id_of h)) (DataCame h piece ∷ []) none (data_follows R h piece (entry_of R.world (id_of h)) all refl)) (λ e. none)
+    (λ e. session_follows R (id_of h) (session_of L (id_of h)) (DataCame h piece ∷ []) none (data_follows R h piece (entry_of R.world (id_of h)) all refl))
+    (λ e. none)
 goes_on R (MetadataPdu now h m) all d = absurd cc
 goes_on R (EofPdu now h eof) all d = absurd cc
 goes_on R (AckPdu now h ack) all d = absurd cc
