@@ -251,7 +251,9 @@ module _ (W : World) (id : TransactionId) (e : Entry) (here : entry_of W id ≡ 
       let again : (other : Entry) → slice_set U.table k other ≡ slice_set W.table k other =
       λ other. ap (λ (t : List Entry). slice_set t k other) table ∙ set_set_same W.table k new other in
       cond_both (is_right_checksum new sum) _ _ (JoinedIn id low)
-      (λ _. put_joined (turns U k new (Executing 0) new.eof true) (turned new (Executing 0) new.eof true) replies.Complete name (again (turned new (Executing 0) new.eof true)) (inr refl))
+      (λ _.
+      let done : Entry = turned new (Executing 0) new.eof true in
+      put_joined (turns U k new (Executing 0) new.eof true) done replies.Complete name (again done) (inr refl))
       (λ _. put_joined (ends U k new 5) (ended U.filestore new 5) (replies.Faulted 5) name (again (ended U.filestore new 5)) (inr refl))
 
   module _ (piece : FileDataFields) where

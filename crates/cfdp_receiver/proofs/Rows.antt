@@ -10,7 +10,7 @@ use Rattle.cfdp_leases.specs.Items.{step_bound}
 use Rattle.cfdp_pdus.specs.Canonical.{finished_field}
 use Rattle.cfdp_pdus.specs.declared.eof.Eof.{Eof}
 use Rattle.cfdp_pdus.specs.declared.header.Header.{Header}
-use Rattle.cfdp_pdus.specs.Values.{MetadataFields}
+use Rattle.cfdp_pdus.specs.Values.{MetadataFields, FileDataFields}
 use Rattle.cfdp_status.specs.declared.action.Action.TheVariants as action
 use Rattle.cfdp_states.specs.Alone.{statuses, steps, peak}
 use Rattle.cfdp_transactions.specs.declared.event.Event.{Event}
@@ -347,7 +347,11 @@ abbrev unbounded : MetadataFields
 unbounded = record M { size = 0 }
 
 abbrev with_large : World
-with_large = record { config = config; filestore = empty_filestore; table = new_entry large_header unbounded Receiving 0 (Install (codes "f" ∷ []) ∷ []) 21 2 ∷ [] }
+with_large = record {
+  config = config;
+  filestore = empty_filestore;
+  table = new_entry large_header unbounded Receiving 0 (Install (codes "f" ∷ []) ∷ []) 21 2 ∷ [];
+}
 
 admitted_large : next (start config) (MetadataCame large_header unbounded) ≡ (with_large, Reply.Admitted 21 2)
 unfolding statuses steps peak row free_row install step_bound blocks blocks_of
@@ -358,12 +362,18 @@ live_large = after_on (fresh mib) (MetadataPdu 0 large_header unbounded) [] (wit
 
 first_large : (inputs : List Input) →
     all_answers (fresh mib) (MetadataPdu 0 large_header unbounded ∷ inputs)
-    ≡ record (replies 8 (Reply.Admitted 21 2)) { indications = tells.MetadataRecv (id 8) (record { size = 0; closure = true; checksum_type = 0 }) ∷ [] }
+    ≡ record (replies 8 (Reply.Admitted 21 2)) {
+      indications = tells.MetadataRecv (id 8) (record { size = 0; closure = true; checksum_type = 0 }) ∷ [];
+    }
     ∷ all_answers live_large inputs
 first_large inputs = ap (all_on (fresh mib) (MetadataPdu 0 large_header unbounded) [] inputs) admitted_large
 
+-- one octet at 2^32
+abbrev past_the_cap : FileDataFields
+past_the_cap = record { offset = 4294967296; octets = 0x78 ∷ [] }
+
 too_large :
-    all_answers live_large (DataPdu 1 large_header (record { offset = 4294967296; octets = 0x78 ∷ [] }) ∷ Finish 1 ∷ EofPdu 2 large_header (record E { checksum = 0; size = 1 }) ∷ []) ≡
+    all_answers live_large (DataPdu 1 large_header past_the_cap ∷ Finish 1 ∷ EofPdu 2 large_header (record E { checksum = 0; size = 1 }) ∷ []) ≡
     replies 8 (Reply.Faulted 6)
     ∷ record (says 8 words.Finished) {
       finished = (0x29 ∷ 0 ∷ 5 ∷ 0 ∷ 1 ∷ 8 ∷ 2 ∷ 5 ∷ 0x64 ∷ 6 ∷ 1 ∷ 2 ∷ []) ∷ [];
