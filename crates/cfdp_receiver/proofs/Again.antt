@@ -20,7 +20,7 @@ use Rattle.cfdp_transactions.specs.declared.reply.Reply.TheVariants as replies
 use Rattle.cfdp_receiver.specs.State.{State, begin, MetadataPdu, session_of, is_closed, is_full}
 use Rattle.cfdp_receiver.specs.Handing.{is_ours, later, metadata_in_stage, metadata_events}
 use Rattle.cfdp_receiver.specs.Turning.{after, after_all}
-use Rattle.cfdp_receiver.specs.Laws.{IsPast, Past_closed, Past_over, Past_waiting, NoneAgain, NotBegunAnew, is_known, knows, AreKnown, is_begun_in, is_begun, AtMostOnce}
+use Rattle.cfdp_receiver.specs.Laws.{IsPast, Past_closed, Past_over, Past_waiting, NoneAgain, NotBegunAnew, is_known, knows, AreKnown, is_begun_in, is_begun, RememberedStays, AtMostOnce}
 use Rattle.cfdp_receiver.proofs.Distinct.{closed_is_over}
 use Rattle.cfdp_receiver.proofs.Knowing.{known_is_entry}
 
@@ -79,10 +79,13 @@ begun_stays : (R : State) (now : ℕ) (h : Header) (m : MetadataFields) (o : Opt
 begun_stays R now h m None known here begun = absurd cc
 begun_stays R now h m (Some s) known here begun = stage_stays R now h m s s.stage known here refl begun
 
+pub remembered_stays : RememberedStays
+remembered_stays R now h m known over remembered = elim (or_cases (is_closed R (id_of h)) (is_begun (session_of R (id_of h))) remembered) [
+  | inl closed ↦ past_stays R now h m (Past_closed (over closed) closed)
+  | inr begun ↦ begun_stays R now h m (session_of R (id_of h)) known refl begun
+]
+
 pub at_most_once : OnlyTakeRemoves → TakeRemoves → NextIsSound → NextIsPromised → AtMostOnce
 at_most_once only_take takes sound promised mib W inputs now h m start none remembered =
-    let R = after_all (begin mib W) inputs in
-    elim (or_cases (is_closed R (id_of h)) (is_begun (session_of R (id_of h))) remembered) [
-      | inl closed ↦ past_stays R now h m (Past_closed (closed_is_over mib W inputs (id_of h) closed) closed)
-      | inr begun ↦ begun_stays R now h m (session_of R (id_of h)) (known_is_entry only_take takes sound promised mib W inputs start none) refl begun
-    ]
+    remembered_stays (after_all (begin mib W) inputs) now h m (known_is_entry only_take takes sound promised mib W inputs start none)
+    (closed_is_over mib W inputs (id_of h)) remembered

@@ -27,7 +27,7 @@ use Rattle.cfdp_receiver.specs.declared.mib.Mib.{Mib}
 use Rattle.cfdp_receiver.specs.State.{State, begin, Input, MetadataPdu, DataPdu, EofPdu, AckPdu, PromptPdu, OtherPdu, Expire, Work, Finish, CancelAsked, ForgetAsked, session_of}
 use Rattle.cfdp_receiver.specs.Handing as Handing
 use Rattle.cfdp_receiver.specs.Turning as Turning
-use Rattle.cfdp_receiver.specs.Laws.{touched, Asked, Asks_none, Asks_all, Asks_gaps, Asks_new, is_data, requests_of, asks_metadata, AsksOnce, Once_held, Once_known, AsksOnceIn, NaksAskOnce}
+use Rattle.cfdp_receiver.specs.Laws.{touched, Asked, Asks_none, Asks_all, Asks_gaps, Asks_new, is_data, requests_of, asks_metadata, AsksOnce, Once_held, Once_known, AsksOnceIn, EndsStayThere, NaksAskOnceIn, NaksAskOnce}
 use Rattle.cfdp_receiver.proofs.Asking.{naks_ask, asks_for, exactly_missing, from_zero}
 use Rattle.cfdp_receiver.proofs.Handing.{hands_on}
 use Rattle.cfdp_receiver.proofs.LastThere.{LastThere, Joined, run_last, next_joined}
@@ -182,8 +182,12 @@ mib_stays : (R : State) (inputs : List Input) → (Turning.after_all R inputs).m
 mib_stays R [] = refl
 mib_stays R (i ∷ is) = mib_stays (Turning.after R i) is
 
-once_at : (R : State) (i : Input) (at : ℕ) → Each LastThere R.world.table → 1 ≤ Turning.most_requests R.mib → AsksOnceIn R i at
-once_at R i at all most = once_in R.world (is_data i) (Turning.after R i) (touched R i) at (Turning.parts R i).answer.naks most (goes_on R i all) (naks_ask R i)
+pub naks_ask_once_in : NaksAskOnceIn
+naks_ask_once_in R i at most all =
+    once_in R.world (is_data i) (Turning.after R i) (touched R i) at (Turning.parts R i).answer.naks most (λ d. goes_on R i (all d) d) (naks_ask R i)
+
+pub ends_stay_there : EndsStayThere
+ends_stay_there R i all = run_last R.world (Handing.handed R i) all
 
 none_listed : (W : World) → W.table ≡ [] → Each LastThere W.table
 none_listed W none = subst (Each LastThere) (sym none) (λ k e at. absurd cc)
@@ -194,4 +198,4 @@ naks_ask_once mib W inputs i at none most =
     let R = Turning.after_all R0 inputs in
     let all : Each LastThere R.world.table =
     subst (λ (V : World). Each LastThere V.table) (sym (hands_on R0 inputs)) (run_last W (Turning.all_handed R0 inputs) (none_listed W none)) in
-    once_at R i at all (subst (λ (m : Mib). 1 ≤ Turning.most_requests m) (sym (mib_stays R0 inputs)) most)
+    naks_ask_once_in R i at (subst (λ (m : Mib). 1 ≤ Turning.most_requests m) (sym (mib_stays R0 inputs)) most) (λ d. all)

@@ -15,6 +15,8 @@
 --     asks_metadata requests    how often the Metadata PDU is asked for
 --     asks_from, IsAsked        from where on octets are asked for;  the octet at an offset is missing there
 --     AsksOnce, AsksOnceIn, NaksAskOnce      of the NAK PDUs of an answer: each missing octet once, and the Metadata PDU exactly where none came
+--     EndsThere W, EndsStayThere      the octet before the end of what was received of each transaction is there;  and stays so
+--     NaksAskOnceIn             the same as NaksAskOnce, of a state
 --     FewNakPdus, FewRequests   how many NAK PDUs they are at most;  how many requests
 --     due_of, timers_due        how many timers are due, of a session and of several
 --     ServedOnce                at one moment each timer that is due is served once
@@ -32,6 +34,7 @@
 --     IsPast R id, NoneAgain    a Metadata PDU of a transaction that is closed and remembered, is over or waits, is not handed on
 --     NotBegunAnew              one of a transaction that the core knows leaves the core as it is
 --     is_remembered R id        it is closed and remembered, or has a session that holds no EOF PDU
+--     RememberedStays           the same of a state: a Metadata PDU of a transaction that is remembered leaves the core as it is
 --     AtMostOnce                while a transaction is remembered, no Metadata PDU of it changes the core
 use Rattle.std.specs.Prelude.{◌≡◌, ◌≢◌, ◌⊎◌, ℕ, ◌+◌, ◌-◌, ◌*◌, ◌≤◌, ◌<◌, ◌==◌, ◌&&◌, Bool, true, false, ◌||◌, if◌then◌else◌, List, [], ◌∷◌, ◌++◌, map, min, length, Option, Some, None, is_some}
 use Rattle.std.specs.List.{AllByRecursion, flat_map}
@@ -59,7 +62,7 @@ use Rattle.cfdp_transactions.specs.declared.phase.Phase.TheVariants.{Awaiting, E
 use Rattle.cfdp_transactions.specs.Events.{about}
 use Rattle.cfdp_transactions.specs.World.{World, bound, entry_of, next_runnable}
 use Rattle.cfdp_transactions.specs.Next.{run}
-use Rattle.cfdp_transactions.specs.Sound.{Sound}
+use Rattle.cfdp_transactions.specs.Sound.{Each, Sound}
 use Rattle.cfdp_transactions.specs.Headline.{Promised, AtEach}
 use Rattle.cfdp_transactions.specs.Writable.{finished_octets}
 use Rattle.cfdp_receiver.specs.declared.mib.Handler.TheVariants.{Ignore}
@@ -131,6 +134,17 @@ abbrev pub UnrecognizedIsTrue : Type 0
 UnrecognizedIsTrue =
     (R : State) (s : SessionFields) (id : TransactionId) (inputs : List Input) → session_of R id ≡ Some s → status_of (after_all R inputs) id ≢ Unrecognized
 
+abbrev pub is_known : Stage → Bool
+is_known Known = true
+is_known stage = false
+
+abbrev pub knows : Option SessionFields → Bool
+knows None = false
+knows (Some s) = is_known s.stage
+
+abbrev pub AreKnown : State → Type 0
+AreKnown R = (id : TransactionId) → is_some (entry_of R.world id) ≡ knows (session_of R id)
+
 -- it is closed; or it is over, and was never in the core; or its outcome was taken, and the acknowledgement is awaited
 pub data IsPast (R : State) (id : TransactionId) : Type 0 where
   Past_closed : (none : session_of R id ≡ None) → (closed : is_closed R id ≡ true) → IsPast R id
@@ -156,6 +170,12 @@ is_begun (Some s) = is_begun_in s.stage
 
 abbrev pub is_remembered : State → TransactionId → Bool
 is_remembered R id = is_closed R id || is_begun (session_of R id)
+
+-- of a state as each is that a receiver comes to
+abbrev pub RememberedStays : Type 0
+RememberedStays =
+    (R : State) (now : ℕ) (h : Header) (m : MetadataFields) → AreKnown R → (is_closed R (id_of h) ≡ true → session_of R (id_of h) ≡ None) →
+    is_remembered R (id_of h) ≡ true → (after R (MetadataPdu now h m)).world ≡ R.world
 
 abbrev pub AtMostOnce : Type 0
 AtMostOnce =
@@ -248,10 +268,19 @@ pub data AsksOnce (U : World) (data_came : Bool) (N : State) (id : TransactionId
       (inside : IsAsked entry (asks_from U data_came id) at → covers at requests ≡ 1) →
       (outside : (IsAsked entry (asks_from U data_came id) at → ⊥) → covers at requests ≡ 0) → AsksOnce U data_came N id at requests
 
--- of a state R, as each is that an entity comes to which began without transactions
 abbrev pub AsksOnceIn : State → Input → ℕ → Type 0
 AsksOnceIn R i at =
     ((parts R i).answer.naks ≡ []) ⊎ AsksOnce R.world (is_data i) (after R i) (touched R i) at (requests_of (parts R i).answer.naks)
+
+-- the octet before the end of all that was received of each transaction is there
+abbrev pub EndsThere : World → Type 0
+EndsThere W = Each (λ e. continues e.received (length e.received) ≡ true) W.table
+
+abbrev pub EndsStayThere : Type 0
+EndsStayThere = (R : State) (i : Input) → EndsThere R.world → EndsThere (after R i).world
+
+abbrev pub NaksAskOnceIn : Type 0
+NaksAskOnceIn = (R : State) (i : Input) (at : ℕ) → 1 ≤ most_requests R.mib → (is_data i ≡ true → EndsThere R.world) → AsksOnceIn R i at
 
 abbrev pub NaksAskOnce : Type 0
 NaksAskOnce =
@@ -283,17 +312,6 @@ abbrev pub ServedOnce : Type 0
 ServedOnce =
     (R : State) (now : ℕ) → IsSet R.mib → Sound R.world → AreDistinct R.sessions →
     timers_due (after R (Expire now)) (after R (Expire now)).sessions ≤ timers_due (later now R) R.sessions - 1
-
-abbrev pub is_known : Stage → Bool
-is_known Known = true
-is_known stage = false
-
-abbrev pub knows : Option SessionFields → Bool
-knows None = false
-knows (Some s) = is_known s.stage
-
-abbrev pub AreKnown : State → Type 0
-AreKnown R = (id : TransactionId) → is_some (entry_of R.world id) ≡ knows (session_of R id)
 
 abbrev pub KnownIsEntry : Type 0
 KnownIsEntry = (mib : Mib) (W : World) (inputs : List Input) → Sound W → W.table ≡ [] → AreKnown (after_all (begin mib W) inputs)

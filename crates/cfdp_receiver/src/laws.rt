@@ -1,6 +1,6 @@
 //! What is true of the receiver, whatever comes. These functions do nothing: their contracts are the laws.
 
-ghost use Rattle.cfdp_receiver.specs.Laws.{HandsOn, HeadlineHolds, FewEvents, FewPdus, AcknowledgedOnce, OthersStay, UnrecognizedIsTrue, TerminatedIsTrue, ClosedIsOver, FinishedOnly, NoneAgain, NotBegunAnew, AtMostOnce, NaksAsk, ExactlyMissing, NaksAskOnce, FewNakPdus, FewRequests, ServedOnce, KnownIsEntry, AnsweredIsDelivered, AreApart, SentAtMost, NoneAfterAck, EntriesStay, OthersKeepEntries, WorkKeepsOthers};
+ghost use Rattle.cfdp_receiver.specs.Laws.{HandsOn, HeadlineHolds, FewEvents, FewPdus, AcknowledgedOnce, OthersStay, UnrecognizedIsTrue, TerminatedIsTrue, ClosedIsOver, FinishedOnly, NoneAgain, NotBegunAnew, RememberedStays, AtMostOnce, NaksAsk, ExactlyMissing, EndsStayThere, NaksAskOnceIn, NaksAskOnce, FewNakPdus, FewRequests, ServedOnce, KnownIsEntry, AnsweredIsDelivered, AreApart, SentAtMost, NoneAfterAck, EntriesStay, OthersKeepEntries, WorkKeepsOthers};
 
 /// The world of a receiver is the core's own run of the events that its inputs handed on.
 pub fn hands_on()
@@ -50,6 +50,11 @@ pub fn none_again()
 /// A Metadata PDU of a transaction that the core knows leaves the core as it is: its table and the filestore.
 pub fn not_begun_anew()
     ensures { NotBegunAnew }
+{}
+
+/// A Metadata PDU of a transaction that is remembered leaves the core as it is, in each state that a receiver comes to.
+pub fn remembered_stays()
+    ensures { RememberedStays }
 {}
 
 /// Over an entity that begins without transactions: while a transaction is remembered, a Metadata PDU of it leaves the core as it is. So its
@@ -130,6 +135,17 @@ pub fn naks_ask()
 /// on in exactly one request, and no other offset.
 pub fn exactly_missing()
     ensures { ExactlyMissing }
+{}
+
+/// The octet before the end of all that was received of a transaction is there, and stays there whatever comes.
+pub fn ends_stay_there()
+    ensures { EndsStayThere }
+{}
+
+/// The NAK PDUs of an answer ask for each octet that is missing exactly once and for no other, and for the Metadata PDU exactly if none came. For a
+/// File Data PDU this asks of the state that the octet before the end of all that was received is there.
+pub fn naks_ask_once_in()
+    ensures { NaksAskOnceIn }
 {}
 
 /// Over an entity that begins without transactions: the NAK PDUs of an answer ask for each octet that is missing exactly once and for no other, and

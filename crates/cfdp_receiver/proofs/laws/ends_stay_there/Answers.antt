@@ -1,0 +1,5 @@
+use Rattle.cfdp_receiver.proofs.Once.{ends_stay_there as proved}
+use Rattle.cfdp_receiver.proofs.laws.ends_stay_there.Goals as goal
+
+pub returns : goal.returns
+returns c = proved
