@@ -58,7 +58,7 @@ pub fn remembered_stays()
 {}
 
 /// Over an entity that begins without transactions: while a transaction is remembered, a Metadata PDU of it leaves the core as it is. So its
-/// requests are performed at most once. Remembered is what is closed and not yet forgotten, and what has a session, but while that holds an EOF
+/// requests are not performed a second time. Remembered is what is closed and not yet forgotten, and what has a session, but while that holds an EOF
 /// PDU: then the first Metadata PDU is still to come.
 pub fn at_most_once()
     ensures { AtMostOnce }
