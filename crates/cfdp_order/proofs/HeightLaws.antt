@@ -1,5 +1,5 @@
 -- How many levels a tree has.
---     least_in           a tree of some height has at least so many nodes
+--     least_in           a tree of a height has at least this number of nodes
 --     within_links, all_within, known_of  each node of a tree has links
 --     few_nodes          the nodes of a tree are at most as many as there are links
 --     few_levels         a tree of at most 65,536 nodes has at most 22 levels

@@ -7,8 +7,8 @@ pub fn no_levels()
     ensures { NoLevels }
 {}
 
-/// An order has at least so many nodes for its levels: 0 for none, 1 for one, and for more levels 1 more than for one
-/// level less and for two levels less. So an order of at most 65,536 nodes has at most 22 levels.
+/// The least nodes that an order with some levels has: 0 for none, 1 for one, and for more levels 1 more than for one level
+/// less and for two levels less together. So an order of at most 65,536 nodes has at most 22 levels.
 pub fn few_levels()
     ensures { FewLevels }
 {}

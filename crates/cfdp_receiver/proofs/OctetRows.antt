@@ -17,7 +17,7 @@ use Rattle.cfdp_receiver.specs.Heard.{heard}
 use Rattle.cfdp_receiver.specs.Sent.{as_sent}
 use Rattle.cfdp_receiver.proofs.RowWords.{mib, header, M, E, ack, nak}
 
--- ---- row 15: what is dropped, and why
+-- ---- octets that are dropped, and why
 
 cut : heard 0 (0x24 ∷ 0 ∷ 3 ∷ 0 ∷ 1 ∷ 5 ∷ 2 ∷ 6 ∷ []) ≡ Err (dropped.Pdu fault.Truncated)
 unfolding sealed_at pdu_first.start_at pdu_first.header_at pdu_first.number_at pdu_first.field_at pdu_first.directive_at
@@ -43,7 +43,7 @@ long_keep_alive : heard 0 (0x20 ∷ 0 ∷ 6 ∷ 0 ∷ 1 ∷ 5 ∷ 2 ∷ 0xc ∷ 
 unfolding sealed_at pdu_first.start_at pdu_first.header_at pdu_first.number_at pdu_first.field_at pdu_first.directive_at directive_at directive_in keep_alive_at
 long_keep_alive = refl
 
--- ---- row 10: PDUs that have a CRC
+-- ---- PDUs that have a CRC
 
 metadata_with_crc : heard 0 (0x22 ∷ 0 ∷ 0xc ∷ 0 ∷ 1 ∷ 5 ∷ 2 ∷ 7 ∷ 0x40 ∷ 0 ∷ 0 ∷ 0 ∷ 0xf ∷ 1 ∷ 0x73 ∷ 1 ∷ 0x66 ∷ 0x63 ∷ 0xcb ∷ []) ≡
     Ok (MetadataPdu 0 (header 5) M)

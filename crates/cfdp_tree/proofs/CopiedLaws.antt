@@ -1,5 +1,5 @@
 -- What is copied of a file.
---     directory_there, file_there, file_held, file_ways     what stands at a path, by its node's block
+--     directory_there, file_there, file_held, file_ways     what exists at a path, by its node's block
 --     none_copied                    where there are no octets the buffer stays
 --     copied                         so many octets, read from where the copy begins
 use Rattle.std.proofs.Common.{rules, ◌≡◌, ℕ, ◌+◌, ◌≤◌, List, [], ◌++◌, drop, length, Some, sym, ap, ◌∙◌, arith}

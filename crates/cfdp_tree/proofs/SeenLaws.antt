@@ -2,7 +2,7 @@
 --     shows                      its nodes are those of the map from paths
 --     seen_node, seen_block, seen_none, seen_there       what stands at a path is what stands at its node
 --     seen_blocks, few_blocks, file_small, staged_small    the blocks in use, and the octets of a file and of a staged list
---     seen_file, file_ways       a file's octets stand in its contents, and the ways of their blocks lead back
+--     seen_file, file_ways       a file's octets are in its contents, and the ways of their blocks lead back
 --     seen_staged, slot_ways     so do those that are staged
 --     seen_parent                the parent of a path is the beginning of it
 --     told_kind, told_directory  a node by its kind

@@ -1,7 +1,7 @@
 -- The checksum of octets that change, and of the blocks of a run, one after the other.
 --     extended_sum      zeros at the end
 --     replaced_sum      a part is replaced
---     joined_sum        octets are put behind others
+--     joined_sum        octets are put after others
 --     none_summed       none of them
 --     step_sum          what some octets add, with those of one part more
 use Rattle.std.proofs.Common.{◌≡◌, ℕ, ◌+◌, ◌-◌, ◌%◌, ◌^◌, ◌≤◌, List, ◌++◌, length, take, drop, refl, sym, ap, ◌∙◌, arith, length-drop}

@@ -32,7 +32,7 @@ static ADDED: [Added; 12] = [
     (2, &[1, 2, 3, 4, 5], 0x0304_0602),
     // Three on: ..01 and 02030405.
     (3, &[1, 2, 3, 4, 5], 0x0203_0406),
-    // The next word, and a word far behind.
+    // The next word, and a word far after it.
     (4, &[1, 2, 3, 4, 5], 0x0602_0304),
     (7_864_317, &[1, 2, 3, 4, 5], 0x0406_0203),
     // Within a word, up to its end and not.
