@@ -189,7 +189,7 @@ naks_ask_once_in R i at most all =
 pub ends_stay_there : EndsStayThere
 ends_stay_there R i all = run_last R.world (Handing.handed R i) all
 
-none_listed : (W : World) → W.table ≡ [] → Each LastThere W.table
+pub none_listed : (W : World) → W.table ≡ [] → Each LastThere W.table
 none_listed W none = subst (Each LastThere) (sym none) (λ k e at. absurd cc)
 
 pub naks_ask_once : NaksAskOnce

@@ -14,11 +14,12 @@ use Rattle.cfdp_receiver.specs.Machine.{MachineFields, AnswerParts, IsWhole, Tur
 use Rattle.cfdp_receiver.specs.Turning as Turning
 use Rattle.cfdp_receiver.proofs.Distinct.{Apart, apart_by}
 use Rattle.cfdp_receiver.proofs.Knowing.{Laws, known_after}
+use Rattle.cfdp_receiver.proofs.Once.{ends_stay_there, none_listed}
 use Rattle.cfdp_receiver.proofs.Shapes.{shape}
 use Rattle.cfdp_receiver.proofs.Turned.{turned}
 
 pub whole_begin : (mib : Mib) (W : World) → W.table ≡ [] → IsWhole (begin mib W)
-whole_begin mib W none = record { known = λ id. ap (λ (t : List Entry). is_some (slice_get t (place_of id t))) none; over = λ id closed. refl }
+whole_begin mib W none = record { known = λ id. ap (λ (t : List Entry). is_some (slice_get t (place_of id t))) none; over = λ id closed. refl; ends = none_listed W none }
 
 pub whole_after : Laws → NextIsSound → NextIsPromised → (R : State) (i : Input) → Sound R.world → AreDistinct R.sessions → IsWhole R →
     IsWhole (Turning.after R i)
@@ -27,6 +28,7 @@ whole_after laws next_sound promised R i sound distinct whole =
     record {
       known = known_after laws next_sound promised R i sound distinct whole.known;
       over = (apart_by (Handing.later (now_of i) R) (touched R i) (Turning.parts R i) (shape R i) apart).over;
+      ends = ends_stay_there R i whole.ends;
     }
 
 pub whole_turn : (M N : MachineFields) (a : AnswerParts) (i : Input) → IsWhole (Turning.after M.state i) →

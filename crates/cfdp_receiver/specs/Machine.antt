@@ -52,7 +52,7 @@ use Rattle.cfdp_receiver.specs.declared.timing.DueTimer.{DueTimer}
 use Rattle.cfdp_receiver.specs.declared.timing.DueTimer.TheVariants as timers
 use Rattle.cfdp_receiver.specs.Due.{Due, Nothing_due, Stage_due, Alive_due, IsSet, is_receiving_at}
 use Rattle.cfdp_receiver.specs.Handing.{events_of, is_ours, later}
-use Rattle.cfdp_receiver.specs.Laws.{AreKnown}
+use Rattle.cfdp_receiver.specs.Laws.{AreKnown, EndsThere}
 use Rattle.cfdp_receiver.specs.Turning.{Parts, parts_of, finish_session, gaps_at, heard, is_awaiting_at, is_immediate, progress_at}
 
 pub record MachineFields : Type 0 where
@@ -217,6 +217,7 @@ IsNotMade mib W not_made.Memory = (first_fault mib ≡ None) × (W.table ≡ [])
 pub record IsWhole (R : State) : Type 0 where
   pub known : AreKnown R
   pub over : (id : TransactionId) → is_closed R id ≡ true → session_of R id ≡ None
+  pub ends : EndsThere R.world
 
 -- there is no entry, or file data is taken
 abbrev pub IsTaking : Option Entry → Type 0

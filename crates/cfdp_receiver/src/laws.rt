@@ -143,7 +143,8 @@ pub fn ends_stay_there()
 {}
 
 /// The NAK PDUs of an answer ask for each octet that is missing exactly once and for no other, and for the Metadata PDU exactly if none came. For a
-/// File Data PDU this asks of the state that the octet before the end of all that was received is there.
+/// File Data PDU this asks of the state that the octet before the end of all that was received is there, as it always is in a [`crate::Receiver`]
+/// ([`crate::Receiver::whole`]).
 pub fn naks_ask_once_in()
     ensures { NaksAskOnceIn }
 {}

@@ -17,7 +17,7 @@ ghost use Rattle.cfdp_receiver.specs.declared.reading.Dropped.TheVariants.{Pdu a
 ghost use Rattle.cfdp_receiver.specs.declared.receiver.NotWritten.TheVariants.{NoMore};
 ghost use Rattle.cfdp_receiver.specs.State.{AckPdu, CancelAsked, DataPdu, EofPdu, MetadataPdu, OtherPdu, PromptPdu, Expire, Finish, ForgetAsked, Input, Work, begin, is_closed, session_of, status_of};
 ghost use Rattle.cfdp_receiver.specs.Due.{IsSet, first_due, first_over};
-ghost use Rattle.cfdp_receiver.specs.Laws.{AreKnown};
+ghost use Rattle.cfdp_receiver.specs.Laws.{AreKnown, EndsThere};
 ghost use Rattle.cfdp_receiver.specs.Heard.{IsDropped, IsUnread, heard, input_at};
 ghost use Rattle.cfdp_receiver.specs.Machine.{AtIndex, IsInOrder, IsNotMade, IsWhole, answer_in, first_fault, has_come, is_any_due};
 ghost use Rattle.cfdp_receiver.specs.Sent.{IsNotWritten, as_sent, crc_len, longest_sealed, pdus_of};
@@ -119,6 +119,7 @@ impl Receiver {
         ensures distinct { AreDistinct self.now.state.sessions }
         ensures known { AreKnown self.now.state }
         ensures over { (id : TransactionIdOf) → is_closed self.now.state id ≡ true → session_of self.now.state id ≡ None }
+        ensures ends { EndsThere self.now.state.world }
         ensures set { IsSet self.now.state.mib }
         ensures asks { 1 ≤ most_requests self.now.state.mib }
     {
