@@ -1,15 +1,11 @@
 pub mod Answering
-pub mod Decoding
 pub mod Hearing
 pub mod Keeping
 pub mod Numbering
 pub mod PathLengths
-pub mod Pairs
 pub mod Preparing
 pub mod Reconciling
 pub mod SameConfig
 pub mod Statuses
 pub mod Steps
-pub mod Vectors
 pub mod Verdicts
-pub mod Words

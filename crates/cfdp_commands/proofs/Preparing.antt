@@ -8,12 +8,13 @@ use Rattle.cfdp_paths.specs.Paths.{Path, path_of}
 use Rattle.cfdp_transactions.specs.Config.{Config, first_fault}
 use Rattle.cfdp_transactions.specs.declared.config.ConfigFault.{ConfigFault}
 use Rattle.cfdp_transactions.specs.Writable.{IsReadable}
-use Rattle.cfdp_commands.specs.Commands.{words_of, numbers_of, id_by, keyword_of, local_event}
+use Rattle.cfdp_commands.specs.Commands.{keyword_of, local_event}
+use Rattle.cfdp_lines.specs.Words.{words_of, numbers_of, id_by}
 use Rattle.cfdp_commands.specs.declared.commands.Keyword.{Keyword}
 use Rattle.cfdp_commands.specs.declared.commands.Keyword.TheVariants as keyword
 use Rattle.cfdp_commands.specs.declared.commands.Local.{Local}
 use Rattle.cfdp_commands.specs.declared.commands.Local.TheVariants.{Step, Cancel, Check, Take}
-use Rattle.cfdp_commands.specs.Hexadecimal.{octets_of_words}
+use Rattle.cfdp_lines.specs.Hexadecimal.{octets_of_words}
 use Rattle.cfdp_lines.specs.Lines.{is_overlong, is_comment, lines_of}
 use Rattle.cfdp_lines.specs.declared.faults.LinkFault.{LinkFault}
 use Rattle.cfdp_commands.specs.Linked.{IsBadFile, IsFresh, IsHeard}

@@ -1,6 +1,4 @@
 pub mod Commands
-pub mod Digits
-pub mod Hexadecimal
 pub mod JournalTexts
 pub mod Linked
 pub mod Links

@@ -17,10 +17,11 @@ use Rattle.cfdp_transactions.specs.Config.{Config}
 use Rattle.cfdp_transactions.specs.declared.event.Event.{Event}
 use Rattle.cfdp_engine.specs.declared.message.Message.{Message}
 use Rattle.cfdp_engine.specs.declared.message.Message.TheVariants as messages
-use Rattle.cfdp_commands.specs.Commands.{words_of, numbers_of, id_by, keyword_of, local_event}
+use Rattle.cfdp_commands.specs.Commands.{keyword_of, local_event}
+use Rattle.cfdp_lines.specs.Words.{words_of, numbers_of, id_by}
 use Rattle.cfdp_commands.specs.declared.commands.Keyword.{Keyword}
 use Rattle.cfdp_commands.specs.declared.commands.Keyword.TheVariants as keyword
-use Rattle.cfdp_commands.specs.Hexadecimal.{octets_of_words}
+use Rattle.cfdp_lines.specs.Hexadecimal.{octets_of_words}
 use Rattle.cfdp_lines.specs.Lines.{lines_of}
 use Rattle.cfdp_commands.specs.Replay.{Stage, Running, at_first, configured, protected, world_of, alone}
 use Rattle.cfdp_lines.specs.Report.{line_answer}

@@ -25,7 +25,7 @@ use Rattle.cfdp_actions.specs.Store.{Store}
 use Rattle.cfdp_tlv.specs.Values.{RequestFields}
 use Rattle.cfdp_verifier.specs.Verdict.{request_by}
 use Rattle.cfdp_commands.specs.declared.dropped.Dropped.{Dropped}
-use Rattle.cfdp_commands.specs.Hexadecimal.{hex_octets}
+use Rattle.cfdp_lines.specs.Hexadecimal.{hex_octets}
 use Rattle.cfdp_lines.specs.Report.{Report, script_report}
 use Rattle.cfdp_commands.specs.RequestLines.{request_on, dropped_text, response_line}
 

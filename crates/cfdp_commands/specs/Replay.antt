@@ -25,10 +25,11 @@ use Rattle.cfdp_transactions.specs.declared.event.Event.{Event}
 use Rattle.cfdp_transactions.specs.declared.event.Event.TheVariants as events
 use Rattle.cfdp_transactions.specs.Next.{next, run, replies}
 use Rattle.cfdp_transactions.specs.World.{World, start, next_runnable}
-use Rattle.cfdp_commands.specs.Commands.{words_of, numbers_of, id_by, keyword_of, local_event}
+use Rattle.cfdp_commands.specs.Commands.{keyword_of, local_event}
+use Rattle.cfdp_lines.specs.Words.{words_of, numbers_of, id_by}
 use Rattle.cfdp_commands.specs.declared.commands.Keyword.{Keyword}
 use Rattle.cfdp_commands.specs.declared.commands.Keyword.TheVariants as keyword
-use Rattle.cfdp_commands.specs.Hexadecimal.{octets_of_words}
+use Rattle.cfdp_lines.specs.Hexadecimal.{octets_of_words}
 use Rattle.cfdp_texts.specs.Replies.{told_lines, fault_line, not_ours, listing_text}
 use Rattle.cfdp_lines.specs.Report.{Report, script_report}
 

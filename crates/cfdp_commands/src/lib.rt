@@ -8,10 +8,8 @@
 
 mod closed_text;
 mod commands;
-mod digits;
 mod dropped;
 mod entity;
-mod hexadecimal;
 mod journal_text;
 mod link_files;
 mod link_lines;

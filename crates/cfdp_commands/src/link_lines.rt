@@ -1,7 +1,8 @@
 //! The lines of the files of `links`: what each says to a worker.
 ghost use Rattle.std.specs.Prelude.{◌≡◌, ◌↔◌, ◌<◌, ◌≤◌, [], ◌∷◌, length, map, IfOk, IfErr, OnOk, Err, Ok, Some, None};
-ghost use Rattle.cfdp_commands.specs.Commands.{id_by, local_event, numbers_of, words_of};
-ghost use Rattle.cfdp_commands.specs.Hexadecimal.{octets_of_words};
+ghost use Rattle.cfdp_commands.specs.Commands.{local_event};
+ghost use Rattle.cfdp_lines.specs.Words.{id_by, numbers_of, words_of};
+ghost use Rattle.cfdp_lines.specs.Hexadecimal.{octets_of_words};
 ghost use Rattle.cfdp_commands.specs.Linked.{AddsLine, IsBadLine};
 ghost use Rattle.cfdp_lines.specs.Lines.{input_limit, lines_of};
 ghost use Rattle.cfdp_commands.specs.Links.{file_said, link_answer, local_said, obeyed_by_link, pdu_said, prepared, said_in, said_of};
@@ -11,11 +12,13 @@ ghost use Rattle.cfdp_commands.specs.Stages.{stage_of};
 ghost use Rattle.cfdp_commands.specs.declared.commands.Keyword.TheVariants.{Run as RunAll};
 ghost use Rattle.cfdp_lines.specs.declared.script.LineFault.TheVariants.{Bad};
 
-use crate::commands::{Keyword, Local, id_in, is_end, keyword_of, next_word, numbers_of};
+use crate::commands::{Keyword, Local, is_end, keyword_of};
 use crate::stage::Stage;
-use crate::transfers::{decode_words, protect_path};
+use crate::transfers::protect_path;
 use cfdp_engine::Message;
-use cfdp_lines::{COMMENT, LINE_LIMIT, LineFault, LinkFault, NEWLINE};
+use cfdp_lines::{
+    COMMENT, LINE_LIMIT, LineFault, LinkFault, NEWLINE, decode_words, id_in, next_word, numbers_of,
+};
 use memchr::memchr;
 use std::alloc::Global;
 use std::sync::Arc;

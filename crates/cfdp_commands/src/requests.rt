@@ -3,10 +3,9 @@ ghost use Rattle.std.specs.Prelude.{◌≡◌, ◌≤◌, ◌++◌, ℕ, List, f
 ghost use Rattle.cfdp_commands.specs.Plain.{plain_blocks, performed_on, plain_answer};
 ghost use Rattle.cfdp_lines.specs.declared.script.LineFault.TheVariants.{Bad};
 
-use crate::hexadecimal::decode_line;
 use crate::request_lines::{NoRequest, read_line, write_answer};
 use cfdp_actions::{Filestore, Protected, perform};
-use cfdp_lines::{LineFault, Script};
+use cfdp_lines::{LineFault, Script, decode_line};
 use cfdp_status::Status;
 use cfdp_tlv::FilestoreRequest;
 use cfdp_verifier::parse_request;

@@ -1,28 +1,17 @@
 //! The lines of `replay`: PDUs and local events, told to one receiving entity.
 ghost use Rattle.std.specs.Prelude.{◌≡◌, ◌≢◌, ◌↔◌, [], OnOk, Some, None, Err};
-ghost use Rattle.cfdp_commands.specs.Commands.{local_event, numbers_of, words_of};
-ghost use Rattle.cfdp_commands.specs.Hexadecimal.{octets_of_words};
+ghost use Rattle.cfdp_commands.specs.Commands.{local_event};
+ghost use Rattle.cfdp_lines.specs.Words.{numbers_of, words_of};
+ghost use Rattle.cfdp_lines.specs.Hexadecimal.{octets_of_words};
 ghost use Rattle.cfdp_commands.specs.Replay.{at_first, configured, local, obeyed, pdu_told, protected, world_of};
 ghost use Rattle.cfdp_commands.specs.Stages.{stage_of};
 ghost use Rattle.cfdp_commands.specs.declared.commands.Keyword.TheVariants.{Run, List as ListAll};
 ghost use Rattle.cfdp_lines.specs.declared.script.LineFault.TheVariants.{Bad};
 
-use crate::commands::{
-    Keyword, Local, id_in, is_end, keyword_of, next_word, numbers_of, skip_spaces,
-};
-use crate::hexadecimal::{decode_line, decode_within};
+use crate::commands::{Keyword, Local, is_end, keyword_of};
 use crate::stage::Stage;
-use cfdp_lines::{LineFault, Script};
+use cfdp_lines::{LineFault, Script, decode_within, decode_words, id_in, next_word, numbers_of};
 use std::alloc::Global;
-
-/// Puts the octets that the words of a line spell in the place of `octets`.
-pub(crate) fn decode_words(line: &[u8], octets: &mut Vec<u8>) -> Result<(), LineFault>
-    ensures octets { OnOk result (octets_of_words (words_of line.now) ≡ Some octets.new.items) }
-    ensures bad { (result ≡ Err Bad) ↔ (octets_of_words (words_of line.now) ≡ None) }
-    ensures some { result ≡ Err LineFault.Memory → octets_of_words (words_of line.now) ≢ Some [] }
-{
-    decode_line(skip_spaces(line), octets)
-}
 
 /// The most octets that spell a path: eight names of 96 octets, with a `/` before each.
 const LONGEST_PATH: usize = 8 * 97;

@@ -1,4 +1,9 @@
+pub mod Answering
+pub mod Decoding
 pub mod Feeding
 pub mod LineLemmas
 pub mod Moving
+pub mod Pairs
 pub mod Running
+pub mod Vectors
+pub mod Wording

@@ -1,9 +1,12 @@
 pub mod Answers
+pub mod Digits
 pub mod Ends
+pub mod Hexadecimal
 pub mod Lines
 pub mod Outcome
 pub mod Places
 pub mod Report
 pub mod Session
+pub mod Words
 pub use Rattle.cfdp_streams.specs.Adapters
 pub use Rattle.cfdp_streams.specs.Streams

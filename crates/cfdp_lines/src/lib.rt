@@ -2,16 +2,21 @@
 //!
 //! Octets are read some ten thousand at a time. Answers are held back: they are written when 64 KiB of them are full, before
 //! each read of input, and at the end. What a line does is a [`Script`]'s to say; how a run, and the program round it, can end
-//! is said here.
+//! is said here. So are the words of a line, and the numbers and octets that they spell.
 #![tactic(auto)]
 
+mod digits;
 mod fault_lines;
 mod faults;
+mod hexadecimal;
 mod script;
 mod session;
 mod whole_run;
+mod words;
 
 pub use faults::{LinkFault, ProgramEnd, RunFault};
+pub use hexadecimal::{decode_line, decode_within, decode_words};
 pub use script::{LineFault, Script};
 pub use session::{COMMENT, LINE_LIMIT, NEWLINE};
 pub use whole_run::{INPUT_LIMIT, run};
+pub use words::{MOST_NUMBERS, id_in, next_word, number_of, numbers_of, skip_spaces};

@@ -1,5 +1,5 @@
 pub use Rattle.cfdp_commands.specs.Commands
-pub use Rattle.cfdp_commands.specs.Hexadecimal
+pub use Rattle.cfdp_lines.specs.Hexadecimal
 pub use Rattle.cfdp_commands.specs.JournalTexts
 pub use Rattle.cfdp_commands.specs.Linked
 pub use Rattle.cfdp_commands.specs.Links
@@ -10,5 +10,6 @@ pub use Rattle.cfdp_lines.specs.Ends
 pub use Rattle.cfdp_lines.specs.Lines
 pub use Rattle.cfdp_lines.specs.Outcome
 pub use Rattle.cfdp_lines.specs.Report
+pub use Rattle.cfdp_lines.specs.Words
 pub use Rattle.cfdp_streams.specs.Adapters
 pub use Rattle.cfdp_streams.specs.Streams

@@ -1,8 +1,9 @@
 use Rattle.std.proofs.Common.{ap, refl, rules}
-use Rattle.cfdp_commands.specs.Commands.{words_of}
+use Rattle.cfdp_lines.specs.Words.{words_of}
 use Rattle.cfdp_commands.specs.Links.{prepared}
 use Rattle.cfdp_commands.specs.Stages.{stage_of}
-use Rattle.cfdp_commands.proofs.Answering.{not_few, configured-none}
+use Rattle.cfdp_lines.proofs.Answering.{not_few}
+use Rattle.cfdp_commands.proofs.Answering.{configured-none}
 use Rattle.cfdp_commands.proofs.link_lines.configure.Goals as goal
 
 pub returns-in_default-clause-bad : goal.returns-in_default-clause-bad

@@ -1,9 +1,9 @@
 use Rattle.std.proofs.Common.{refl, sym, ◌∙◌}
-use Rattle.cfdp_commands.specs.Commands.{words_of}
-use Rattle.cfdp_commands.specs.Hexadecimal.{octets_of_words}
+use Rattle.cfdp_lines.specs.Words.{words_of}
+use Rattle.cfdp_lines.specs.Hexadecimal.{octets_of_words}
 use Rattle.cfdp_commands.specs.Stages.{stage_of}
 use Rattle.cfdp_commands.proofs.Verdicts.{protected-long}
-use Rattle.cfdp_commands.proofs.Words.{words_spell}
+use Rattle.cfdp_lines.proofs.Wording.{words_spell}
 use Rattle.cfdp_commands.proofs.transfers.protect_path.Goals as goal
 
 pub returns-in_default-clause-bad : goal.returns-in_default-clause-bad

@@ -1,7 +1,8 @@
 use Rattle.std.proofs.Common.{refl, rules}
-use Rattle.cfdp_commands.specs.Commands.{words_of}
+use Rattle.cfdp_lines.specs.Words.{words_of}
 use Rattle.cfdp_commands.specs.Stages.{stage_of}
-use Rattle.cfdp_commands.proofs.Answering.{not_few, configured-none}
+use Rattle.cfdp_lines.proofs.Answering.{not_few}
+use Rattle.cfdp_commands.proofs.Answering.{configured-none}
 use Rattle.cfdp_commands.proofs.transfers.Transfers.configure.Goals as goal
 
 pub returns-in_default-clause-bad : goal.returns-in_default-clause-bad
