@@ -1,12 +1,11 @@
-//! What no clause says: worked scripts, octets that come and go, and what is left where memory is refused. `head`,
-//! `player` and `report` read the lines of a script, hand them to a receiver and write what it answers; the other
+//! What no clause says: worked scripts, octets that come and go, and what is left where memory is refused. `head`
+//! and `player` read the lines of a script, hand them to a receiver and write what it answers; the other
 //! modules have the scripts, with their texts.
 
 mod actor;
 mod head;
 mod player;
 mod refused;
-mod report;
 mod rows;
 mod scripts;
 mod stages;

@@ -3,11 +3,11 @@
 //! receiver asks for memory once it is made.
 
 use super::head::{Head, MIB};
-use super::report::{line_of, push_answer};
 use cfdp_directives::{Range, TransactionStatus};
 use cfdp_entity::Entity;
 use cfdp_pdus::PduFault;
 use cfdp_receiver::{Answer, Dropped, NotMade, Receiver};
+use cfdp_reports::{NotReported, dropped_line, push_answer};
 use cfdp_sessions::Stage;
 use cfdp_status::TransactionId;
 use cfdp_transactions::{Config, Phase};
@@ -46,6 +46,53 @@ pub(super) enum Input {
     Others(u8),
     /// That many other transactions, 256 at most, begin, are cancelled, and are closed.
     Closed(u16),
+}
+
+impl Input {
+    /// Its name, for a test that fails.
+    pub(super) fn name(self) -> &'static str {
+        match self {
+            Input::Metadata => "Metadata",
+            Input::Data => "Data",
+            Input::AllData => "AllData",
+            Input::Eof => "Eof",
+            Input::EofCancel => "EofCancel",
+            Input::AckEof => "AckEof",
+            Input::AckFinished => "AckFinished",
+            Input::PromptNak => "PromptNak",
+            Input::PromptKeepAlive => "PromptKeepAlive",
+            Input::Nak => "Nak",
+            Input::KeepAlive => "KeepAlive",
+            Input::Finished => "Finished",
+            Input::Pdu(_) => "Pdu",
+            Input::Time(_) => "Time",
+            Input::Work => "Work",
+            Input::Finish => "Finish",
+            Input::Cancel => "Cancel",
+            Input::Forget => "Forget",
+            Input::Others(_) => "Others",
+            Input::Closed(_) => "Closed",
+        }
+    }
+}
+
+/// Where a PDU goes.
+#[derive(Clone, Copy)]
+pub(super) enum Toward {
+    Us,
+    AnotherReceiver,
+    TheSender,
+}
+
+impl Toward {
+    /// Changes a PDU whose three names have one octet each, so that it goes there.
+    fn turn(self, octets: &mut [u8]) {
+        match (self, octets) {
+            (Toward::AnotherReceiver, [_, _, _, _, _, _, destination, ..]) => *destination = 3,
+            (Toward::TheSender, [first, ..]) => *first |= 8,
+            _ => {}
+        }
+    }
 }
 
 /// The transaction that all inputs are about.
@@ -192,13 +239,17 @@ impl Actor {
     /// Makes the text of an answer.
     fn write(&mut self, alloc: Global, answer: &Answer) -> Result<(), AllocError> {
         self.text.clear();
-        push_answer(
+        match push_answer(
             alloc,
             &self.receiver,
             answer,
             &mut self.room,
             &mut self.text,
-        )
+        ) {
+            Ok(()) => Ok(()),
+            Err(NotReported::TooShort) => self.text.extend_from_slice(b"too short\n"),
+            Err(NotReported::Memory) => Err(AllocError),
+        }
     }
 
     /// Hands in octets, which are copied since the receiver may change them.
@@ -236,7 +287,7 @@ impl Actor {
         match self.hand_in_at_last(alloc, octets) {
             Ok(answer) => self.write(alloc, &answer),
             Err(Dropped::Pdu(PduFault::Memory)) => Err(AllocError),
-            Err(dropped) => self.text.extend_from_slice(line_of(dropped)),
+            Err(dropped) => self.text.extend_from_slice(dropped_line(dropped)),
         }
     }
 
@@ -260,7 +311,7 @@ impl Actor {
     }
 
     /// A PDU comes, in the mode of the stage.
-    fn hear(&mut self, alloc: Global, spelled: &str) -> Result<(), AllocError> {
+    fn hear(&mut self, alloc: Global, spelled: &str, toward: Toward) -> Result<(), AllocError> {
         let mut room = [0u8; LONGEST];
         let Some(octets) = room.get_mut(..spelled.len() / 2) else {
             return Ok(());
@@ -273,6 +324,7 @@ impl Actor {
                 *first |= 4;
             }
         }
+        toward.turn(octets);
         self.receive(alloc, octets)
     }
 
@@ -310,7 +362,7 @@ impl Actor {
     pub(super) fn take(&mut self, alloc: Global, input: Input) -> Result<(), AllocError> {
         self.text.clear();
         if let Some(spelled) = octets_of(input) {
-            return self.hear(alloc, spelled);
+            return self.hear(alloc, spelled, Toward::Us);
         }
         let answer = match input {
             Input::Time(moments) => return self.pass(alloc, moments),
@@ -332,6 +384,20 @@ impl Actor {
             _ => self.receiver.cancel(self.moment, ID),
         };
         self.write(alloc, &answer)
+    }
+
+    /// Takes a PDU that goes elsewhere.
+    pub(super) fn take_astray(
+        &mut self,
+        alloc: Global,
+        pdu: Input,
+        toward: Toward,
+    ) -> Result<(), AllocError> {
+        self.text.clear();
+        match octets_of(pdu) {
+            Some(spelled) => self.hear(alloc, spelled, toward),
+            None => Ok(()),
+        }
     }
 
     /// How far the transaction is, in a word.

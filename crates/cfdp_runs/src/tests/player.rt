@@ -1,11 +1,11 @@
 //! A script that is played: its lines are handed to a receiver, and what it answers is written.
 
 use super::head::{Head, number};
-use super::report::{line_of, push_answer, push_name};
 use cfdp_directives::TransactionStatus;
 use cfdp_entity::Entity;
 use cfdp_pdus::PduFault;
 use cfdp_receiver::{Answer, Became, Dropped, NotMade, Receiver};
+use cfdp_reports::{NotReported, dropped_line, push_answer, push_name};
 use cfdp_sessions::Stage;
 use cfdp_status::TransactionId;
 use cfdp_texts::{push_labelled, write_listing};
@@ -111,13 +111,17 @@ impl Player {
 
     /// Writes what was answered.
     fn write(&mut self, alloc: Global, answer: &Answer) -> Result<(), AllocError> {
-        push_answer(
+        match push_answer(
             alloc,
             &self.receiver,
             answer,
             &mut self.room,
             &mut self.text,
-        )
+        ) {
+            Ok(()) => Ok(()),
+            Err(NotReported::TooShort) => self.text.extend_from_slice(b"too short\n"),
+            Err(NotReported::Memory) => Err(AllocError),
+        }
     }
 
     /// All work is done, and each outcome taken.
@@ -146,7 +150,7 @@ impl Player {
                 self.settle(alloc, now)?;
             }
             Err(Dropped::Pdu(PduFault::Memory)) => return Err(AllocError),
-            Err(dropped) => self.text.extend_from_slice(line_of(dropped))?,
+            Err(dropped) => self.text.extend_from_slice(dropped_line(dropped))?,
         }
         Ok(Next::Go)
     }

@@ -6,7 +6,7 @@ mod begun;
 mod ended;
 mod limits;
 
-use super::actor::{Actor, Input};
+use super::actor::{Actor, Input, Toward};
 use std::alloc::{AllocError, Global};
 use std::process::Abort;
 
@@ -21,6 +21,31 @@ struct Scene {
     cases: &'static [Case],
 }
 
+/// Each PDU, with its name.
+static PDUS: [Input; 12] = [
+    Input::Metadata,
+    Input::Data,
+    Input::AllData,
+    Input::Eof,
+    Input::EofCancel,
+    Input::AckEof,
+    Input::AckFinished,
+    Input::PromptNak,
+    Input::PromptKeepAlive,
+    Input::Nak,
+    Input::KeepAlive,
+    Input::Finished,
+];
+
+/// All else that comes, or is asked for.
+static CALLS: [Input; 5] = [
+    Input::Time(&[]),
+    Input::Work,
+    Input::Finish,
+    Input::Cancel,
+    Input::Forget,
+];
+
 /// A receiver with the transaction at a stage.
 fn at_stage(alloc: Global, scene: &Scene) -> Result<Option<Actor>, AllocError> {
     let Some(mut actor) = Actor::new(alloc, scene.is_acknowledged, 0)? else {
@@ -32,23 +57,78 @@ fn at_stage(alloc: Global, scene: &Scene) -> Result<Option<Actor>, AllocError> {
     Ok(Some(actor))
 }
 
-/// Each input has its text at a stage, and leads where it has to.
+/// Each input of a scene has its text, and leads where it has to.
 fn all_hold<R: Abort + Print>(rt: &R, alloc: Global, scene: &Scene) -> Result<(), AllocError> {
     let name = scene.name;
     for (number, (input, text, after)) in scene.cases.iter().enumerate() {
+        let case = input.name();
         let Some(mut actor) = at_stage(alloc, scene)? else {
             assert!(rt; false, "{name}: no receiver");
             continue;
         };
-        assert_eq!(rt; actor.stage(), name, "the stage before case {number}");
+        assert_eq!(rt;
+            actor.stage(),
+            name,
+            "the stage before case {number}, {case}"
+        );
         actor.take(alloc, *input)?;
         let written = str::from_utf8(&actor.text).unwrap_or("no text");
-        assert_eq!(rt; written, *text, "{name}: case {number}");
+        assert_eq!(rt; written, *text, "{name}: case {number}, {case}");
         assert_eq!(rt;
             actor.stage(),
             *after,
-            "{name}: the stage after case {number}"
+            "{name}: the stage after case {number}, {case}"
         );
     }
     Ok(())
+}
+
+/// At each stage a PDU that goes elsewhere leaves the transaction as it is.
+fn astray_change_nothing<R: Abort + Print>(
+    rt: &R,
+    alloc: Global,
+    scene: &Scene,
+    toward: Toward,
+    text: &str,
+) -> Result<(), AllocError> {
+    let name = scene.name;
+    let Some(mut actor) = at_stage(alloc, scene)? else {
+        assert!(rt; false, "{name}: no receiver");
+        return Ok(());
+    };
+    for pdu in &PDUS {
+        let case = pdu.name();
+        actor.take_astray(alloc, *pdu, toward)?;
+        let written = str::from_utf8(&actor.text).unwrap_or("no text");
+        assert_eq!(rt; written, text, "{name}: {case} that goes elsewhere");
+        assert_eq!(rt;
+            actor.stage(),
+            name,
+            "the stage after {case} that goes elsewhere"
+        );
+    }
+    Ok(())
+}
+
+/// A scene has a case for each input, and all hold. So do the PDUs that go elsewhere.
+fn each_input_holds<R: Abort + Print>(
+    rt: &R,
+    alloc: Global,
+    scene: &Scene,
+) -> Result<(), AllocError> {
+    let name = scene.name;
+    for input in PDUS.iter().chain(CALLS.iter()) {
+        let sought = input.name();
+        let is_there = scene.cases.iter().any(|(case, _, _)| case.name() == sought);
+        assert!(rt; is_there, "{name}: no case of {sought}");
+    }
+    all_hold(rt, alloc, scene)?;
+    astray_change_nothing(
+        rt,
+        alloc,
+        scene,
+        Toward::AnotherReceiver,
+        "1/5 not-for-us\n",
+    )?;
+    astray_change_nothing(rt, alloc, scene, Toward::TheSender, "pdu not-ours\n")
 }

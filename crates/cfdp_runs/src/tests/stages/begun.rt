@@ -1,6 +1,6 @@
 //! Stages before the file is whole.
 
-use super::{Input, Scene, all_hold};
+use super::{Input, Scene, all_hold, each_input_holds};
 use std::alloc::AllocError;
 
 static NONE: Scene = Scene {
@@ -45,6 +45,8 @@ static NONE: Scene = Scene {
         (Input::Work, "", "none"),
         (Input::Finish, "", "none"),
         (Input::Cancel, "1/5 unknown\n", "none"),
+        (Input::AllData, "1/5 unknown\n", "none"),
+        (Input::Forget, "", "undefined"),
     ],
 };
 
@@ -63,6 +65,19 @@ static NONE_UNACKNOWLEDGED: Scene = Scene {
         (Input::Data, "1/5 unknown\n", "none"),
         (Input::Eof, "1/5 unknown\n", "none"),
         (Input::EofCancel, "1/5 unknown\n", "none"),
+        (Input::AllData, "1/5 unknown\n", "none"),
+        (Input::AckEof, "1/5 idle\n", "none"),
+        (Input::AckFinished, "1/5 idle\n", "none"),
+        (Input::PromptNak, "1/5 idle\n", "none"),
+        (Input::PromptKeepAlive, "1/5 idle\n", "none"),
+        (Input::Nak, "pdu not-ours\n", "none"),
+        (Input::KeepAlive, "pdu not-ours\n", "none"),
+        (Input::Finished, "pdu not-ours\n", "none"),
+        (Input::Time(&[1000]), "", "none"),
+        (Input::Work, "", "none"),
+        (Input::Finish, "", "none"),
+        (Input::Cancel, "1/5 unknown\n", "none"),
+        (Input::Forget, "", "undefined"),
     ],
 };
 
@@ -133,6 +148,8 @@ static HELD: Scene = Scene {
         (Input::Work, "", "held"),
         (Input::Finish, "", "held"),
         (Input::Cancel, "1/5 cancelled\n", "over"),
+        (Input::AllData, "1/5 idle\n", "held"),
+        (Input::Forget, "", "held"),
     ],
 };
 
@@ -196,6 +213,7 @@ static RECEIVING: Scene = Scene {
         (Input::Work, "", "receiving"),
         (Input::Finish, "", "receiving"),
         (Input::Cancel, "1/5 cancelled\n", "over"),
+        (Input::Forget, "", "receiving"),
     ],
 };
 
@@ -250,6 +268,19 @@ static RECEIVING_UNACKNOWLEDGED: Scene = Scene {
         (Input::Time(&[104]), "", "receiving"),
         (Input::Time(&[105]), "1/5 faulted\n", "over"),
         (Input::Cancel, "1/5 cancelled\n", "over"),
+        (
+            Input::AllData,
+            "\
+            tell segment 1/5 0 15\n\
+            1/5 stored\n",
+            "receiving",
+        ),
+        (Input::Nak, "pdu not-ours\n", "receiving"),
+        (Input::KeepAlive, "pdu not-ours\n", "receiving"),
+        (Input::Finished, "pdu not-ours\n", "receiving"),
+        (Input::Work, "", "receiving"),
+        (Input::Finish, "", "receiving"),
+        (Input::Forget, "", "receiving"),
     ],
 };
 
@@ -325,6 +356,7 @@ static AWAITING: Scene = Scene {
         (Input::Work, "", "awaiting"),
         (Input::Finish, "", "awaiting"),
         (Input::Cancel, "1/5 cancelled\n", "over"),
+        (Input::Forget, "", "awaiting"),
     ],
 };
 
@@ -363,29 +395,30 @@ static AWAITING_UNACKNOWLEDGED: Scene = Scene {
         (Input::Work, "", "awaiting"),
         (Input::Finish, "", "awaiting"),
         (Input::Cancel, "1/5 cancelled\n", "over"),
+        (Input::Forget, "", "awaiting"),
     ],
 };
 
 #[test]
 fn without_a_session(rt: HostRuntime) -> Result<(), AllocError> {
-    all_hold(&rt, rt.alloc(), &NONE)?;
-    all_hold(&rt, rt.alloc(), &NONE_UNACKNOWLEDGED)
+    each_input_holds(&rt, rt.alloc(), &NONE)?;
+    each_input_holds(&rt, rt.alloc(), &NONE_UNACKNOWLEDGED)
 }
 
 #[test]
 fn held(rt: HostRuntime) -> Result<(), AllocError> {
-    all_hold(&rt, rt.alloc(), &HELD)
+    each_input_holds(&rt, rt.alloc(), &HELD)
 }
 
 #[test]
 fn receiving(rt: HostRuntime) -> Result<(), AllocError> {
-    all_hold(&rt, rt.alloc(), &RECEIVING)?;
+    each_input_holds(&rt, rt.alloc(), &RECEIVING)?;
     all_hold(&rt, rt.alloc(), &RECEIVED)?;
-    all_hold(&rt, rt.alloc(), &RECEIVING_UNACKNOWLEDGED)
+    each_input_holds(&rt, rt.alloc(), &RECEIVING_UNACKNOWLEDGED)
 }
 
 #[test]
 fn awaiting(rt: HostRuntime) -> Result<(), AllocError> {
-    all_hold(&rt, rt.alloc(), &AWAITING)?;
-    all_hold(&rt, rt.alloc(), &AWAITING_UNACKNOWLEDGED)
+    each_input_holds(&rt, rt.alloc(), &AWAITING)?;
+    each_input_holds(&rt, rt.alloc(), &AWAITING_UNACKNOWLEDGED)
 }

@@ -1,6 +1,6 @@
 //! Stages after the file is whole, or after the transaction ended.
 
-use super::{Input, Scene, all_hold};
+use super::{Input, Scene, each_input_holds};
 use std::alloc::AllocError;
 
 static EXECUTING: Scene = Scene {
@@ -37,6 +37,8 @@ static EXECUTING: Scene = Scene {
         (Input::KeepAlive, "pdu not-ours\n", "executing"),
         (Input::Finished, "pdu not-ours\n", "executing"),
         (Input::Cancel, "1/5 cancelled\n", "over"),
+        (Input::AllData, "1/5 idle\n", "executing"),
+        (Input::Forget, "", "executing"),
     ],
 };
 
@@ -81,6 +83,8 @@ static ENDED: Scene = Scene {
         (Input::KeepAlive, "pdu not-ours\n", "over"),
         (Input::Finished, "pdu not-ours\n", "over"),
         (Input::Cancel, "1/5 idle\n", "over"),
+        (Input::AllData, "1/5 idle\n", "over"),
+        (Input::Forget, "", "over"),
     ],
 };
 
@@ -125,6 +129,8 @@ static DONE: Scene = Scene {
         (Input::KeepAlive, "pdu not-ours\n", "over"),
         (Input::Finished, "pdu not-ours\n", "over"),
         (Input::Cancel, "1/5 idle\n", "over"),
+        (Input::AllData, "1/5 idle\n", "over"),
+        (Input::Forget, "", "over"),
     ],
 };
 
@@ -168,6 +174,8 @@ static FAULTED: Scene = Scene {
         (Input::KeepAlive, "pdu not-ours\n", "over"),
         (Input::Finished, "pdu not-ours\n", "over"),
         (Input::Cancel, "1/5 idle\n", "over"),
+        (Input::AllData, "1/5 idle\n", "over"),
+        (Input::Forget, "", "over"),
     ],
 };
 
@@ -212,6 +220,8 @@ static HELD_AND_CANCELLED: Scene = Scene {
         (Input::KeepAlive, "pdu not-ours\n", "over"),
         (Input::Finished, "pdu not-ours\n", "over"),
         (Input::Cancel, "1/5 idle\n", "over"),
+        (Input::AllData, "1/5 idle\n", "over"),
+        (Input::Forget, "", "over"),
     ],
 };
 
@@ -232,6 +242,19 @@ static DONE_UNACKNOWLEDGED: Scene = Scene {
             1/5 closed\n",
             "closed",
         ),
+        (Input::AllData, "1/5 idle\n", "over"),
+        (Input::AckEof, "1/5 idle\n", "over"),
+        (Input::AckFinished, "1/5 idle\n", "over"),
+        (Input::PromptNak, "1/5 idle\n", "over"),
+        (Input::PromptKeepAlive, "1/5 idle\n", "over"),
+        (Input::Nak, "pdu not-ours\n", "over"),
+        (Input::KeepAlive, "pdu not-ours\n", "over"),
+        (Input::Finished, "pdu not-ours\n", "over"),
+        (Input::Time(&[15]), "", "over"),
+        (Input::Time(&[1000]), "", "over"),
+        (Input::Work, "", "over"),
+        (Input::Cancel, "1/5 idle\n", "over"),
+        (Input::Forget, "", "over"),
     ],
 };
 
@@ -295,6 +318,8 @@ static WAITING: Scene = Scene {
         (Input::KeepAlive, "pdu not-ours\n", "waiting"),
         (Input::Finished, "pdu not-ours\n", "waiting"),
         (Input::Cancel, "1/5 idle\n", "waiting"),
+        (Input::AllData, "1/5 idle\n", "waiting"),
+        (Input::Forget, "", "waiting"),
     ],
 };
 
@@ -339,29 +364,123 @@ static CLOSED: Scene = Scene {
         (Input::KeepAlive, "pdu not-ours\n", "closed"),
         (Input::Finished, "pdu not-ours\n", "closed"),
         (Input::Cancel, "1/5 unknown\n", "closed"),
+        (Input::AllData, "1/5 idle\n", "closed"),
+    ],
+};
+
+static EXECUTING_UNACKNOWLEDGED: Scene = Scene {
+    name: "executing",
+    is_acknowledged: false,
+    before: &[Input::Metadata, Input::AllData, Input::Eof],
+    cases: &[
+        (Input::Metadata, "1/5 duplicate\n", "executing"),
+        (Input::Data, "1/5 idle\n", "executing"),
+        (Input::AllData, "1/5 idle\n", "executing"),
+        (Input::Eof, "1/5 duplicate\n", "executing"),
+        (Input::EofCancel, "1/5 faulted 15\n", "over"),
+        (Input::AckEof, "1/5 idle\n", "executing"),
+        (Input::AckFinished, "1/5 idle\n", "executing"),
+        (Input::PromptNak, "1/5 idle\n", "executing"),
+        (Input::PromptKeepAlive, "1/5 idle\n", "executing"),
+        (Input::Nak, "pdu not-ours\n", "executing"),
+        (Input::KeepAlive, "pdu not-ours\n", "executing"),
+        (Input::Finished, "pdu not-ours\n", "executing"),
+        (Input::Time(&[15]), "", "executing"),
+        (Input::Time(&[1000]), "", "executing"),
+        (Input::Work, "1/5 installed\n", "over"),
+        (Input::Finish, "", "executing"),
+        (Input::Cancel, "1/5 cancelled\n", "over"),
+        (Input::Forget, "", "executing"),
+    ],
+};
+
+static CANCELLED_UNACKNOWLEDGED: Scene = Scene {
+    name: "over",
+    is_acknowledged: false,
+    before: &[Input::Metadata, Input::Cancel],
+    cases: &[
+        (Input::Metadata, "1/5 duplicate\n", "over"),
+        (Input::Data, "1/5 idle\n", "over"),
+        (Input::AllData, "1/5 idle\n", "over"),
+        (Input::Eof, "1/5 idle\n", "over"),
+        (Input::EofCancel, "1/5 idle\n", "over"),
+        (Input::AckEof, "1/5 idle\n", "over"),
+        (Input::AckFinished, "1/5 idle\n", "over"),
+        (Input::PromptNak, "1/5 idle\n", "over"),
+        (Input::PromptKeepAlive, "1/5 idle\n", "over"),
+        (Input::Nak, "pdu not-ours\n", "over"),
+        (Input::KeepAlive, "pdu not-ours\n", "over"),
+        (Input::Finished, "pdu not-ours\n", "over"),
+        (Input::Time(&[15]), "", "over"),
+        (Input::Time(&[1000]), "", "over"),
+        (Input::Work, "", "over"),
+        (
+            Input::Finish,
+            "\
+            send 2c00050001050205f4060102\n\
+            tell finished 1/5 15 incomplete 0\n\
+            1/5 closed\n",
+            "closed",
+        ),
+        (Input::Cancel, "1/5 idle\n", "over"),
+        (Input::Forget, "", "over"),
+    ],
+};
+
+static CLOSED_UNACKNOWLEDGED: Scene = Scene {
+    name: "closed",
+    is_acknowledged: false,
+    before: &[
+        Input::Metadata,
+        Input::AllData,
+        Input::Eof,
+        Input::Work,
+        Input::Finish,
+    ],
+    cases: &[
+        (Input::Metadata, "1/5 duplicate\n", "closed"),
+        (Input::Data, "1/5 idle\n", "closed"),
+        (Input::AllData, "1/5 idle\n", "closed"),
+        (Input::Eof, "1/5 idle\n", "closed"),
+        (Input::EofCancel, "1/5 idle\n", "closed"),
+        (Input::AckEof, "1/5 idle\n", "closed"),
+        (Input::AckFinished, "1/5 idle\n", "closed"),
+        (Input::PromptNak, "1/5 idle\n", "closed"),
+        (Input::PromptKeepAlive, "1/5 idle\n", "closed"),
+        (Input::Nak, "pdu not-ours\n", "closed"),
+        (Input::KeepAlive, "pdu not-ours\n", "closed"),
+        (Input::Finished, "pdu not-ours\n", "closed"),
+        (Input::Time(&[1000]), "", "closed"),
+        (Input::Work, "", "closed"),
+        (Input::Finish, "", "closed"),
+        (Input::Cancel, "1/5 unknown\n", "closed"),
+        (Input::Forget, "", "undefined"),
     ],
 };
 
 #[test]
 fn executing(rt: HostRuntime) -> Result<(), AllocError> {
-    all_hold(&rt, rt.alloc(), &EXECUTING)
+    each_input_holds(&rt, rt.alloc(), &EXECUTING)?;
+    each_input_holds(&rt, rt.alloc(), &EXECUTING_UNACKNOWLEDGED)
 }
 
 #[test]
 fn over(rt: HostRuntime) -> Result<(), AllocError> {
-    all_hold(&rt, rt.alloc(), &ENDED)?;
-    all_hold(&rt, rt.alloc(), &DONE)?;
-    all_hold(&rt, rt.alloc(), &FAULTED)?;
-    all_hold(&rt, rt.alloc(), &HELD_AND_CANCELLED)?;
-    all_hold(&rt, rt.alloc(), &DONE_UNACKNOWLEDGED)
+    each_input_holds(&rt, rt.alloc(), &ENDED)?;
+    each_input_holds(&rt, rt.alloc(), &DONE)?;
+    each_input_holds(&rt, rt.alloc(), &FAULTED)?;
+    each_input_holds(&rt, rt.alloc(), &HELD_AND_CANCELLED)?;
+    each_input_holds(&rt, rt.alloc(), &CANCELLED_UNACKNOWLEDGED)?;
+    each_input_holds(&rt, rt.alloc(), &DONE_UNACKNOWLEDGED)
 }
 
 #[test]
 fn waiting(rt: HostRuntime) -> Result<(), AllocError> {
-    all_hold(&rt, rt.alloc(), &WAITING)
+    each_input_holds(&rt, rt.alloc(), &WAITING)
 }
 
 #[test]
 fn closed(rt: HostRuntime) -> Result<(), AllocError> {
-    all_hold(&rt, rt.alloc(), &CLOSED)
+    each_input_holds(&rt, rt.alloc(), &CLOSED)?;
+    each_input_holds(&rt, rt.alloc(), &CLOSED_UNACKNOWLEDGED)
 }

@@ -1,0 +1,93 @@
+//! All lines of an answer.
+
+ghost use Rattle.std.specs.Prelude.{◌≡◌, ◌≤◌, ◌++◌, length, max, IfErr, OnOk};
+ghost use Rattle.cfdp_receiver.specs.Machine.{answer_in};
+ghost use Rattle.cfdp_receiver.specs.Sent.{longest_sealed, pdus_of};
+ghost use Rattle.cfdp_reports.specs.Reports.{answer_text, send_line, send_lines, told_lines};
+ghost use Rattle.cfdp_reports.specs.declared.answers.NotReported.TheVariants.{Memory};
+
+use crate::indications::push_indication;
+use crate::outcomes::push_became;
+use cfdp_receiver::{Answer, Receiver};
+use cfdp_texts::encode;
+use std::alloc::{AllocError, Global};
+
+/// Why an answer was not reported. A part of its lines may have been appended.
+#[derive(Clone, Copy, Debug, PartialEq, Eq)]
+pub enum NotReported {
+    /// The buffer is too short for a PDU. [`Receiver::longest`] octets are always enough.
+    TooShort,
+    /// Out of memory.
+    Memory,
+}
+
+impl From<AllocError> for NotReported {
+    ghost use Rattle.std.specs.Prelude.{◌≡◌};
+    ghost use Rattle.cfdp_reports.specs.declared.answers.NotReported.TheVariants.{Memory};
+
+    ghost from_gives = { λ _ why. why ≡ Memory };
+
+    fn from(_refused: AllocError) -> NotReported {
+        NotReported::Memory
+    }
+}
+
+/// Appends the line of a PDU that is sent.
+fn push_sent(octets: &[u8], text: &mut Vec<u8>) -> Result<(), AllocError>
+    ensures { OnOk result (text.new.items ≡ text.old.items ++ send_line octets.now) }
+{
+    text.extend_from_slice(b"send ")?;
+    encode(octets, text)?;
+    Ok(text.push(b'\n')?)
+}
+
+/// Appends the lines of all PDUs of an answer.
+fn push_pdus(
+    receiver: &Receiver,
+    answer: &Answer,
+    room: &mut [u8],
+    text: &mut Vec<u8>,
+) -> Result<(), NotReported>
+    ensures sent { OnOk result (text.new.items ≡ text.old.items ++ send_lines receiver.now.state.mib (pdus_of receiver.now answer.now)) }
+    ensures enough { max longest_sealed receiver.now.state.mib.longest_nak ≤ length room.old → IfErr result (λ why. why ≡ Memory) }
+{
+    for number in 0..answer.pdu_count() {
+        match receiver.write(answer, number, room) {
+            Ok(len) => push_sent(&room[..len], text)?,
+            Err(_) => return Err(NotReported::TooShort),
+        }
+    }
+    Ok(())
+}
+
+/// Appends the line of an indication, if there is one.
+fn push_told(answer: &Answer, text: &mut Vec<u8>) -> Result<(), AllocError>
+    ensures { OnOk result (text.new.items ≡ text.old.items ++ told_lines answer.now.indications) }
+{
+    match answer.indication() {
+        None => Ok(()),
+        Some(indication) => push_indication(indication, text),
+    }
+}
+
+/// Appends what a receiver answered to its last input: a line for each PDU that is sent, one for an indication, and one for what
+/// became of the input. `room` is scratch, for a PDU.
+///
+/// # Errors
+///
+/// [`NotReported::Memory`] when out of memory, and [`NotReported::TooShort`] where `room` has no room for a PDU, which it has if it
+/// has [`Receiver::longest`] octets. Cost: the octets that are written.
+pub fn push_answer(
+    alloc: Global,
+    receiver: &Receiver,
+    answer: &Answer,
+    room: &mut [u8],
+    text: &mut Vec<u8>,
+) -> Result<(), NotReported>
+    ensures ok { OnOk result (text.new.items ≡ text.old.items ++ answer_text receiver.now.state.mib (answer_in receiver.now answer.now)) }
+    ensures enough { max longest_sealed receiver.now.state.mib.longest_nak ≤ length room.old → IfErr result (λ why. why ≡ Memory) }
+{
+    push_pdus(receiver, answer, room, text)?;
+    push_told(answer, text)?;
+    Ok(push_became(alloc, answer.became(), text)?)
+}
