@@ -4,6 +4,8 @@
 
 mod player;
 mod questions;
+mod settings;
 
 pub use player::Player;
 pub use questions::{push_gaps_line, push_phase_line};
+pub use settings::{Key, default_mib, key_of};
