@@ -6,8 +6,8 @@ use Rattle.std.proofs.lemmas.Bool.{cond_both}
 use Rattle.cfdp_status.specs.declared.transaction.TransactionId.{TransactionId}
 use Rattle.cfdp_leases.specs.Leases.{is_same}
 use Rattle.cfdp_pdus.specs.declared.eof.Eof.{Eof}
-use Rattle.cfdp_retransmission.specs.Coming.{one_if, asked}
-use Rattle.cfdp_retransmission.specs.Rounds.{Sending, lost_in, spare_round, WholeAfterLosses}
+use Rattle.cfdp_retransmission.specs.Coming.{one_if}
+use Rattle.cfdp_retransmission.specs.Rounds.{Exchange, asked_for, lost_in, spare_round, WholeAfterLosses}
 use Rattle.cfdp_sessions.specs.Closed.{remembers}
 use Rattle.cfdp_sessions.specs.Sessions.{SessionFields, name_of, found, AreDistinct}
 use Rattle.cfdp_sessions.specs.declared.session.Stage.{Stage}
@@ -27,12 +27,12 @@ use Rattle.cfdp_receiver.specs.Due as Dues
 use Rattle.cfdp_receiver.specs.Handing as Handing
 use Rattle.cfdp_receiver.specs.Turning as Turning
 use Rattle.cfdp_receiver.specs.Turning.{most_requests, parts, after, after_all}
-use Rattle.cfdp_receiver.specs.Laws.{requests_of, is_known, knows, AreKnown}
+use Rattle.cfdp_receiver.specs.Laws.{is_known, knows, AreKnown}
 use Rattle.cfdp_receiver.proofs.Distinct.{distinct_after}
 use Rattle.cfdp_receiver.proofs.Knowing.{Laws, known_after}
 use Rattle.cfdp_receiver.proofs.Limits.{first_over_is}
 use Rattle.cfdp_progress.specs.Awaiting.{WasDelivered}
-use Rattle.cfdp_progress.specs.NakRounds.{heard_requests, IsServed, FirstRound}
+use Rattle.cfdp_progress.specs.NakRounds.{requests_of_each, IsServed, FirstRound}
 use Rattle.cfdp_progress.specs.Closing.{is_acknowledged, IsSentOnce, FinishedRound, finished_inputs, AreFinishedRounds, rounds_lost, WasClosed}
 use Rattle.cfdp_progress.specs.Concluding.{has_nothing_left, WasConcluded}
 use Rattle.cfdp_progress.specs.InAll.{EitherRound, as_finished, inputs_of, is_session_of, concludes, IsAcknowledgedAfter, IsWatched, AreEitherRounds, total_lost, lost_in_all, ClosedInAll}
@@ -41,13 +41,13 @@ use Rattle.cfdp_progress.proofs.Pieces.{fits_of, few_of}
 use Rattle.cfdp_progress.proofs.Turns.{Before}
 use Rattle.cfdp_progress.proofs.Runs.{still_awaits, sound_all, distinct_all, mib_all, after_both, takes_none}
 use Rattle.cfdp_progress.proofs.Openings.{open_expire, open_first}
-use Rattle.cfdp_progress.proofs.Rounds.{SoFar, Room, is_below, not_enough, round_goes, within_heard, done_after, unheard_after, so_far_after, lost_after, count_after}
+use Rattle.cfdp_progress.proofs.Rounds.{SoFar, Room, is_below, not_enough, round_goes, one_more, lost_more, count_more}
 use Rattle.cfdp_progress.proofs.Closing.{AreLow, IsSafeToSend, over, rounds_close, remembers_it, closed_later, closed_after, closed_before, is_lost_by}
 use Rattle.cfdp_progress.proofs.Concluding.{concluded_when_done, concluded_later}
 
 -- ---- what is known after several inputs
 
-known_all : Laws → NextIsSound → NextIsPromised → (R : State) (inputs : List Input) → Sound R.world → AreDistinct R.sessions → AreKnown R →
+pub known_all : Laws → NextIsSound → NextIsPromised → (R : State) (inputs : List Input) → Sound R.world → AreDistinct R.sessions → AreKnown R →
     AreKnown (after_all R inputs)
 known_all laws next_sound promised R [] sound d known = known
 known_all laws next_sound promised R (i ∷ is) sound d known =
@@ -190,36 +190,32 @@ low_all [] below = tt
 low_all (round ∷ rounds) below = (below.0, low_all rounds below.1)
 
 -- each begins below the limits; or the limits are above what is lost
-abbrev AreBothSafe : Mib → ℕ → Received → List (List Sending) → ℕ → List EitherRound → Type 0
-AreBothSafe mib count rs done unheard rounds =
+abbrev AreBothSafe : Mib → ℕ → Received → List Exchange → List EitherRound → Type 0
+AreBothSafe mib count rs done rounds =
     AreBelowAll rounds
-    ⊎ ((count + 1 ≤ length done + unheard) × (lost_in done + unheard + total_lost rounds + spare_round rs < mib.nak.limit) ×
-    (total_lost rounds < mib.ack.limit))
+    ⊎ ((count + 1 ≤ length done) × (lost_in done + total_lost rounds + spare_round rs < mib.nak.limit) × (total_lost rounds < mib.ack.limit))
 
-room_of : (mib : Mib) (count : ℕ) (rs : Received) (done : List (List Sending)) (unheard : ℕ) (round : EitherRound) (rounds : List EitherRound) →
-    AreBothSafe mib count rs done unheard (round ∷ rounds) →
-    Room round.is_at_limit mib.nak.limit count rs done unheard
-room_of mib count rs done unheard round rounds (inl below) = inl below.0
-room_of mib count rs done unheard round rounds (inr safe) = inr (safe.0, omega (arith, safe.1))
+room_of : (mib : Mib) (count : ℕ) (rs : Received) (done : List Exchange) (round : EitherRound) (rounds : List EitherRound) →
+    AreBothSafe mib count rs done (round ∷ rounds) → Room round.is_at_limit mib.nak.limit count rs done
+room_of mib count rs done round rounds (inl below) = inl below.0
+room_of mib count rs done round rounds (inr safe) = inr (safe.0, omega (arith, safe.1))
 
-safe_rest : (mib : Mib) (count later : ℕ) (rs : Received) (done : List (List Sending)) (unheard : ℕ) (round : EitherRound) (rounds : List EitherRound) →
-    AreBothSafe mib count rs done unheard (round ∷ rounds) → later ≤ count + 1 →
-    AreBothSafe mib later rs (done_after round.is_heard done round.sent) (unheard_after round.is_heard unheard) rounds
-safe_rest mib count later rs done unheard round rounds (inl below) few = inl below.1
-safe_rest mib count later rs done unheard round rounds (inr safe) few =
+safe_rest : (mib : Mib) (count later : ℕ) (rs : Received) (done : List Exchange) (round : EitherRound) (rounds : List EitherRound) →
+    AreBothSafe mib count rs done (round ∷ rounds) → later ≤ count + 1 → AreBothSafe mib later rs (done ++ round.exchange ∷ []) rounds
+safe_rest mib count later rs done round rounds (inl below) few = inl below.1
+safe_rest mib count later rs done round rounds (inr safe) few =
     inr (
-      omega (arith, safe.0, few, count_after round.is_heard done round.sent unheard),
+      omega (arith, safe.0, few, count_more done round.exchange),
       omega
-          (arith, safe.1, lost_after round.is_heard done round.sent unheard),
+          (arith, safe.1, lost_more done round.exchange),
       omega (arith, safe.2),
     )
 
 -- once the Finished PDU was sent in a round, and was lost
-safe_closing : (mib : Mib) (count sent : ℕ) (rs : Received) (done : List (List Sending)) (unheard : ℕ) (round : EitherRound) (rounds : List EitherRound) →
-    AreBothSafe mib count rs done unheard (round ∷ rounds) → sent ≡ 0 → round.is_lost ≡ true →
-    IsSafeToSend mib.ack.limit sent (as_all rounds)
-safe_closing mib count sent rs done unheard round rounds (inl below) zero lost = inl (low_all rounds below.1)
-safe_closing mib count sent rs done unheard round rounds (inr safe) zero lost = inr (omega (arith, safe.2, zero, ap one_if lost, fewer_lost rounds))
+safe_closing : (mib : Mib) (count sent : ℕ) (rs : Received) (done : List Exchange) (round : EitherRound) (rounds : List EitherRound) →
+    AreBothSafe mib count rs done (round ∷ rounds) → sent ≡ 0 → round.is_lost ≡ true → IsSafeToSend mib.ack.limit sent (as_all rounds)
+safe_closing mib count sent rs done round rounds (inl below) zero lost = inl (low_all rounds below.1)
+safe_closing mib count sent rs done round rounds (inr safe) zero lost = inr (omega (arith, safe.2, zero, ap one_if lost, fewer_lost rounds))
 
 -- ---- all rounds
 
@@ -232,49 +228,48 @@ close_rest mib M id u rounds same d here w are safe enough =
 
 all_go : Laws → NextIsSound → NextIsPromised → WholeAfterLosses →
     (mib : Mib) (R : State) (id : TransactionId) (rounds : List EitherRound) (e : Entry) (eof : Eof) (s : SessionFields) (rs : Received)
-    (done : List (List Sending)) (unheard : ℕ) →
+    (done : List Exchange) →
     R.mib ≡ mib → Sound R.world → AreDistinct R.sessions → AreKnown R → Before R id e eof s → SoFar (most_requests mib) rs eof done e →
-    AreEitherRounds R id rounds → AreBothSafe mib s.timer.count rs done unheard rounds →
-    lost_in done + unheard + total_lost rounds + spare_round rs < length done + unheard + length rounds → WasClosed R (flat_map inputs_of rounds) id
-all_go laws next_sound promised whole mib R id [] e eof s rs done unheard same sound d known b so are safe enough =
+    AreEitherRounds R id rounds → AreBothSafe mib s.timer.count rs done rounds →
+    lost_in done + total_lost rounds + spare_round rs < length done + length rounds → WasClosed R (flat_map inputs_of rounds) id
+all_go laws next_sound promised whole mib R id [] e eof s rs done same sound d known b so are safe enough =
     absurd (omega (arith, enough, not_enough whole R id e eof s (most_requests mib) rs done sound b so))
-all_go laws next_sound promised whole mib R id (round ∷ rounds) e eof s rs done unheard same sound d known b so are safe enough =
+all_go laws next_sound promised whole mib R id (round ∷ rounds) e eof s rs done same sound d known b so are safe enough =
     let most = most_requests mib in
     let i = Expire round.moment in
     let N = after R i in
     let M = after_all N round.rest in
-    let heard = round.is_heard in
+    let exchange = round.exchange in
     let naks = (parts R i).answer.naks in
     let is = are.0.asks (still_awaits R id e eof s b) in
-    let room = room_of mib s.timer.count rs done unheard round rounds safe in
+    let room = room_of mib s.timer.count rs done round rounds safe in
     let low : round.is_at_limit ≡ false =
-    is_below whole R id e eof s most rs done unheard round.moment round.is_at_limit sound d b so
-    (subst (λ (m : Mib). Room round.is_at_limit m.nak.limit s.timer.count rs done unheard) (sym same) room) is.served in
+    is_below whole R id e eof s most rs done round.moment round.is_at_limit sound d b so
+    (subst (λ (m : Mib). Room round.is_at_limit m.nak.limit s.timer.count rs done) (sym same) room) is.served in
     let opened = open_expire R id e eof s round.moment d b (subst (IsServed R id round.moment) low is.served) in
-    let asks : requests_of naks ≡ asked most eof.size e.received = opened.asks ∙ ap (λ (m : Mib). asked (most_requests m) eof.size e.received) same in
+    let asks : requests_of_each naks ≡ asked_for most eof.size e.received =
+    opened.asks ∙ ap (λ (m : Mib). asked_for (most_requests m) eof.size e.received) same in
     let sound_now = run_sound next_sound R.world (Handing.handed R i) sound in
     let apart = distinct_after R i d in
     let known_now = known_after laws next_sound promised R i sound d known in
-    let within = within_heard most eof.size e.received naks heard round.sent so.some asks is.answered.in_order in
     let few_rounds = not_enough whole R id e eof s most rs done sound b so in
-    elim (round_goes next_sound promised N id e eof opened.session
-    (heard_requests heard naks) round.sent round.rest sound_now apart opened.before within is.answered) [
+    elim (round_goes next_sound promised N id e eof opened.session most naks exchange round.rest sound_now apart opened.before so.some asks is.answered) [
       | inl was ↦ elim (ends_delivered laws next_sound promised N round.rest id round.is_lost sound_now apart known_now are.0.watched was) [
         | Is_closed closed ↦ closed_before R (inputs_of round) (flat_map inputs_of rounds) id (closed_later R i round.rest id closed)
         | Is_sent u here waits none lost ↦
             closed_after R (inputs_of round) (flat_map inputs_of rounds) id
             (close_rest mib M id u rounds (mib_all N round.rest ∙ same) (distinct_all N round.rest apart) here waits are.1
-            (safe_closing mib s.timer.count u.timer.count rs done unheard round rounds safe none lost) (omega (arith, enough, few_rounds, ap one_if lost)))
+            (safe_closing mib s.timer.count u.timer.count rs done round rounds safe none lost) (omega (arith, enough, few_rounds, ap one_if lost)))
       ]
       | inr left ↦
           closed_after R (inputs_of round) (flat_map inputs_of rounds) id (
-          all_go laws next_sound promised whole mib M id rounds left.entry eof left.session rs (done_after heard done round.sent)
-          (unheard_after heard unheard) (mib_all N round.rest ∙ same)
+          all_go laws next_sound promised whole mib M id rounds left.entry eof left.session rs (done ++ exchange ∷ [])
+          (mib_all N round.rest ∙ same)
           (sound_all next_sound N round.rest sound_now) (distinct_all N round.rest apart)
           (known_all laws next_sound promised N round.rest sound_now apart known_now) left.before
-          (so_far_after most rs eof done e left.entry naks heard round.sent so asks is.answered.in_order left.kept) are.1
-          (safe_rest mib s.timer.count left.session.timer.count rs done unheard round rounds safe (omega (arith, left.few is.answered.once, opened.few)))
-          (omega (arith, enough, lost_after heard done round.sent unheard, count_after heard done round.sent unheard))
+          (one_more most rs eof done e left.entry naks exchange so asks is.answered.exchanged left.kept) are.1
+          (safe_rest mib s.timer.count left.session.timer.count rs done round rounds safe (omega (arith, left.few is.answered.once, opened.few)))
+          (omega (arith, enough, lost_more done exchange, count_more done exchange))
           )
     ]
 
@@ -284,15 +279,10 @@ SafeAtFirst mib spare first is_lost rounds =
 
 safe_first : (mib : Mib) (count : ℕ) (rs : Received) (first : FirstRound) (is_lost : Bool) (rounds : List EitherRound) →
     SafeAtFirst mib (spare_round rs) first is_lost rounds → count ≤ 0 →
-    AreBothSafe mib count rs (done_after first.is_heard [] first.sent) (unheard_after first.is_heard 0) rounds
+    AreBothSafe mib count rs (first.exchange ∷ []) rounds
 safe_first mib count rs first is_lost rounds (inl below) few = inl below
 safe_first mib count rs first is_lost rounds (inr room) few =
-    inr (
-      omega (arith, few, count_after first.is_heard [] first.sent 0),
-      omega (arith, room.0, lost_after first.is_heard [] first.sent 0),
-      omega
-          (arith, room.1),
-    )
+    inr (omega (arith, few), omega (arith, room.0), omega (arith, room.1))
 
 closing_first : (mib : Mib) (spare sent : ℕ) (first : FirstRound) (is_lost : Bool) (rounds : List EitherRound) →
     SafeAtFirst mib spare first is_lost rounds → sent ≡ 0 → is_lost ≡ true → IsSafeToSend mib.ack.limit sent (as_all rounds)
@@ -307,7 +297,7 @@ closed_in_all only_take takes next_sound promised whole R id first is_lost round
     let i = first.opening in
     let N = after R i in
     let M = after_all N first.rest in
-    let heard = first.is_heard in
+    let exchange = first.exchange in
     let naks = (parts R i).answer.naks in
     let opened = open_first R id i e eof r.opens r.awaits in
     let sound_now = run_sound next_sound R.world (Handing.handed R i) sound in
@@ -320,9 +310,7 @@ closed_in_all only_take takes next_sound promised whole R id first is_lost round
       rounds = tt;
       received = refl;
     } in
-    let within = within_heard most eof.size e.received naks heard first.sent some opened.asks r.answered.in_order in
-    elim (round_goes next_sound promised N id e eof opened.session
-    (heard_requests heard naks) first.sent first.rest sound_now apart opened.before within r.answered) [
+    elim (round_goes next_sound promised N id e eof opened.session most naks exchange first.rest sound_now apart opened.before some opened.asks r.answered) [
       | inl was ↦ elim (ends_delivered laws next_sound promised N first.rest id is_lost sound_now apart known_now watched was) [
         | Is_closed closed ↦ closed_before R (i ∷ first.rest) (flat_map inputs_of rounds) id (closed_later R i first.rest id closed)
         | Is_sent u here waits none lost ↦
@@ -332,12 +320,12 @@ closed_in_all only_take takes next_sound promised whole R id first is_lost round
       ]
       | inr left ↦
           closed_after R (i ∷ first.rest) (flat_map inputs_of rounds) id (
-          all_go laws next_sound promised whole mib M id rounds left.entry eof left.session e.received (done_after heard [] first.sent)
-          (unheard_after heard 0) (mib_all N first.rest)
+          all_go laws next_sound promised whole mib M id rounds left.entry eof left.session e.received (exchange ∷ [])
+          (mib_all N first.rest)
           (sound_all next_sound N first.rest sound_now) (distinct_all N first.rest apart)
           (known_all laws next_sound promised N first.rest sound_now apart known_now) left.before
-          (so_far_after most e.received eof [] e left.entry naks heard first.sent begun opened.asks r.answered.in_order left.kept) are
+          (one_more most e.received eof [] e left.entry naks exchange begun opened.asks r.answered.exchanged left.kept) are
           (safe_first mib left.session.timer.count e.received first is_lost rounds low (omega (arith, left.few r.answered.once, opened.few)))
-          (omega (arith, enough, lost_after heard [] first.sent 0, count_after heard [] first.sent 0))
+          (omega (arith, enough))
           )
     ]

@@ -1,7 +1,7 @@
 -- What begins a round: the NAK PDUs of the answer ask for what the transaction lacks.
 use Rattle.std.specs.Prelude.{◌==◌, nat_le}
-use Rattle.std.specs.List.{filter, flat_map}
-use Rattle.std.proofs.Common.{◌≡◌, ℕ, ◌+◌, ◌≤◌, Bool, true, false, not, ◌&&◌, ◌||◌, List, [], ◌∷◌, ◌++◌, map, Option, Some, refl, sym, ap, subst, ◌∙◌, arith}
+use Rattle.std.specs.List.{filter}
+use Rattle.std.proofs.Common.{◌≡◌, ℕ, ◌+◌, ◌≤◌, Bool, true, false, not, ◌&&◌, ◌||◌, List, [], ◌∷◌, map, Option, Some, refl, sym, ap, subst, ◌∙◌, arith}
 use Rattle.std.proofs.lemmas.Bool.{cond-true, and_from, eq-eqb, le-leb}
 use Rattle.cfdp_status.specs.declared.transaction.TransactionId.{TransactionId}
 use Rattle.cfdp_leases.specs.Leases.{is_same}
@@ -9,8 +9,8 @@ use Rattle.cfdp_pdus.specs.Values.{MetadataFields}
 use Rattle.cfdp_pdus.specs.declared.eof.Eof.{Eof}
 use Rattle.cfdp_pdus.specs.declared.header.Header.{Header}
 use Rattle.cfdp_directives.specs.Reading.{NakFields}
-use Rattle.cfdp_retransmission.specs.Coming.{asked}
 use Rattle.cfdp_retransmission.specs.Naks.{Range, Nak, naks}
+use Rattle.cfdp_retransmission.specs.Rounds.{asked_for}
 use Rattle.cfdp_retransmission.specs.Timers.{expiry, passed, restarted}
 use Rattle.cfdp_retransmission.specs.declared.timer.Expiry.TheVariants.{NotDue, Again, Limit}
 use Rattle.cfdp_retransmission.specs.declared.timer.Timer.{Timer}
@@ -34,11 +34,10 @@ use Rattle.cfdp_receiver.specs.State.{State, AnswerFields, Input, MetadataPdu, D
 use Rattle.cfdp_receiver.specs.Due as Dues
 use Rattle.cfdp_receiver.specs.Handing as Handing
 use Rattle.cfdp_receiver.specs.Turning as Turning
-use Rattle.cfdp_receiver.specs.Laws.{requests_of}
 use Rattle.cfdp_receiver.proofs.Limits.{stage_due, is_it}
 use Rattle.cfdp_receiver.proofs.Sending.{heard_name}
 use Rattle.cfdp_progress.specs.Awaiting.{EntryAwaits, TransactionAwaits}
-use Rattle.cfdp_progress.specs.NakRounds.{IsServed, EofOpens, MetadataOpens, Opens}
+use Rattle.cfdp_progress.specs.NakRounds.{requests_of_each, IsServed, EofOpens, MetadataOpens, Opens}
 use Rattle.cfdp_progress.proofs.Turns.{Before, at_is, at_in, asks_none, heard_is}
 use Rattle.cfdp_progress.proofs.Runs.{before_of}
 
@@ -47,9 +46,9 @@ use Rattle.cfdp_progress.proofs.Runs.{before_of}
 abbrev with_header : Header → Nak → NakFields
 with_header h nak = record { header = turned h; scope = nak.scope; requests = nak.requests }
 
-requests_are : (h : Header) (xs : List Nak) → requests_of (map (with_header h) xs) ≡ flat_map (λ (n : Nak). n.requests) xs
+requests_are : (h : Header) (xs : List Nak) → requests_of_each (map (with_header h) xs) ≡ map (λ (n : Nak). n.requests) xs
 requests_are h [] = refl
-requests_are h (x ∷ xs) = ap (λ (rest : List Range). x.requests ++ rest) (requests_are h xs)
+requests_are h (x ∷ xs) = ap (λ (rest : List (List Range)). x.requests ∷ rest) (requests_are h xs)
 
 from_zero : (xs : List Range) → filter (λ (g : Range). nat_le 0 g.0) xs ≡ xs
 from_zero [] = refl
@@ -57,11 +56,11 @@ from_zero (x ∷ xs) =
     cond-true (nat_le 0 x.0) (x ∷ filter (λ (g : Range). nat_le 0 g.0) xs) (filter (λ (g : Range). nat_le 0 g.0) xs) (le-leb 0 x.0 (omega arith))
     ∙ ap (λ (rest : List Range). x ∷ rest) (from_zero xs)
 
-abbrev Requests : ℕ → ℕ → List Range → List Range
-Requests most high found = flat_map (λ (n : Nak). n.requests) (naks most 0 high found)
+abbrev Requests : ℕ → ℕ → List Range → List (List Range)
+Requests most high found = map (λ (n : Nak). n.requests) (naks most 0 high found)
 
 sequence_asks : (mib : Mib) (h : Header) (e : Entry) (eof : Eof) (checks : ℕ) → e.phase ≡ Awaiting checks → e.eof ≡ Some eof →
-    requests_of (Turning.sequence mib h 0 (reach e) (Turning.gaps_after 0 e)) ≡ asked (Turning.most_requests mib) eof.size e.received
+    requests_of_each (Turning.sequence mib h 0 (reach e) (Turning.gaps_after 0 e)) ≡ asked_for (Turning.most_requests mib) eof.size e.received
 sequence_asks mib h e eof checks phase came =
     let most = Turning.most_requests mib in
     requests_are h (naks most 0 (reach e) (Turning.gaps_after 0 e))
@@ -81,7 +80,7 @@ asks_is mib V s id e known name here =
 pub record Opened (R : State) (i : Input) (id : TransactionId) (e : Entry) (eof : Eof) (count : ℕ) : Type 0 where
   pub session : SessionFields
   pub before : Before (Turning.after R i) id e eof session
-  pub asks : requests_of (Turning.parts R i).answer.naks ≡ asked (Turning.most_requests R.mib) eof.size e.received
+  pub asks : requests_of_each (Turning.parts R i).answer.naks ≡ asked_for (Turning.most_requests R.mib) eof.size e.received
   pub few : session.timer.count ≤ count
 
 -- ---- the NAK timer
@@ -119,7 +118,7 @@ open_expire R id e eof s moment d b served =
     record {
       session = new;
       before = record { here = here; known = b.known; acknowledged = b.acknowledged; core = core };
-      asks = ap requests_of sent ∙ sequence_asks R.mib s.header e eof b.core.checks b.core.phase b.core.came;
+      asks = ap requests_of_each sent ∙ sequence_asks R.mib s.header e eof b.core.checks b.core.phase b.core.came;
       few = omega arith;
     }
 
@@ -188,7 +187,7 @@ open_eof R id moment h came e eof r awaits =
     record {
       session = awaits.session;
       before = before_of (Turning.after R i) id e eof awaits;
-      asks = ap requests_of sent ∙ sequence_asks R.mib s.header e eof core.checks core.phase core.came;
+      asks = ap requests_of_each sent ∙ sequence_asks R.mib s.header e eof core.checks core.phase core.came;
       few = omega (arith, count);
     }
 
@@ -223,7 +222,7 @@ open_metadata R id moment h m e eof r awaits =
     record {
       session = awaits.session;
       before = before_of (Turning.after R i) id e eof awaits;
-      asks = ap requests_of sent ∙ sequence_asks R.mib h e eof core.checks core.phase core.came;
+      asks = ap requests_of_each sent ∙ sequence_asks R.mib h e eof core.checks core.phase core.came;
       few = omega (arith, count);
     }
 

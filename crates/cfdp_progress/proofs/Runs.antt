@@ -9,6 +9,7 @@ use Rattle.cfdp_pdus.specs.Values.{FileDataFields}
 use Rattle.cfdp_pdus.specs.declared.eof.Eof.{Eof}
 use Rattle.cfdp_pdus.specs.declared.header.Header.{Header}
 use Rattle.cfdp_retransmission.specs.Coming.{Piece, keep, keep_all, AnsweredIsWhole}
+use Rattle.cfdp_retransmission.proofs.Hearing.{Within}
 use Rattle.cfdp_sessions.specs.Sessions.{SessionFields, AreDistinct}
 use Rattle.cfdp_sessions.specs.declared.session.Stage.{Stage}
 use Rattle.cfdp_sessions.specs.declared.session.Stage.TheVariants.{Held, Known, Over as OverStage, Waiting}
@@ -36,7 +37,7 @@ use Rattle.cfdp_progress.specs.Awaiting.{EntryAwaits, TransactionAwaits, is_awai
 use Rattle.cfdp_progress.specs.NakRounds.{IsAskedOnce}
 use Rattle.cfdp_receiver.proofs.Others.{others_keep_entries, work_keeps_others, run_sound}
 use Rattle.cfdp_progress.proofs.Pieces.{fits_of}
-use Rattle.cfdp_progress.proofs.Turns.{Within, Before, Still, Is_done, step}
+use Rattle.cfdp_progress.proofs.Turns.{Before, Still, Is_done, step}
 
 -- ---- after several inputs
 

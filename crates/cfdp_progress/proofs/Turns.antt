@@ -1,6 +1,5 @@
 -- One turn of a receiver in which a transaction waits for octets.
 use Rattle.std.specs.Prelude.{if◌then◌else◌, ◌==◌}
-use Rattle.std.specs.List.{AllByRecursion}
 use Rattle.std.proofs.Common.{◌≡◌, inl, inr, ℕ, ◌+◌, ◌≤◌, Bool, true, false, not, ◌&&◌, List, [], ◌∷◌, length, Option, Some, None, refl, sym, ap, subst, ◌∙◌, arith}
 use Rattle.std.proofs.lemmas.Bool.{cond_both, cond-true, cond-false, cases_Bool, and_parts, and_from, and_left, and_right, eq-eqb, eqb-true}
 use Rattle.cfdp_status.specs.declared.transaction.TransactionId.{TransactionId}
@@ -12,6 +11,7 @@ use Rattle.cfdp_directives.specs.declared.ack.Ack.{Ack}
 use Rattle.cfdp_directives.specs.declared.prompt.Prompt.{Prompt}
 use Rattle.cfdp_retransmission.specs.Coming.{Piece, keep, keep_all}
 use Rattle.cfdp_retransmission.specs.Timers.{restarted, passed}
+use Rattle.cfdp_retransmission.proofs.Hearing.{Within}
 use Rattle.cfdp_retransmission.specs.declared.timer.Expiry.TheVariants.{Again}
 use Rattle.cfdp_sessions.specs.Sessions.{SessionFields, name_of, found, replaced, AreDistinct}
 use Rattle.cfdp_sessions.specs.declared.session.Stage.{Stage}
@@ -66,13 +66,13 @@ pub data Goes (V : World) (ss : List SessionFields) (id : TransactionId) (eof : 
   Is_done : (delivered : IsDelivered V id) → Goes V ss id eof received count again
 
 -- the world stays, and the session but for its timer
-record Quiet (W : World) (id : TransactionId) (s : SessionFields) (again : Bool) (V : World) (ss : List SessionFields) : Type 0 where
-  world : V ≡ W
-  session : SessionFields
-  here : found ss id ≡ Some session
-  stage : session.stage ≡ s.stage
-  header : session.header ≡ s.header
-  few : again ≡ false → session.timer.count ≤ s.timer.count
+pub record Quiet (W : World) (id : TransactionId) (s : SessionFields) (again : Bool) (V : World) (ss : List SessionFields) : Type 0 where
+  pub world : V ≡ W
+  pub session : SessionFields
+  pub here : found ss id ≡ Some session
+  pub stage : session.stage ≡ s.stage
+  pub header : session.header ≡ s.header
+  pub few : again ≡ false → session.timer.count ≤ s.timer.count
 
 -- what is known before
 pub record Before (R : State) (id : TransactionId) (e : Entry) (eof : Eof) (s : SessionFields) : Type 0 where
@@ -88,10 +88,10 @@ quiet_goes R id e eof s again V ss b q =
     Still e (subst (λ (U : World). EntryAwaits U id e eof) (sym q.world) b.core) refl q.session q.here (q.stage ∙ b.known)
     (ap (λ (h : Header). h.acknowledged) q.header ∙ b.acknowledged) q.few
 
-kept_quiet : (R : State) (id : TransactionId) (s : SessionFields) (again : Bool) → session_of R id ≡ Some s → Quiet R.world id s again R.world R.sessions
+pub kept_quiet : (R : State) (id : TransactionId) (s : SessionFields) (again : Bool) → session_of R id ≡ Some s → Quiet R.world id s again R.world R.sessions
 kept_quiet R id s again here = record { world = refl; session = s; here = here; stage = refl; header = refl; few = λ q. omega arith }
 
-put_quiet : (R : State) (id : TransactionId) (s t : SessionFields) (again : Bool) (V : World) → session_of R id ≡ Some s → V ≡ R.world → t.stage ≡ s.stage →
+pub put_quiet : (R : State) (id : TransactionId) (s t : SessionFields) (again : Bool) (V : World) → session_of R id ≡ Some s → V ≡ R.world → t.stage ≡ s.stage →
     t.header ≡ s.header → (again ≡ false → t.timer.count ≤ s.timer.count) →
     Quiet R.world id s again V (replaced R.sessions t)
 put_quiet R id s t again V here world stage header few =
@@ -208,7 +208,7 @@ quiet_ack_stage R L h ack s Known here same k =
 quiet_ack_stage R L h ack s (OverStage ending) here same k = absurd cc
 quiet_ack_stage R L h ack s Waiting here same k = absurd cc
 
-quiet_none_if : (R : State) (id : TransactionId) (s : SessionFields) (again b : Bool) (p q : Turning.Parts) → Quiet R.world id s again R.world p.sessions →
+pub quiet_none_if : (R : State) (id : TransactionId) (s : SessionFields) (again b : Bool) (p q : Turning.Parts) → Quiet R.world id s again R.world p.sessions →
     Quiet R.world id s again R.world q.sessions →
     Quiet R.world id s again R.world (if b then p else q).sessions
 quiet_none_if R id s again true p q hp hq = hp
@@ -231,7 +231,7 @@ roused_is R s =
     (λ (t : SessionFields). (t.stage ≡ s.stage) × (t.header ≡ s.header) × (t.timer.count ≤ s.timer.count))
     (λ e. (refl, refl, omega arith)) (λ e. (refl, refl, omega arith))
 
-quiet_prompt : (R : State) (now : ℕ) (h : Header) (prompt : Prompt) (s : SessionFields) → session_of R (id_of h) ≡ Some s →
+pub quiet_prompt : (R : State) (now : ℕ) (h : Header) (prompt : Prompt) (s : SessionFields) → session_of R (id_of h) ≡ Some s →
     Quiet R.world (id_of h) s false R.world (Turning.after R (PromptPdu now h prompt)).sessions
 quiet_prompt R now h prompt s here =
     let L = Handing.later now R in
@@ -246,7 +246,7 @@ quiet_prompt R now h prompt s here =
     (put_quiet R (id_of h) s (Turning.roused L s) false R.world here refl r.0 r.1 (λ q. r.2)) (kept_quiet R (id_of h) s false here)))
     (kept_quiet R (id_of h) s false here)
 
-quiet_other : (R : State) (now : ℕ) (h : Header) (s : SessionFields) → session_of R (id_of h) ≡ Some s →
+pub quiet_other : (R : State) (now : ℕ) (h : Header) (s : SessionFields) → session_of R (id_of h) ≡ Some s →
     Quiet R.world (id_of h) s false R.world (Turning.after R (OtherPdu now h)).sessions
 quiet_other R now h s here =
     let L = Handing.later now R in
@@ -278,12 +278,12 @@ asks_none R s mode =
     ap (λ (b : Bool). Handing.where_known s.stage (if b then Check (name_of s) ∷ [] else []))
     (acknowledged_none s.header.acknowledged (at_of R.world s) mode) ∙ none_known s.stage
 
-ignored_by : (h : Handler) → is_ignoring h ≡ true → h ≡ handlers.Ignore
+pub ignored_by : (h : Handler) → is_ignoring h ≡ true → h ≡ handlers.Ignore
 ignored_by handlers.Ignore e = refl
 ignored_by handlers.Cancel e = absurd cc
 ignored_by handlers.Abandon e = absurd cc
 
-is_ignored : (same ignoring : Bool) → same ≡ true → (same && not ignoring) ≡ false → ignoring ≡ true
+pub is_ignored : (same ignoring : Bool) → same ≡ true → (same && not ignoring) ≡ false → ignoring ≡ true
 is_ignored true true s e = refl
 is_ignored true false s e = absurd cc
 is_ignored false ignoring s e = absurd cc
@@ -448,9 +448,6 @@ other_goes next_sound promised R i id e eof s again sound b w other =
 
 -- ---- each input
 
-abbrev pub Within : ℕ → List Piece → Type 0
-Within size ps = AllByRecursion (λ p. p.0 + length p.1 ≤ size) ps
-
 abbrev Stepped : State → Input → TransactionId → Entry → Eof → SessionFields → Type 0
 Stepped R i id e eof s = Goes (Turning.after R i).world (Turning.after R i).sessions id eof (keep_all e.received (piece_in R id i)) s.timer.count
     (asks_again R id i)
@@ -469,7 +466,7 @@ pdu_goes next_sound promised R i h id e eof s sound b w of quiet = elim (cases_B
   | inr other ↦ other_goes next_sound promised R i id e eof s false sound b w (ap (λ (n : TransactionId). is_same n id) of ∙ other)
 ]
 
-no_error : (same right : Bool) → same ≡ true → (same && not right) ≡ false → right ≡ true
+pub no_error : (same right : Bool) → same ≡ true → (same && not right) ≡ false → right ≡ true
 no_error true true s e = refl
 no_error true false s e = absurd cc
 no_error false right s e = absurd cc

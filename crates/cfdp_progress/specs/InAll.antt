@@ -14,7 +14,7 @@ use Rattle.cfdp_status.specs.declared.transaction.TransactionId.{TransactionId}
 use Rattle.cfdp_leases.specs.Leases.{is_same}
 use Rattle.cfdp_pdus.specs.declared.eof.Eof.{Eof}
 use Rattle.cfdp_retransmission.specs.Coming.{one_if}
-use Rattle.cfdp_retransmission.specs.Rounds.{Sending, spare_round}
+use Rattle.cfdp_retransmission.specs.Rounds.{Exchange, lost_of, spare_round}
 use Rattle.cfdp_sessions.specs.Sessions.{SessionFields, name_of, AreDistinct}
 use Rattle.cfdp_transactions.specs.Entry.{Entry}
 use Rattle.cfdp_transactions.specs.Sound.{Sound}
@@ -23,15 +23,14 @@ use Rattle.cfdp_receiver.specs.Due.{first_over}
 use Rattle.cfdp_receiver.specs.Turning.{most_requests, after, after_all}
 use Rattle.cfdp_receiver.specs.Laws.{waits_in, AreKnown}
 use Rattle.cfdp_progress.specs.Awaiting.{awaits_octets}
-use Rattle.cfdp_progress.specs.NakRounds.{NakRound, IsNakRound, lost_of, FirstRound, IsFirstRound}
+use Rattle.cfdp_progress.specs.NakRounds.{NakRound, IsNakRound, FirstRound, IsFirstRound}
 use Rattle.cfdp_progress.specs.Closing.{is_acknowledged, IsSentOnce, FinishedRound, IsFinishedRound, WasClosed}
 use Rattle.cfdp_progress.specs.Concluding.{has_nothing_left}
 
 pub record EitherRound : Type 0 where
   pub moment : ℕ
   pub is_at_limit : Bool  -- the expiry reaches the limit of the timer
-  pub is_heard : Bool  -- the sender gets the NAK PDUs
-  pub sent : List Sending
+  pub exchange : Exchange  -- where NAK PDUs are sent
   pub is_lost : Bool  -- the Finished PDU, or its acknowledgement
   pub rest : List Input
 
@@ -39,8 +38,7 @@ abbrev pub as_nak : EitherRound → NakRound
 as_nak round = record {
   moment = round.moment;
   is_at_limit = round.is_at_limit;
-  is_heard = round.is_heard;
-  sent = round.sent;
+  exchange = round.exchange;
   rest = round.rest;
 }
 
@@ -87,11 +85,11 @@ AreEitherRounds R id (round ∷ rounds) =
 
 abbrev pub total_lost : List EitherRound → ℕ
 total_lost [] = 0
-total_lost (round ∷ rounds) = lost_of round.is_heard round.sent + one_if round.is_lost + total_lost rounds
+total_lost (round ∷ rounds) = lost_of round.exchange + one_if round.is_lost + total_lost rounds
 
 -- with the first round, of which `is_lost` tells the same
 abbrev pub lost_in_all : FirstRound → Bool → List EitherRound → ℕ
-lost_in_all first is_lost rounds = lost_of first.is_heard first.sent + one_if is_lost + total_lost rounds
+lost_in_all first is_lost rounds = lost_of first.exchange + one_if is_lost + total_lost rounds
 
 -- both limits are above what is lost; or each later round begins below them
 abbrev pub ClosedInAll : Type 0

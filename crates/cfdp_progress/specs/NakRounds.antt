@@ -2,19 +2,20 @@
 -- channel loses pieces and NAK PDUs (CCSDS 727.0-B-5 §4.6.4, the lost segment procedures).
 --     asks_again R id i         the NAK timer of its session is served below the limit, so NAK PDUs are sent
 --     IsAskedOnce R id inputs   this does not happen, as long as it waits
---     heard_requests            the requests of NAK PDUs that the sender gets: none, where they are lost
---     AreAnswered R id requests sent rest   what is sent answers the requests in order; what is not lost is in `rest`
+--     requests_of_each naks     the requests of each of several NAK PDUs
+--     AreAnswered R id naks exchange rest   the sender answers those of the NAK PDUs that it gets, each request in its
+--                               turn; the pieces that are not lost are in `rest`
 --     IsServed R id moment is_at_limit  the timer of the transaction's session is the first that is due
 --     NakRound                  a round that begins when the NAK timer is served
 --     AreNakRounds R id rounds  each of several is one, as long as the transaction waits for octets
 --     AreBelow rounds           the timer is below its limit when each of them begins
---     lost_of, all_lost         how much is lost in a round, and in several: pieces, and NAK PDUs
+--     all_lost rounds           how much is lost in several: pieces, and 1 more in each in which NAK PDUs are lost
 --     DeliveredAfterRounds      after one round more than was lost, and the spare one, the file was delivered
 --     Opens R id i              the EOF PDU comes, or the Metadata PDU where the EOF PDU came before it
 --     FirstRound, IsFirstRound  the round that begins so, where octets are missing
 --     lost_from first rounds    how much is lost in this one and later ones
 --     DeliveredAfterLosses      the same, with this round
-use Rattle.std.specs.Prelude.{◌≡◌, ⊤, ◌⊎◌, ℕ, ◌+◌, ◌≤◌, ◌<◌, Bool, true, false, List, [], ◌∷◌, ◌++◌, length, Some}
+use Rattle.std.specs.Prelude.{◌≡◌, ⊤, ◌⊎◌, ℕ, ◌+◌, ◌≤◌, ◌<◌, Bool, true, false, List, [], ◌∷◌, ◌++◌, map, length, Some}
 use Rattle.std.specs.List.{AllByRecursion, flat_map}
 use Rattle.cfdp_status.specs.declared.transaction.TransactionId.{TransactionId}
 use Rattle.cfdp_leases.specs.Leases.{is_same}
@@ -22,7 +23,7 @@ use Rattle.cfdp_pdus.specs.declared.eof.Eof.{Eof}
 use Rattle.cfdp_pdus.specs.declared.header.Header.{Header}
 use Rattle.cfdp_directives.specs.Reading.{NakFields}
 use Rattle.cfdp_retransmission.specs.Naks.{Range}
-use Rattle.cfdp_retransmission.specs.Rounds.{Sending, AnswersInOrder, arrived, lost, spare_round}
+use Rattle.cfdp_retransmission.specs.Rounds.{Exchange, IsExchange, arrived, lost_of, spare_round}
 use Rattle.cfdp_sessions.specs.Sessions.{SessionFields, name_of, AreDistinct}
 use Rattle.cfdp_sessions.specs.declared.session.Stage.TheVariants.{Held, Known}
 use Rattle.cfdp_transactions.specs.Entry.{Entry, id_of}
@@ -32,7 +33,6 @@ use Rattle.cfdp_receiver.specs.State.{State, Input, MetadataPdu, EofPdu, Expire,
 use Rattle.cfdp_receiver.specs.Due.{Due, Stage_due, first_due}
 use Rattle.cfdp_receiver.specs.Handing.{is_ours, later}
 use Rattle.cfdp_receiver.specs.Turning.{most_requests, parts, after, after_all}
-use Rattle.cfdp_receiver.specs.Laws.{requests_of}
 use Rattle.cfdp_progress.specs.Awaiting.{awaits_octets, TransactionAwaits, GoesOn, pieces_in, WasDelivered}
 
 abbrev pub is_asking : TransactionId → Due → Bool
@@ -49,16 +49,14 @@ abbrev pub IsAskedOnce : State → TransactionId → List Input → Type 0
 IsAskedOnce R id [] = ⊤
 IsAskedOnce R id (i ∷ is) = (awaits_octets R id ≡ true → asks_again R id i ≡ false) × IsAskedOnce (after R i) id is
 
--- what the sender is asked for: nothing, where it does not get the NAK PDUs
-abbrev pub heard_requests : Bool → List NakFields → List Range
-heard_requests true naks = requests_of naks
-heard_requests false naks = []
+abbrev pub requests_of_each : List NakFields → List (List Range)
+requests_of_each naks = map (λ nak. nak.requests) naks
 
--- R is the state after the input whose answer had the requests
-pub record AreAnswered (R : State) (id : TransactionId) (requests : List Range) (sent : List Sending)
+-- R is the state after the input whose answer had the NAK PDUs
+pub record AreAnswered (R : State) (id : TransactionId) (naks : List NakFields) (exchange : Exchange)
     (rest : List Input) : Type 0 where
-  pub in_order : AnswersInOrder requests sent
-  pub come : pieces_in R id rest ≡ arrived sent
+  pub exchanged : IsExchange (requests_of_each naks) exchange
+  pub come : pieces_in R id rest ≡ arrived exchange.sent
   pub goes_on : GoesOn R id rest
   pub once : IsAskedOnce R id rest
 
@@ -72,8 +70,7 @@ pub record IsServed (R : State) (id : TransactionId) (moment : ℕ) (is_at_limit
 pub record NakRound : Type 0 where
   pub moment : ℕ
   pub is_at_limit : Bool  -- the expiry reaches the NAK limit
-  pub is_heard : Bool  -- the sender gets the NAK PDUs
-  pub sent : List Sending
+  pub exchange : Exchange
   pub rest : List Input
 
 abbrev pub round_inputs : NakRound → List Input
@@ -82,7 +79,7 @@ round_inputs round = Expire round.moment ∷ round.rest
 pub record IsNakRound (R : State) (id : TransactionId) (round : NakRound) : Type 0 where
   pub served : IsServed R id round.moment round.is_at_limit
   pub answered : AreAnswered (after R (Expire round.moment)) id
-      (heard_requests round.is_heard (parts R (Expire round.moment)).answer.naks) round.sent round.rest
+      (parts R (Expire round.moment)).answer.naks round.exchange round.rest
 
 abbrev pub AreNakRounds : State → TransactionId → List NakRound → Type 0
 AreNakRounds R id [] = ⊤
@@ -92,14 +89,9 @@ AreNakRounds R id (round ∷ rounds) =
 abbrev pub AreBelow : List NakRound → Type 0
 AreBelow rounds = AllByRecursion (λ round. round.is_at_limit ≡ false) rounds
 
--- NAK PDUs that are lost together count as one
-abbrev pub lost_of : Bool → List Sending → ℕ
-lost_of true sent = lost sent
-lost_of false sent = 1
-
 abbrev pub all_lost : List NakRound → ℕ
 all_lost [] = 0
-all_lost (round ∷ rounds) = lost_of round.is_heard round.sent + all_lost rounds
+all_lost (round ∷ rounds) = lost_of round.exchange + all_lost rounds
 
 abbrev pub all_inputs : List NakRound → List Input
 all_inputs rounds = flat_map round_inputs rounds
@@ -141,8 +133,7 @@ Opens R id i = ⊥
 
 pub record FirstRound : Type 0 where
   pub opening : Input
-  pub is_heard : Bool
-  pub sent : List Sending
+  pub exchange : Exchange
   pub rest : List Input
 
 -- `entry` and `eof` are those after the input that opens it
@@ -150,11 +141,11 @@ pub record IsFirstRound (R : State) (id : TransactionId) (round : FirstRound) (e
   pub opens : Opens R id round.opening
   pub awaits : TransactionAwaits (after R round.opening) id entry eof
   pub answered : AreAnswered (after R round.opening) id
-      (heard_requests round.is_heard (parts R round.opening).answer.naks) round.sent round.rest
+      (parts R round.opening).answer.naks round.exchange round.rest
 
 -- in all rounds
 abbrev pub lost_from : FirstRound → List NakRound → ℕ
-lost_from first rounds = lost_of first.is_heard first.sent + all_lost rounds
+lost_from first rounds = lost_of first.exchange + all_lost rounds
 
 -- the NAK limit is above what is lost; or each later round begins below it, as where it is ignored
 abbrev pub DeliveredAfterLosses : Type 0

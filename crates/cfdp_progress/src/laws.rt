@@ -39,9 +39,10 @@ pub fn stays_delivered()
 }
 
 /// A file waits for octets. A round begins when its NAK timer expires below the limit: NAK PDUs ask for what is
-/// missing, a sender answers them in the order of their requests, and a channel loses pieces, or the NAK PDUs. After
-/// one round more than is lost in all, at the latest, the file is delivered. One round more is needed where 32 parts
-/// are there without the octet at offset 0.
+/// missing, a sender answers each that it gets, in the order of its requests, and a channel loses pieces and NAK PDUs.
+/// A round loses the pieces that are lost, and 1 more if NAK PDUs are lost, however many: at most the PDUs that are
+/// lost. After one round more than is lost in all, at the latest, the file is delivered. One round more is needed where
+/// 32 parts are there without the octet at offset 0.
 pub fn delivered_after_rounds()
     ensures { DeliveredAfterRounds }
 {
@@ -88,8 +89,9 @@ pub fn closed_after_losses()
 /// From the EOF PDU until the session is closed. A round begins with the EOF PDU, or when the timer of the session
 /// expires; all items are performed, and all outcomes handed out, before it ends. The sender answers NAK PDUs in the
 /// order of their requests, and acknowledges Finished PDUs. The channel loses pieces, NAK PDUs, Finished PDUs and
-/// acknowledgements. If both limits are above what is lost in all, the session is closed after one round more than
-/// that, at the latest. One round more is needed where 32 parts are there without the octet at offset 0.
+/// acknowledgements; NAK PDUs that it loses in one round count as 1. If both limits are above what is lost in all, the
+/// session is closed after one round more than that, at the latest. One round more is needed where 32 parts are there
+/// without the octet at offset 0.
 pub fn closed_in_all()
     ensures { ClosedInAll }
 {

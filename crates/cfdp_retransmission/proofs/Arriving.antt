@@ -11,11 +11,11 @@ use Rattle.cfdp_transactions.proofs.OctetsAndGaps.{first_stays, gaps_are_missing
 
 -- all of it is kept --------------------------------------------------------------------
 
-kept_is : (rs : Received) (p : Piece) → pieces (kept_with rs p.0 p.1) ≤ 32 → keep rs p ≡ kept_with rs p.0 p.1
+pub kept_is : (rs : Received) (p : Piece) → pieces (kept_with rs p.0 p.1) ≤ 32 → keep rs p ≡ kept_with rs p.0 p.1
 kept_is rs p h = rw (le-ltb 32 (pieces (kept_with rs p.0 p.1)) h) refl
 
 -- an offset that is there stays there, and one that is brought is there then
-stays : (o later : Option ℕ) → is_some o ≡ true → is_some (or_else o later) ≡ true
+pub stays : (o later : Option ℕ) → is_some o ≡ true → is_some (or_else o later) ≡ true
 stays None later h = absurd cc
 stays (Some x) later h = refl
 

@@ -1,25 +1,24 @@
--- What losses leave. The measure is the number of holes: the longest runs of offsets that were not received, below an offset. A piece that is
--- lost makes one hole more at most; a piece that is passed over makes none, but at offset 0.
-use Rattle.std.specs.Prelude.{⊤, if◌then◌else◌, ◌&&◌, not, nat_le, nat_lt, Bool, true, false, Option, Some, None, is_some}
-use Rattle.std.proofs.Common.{◌≡◌, ◌⊎◌, inl, inr, ℕ, zero, suc, ◌+◌, ◌-◌, ◌<◌, ◌≤◌, List, [], ◌∷◌, ◌++◌, length, refl, sym, ap, subst, ◌∙◌, arith}
+-- What losses leave of a round whose NAK PDUs are all heard. The measure is the number of holes: the longest runs of offsets that were not
+-- received, below an offset. A piece that is lost makes one hole more at most; a piece that is passed over makes none, but at offset 0.
+use Rattle.std.specs.Prelude.{if◌then◌else◌, ◌&&◌, not, Bool, true, false, Option, Some, None, is_some}
+use Rattle.std.proofs.Common.{◌≡◌, inl, inr, ℕ, zero, suc, ◌+◌, ◌-◌, ◌<◌, ◌≤◌, List, [], ◌∷◌, ◌++◌, length, refl, sym, ap, subst, ◌∙◌, arith}
 use Rattle.std.proofs.lemmas.Bool.{cases_lt, cases_Bool, and_left, and_right, not_from_true, lt-ltb, le-ltb, le-leb, lt-leb}
 use Rattle.cfdp_transactions.specs.Received.{Received, kept_with, brought, pieces, pieces_from, gaps_below}
 use Rattle.cfdp_transactions.specs.ReceivedLaws.{octet_at, or_else, IsIn, AreRuns}
 use Rattle.cfdp_transactions.proofs.OctetsAndGaps.{first_stays, greatest_end, gaps_are_missing, gaps_are_runs}
 use Rattle.cfdp_retransmission.specs.Naks.{Range}
-use Rattle.cfdp_retransmission.specs.Coming.{Piece, keep, keep_all, continues, zero_missing, one_if, asked}
-use Rattle.cfdp_retransmission.specs.Rounds.{Sending, Covers, AnswersInOrder, arrived, lost, AreRounds, after_rounds, lost_in, spare_round, WholeAfterLosses}
-use Rattle.cfdp_retransmission.proofs.Sequences.{asks_for_all}
-use Rattle.cfdp_retransmission.proofs.Arriving.{room, joins, whole_from}
+use Rattle.cfdp_retransmission.specs.Coming.{Piece, keep, keep_all, zero_missing, one_if}
+use Rattle.cfdp_retransmission.specs.Rounds.{Sending, Covers, AnswersInOrder, arrived, lost, spare_round}
+use Rattle.cfdp_retransmission.proofs.Arriving.{room, joins}
 
 -- `before`: the offset before was received, or there is none
-abbrev holes_from : Bool → ℕ → Received → ℕ
+abbrev pub holes_from : Bool → ℕ → Received → ℕ
 holes_from before zero rs = 0
 holes_from before (suc n) [] = one_if before + holes_from false n []
 holes_from before (suc n) (None ∷ rs) = one_if before + holes_from false n rs
 holes_from before (suc n) (Some x ∷ rs) = holes_from true n rs
 
-abbrev holes : ℕ → Received → ℕ
+abbrev pub holes : ℕ → Received → ℕ
 holes n rs = holes_from true n rs
 
 -- a hole begins at this offset
@@ -53,7 +52,7 @@ turns zero (r ∷ rs) h = absurd (omega (arith, h))
 turns (suc n) (None ∷ rs) h = let t = turns n rs (omega (arith, h)) in (omega (arith, t.1), omega (arith, t.1))
 turns (suc n) (Some x ∷ rs) h = let t = turns n rs (omega (arith, h)) in (omega (arith, t.0), omega (arith, t.0))
 
-few_parts : (n : ℕ) (rs : Received) → length rs ≤ n → pieces rs + zero_missing rs ≤ 1 + holes n rs
+pub few_parts : (n : ℕ) (rs : Received) → length rs ≤ n → pieces rs + zero_missing rs ≤ 1 + holes n rs
 few_parts n [] h = omega arith
 few_parts zero (r ∷ rs) h = absurd (omega (arith, h))
 few_parts (suc n) (None ∷ rs) h = omega (arith, (turns n rs (omega (arith, h))).1)
@@ -128,7 +127,7 @@ true_or b true h e = refl
 true_or true false h e = absurd (omega (arith, e))
 true_or false false h e = absurd cc
 
-no_hole : (n : ℕ) (rs : Received) → holes n rs ≡ 0 → (i : ℕ) → i < n → is_some (octet_at rs i) ≡ true
+pub no_hole : (n : ℕ) (rs : Received) → holes n rs ≡ 0 → (i : ℕ) → i < n → is_some (octet_at rs i) ≡ true
 no_hole zero rs none i h = absurd (omega (arith, h))
 no_hole (suc zero) rs none zero h = true_or true (is_some (octet_at rs 0)) refl (omega (arith, one_more true 0 rs, none))
 no_hole (suc zero) rs none (suc i) h = absurd (omega (arith, h))
@@ -149,7 +148,7 @@ some_left : (o p : Option ℕ) → p ≡ None → is_some (or_else o p) ≡ is_s
 some_left None p e = ap is_some e
 some_left (Some x) p e = refl
 
-some_right : (o p : Option ℕ) → is_some p ≡ true → is_some (or_else o p) ≡ true
+pub some_right : (o p : Option ℕ) → is_some p ≡ true → is_some (or_else o p) ≡ true
 some_right None p e = e
 some_right (Some x) p e = refl
 
@@ -165,31 +164,31 @@ brings_none_past zero (x ∷ xs) (suc i) h = brings_none_past zero xs i (omega (
 brings_none_past (suc at) xs zero h = absurd (omega (arith, h))
 brings_none_past (suc at) xs (suc i) h = brings_none_past at xs i (omega (arith, h))
 
-brings_some : (at : ℕ) (xs : List ℕ) (i : ℕ) → at ≤ i → i < at + length xs → is_some (brought at xs i) ≡ true
+pub brings_some : (at : ℕ) (xs : List ℕ) (i : ℕ) → at ≤ i → i < at + length xs → is_some (brought at xs i) ≡ true
 brings_some zero [] i low high = absurd (omega (arith, high))
 brings_some zero (x ∷ xs) zero low high = refl
 brings_some zero (x ∷ xs) (suc i) low high = brings_some zero xs i (omega arith) (omega (arith, high))
 brings_some (suc at) xs zero low high = absurd (omega (arith, low))
 brings_some (suc at) xs (suc i) low high = brings_some at xs i (omega (arith, low)) (omega (arith, high))
 
-kept_len : (rs : Received) (at : ℕ) (xs : List ℕ) (limit : ℕ) → length rs ≤ limit → at + length xs ≤ limit → length (kept_with rs at xs) ≤ limit
+pub kept_len : (rs : Received) (at : ℕ) (xs : List ℕ) (limit : ℕ) → length rs ≤ limit → at + length xs ≤ limit → length (kept_with rs at xs) ≤ limit
 kept_len rs at [] limit h k = h
 kept_len rs at (x ∷ xs) limit h k = omega (arith, greatest_end rs at x xs, h, k)
 
 -- ---- one round
 
 -- `rs` was received before the round, `now` after a part of it, which reached the offset `x` and lost `gone` pieces
-record Inside (limit : ℕ) (rs now : Received) (x gone : ℕ) : Type 0 where
-  later : (i : ℕ) → x ≤ i → octet_at now i ≡ octet_at rs i
-  few_holes : holes x now ≤ gone + spare_round rs
-  few : pieces now ≤ 32
-  short : length now ≤ limit
-  first : x ≡ 0 → now ≡ rs
+pub record Inside (limit : ℕ) (rs now : Received) (x gone : ℕ) : Type 0 where
+  pub later : (i : ℕ) → x ≤ i → octet_at now i ≡ octet_at rs i
+  pub few_holes : holes x now ≤ gone + spare_round rs
+  pub few : pieces now ≤ 32
+  pub short : length now ≤ limit
+  pub first : x ≡ 0 → now ≡ rs
 
-spare_is : (rs : Received) → 32 < pieces rs + zero_missing rs → spare_round rs ≡ 1
+pub spare_is : (rs : Received) → 32 < pieces rs + zero_missing rs → spare_round rs ≡ 1
 spare_is rs h = rw (lt-leb (pieces rs + zero_missing rs) 32 h) refl
 
-no_spare : (rs : Received) → pieces rs + zero_missing rs ≤ 32 → spare_round rs ≡ 0
+pub no_spare : (rs : Received) → pieces rs + zero_missing rs ≤ 32 → spare_round rs ≡ 0
 no_spare rs h = rw (le-leb (pieces rs + zero_missing rs) 32 h) refl
 
 -- the piece is lost
@@ -207,7 +206,7 @@ or_none : (o : Option ℕ) → or_else o None ≡ o
 or_none None = refl
 or_none (Some x) = refl
 
-kept_none : (rs : Received) (at : ℕ) (xs : List ℕ) → length xs ≡ 0 → kept_with rs at xs ≡ rs
+pub kept_none : (rs : Received) (at : ℕ) (xs : List ℕ) → length xs ≡ 0 → kept_with rs at xs ≡ rs
 kept_none rs at [] e = refl
 kept_none rs at (x ∷ xs) e = absurd (omega (arith, e))
 
@@ -273,7 +272,7 @@ after_arrived limit rs now gone p inside fits missing = elim (cases_lt 32 (piece
 
 -- ---- one request
 
-covers_rise : (x end : ℕ) (ss : List Sending) → Covers x end ss → x ≤ end
+pub covers_rise : (x end : ℕ) (ss : List Sending) → Covers x end ss → x ≤ end
 covers_rise x end [] c = omega (arith, c)
 covers_rise x end (s ∷ ss) c = omega (arith, covers_rise (x + length s.piece.1) end ss c.1)
 
@@ -334,11 +333,11 @@ both_by : (c : Bool) (now : Received) (p : Piece) (f b : List Sending) →
 both_by true now p f b ih = ih now
 both_by false now p f b ih = ih (keep now p)
 
-arrived_both : (now : Received) (f b : List Sending) → keep_all now (arrived (f ++ b)) ≡ keep_all (keep_all now (arrived f)) (arrived b)
+pub arrived_both : (now : Received) (f b : List Sending) → keep_all now (arrived (f ++ b)) ≡ keep_all (keep_all now (arrived f)) (arrived b)
 arrived_both now [] b = refl
 arrived_both now (s ∷ f) b = both_by s.is_lost now s.piece f b (λ r. arrived_both r f b)
 
-lost_both : (f b : List Sending) → lost (f ++ b) ≡ lost f + lost b
+pub lost_both : (f b : List Sending) → lost (f ++ b) ≡ lost f + lost b
 lost_both [] b = omega arith
 lost_both (s ∷ f) b = omega (arith, lost_both f b)
 
@@ -351,16 +350,16 @@ runs_earlier : (from to : ℕ) (rs : List Range) → from ≤ to → AreRuns to 
 runs_earlier from to [] h runs = tt
 runs_earlier from to (r ∷ rs) h runs = (omega (arith, h, runs.0), runs.1, runs.2)
 
-in_rest : (r : Range) (rs : List Range) (i : ℕ) → r.1 ≤ i → IsIn i (r ∷ rs) → IsIn i rs
+pub in_rest : (r : Range) (rs : List Range) (i : ℕ) → r.1 ≤ i → IsIn i (r ∷ rs) → IsIn i rs
 in_rest r rs i h (inl here) = absurd (omega (arith, h, here.1))
 in_rest r rs i h (inr there) = there
 
-from_start : (r : Range) (rs : List Range) (i : ℕ) → r.0 < r.1 → AreRuns (r.1 + 1) rs → IsIn i (r ∷ rs) → r.0 ≤ i
+pub from_start : (r : Range) (rs : List Range) (i : ℕ) → r.0 < r.1 → AreRuns (r.1 + 1) rs → IsIn i (r ∷ rs) → r.0 ≤ i
 from_start r rs i some runs (inl here) = here.0
 from_start r rs i some runs (inr there) = omega (arith, some, runs_from (r.1 + 1) rs i runs there)
 
 -- received, or in a request
-there_or_not : (o : Option ℕ) → (o ≡ None → ⊥) → is_some o ≡ true
+pub there_or_not : (o : Option ℕ) → (o ≡ None → ⊥) → is_some o ≡ true
 there_or_not None h = absurd (h refl)
 there_or_not (Some x) h = refl
 
@@ -393,42 +392,10 @@ over_requests limit rs (r ∷ rest) sent now x gone inside fits runs all only an
     (subst (λ (q : Received). Inside limit rs q limit (gone + lost (front ++ back))) (sym (arrived_both now front back))
     (subst (λ (n : ℕ). Inside limit rs (keep_all (keep_all now (arrived front)) (arrived back)) limit n) counted end))
 
-one_round : (most limit : ℕ) (rs : Received) (sent : List Sending) → 1 ≤ most → pieces rs ≤ 32 → length rs ≤ limit →
-    AnswersInOrder (asked most limit rs) sent → Inside limit rs (keep_all rs (arrived sent)) limit (lost sent)
-one_round most limit rs sent some few short answers =
-    let gaps = gaps_below limit rs in
-    subst (λ (n : ℕ). Inside limit rs (keep_all rs (arrived sent)) limit n) (omega arith) (over_requests limit rs gaps sent rs 0 0
+pub one_round : (limit : ℕ) (rs : Received) (sent : List Sending) → pieces rs ≤ 32 → length rs ≤ limit → AnswersInOrder (gaps_below limit rs) sent →
+    Inside limit rs (keep_all rs (arrived sent)) limit (lost sent)
+one_round limit rs sent few short answers =
+    subst (λ (n : ℕ). Inside limit rs (keep_all rs (arrived sent)) limit n) (omega arith) (over_requests limit rs (gaps_below limit rs) sent rs 0 0
     (record { later = λ i h. refl; few_holes = omega arith; few = few; short = short; first = λ e. refl })
     (omega arith) (gaps_are_runs limit rs)
-    (λ i low high e. (gaps_are_missing limit rs i).1 (high, e)) (λ i h. (gaps_are_missing limit rs i).0 h)
-    (subst (λ (requests : List Range). AnswersInOrder requests sent) (asks_for_all most 0 limit gaps some) answers))
-
--- ---- all rounds
-
-whole_stays : (most limit : ℕ) (rs : Received) (rounds : List (List Sending)) → 1 ≤ most → gaps_below limit rs ≡ [] → AreRounds most limit rs rounds →
-    gaps_below limit (after_rounds rs rounds) ≡ []
-whole_stays most limit rs [] some whole all = whole
-whole_stays most limit rs (round ∷ rounds) some whole all =
-    let nothing : round ≡ [] =
-    subst (λ (requests : List Range). AnswersInOrder requests round) (asks_for_all most 0 limit (gaps_below limit rs) some ∙ whole) all.0 in
-    ap (λ (r : List Sending). gaps_below limit (after_rounds (keep_all rs (arrived r)) rounds)) nothing
-    ∙ whole_stays most limit rs rounds some whole (subst (λ (r : List Sending). AreRounds most limit (keep_all rs (arrived r)) rounds) nothing all.1)
-
-pub whole_after_losses : WholeAfterLosses
-whole_after_losses most limit rs [] some few short all enough = absurd (omega (arith, enough))
-whole_after_losses most limit rs (round ∷ rounds) some few short all enough =
-    let now = keep_all rs (arrived round) in
-    let inside = one_round most limit rs round some few short all.0 in
-    elim (cases_lt 0 (lost round + spare_round rs)) [
-      | inl lossy ↦
-          let parts : pieces now + zero_missing now ≤ 1 + holes limit now = few_parts limit now inside.short in
-          let left : lost_in rounds + spare_round now < length rounds =
-          elim (cases_lt 32 (pieces now + zero_missing now)) [
-            | inl many ↦ omega (arith, spare_is now many, many, parts, inside.few_holes, enough)
-            | inr less ↦ omega (arith, no_spare now less, lossy, enough)
-          ] in
-          whole_after_losses most limit now rounds some inside.few inside.short all.1 left
-      | inr clean ↦
-          let none : holes limit now ≡ 0 = omega (arith, inside.few_holes, clean) in
-          whole_stays most limit now rounds some (whole_from limit now (no_hole limit now none)) all.1
-    ]
+    (λ i low high e. (gaps_are_missing limit rs i).1 (high, e)) (λ i h. (gaps_are_missing limit rs i).0 h) answers)

@@ -70,8 +70,10 @@ pub fn not_asked()
     ensures { NotAsked }
 {}
 
-/// A sender answers each NAK sequence in the order of its requests, over a channel that loses PDUs. After one round more than the PDUs that
-/// are lost in all, nothing is missing. One round more is needed where 32 parts are there without the octet at offset 0.
+/// A sender answers each NAK PDU that it gets, in the order of its requests, over a channel that loses PDUs. A round
+/// loses the pieces that are lost, and 1 more if NAK PDUs of its sequence are lost, however many: at most the PDUs that
+/// are lost. After one round more than is lost in all, nothing is missing. One round more is needed where 32 parts are
+/// there without the octet at offset 0.
 pub fn whole_after_losses()
     ensures { WholeAfterLosses }
 {}

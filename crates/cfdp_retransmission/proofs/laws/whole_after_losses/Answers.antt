@@ -1,4 +1,4 @@
-use Rattle.cfdp_retransmission.proofs.Losing.{whole_after_losses as proved}
+use Rattle.cfdp_retransmission.proofs.Hearing.{whole_after_losses as proved}
 use Rattle.cfdp_retransmission.proofs.laws.whole_after_losses.Goals as goal
 
 pub returns : goal.returns
