@@ -10,3 +10,7 @@ pub mod Rows
 pub mod Closing
 pub mod Concluding
 pub mod InAll
+pub mod Holding
+pub mod Unkept
+pub mod Joining
+pub mod HeldRows

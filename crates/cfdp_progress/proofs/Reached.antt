@@ -67,7 +67,7 @@ abbrev some_entry : Entry → Option Entry → Entry
 some_entry d None = d
 some_entry d (Some e) = e
 
-replaces : (W V : World) (id : TransactionId) (e new : Entry) → entry_of W id ≡ Some e → Entries.name_of new ≡ id →
+pub replaces : (W V : World) (id : TransactionId) (e new : Entry) → entry_of W id ≡ Some e → Entries.name_of new ≡ id →
     V.table ≡ slice_set W.table (index_of W id) new → entry_of V id ≡ Some new
 replaces W V id e new here name table = ap (λ (t : List Entry). slice_get t (place_of id t)) table ∙ set_own W.table id e new name here
 

@@ -3,3 +3,4 @@ pub mod NakRounds
 pub mod Closing
 pub mod Concluding
 pub mod InAll
+pub mod HeldRounds

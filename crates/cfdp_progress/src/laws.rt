@@ -4,6 +4,7 @@
 ghost use Rattle.cfdp_progress.specs.Awaiting.{AwaitingAwaits, AnsweredTurns, StaysDelivered};
 ghost use Rattle.cfdp_progress.specs.Closing.{ClosedAfterLosses};
 ghost use Rattle.cfdp_progress.specs.Concluding.{ConcludedWhenDone, FinishedIsSent};
+ghost use Rattle.cfdp_progress.specs.HeldRounds.{MetadataComes, ClosedFromHeld};
 ghost use Rattle.cfdp_progress.specs.InAll.{ClosedInAll};
 ghost use Rattle.cfdp_progress.specs.NakRounds.{DeliveredAfterRounds, DeliveredAfterLosses};
 
@@ -94,6 +95,30 @@ pub fn closed_after_losses()
 /// without the octet at offset 0.
 pub fn closed_in_all()
     ensures { ClosedInAll }
+{
+    cfdp_transactions::laws::only_take_removes();
+    cfdp_transactions::laws::take_removes();
+    cfdp_transactions::laws::next_is_sound();
+    cfdp_transactions::laws::next_is_promised();
+    cfdp_retransmission::laws::whole_after_losses();
+}
+
+/// An EOF PDU comes before its Metadata PDU and begins a session that holds it. A round begins with that EOF PDU, or
+/// when the NAK timer of the session expires below its limit: the first NAK PDU asks for the Metadata PDU, and a sender
+/// that gets it sends the Metadata PDU. The channel may lose the one or the other. After one round more than it does
+/// so, at the latest, the Metadata PDU comes. If the NAK limit is above the number of such rounds, it is not reached
+/// before.
+pub fn metadata_comes()
+    ensures { MetadataComes }
+{}
+
+/// From such an EOF PDU until the session is closed. A round in which the first NAK PDU or the Metadata PDU is lost
+/// counts as 1. Once the Metadata PDU comes, and octets are missing, what is lost counts as in [`closed_in_all`]. The
+/// session is closed after one round more than is lost in all, at the latest, if the NAK limit is above what is lost
+/// before the Metadata PDU comes and above what is lost after it, and the ACK limit above the latter. No round more is
+/// needed, since nothing of the file is there when its Metadata PDU comes.
+pub fn closed_from_held()
+    ensures { ClosedFromHeld }
 {
     cfdp_transactions::laws::only_take_removes();
     cfdp_transactions::laws::take_removes();

@@ -4,8 +4,8 @@
 //!
 //! `specs/Awaiting.antt` says what a transaction that waits for octets is, and what may come. `specs/NakRounds.antt`
 //! has rounds of NAK PDUs and answers, `specs/Closing.antt` rounds of Finished PDUs and acknowledgements,
-//! `specs/Concluding.antt` what comes between them, and `specs/InAll.antt` all of this. [`laws`] says what is true of
-//! them.
+//! `specs/Concluding.antt` what comes between them, and `specs/InAll.antt` all of this. `specs/HeldRounds.antt` has the
+//! rounds before these where the EOF PDU comes before its Metadata PDU. [`laws`] says what is true of them.
 #![tactic(auto)]
 
 pub mod laws;

@@ -53,10 +53,10 @@ all_on R i more inputs x = (parts_on R i more x).answer ∷ all_answers (after_o
 
 -- ---- the Metadata PDU comes first, at 0: of 1/5, and in unacknowledged mode of 1/7
 
-abbrev with_entry : Header → World
+abbrev pub with_entry : Header → World
 with_entry h = record { config = config; filestore = empty_filestore; table = new_entry h M Receiving 0 (Install (codes "f" ∷ []) ∷ []) 2 2 ∷ [] }
 
-admitted : next (start config) (MetadataCame (header 5) M) ≡ (with_entry (header 5), Reply.Admitted 2 2)
+pub admitted : next (start config) (MetadataCame (header 5) M) ≡ (with_entry (header 5), Reply.Admitted 2 2)
 unfolding statuses steps peak row free_row install step_bound blocks blocks_of
 admitted = simp look_ups
 
