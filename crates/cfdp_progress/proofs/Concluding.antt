@@ -46,7 +46,7 @@ use Rattle.cfdp_receiver.specs.Laws.{due_name, session_name, touched, is_work}
 use Rattle.cfdp_receiver.proofs.Distinct.{distinct_after}
 use Rattle.cfdp_receiver.proofs.Limits.{stage_due, alive_due, first_over_is, is_it}
 use Rattle.cfdp_receiver.proofs.Shapes.{others_stay}
-use Rattle.cfdp_progress.specs.Concluding.{has_nothing_left, WasConcluded, ConcludedWhenDone, FinishedIsSent}
+use Rattle.cfdp_progress.specs.Concluding.{has_nothing_left, WasConcluded, ConcludedWhenDone, IsSentAndWaits, FinishedIsSent, FinishedIsSentAlone}
 use Rattle.cfdp_receiver.proofs.Others.{other_than, others_keep_entries, run_sound}
 use Rattle.cfdp_progress.proofs.Turns.{heard_is, roused_is}
 
@@ -576,31 +576,39 @@ concluded_when_done next_sound promised R inputs id s e sound d here known there
 
 -- ---- its Finished PDU
 
-pub finished_is_sent : FinishedIsSent
-finished_is_sent R moment s e d over kept mode there owner =
+sent_and_waits : (R : State) (moment : ℕ) (s : SessionFields) (x : Option Entry) → AreDistinct R.sessions → Dues.first_over R.world R.sessions ≡ Some s →
+    s.is_abandoned ≡ false → s.header.acknowledged ≡ true → entry_of R.world (name_of s) ≡ x → (Turning.outcome_for s x).send ≡ true →
+    IsSentAndWaits R moment s (Turning.outcome_for s x)
+sent_and_waits R moment s x d over kept mode there sends =
     let i = Finish moment in
     let L = Handing.later moment R in
-    let o = Turning.outcome_for s (Some e) in
+    let o = Turning.outcome_for s x in
     let closed = Turning.closes L (name_of s) (Turning.said s words.Closed) in
     let quietly = Turning.closes L (name_of s) (Turning.concluded s o words.Closed) in
     let unacknowledged = Turning.closes L (name_of s) (Turning.sends_it s o words.Closed) in
     let waiting = Turning.puts L (Turning.waits L s o) (Turning.sends_it s o words.Finished) in
     let third = if not s.header.acknowledged then unacknowledged else waiting in
     let second = if not o.send then quietly else third in
-    let sends : o.send ≡ true = ap (λ (b : Bool). b || e.metadata.closure) owner in
     let parts : Turning.parts R i ≡ waiting =
     ap (Turning.finish_parts L) over
-    ∙ ap (λ (x : Option Entry). Turning.finish_session L s (Turning.outcome_for s x)) there
+    ∙ ap (λ (y : Option Entry). Turning.finish_session L s (Turning.outcome_for s y)) there
     ∙ cond-false s.is_abandoned closed second kept
     ∙ cond-false (not o.send) quietly third (ap not sends)
     ∙ cond-false (not s.header.acknowledged) unacknowledged waiting (ap not mode) in
-    let here : session_of R (name_of s) ≡ Some s = member_found R.sessions s d (first_over_is R.world R.sessions s over).0 in (
-      ap (λ (p : Turning.Parts). p.answer.finished) parts,
-      (
-        Turning.waits L s o,
-        ap (λ (p : Turning.Parts). found p.sessions (name_of s)) parts ∙ replaced_self R.sessions (Turning.waits L s o) (name_of s)
-            (s, here) refl,
-        refl,
-        refl,
-      ),
-    )
+    let here : session_of R (name_of s) ≡ Some s = member_found R.sessions s d (first_over_is R.world R.sessions s over).0 in
+    record {
+      sent = ap (λ (p : Turning.Parts). p.answer.finished) parts;
+      waiting = Turning.waits L s o;
+      here = ap (λ (p : Turning.Parts). found p.sessions (name_of s)) parts ∙ replaced_self R.sessions (Turning.waits L s o) (name_of s) (s, here) refl;
+      waits = refl;
+      anew = refl;
+    }
+
+pub finished_is_sent : FinishedIsSent
+finished_is_sent R moment s e d over kept mode there owner =
+    sent_and_waits R moment s (Some e) d over kept mode there (ap (λ (b : Bool). b || e.metadata.closure) owner)
+
+pub finished_is_sent_alone : FinishedIsSentAlone
+finished_is_sent_alone R moment s ending d over kept mode there stage sent =
+    sent_and_waits R moment s None d over kept mode there
+    (ap (λ (st : Stage). (Turning.stage_outcome s st).send) stage ∙ sent)

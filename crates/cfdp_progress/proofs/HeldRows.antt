@@ -1,6 +1,7 @@
 -- A worked run, which the check computes: an EOF PDU comes first, with a wrong checksum. The NAK PDU of the first round is lost, and file data that comes
--- then is not kept. In the second round the Metadata PDU is lost. In the third it comes; the whole file is asked for and comes, the outcome is handed
--- out, and the Finished PDU is acknowledged. So 2 PDUs are lost, and the session is closed in the third round.
+-- then is not kept. In the second round the Metadata PDU is lost. In the third it comes, and then the whole file, since the same NAK PDU asked for both;
+-- the outcome is handed out. The file comes once more, since it was asked for when the Metadata PDU came, and then the acknowledgement of the Finished
+-- PDU. So 2 PDUs are lost, and the session is closed in the third round.
 use Rattle.std.specs.Prelude.{max}
 use Rattle.std.specs.List.{flat_map}
 use Rattle.std.proofs.Common.{inr, true, false, List, [], ◌∷◌, ◌++◌, refl, sym, subst, arith}
@@ -106,8 +107,13 @@ there = at_metadata begun (nak_is_lost ∷ metadata_is_lost ∷ []) before
 abbrev last : FirstRound
 last = record {
   opening = MetadataPdu 22 (header 5) M;
-  exchange = record { asking = asking ((0, 15) ∷ []) false ∷ []; sent = sending 0 15 false ∷ [] };
-  rest = data_at 23 0 15 ∷ Finish 23 ∷ AckPdu 24 (header 5) finished_ack ∷ [];
+  exchange = record {
+    asking = asking ((0, 15) ∷ []) false ∷ [];
+    sent = sending 0 15 false ∷ [];
+    asking_again = asking ((0, 15) ∷ []) false ∷ [];
+    sent_again = sending 0 15 false ∷ [];
+  };
+  rest = data_at 23 0 15 ∷ Finish 23 ∷ data_at 24 0 15 ∷ AckPdu 25 (header 5) finished_ack ∷ [];
 }
 
 abbrev known : State
@@ -129,17 +135,22 @@ awaits = record {
 answered : AreAnswered known (id 5) (joined_parts there last.opening granted).answer.naks last.exchange last.rest
 unfolding blocks_of weighed_from finished_field
 answered = record {
-  exchanged = record { asks = refl; in_order = (sending 0 15 false ∷ [], [], refl, (refl, refl), refl) };
+  exchanged = record {
+    asks = refl;
+    in_order = (sending 0 15 false ∷ [], [], refl, (refl, refl), refl);
+    asks_again = refl;
+    in_order_again = (sending 0 15 false ∷ [], [], refl, (refl, refl), refl);
+  };
   come = refl;
-  goes_on = ((λ q. refl), ((λ q. refl), ((λ q. refl), tt)));
-  once = ((λ q. refl), ((λ q. refl), ((λ q. refl), tt)));
+  goes_on = ((λ q. refl), ((λ q. refl), ((λ q. refl), ((λ q. refl), tt))));
+  once = ((λ q. refl), ((λ q. refl), ((λ q. refl), ((λ q. refl), tt))));
 }
 
 watched : IsWatched false known (id 5) last.rest
 unfolding blocks_of weighed_from finished_field
 watched = record {
-  acknowledged = ((λ c. absurd cc), ((λ c kept. refl), ((λ c. absurd cc), tt)));
-  once = ((λ q. refl), ((λ q. refl), ((λ q. refl), tt)));
+  acknowledged = ((λ c. absurd cc), ((λ c kept. refl), ((λ c. absurd cc), ((λ c. absurd cc), tt))));
+  once = ((λ q. refl), ((λ q. refl), ((λ q. refl), ((λ q. refl), tt))));
   done = refl;
 }
 

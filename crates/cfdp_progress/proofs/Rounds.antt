@@ -4,9 +4,9 @@ use Rattle.std.proofs.lemmas.Bool.{cases_Bool, cases_lt}
 use Rattle.cfdp_status.specs.declared.transaction.TransactionId.{TransactionId}
 use Rattle.cfdp_pdus.specs.declared.eof.Eof.{Eof}
 use Rattle.cfdp_directives.specs.Reading.{NakFields}
-use Rattle.cfdp_retransmission.specs.Coming.{Piece, keep_all}
+use Rattle.cfdp_retransmission.specs.Coming.{keep_all}
 use Rattle.cfdp_retransmission.specs.Naks.{Range}
-use Rattle.cfdp_retransmission.specs.Rounds.{Exchange, IsExchange, arrived, lost_of, asked_for, AreRounds, after_rounds, lost_in, spare_round, WholeAfterLosses}
+use Rattle.cfdp_retransmission.specs.Rounds.{Exchange, IsExchange, arrived, lost_of, kept_after, asked_for, AreRounds, after_rounds, lost_in, spare_round, WholeAfterLosses}
 use Rattle.cfdp_retransmission.proofs.Hearing.{Within, within_sent}
 use Rattle.cfdp_sessions.specs.Sessions.{SessionFields, AreDistinct}
 use Rattle.cfdp_transactions.specs.Entry.{Entry}
@@ -22,7 +22,7 @@ use Rattle.cfdp_progress.specs.Awaiting.{WasDelivered}
 use Rattle.cfdp_progress.specs.NakRounds.{requests_of_each, AreAnswered, IsServed, NakRound, round_inputs, AreNakRounds, all_lost, AreBelow, all_inputs, DeliveredAfterRounds, DeliveredAfterLosses}
 use Rattle.cfdp_receiver.proofs.Others.{run_sound}
 use Rattle.cfdp_progress.proofs.Pieces.{fits_of, few_of}
-use Rattle.cfdp_progress.proofs.Runs.{Left, over_inputs, still_awaits, before_of, sound_all, distinct_all, mib_all, was_later, was_after, was_before, never_waits}
+use Rattle.cfdp_progress.proofs.Runs.{Left, keep_both, over_inputs, still_awaits, before_of, sound_all, distinct_all, mib_all, was_later, was_after, was_before, never_waits}
 use Rattle.cfdp_progress.proofs.Turns.{Before}
 use Rattle.cfdp_progress.proofs.Openings.{open_expire, open_first, limit_is_full}
 
@@ -38,12 +38,12 @@ pub record SoFar (most : ℕ) (rs : Received) (eof : Eof) (done : List Exchange)
 rounds_more : (most size : ℕ) (rs : Received) (done : List Exchange) (round : Exchange) → AreRounds most size rs done →
     IsExchange (asked_for most size (after_rounds rs done)) round → AreRounds most size rs (done ++ round ∷ [])
 rounds_more most size rs [] round all is = (is, tt)
-rounds_more most size rs (d ∷ done) round all is = (all.0, rounds_more most size (keep_all rs (arrived d.sent)) done round all.1 is)
+rounds_more most size rs (d ∷ done) round all is = (all.0, rounds_more most size (kept_after rs d) done round all.1 is)
 
 after_more : (rs : Received) (done : List Exchange) (round : Exchange) →
-    after_rounds rs (done ++ round ∷ []) ≡ keep_all (after_rounds rs done) (arrived round.sent)
+    after_rounds rs (done ++ round ∷ []) ≡ kept_after (after_rounds rs done) round
 after_more rs [] round = refl
-after_more rs (d ∷ done) round = after_more (keep_all rs (arrived d.sent)) done round
+after_more rs (d ∷ done) round = after_more (kept_after rs d) done round
 
 pub lost_more : (done : List Exchange) (round : Exchange) → lost_in (done ++ round ∷ []) ≡ lost_in done + lost_of round
 lost_more [] round = omega arith
@@ -55,7 +55,7 @@ count_more (d ∷ done) round = omega (arith, count_more done round)
 
 pub one_more : (most : ℕ) (rs : Received) (eof : Eof) (done : List Exchange) (e new : Entry) (naks : List NakFields) (round : Exchange) →
     SoFar most rs eof done e → requests_of_each naks ≡ asked_for most eof.size e.received → IsExchange (requests_of_each naks) round →
-    new.received ≡ keep_all e.received (arrived round.sent) → SoFar most rs eof (done ++ round ∷ []) new
+    new.received ≡ kept_after e.received round → SoFar most rs eof (done ++ round ∷ []) new
 one_more most rs eof done e new naks round so asks is kept =
     let now : requests_of_each naks ≡ asked_for most eof.size (after_rounds rs done) = asks ∙ ap (asked_for most eof.size) (sym so.received) in
     record {
@@ -63,7 +63,7 @@ one_more most rs eof done e new naks round so asks is kept =
       few = so.few;
       fits = so.fits;
       rounds = rounds_more most eof.size rs done round so.rounds (subst (λ (xs : List (List Range)). IsExchange xs round) now is);
-      received = after_more rs done round ∙ ap (λ (q : Received). keep_all q (arrived round.sent)) so.received ∙ sym kept;
+      received = after_more rs done round ∙ ap (λ (q : Received). kept_after q round) so.received ∙ sym kept;
     }
 
 -- as long as it waits, no more rounds were made than is lost, and the spare one
@@ -83,10 +83,11 @@ not_enough whole R id e eof s most rs done sound b so = elim (cases_lt (lost_in 
 pub round_goes : NextIsSound → NextIsPromised →
     (N : State) (id : TransactionId) (e : Entry) (eof : Eof) (s : SessionFields) (most : ℕ) (naks : List NakFields) (round : Exchange) (rest : List Input) →
     Sound N.world → AreDistinct N.sessions → Before N id e eof s → 1 ≤ most → requests_of_each naks ≡ asked_for most eof.size e.received →
-    AreAnswered N id naks round rest → WasDelivered N rest id ⊎ Left N rest id eof (keep_all e.received (arrived round.sent)) s.timer.count
+    AreAnswered N id naks round rest → WasDelivered N rest id ⊎ Left N rest id eof (kept_after e.received round) s.timer.count
 round_goes next_sound promised N id e eof s most naks round rest sound d b some asks a =
     let within = within_sent most eof.size e.received round some (subst (λ (xs : List (List Range)). IsExchange xs round) asks a.exchanged) in
-    subst (λ (ps : List Piece). WasDelivered N rest id ⊎ Left N rest id eof (keep_all e.received ps) s.timer.count) a.come
+    subst (λ (q : Received). WasDelivered N rest id ⊎ Left N rest id eof q s.timer.count)
+    (ap (keep_all e.received) a.come ∙ keep_both e.received (arrived round.sent) (arrived round.sent_again))
     (over_inputs next_sound promised N rest id e eof s sound d b a.goes_on (subst (Within eof.size) (sym a.come) within))
 
 -- ---- all of them

@@ -73,7 +73,12 @@ middle = after described (data_at 0 4 8)
 abbrev first : FirstRound
 first = record {
   opening = EofPdu 1 (header 5) wrong;
-  exchange = record { asking = asking ((0, 4) ∷ (8, 15) ∷ []) false ∷ []; sent = sending 0 4 true ∷ sending 8 15 false ∷ [] };
+  exchange = record {
+    asking = asking ((0, 4) ∷ (8, 15) ∷ []) false ∷ [];
+    sent = sending 0 4 true ∷ sending 8 15 false ∷ [];
+    asking_again = asking ((0, 4) ∷ (8, 15) ∷ []) true ∷ [];
+    sent_again = [];
+  };
   rest = data_at 2 8 15 ∷ [];
 }
 
@@ -81,7 +86,7 @@ abbrev second : EitherRound
 second = record {
   moment = 12;
   is_at_limit = false;
-  exchange = record { asking = asking ((0, 4) ∷ []) true ∷ []; sent = [] };
+  exchange = record { asking = asking ((0, 4) ∷ []) true ∷ []; sent = []; asking_again = asking ((0, 4) ∷ []) true ∷ []; sent_again = [] };
   is_lost = false;
   rest = [];
 }
@@ -90,7 +95,7 @@ abbrev third : EitherRound
 third = record {
   moment = 22;
   is_at_limit = false;
-  exchange = record { asking = asking ((0, 4) ∷ []) false ∷ []; sent = sending 0 4 false ∷ [] };
+  exchange = record { asking = asking ((0, 4) ∷ []) false ∷ []; sent = sending 0 4 false ∷ []; asking_again = asking ((0, 4) ∷ []) true ∷ []; sent_again = [] };
   is_lost = true;
   rest = data_at 23 0 4 ∷ Finish 23 ∷ [];
 }
@@ -99,7 +104,7 @@ abbrev fourth : EitherRound
 fourth = record {
   moment = 33;
   is_at_limit = false;
-  exchange = record { asking = []; sent = [] };
+  exchange = record { asking = []; sent = []; asking_again = []; sent_again = [] };
   is_lost = false;
   rest = AckPdu 34 (header 5) finished_ack ∷ [];
 }
@@ -133,6 +138,8 @@ first_is = record {
     exchanged = record {
       asks = refl;
       in_order = (sending 0 4 true ∷ [], sending 8 15 false ∷ [], refl, (refl, refl), (sending 8 15 false ∷ [], [], refl, (refl, refl), refl));
+      asks_again = refl;
+      in_order_again = refl;
     };
     come = refl;
     goes_on = ((λ q. refl), tt);
@@ -158,7 +165,7 @@ unfolding blocks_of weighed_from
 second_is = record {
   asks = λ q. record {
     served = record { session = session_in (session_of rest (id 5)); due = refl; named = refl };
-    answered = record { exchanged = record { asks = refl; in_order = refl }; come = refl; goes_on = tt; once = tt };
+    answered = record { exchanged = record { asks = refl; in_order = refl; asks_again = refl; in_order_again = refl }; come = refl; goes_on = tt; once = tt };
   };
   closes = λ q. absurd cc;
   watched = record { acknowledged = tt; once = tt; done = refl };
@@ -170,7 +177,7 @@ third_is = record {
   asks = λ q. record {
     served = record { session = session_in (session_of after_second (id 5)); due = refl; named = refl };
     answered = record {
-      exchanged = record { asks = refl; in_order = (sending 0 4 false ∷ [], [], refl, (refl, refl), refl) };
+      exchanged = record { asks = refl; in_order = (sending 0 4 false ∷ [], [], refl, (refl, refl), refl); asks_again = refl; in_order_again = refl };
       come = refl;
       goes_on = ((λ x. refl), ((λ x. refl), tt));
       once = ((λ x. refl), ((λ x. refl), tt));
@@ -241,7 +248,12 @@ narrow = record middle { mib = record patient { longest_nak = 72 } }
 abbrev half : FirstRound
 half = record {
   opening = EofPdu 1 (header 5) wrong;
-  exchange = record { asking = asking ((0, 4) ∷ []) true ∷ asking ((8, 15) ∷ []) false ∷ []; sent = sending 8 15 false ∷ [] };
+  exchange = record {
+    asking = asking ((0, 4) ∷ []) true ∷ asking ((8, 15) ∷ []) false ∷ [];
+    sent = sending 8 15 false ∷ [];
+    asking_again = asking ((0, 4) ∷ []) true ∷ asking ((8, 15) ∷ []) true ∷ [];
+    sent_again = [];
+  };
   rest = data_at 2 8 15 ∷ [];
 }
 
@@ -249,7 +261,7 @@ abbrev other_half : NakRound
 other_half = record {
   moment = 12;
   is_at_limit = false;
-  exchange = record { asking = asking ((0, 4) ∷ []) false ∷ []; sent = sending 0 4 false ∷ [] };
+  exchange = record { asking = asking ((0, 4) ∷ []) false ∷ []; sent = sending 0 4 false ∷ []; asking_again = asking ((0, 4) ∷ []) true ∷ []; sent_again = [] };
   rest = data_at 13 0 4 ∷ [];
 }
 
@@ -271,7 +283,7 @@ half_is = record {
     core = record { checks = 0; here = refl; phase = refl; came = refl; within = omega arith; short = refl };
   };
   answered = record {
-    exchanged = record { asks = refl; in_order = (sending 8 15 false ∷ [], [], refl, (refl, refl), refl) };
+    exchanged = record { asks = refl; in_order = (sending 8 15 false ∷ [], [], refl, (refl, refl), refl); asks_again = refl; in_order_again = refl };
     come = refl;
     goes_on = ((λ q. refl), tt);
     once = ((λ q. refl), tt);
@@ -284,7 +296,7 @@ other_half_is = (
   (λ q. record {
     served = record { session = session_in (session_of half_there (id 5)); due = refl; named = refl };
     answered = record {
-      exchanged = record { asks = refl; in_order = (sending 0 4 false ∷ [], [], refl, (refl, refl), refl) };
+      exchanged = record { asks = refl; in_order = (sending 0 4 false ∷ [], [], refl, (refl, refl), refl); asks_again = refl; in_order_again = refl };
       come = refl;
       goes_on = ((λ x. refl), tt);
       once = ((λ x. refl), tt);

@@ -83,7 +83,7 @@ within_both : (size : ℕ) (xs ys : List Piece) → Within size (xs ++ ys) → W
 within_both size [] ys w = (tt, w)
 within_both size (x ∷ xs) ys w = let rest = within_both size xs ys w.1 in ((w.0, rest.0), rest.1)
 
-keep_both : (rs : Received) (xs ys : List Piece) → keep_all rs (xs ++ ys) ≡ keep_all (keep_all rs xs) ys
+pub keep_both : (rs : Received) (xs ys : List Piece) → keep_all rs (xs ++ ys) ≡ keep_all (keep_all rs xs) ys
 keep_both rs [] ys = refl
 keep_both rs (x ∷ xs) ys = keep_both (keep rs x) xs ys
 

@@ -3,15 +3,19 @@
 --     has_nothing_left R        no transaction has an item to be performed, and of none is the outcome to be handed out
 --     WasConcluded R inputs id  one of the inputs hands out the transaction's outcome
 --     ConcludedWhenDone         so it is when nothing is left, whatever came
---     FinishedIsSent            in acknowledged mode its Finished PDU is sent then, and its session waits
-use Rattle.std.specs.Prelude.{◌≡◌, ℕ, Bool, true, false, not, ◌&&◌, List, [], ◌∷◌, ◌++◌, Some, is_some}
+--     IsSentAndWaits R moment s o       its Finished PDU, with this outcome, is sent then, and its session waits
+--     FinishedIsSent            so it is in acknowledged mode
+--     FinishedIsSentAlone       the same of a transaction that the core does not know: it ended while its EOF PDU was held
+use Rattle.std.specs.Prelude.{◌≡◌, ℕ, Bool, true, false, not, ◌&&◌, List, [], ◌∷◌, ◌++◌, Some, None, is_some}
 use Rattle.cfdp_status.specs.declared.transaction.TransactionId.{TransactionId}
 use Rattle.cfdp_sessions.specs.Sessions.{SessionFields, name_of, AreDistinct}
-use Rattle.cfdp_sessions.specs.declared.session.Stage.TheVariants.{Known, Waiting}
+use Rattle.cfdp_sessions.specs.declared.session.Ending.{Ending}
+use Rattle.cfdp_sessions.specs.declared.session.Stage.TheVariants.{Known, Over, Waiting}
 use Rattle.cfdp_transactions.specs.Entry.{Entry, takes_data}
 use Rattle.cfdp_transactions.specs.Sound.{Sound}
 use Rattle.cfdp_transactions.specs.World.{entry_of, next_runnable}
 use Rattle.cfdp_transactions.specs.Writable.{finished_octets}
+use Rattle.cfdp_transactions.specs.declared.outcome.Outcome.{Outcome}
 use Rattle.cfdp_receiver.specs.State.{State, Input, Finish, session_of}
 use Rattle.cfdp_receiver.specs.Due.{first_over}
 use Rattle.cfdp_receiver.specs.Turning.{outcome_for, parts, after, after_all}
@@ -36,13 +40,25 @@ ConcludedWhenDone =
     entry_of R.world id ≡ Some entry → takes_data entry.phase ≡ false → has_nothing_left (after_all R inputs) ≡ true →
     WasConcluded R inputs id
 
+pub record IsSentAndWaits (R : State) (moment : ℕ) (session : SessionFields) (outcome : Outcome) : Type 0 where
+  pub sent : (parts R (Finish moment)).answer.finished ≡ finished_octets outcome ∷ []
+  pub waiting : SessionFields
+  pub here : session_of (after R (Finish moment)) (name_of session) ≡ Some waiting
+  pub waits : waiting.stage ≡ Waiting
+  pub anew : waiting.timer.count ≡ 0
+
 -- of a session that was not abandoned
 abbrev pub FinishedIsSent : Type 0
 FinishedIsSent =
     (R : State) (moment : ℕ) (session : SessionFields) (entry : Entry) →
     AreDistinct R.sessions → first_over R.world R.sessions ≡ Some session → session.is_abandoned ≡ false →
     session.header.acknowledged ≡ true → entry_of R.world (name_of session) ≡ Some entry →
-    entry.header.acknowledged ≡ true →
-    ((parts R (Finish moment)).answer.finished ≡ finished_octets (outcome_for session (Some entry)) ∷ [])
-    × ((waiting : SessionFields) × (session_of (after R (Finish moment)) (name_of session) ≡ Some waiting)
-    × (waiting.stage ≡ Waiting) × (waiting.timer.count ≡ 0))
+    entry.header.acknowledged ≡ true → IsSentAndWaits R moment session (outcome_for session (Some entry))
+
+abbrev pub FinishedIsSentAlone : Type 0
+FinishedIsSentAlone =
+    (R : State) (moment : ℕ) (session : SessionFields) (ending : Ending) →
+    AreDistinct R.sessions → first_over R.world R.sessions ≡ Some session → session.is_abandoned ≡ false →
+    session.header.acknowledged ≡ true → entry_of R.world (name_of session) ≡ None →
+    session.stage ≡ Over ending → ending.is_sent ≡ true →
+    IsSentAndWaits R moment session (outcome_for session None)

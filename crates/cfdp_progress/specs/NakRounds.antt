@@ -4,7 +4,8 @@
 --     IsAskedOnce R id inputs   this does not happen, as long as it waits
 --     requests_of_each naks     the requests of each of several NAK PDUs
 --     AreAnswered R id naks exchange rest   the sender answers those of the NAK PDUs that it gets, each request in its
---                               turn; the pieces that are not lost are in `rest`
+--                               turn; the pieces that are not lost are in `rest`. So are those of a second
+--                               answer, as where NAK PDUs for the Metadata PDU asked for the file, too
 --     IsServed R id moment is_at_limit  the timer of the transaction's session is the first that is due
 --     NakRound                  a round that begins when the NAK timer is served
 --     AreNakRounds R id rounds  each of several is one, as long as the transaction waits for octets
@@ -56,7 +57,7 @@ requests_of_each naks = map (λ nak. nak.requests) naks
 pub record AreAnswered (R : State) (id : TransactionId) (naks : List NakFields) (exchange : Exchange)
     (rest : List Input) : Type 0 where
   pub exchanged : IsExchange (requests_of_each naks) exchange
-  pub come : pieces_in R id rest ≡ arrived exchange.sent
+  pub come : pieces_in R id rest ≡ arrived exchange.sent ++ arrived exchange.sent_again
   pub goes_on : GoesOn R id rest
   pub once : IsAskedOnce R id rest
 

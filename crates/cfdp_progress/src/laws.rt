@@ -3,7 +3,7 @@
 
 ghost use Rattle.cfdp_progress.specs.Awaiting.{AwaitingAwaits, AnsweredTurns, StaysDelivered};
 ghost use Rattle.cfdp_progress.specs.Closing.{ClosedAfterLosses};
-ghost use Rattle.cfdp_progress.specs.Concluding.{ConcludedWhenDone, FinishedIsSent};
+ghost use Rattle.cfdp_progress.specs.Concluding.{ConcludedWhenDone, FinishedIsSent, FinishedIsSentAlone};
 ghost use Rattle.cfdp_progress.specs.HeldRounds.{MetadataComes, ClosedFromHeld};
 ghost use Rattle.cfdp_progress.specs.InAll.{ClosedInAll};
 ghost use Rattle.cfdp_progress.specs.NakRounds.{DeliveredAfterRounds, DeliveredAfterLosses};
@@ -41,6 +41,7 @@ pub fn stays_delivered()
 
 /// A file waits for octets. A round begins when its NAK timer expires below the limit: NAK PDUs ask for what is
 /// missing, a sender answers each that it gets, in the order of its requests, and a channel loses pieces and NAK PDUs.
+/// No other piece comes but those of one more answer to the same requests.
 /// A round loses the pieces that are lost, and 1 more if NAK PDUs are lost, however many: at most the PDUs that are
 /// lost. After one round more than is lost in all, at the latest, the file is delivered. One round more is needed where
 /// 32 parts are there without the octet at offset 0.
@@ -79,6 +80,12 @@ pub fn finished_is_sent()
     ensures { FinishedIsSent }
 {}
 
+/// So it is of a transaction that ended while its EOF PDU was held, by a limit, a cancel or an EOF PDU with a condition,
+/// and of which the core kept no entry.
+pub fn finished_is_sent_alone()
+    ensures { FinishedIsSentAlone }
+{}
+
 /// A Finished PDU was sent, and its session waits for the acknowledgement. A round begins when its ACK timer expires
 /// below the limit, and the same octets are sent again. The sender acknowledges each Finished PDU that it gets. After
 /// one round more than PDUs are lost, that of the first Finished PDU included, the session is closed, and its name is
@@ -87,12 +94,12 @@ pub fn closed_after_losses()
     ensures { ClosedAfterLosses }
 {}
 
-/// From the EOF PDU until the session is closed. A round begins with the EOF PDU, or when the timer of the session
-/// expires; all items are performed, and all outcomes handed out, before it ends. The sender answers NAK PDUs in the
-/// order of their requests, and acknowledges Finished PDUs. The channel loses pieces, NAK PDUs, Finished PDUs and
-/// acknowledgements; NAK PDUs that it loses in one round count as 1. If both limits are above what is lost in all, the
-/// session is closed after one round more than that, at the latest. One round more is needed where 32 parts are there
-/// without the octet at offset 0.
+/// From the EOF PDU until the session is closed, where octets are missing when it comes. A round begins with the EOF
+/// PDU, or when the timer of the session expires; all items are performed, and all outcomes handed out, before it ends.
+/// The sender answers NAK PDUs in the order of their requests, and acknowledges Finished PDUs. The channel loses pieces,
+/// NAK PDUs, Finished PDUs and acknowledgements; NAK PDUs that it loses in one round count as 1. If both limits are
+/// above what is lost in all, the session is closed after one round more than that, at the latest. One round more is
+/// needed where 32 parts are there without the octet at offset 0.
 pub fn closed_in_all()
     ensures { ClosedInAll }
 {
@@ -113,7 +120,8 @@ pub fn metadata_comes()
 {}
 
 /// From such an EOF PDU until the session is closed. A round in which the first NAK PDU or the Metadata PDU is lost
-/// counts as 1. Once the Metadata PDU comes, and octets are missing, what is lost counts as in [`closed_in_all`]. The
+/// counts as 1. Once the Metadata PDU comes, and octets are missing, what is lost counts as in [`closed_in_all`]. They
+/// may come twice then, since the NAK PDUs that ask for the Metadata PDU ask for the whole file, too. The
 /// session is closed after one round more than is lost in all, at the latest, if the NAK limit is above what is lost
 /// before the Metadata PDU comes and above what is lost after it, and the ACK limit above the latter. No round more is
 /// needed, since nothing of the file is there when its Metadata PDU comes.

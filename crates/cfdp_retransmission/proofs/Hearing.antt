@@ -1,6 +1,6 @@
 -- Rounds in which the sender may miss some of the NAK PDUs. Whatever it hears, its pieces end by the limit; and where none of them is lost, none is
 -- passed over either, so that no more parts are there than before.
-use Rattle.std.specs.Prelude.{⊤, if◌then◌else◌, ◌||◌, Bool, true, false, None, is_some}
+use Rattle.std.specs.Prelude.{⊤, if◌then◌else◌, ◌||◌, nat_lt, Bool, true, false, None, is_some}
 use Rattle.std.specs.List.{AllByRecursion, flat_map}
 use Rattle.std.proofs.Common.{◌≡◌, ◌⊎◌, inl, inr, ℕ, zero, suc, ◌+◌, ◌-◌, ◌<◌, ◌≤◌, List, [], ◌∷◌, ◌++◌, map, length, refl, sym, ap, subst, ◌∙◌, arith}
 use Rattle.std.proofs.lemmas.Bool.{cond_both, cases_lt, cases_Bool, lt-ltb}
@@ -9,7 +9,7 @@ use Rattle.cfdp_transactions.specs.ReceivedLaws.{octet_at, IsIn, AreRuns}
 use Rattle.cfdp_transactions.proofs.OctetsAndGaps.{first_stays, gaps_are_missing, gaps_are_runs}
 use Rattle.cfdp_retransmission.specs.Naks.{Range, Nak, naks}
 use Rattle.cfdp_retransmission.specs.Coming.{Piece, keep, keep_all, continues, zero_missing, one_if, asked}
-use Rattle.cfdp_retransmission.specs.Rounds.{Asking, Sending, Exchange, heard_requests, Covers, AnswersInOrder, IsExchange, arrived, lost, is_any_lost, lost_of, asked_for, AreRounds, after_rounds, lost_in, spare_round, WholeAfterLosses}
+use Rattle.cfdp_retransmission.specs.Rounds.{Asking, Sending, Exchange, heard_requests, Covers, AnswersInOrder, IsExchange, arrived, lost, is_any_lost, lost_of, kept_after, asked_for, AreRounds, after_rounds, lost_in, spare_round, WholeAfterLosses}
 use Rattle.cfdp_retransmission.proofs.Sequences.{asks_for_all}
 use Rattle.cfdp_retransmission.proofs.Arriving.{kept_is, stays, room, whole_from}
 use Rattle.cfdp_retransmission.proofs.Losing.{holes, few_parts, no_hole, some_right, brings_some, kept_len, spare_is, no_spare, covers_rise, arrived_both, lost_both, from_start, in_rest, there_or_not, one_round}
@@ -138,10 +138,25 @@ within_requests limit rs (r ∷ rest) sent gaps answers =
     (within_more limit answers.0 answers.1 (within_front limit r.0 r.1 answers.0 gaps.0.ends answers.3)
     (within_requests limit rs rest answers.1 gaps.1 answers.4))
 
-pub within_sent : (most limit : ℕ) (rs : Received) (round : Exchange) → 1 ≤ most → IsExchange (asked_for most limit rs) round →
+within_joined : (limit : ℕ) (xs ys : List Piece) → Within limit xs → Within limit ys → Within limit (xs ++ ys)
+within_joined limit [] ys hx hy = hy
+within_joined limit (x ∷ xs) ys hx hy = (hx.0, within_joined limit xs ys hx.1 hy)
+
+first_within : (most limit : ℕ) (rs : Received) (round : Exchange) → 1 ≤ most → IsExchange (asked_for most limit rs) round →
     Within limit (arrived round.sent)
-within_sent most limit rs round some is =
+first_within most limit rs round some is =
     within_requests limit rs (heard_requests round.asking) round.sent (heard_are most limit rs round.asking some is.asks) is.in_order
+
+again_within : (most limit : ℕ) (rs : Received) (round : Exchange) → 1 ≤ most → IsExchange (asked_for most limit rs) round →
+    Within limit (arrived round.sent_again)
+again_within most limit rs round some is =
+    within_requests limit rs (heard_requests round.asking_again) round.sent_again (heard_are most limit rs round.asking_again some is.asks_again)
+    is.in_order_again
+
+pub within_sent : (most limit : ℕ) (rs : Received) (round : Exchange) → 1 ≤ most → IsExchange (asked_for most limit rs) round →
+    Within limit (arrived round.sent ++ arrived round.sent_again)
+within_sent most limit rs round some is =
+    within_joined limit (arrived round.sent) (arrived round.sent_again) (first_within most limit rs round some is) (again_within most limit rs round some is)
 
 -- so the parts stay few, and nothing is kept after the limit
 record IsFit (limit : ℕ) (rs : Received) : Type 0 where
@@ -264,9 +279,9 @@ went_some limit rs requests sent gaps answers =
       ]
     ]
 
-one_exchange : (most limit : ℕ) (rs : Received) (round : Exchange) → 1 ≤ most → IsFit limit rs → IsExchange (asked_for most limit rs) round →
-    Went limit rs (keep_all rs (arrived round.sent)) (lost_of round)
-one_exchange most limit rs round some fit is =
+first_answer : (most limit : ℕ) (rs : Received) (round : Exchange) → 1 ≤ most → IsFit limit rs → IsExchange (asked_for most limit rs) round →
+    Went limit rs (keep_all rs (arrived round.sent)) (lost round.sent + one_if (is_any_lost round.asking))
+first_answer most limit rs round some fit is =
     let asking = round.asking in
     let after = keep_all rs (arrived round.sent) in
     elim (cases_Bool (is_any_lost asking)) [
@@ -279,22 +294,80 @@ one_exchange most limit rs round some fit is =
           subst (Went limit rs after) (omega (arith, ap one_if heard)) went
     ]
 
+-- ---- a second answer
+
+there_one : (rs : Received) (p : Piece) (i : ℕ) → is_some (octet_at rs i) ≡ true → is_some (octet_at (keep rs p) i) ≡ true
+there_one rs p i h =
+    let now = kept_with rs p.0 p.1 in
+    let kept : is_some (octet_at now i) ≡ true = ap is_some (first_stays rs p.0 p.1 i) ∙ stays (octet_at rs i) (brought p.0 p.1 i) h in
+    cond_both (nat_lt 32 (pieces now)) rs now (λ (q : Received). is_some (octet_at q i) ≡ true) (λ e. h) (λ e. kept)
+
+there_all : (ps : List Piece) (rs : Received) (i : ℕ) → is_some (octet_at rs i) ≡ true → is_some (octet_at (keep_all rs ps) i) ≡ true
+there_all [] rs i h = h
+there_all (p ∷ ps) rs i h = there_all ps (keep rs p) i (there_one rs p i h)
+
+nothing_in : (gaps : List Range) (i : ℕ) → gaps ≡ [] → IsIn i gaps → ⊥
+nothing_in [] i e h = elim h [ ]
+nothing_in (g ∷ gs) i e h = absurd cc
+
+whole_goes_on : (limit : ℕ) (now : Received) (ps : List Piece) → gaps_below limit now ≡ [] → gaps_below limit (keep_all now ps) ≡ []
+whole_goes_on limit now ps whole =
+    whole_from limit (keep_all now ps) (λ i low. there_all ps now i
+    (there_or_not (octet_at now i) (λ none. nothing_in (gaps_below limit now) i whole ((gaps_are_missing limit now i).1 (low, none)))))
+
+went_again : (limit : ℕ) (rs now : Received) (requests : List Range) (sent : List Sending) (gone : ℕ) →
+    ((i : ℕ) → is_some (octet_at rs i) ≡ true → is_some (octet_at now i) ≡ true) → AllByRecursion (IsGap limit rs) requests →
+    AnswersInOrder requests sent → Went limit rs now gone → Went limit rs (keep_all now (arrived sent)) (gone + lost sent)
+went_again limit rs now requests sent gone there gaps answers (inl whole) = inl (whole_goes_on limit now (arrived sent) whole)
+went_again limit rs now requests sent gone there gaps answers (inr less) =
+    let after = keep_all now (arrived sent) in
+    let most = spare_at_most after in
+    elim (cases_lt 0 (lost sent)) [
+      | inl lossy ↦ inr (omega (arith, less, most, lossy))
+      | inr clean ↦ elim (cases_lt 32 (pieces now + zero_missing now)) [
+        | inl many ↦ inr (omega (arith, less, most, spare_is now many))
+        | inr few ↦
+            let last = room_all limit rs requests sent now (record { there = there; room = few }) gaps answers (omega (arith, clean)) in
+            inr (omega (arith, less, no_spare after last.room))
+      ]
+    ]
+
+one_exchange : (most limit : ℕ) (rs : Received) (round : Exchange) → 1 ≤ most → IsFit limit rs → IsExchange (asked_for most limit rs) round →
+    Went limit rs (kept_after rs round) (lost_of round)
+one_exchange most limit rs round some fit is =
+    let first = keep_all rs (arrived round.sent) in
+    let gone = lost round.sent + one_if (is_any_lost round.asking) in
+    let both =
+    went_again limit rs first (heard_requests round.asking_again) round.sent_again gone (λ i h. there_all (arrived round.sent) rs i h)
+    (heard_are most limit rs round.asking_again some is.asks_again) is.in_order_again (first_answer most limit rs round some fit is) in
+    subst (λ (n : ℕ). Went limit rs (kept_after rs round) n) (omega arith) both
+
 -- ---- all rounds
+
+no_answer : (most limit : ℕ) (rs : Received) (asking : List Asking) (sent : List Sending) → 1 ≤ most → gaps_below limit rs ≡ [] →
+    map (λ (a : Asking). a.requests) asking ≡ asked_for most limit rs → AnswersInOrder (heard_requests asking) sent → sent ≡ []
+no_answer most limit rs asking sent some whole asks answers =
+    let no_request : heard_requests asking ≡ [] = none_heard asking (asks_gaps most limit rs asking some asks ∙ whole) in
+    subst (λ (requests : List Range). AnswersInOrder requests sent) no_request answers
 
 whole_stays : (most limit : ℕ) (rs : Received) (rounds : List Exchange) → 1 ≤ most → gaps_below limit rs ≡ [] → AreRounds most limit rs rounds →
     gaps_below limit (after_rounds rs rounds) ≡ []
 whole_stays most limit rs [] some whole all = whole
 whole_stays most limit rs (round ∷ rounds) some whole all =
-    let no_request : heard_requests round.asking ≡ [] = none_heard round.asking (asks_gaps most limit rs round.asking some all.0.asks ∙ whole) in
-    let nothing : round.sent ≡ [] = subst (λ (requests : List Range). AnswersInOrder requests round.sent) no_request all.0.in_order in
-    ap (λ (sent : List Sending). gaps_below limit (after_rounds (keep_all rs (arrived sent)) rounds)) nothing
-    ∙ whole_stays most limit rs rounds some whole (subst (λ (sent : List Sending). AreRounds most limit (keep_all rs (arrived sent)) rounds) nothing all.1)
+    let first : round.sent ≡ [] = no_answer most limit rs round.asking round.sent some whole all.0.asks all.0.in_order in
+    let second : round.sent_again ≡ [] = no_answer most limit rs round.asking_again round.sent_again some whole all.0.asks_again all.0.in_order_again in
+    let same : kept_after rs round ≡ rs =
+    ap (λ (sent : List Sending). keep_all (keep_all rs (arrived sent)) (arrived round.sent_again)) first
+    ∙ ap (λ (sent : List Sending). keep_all rs (arrived sent)) second in
+    ap (λ (q : Received). gaps_below limit (after_rounds q rounds)) same
+    ∙ whole_stays most limit rs rounds some whole (subst (λ (q : Received). AreRounds most limit q rounds) same all.1)
 
 pub whole_after_losses : WholeAfterLosses
 whole_after_losses most limit rs [] some few short all enough = absurd (omega (arith, enough))
 whole_after_losses most limit rs (round ∷ rounds) some few short all enough =
-    let after = keep_all rs (arrived round.sent) in
-    let fit = fit_all limit (arrived round.sent) rs (record { few = few; short = short }) (within_sent most limit rs round some all.0) in
+    let after = kept_after rs round in
+    let first = fit_all limit (arrived round.sent) rs (record { few = few; short = short }) (first_within most limit rs round some all.0) in
+    let fit = fit_all limit (arrived round.sent_again) (keep_all rs (arrived round.sent)) first (again_within most limit rs round some all.0) in
     elim (one_exchange most limit rs round some (record { few = few; short = short }) all.0) [
       | inl whole ↦ whole_stays most limit after rounds some whole all.1
       | inr less ↦ whole_after_losses most limit after rounds some fit.few fit.short all.1 (omega (arith, less, enough))
@@ -315,7 +388,7 @@ any_at_most : (asking : List Asking) → one_if (is_any_lost asking) ≤ naks_lo
 any_at_most [] = omega arith
 any_at_most (a ∷ more) = any_by a.is_lost (is_any_lost more) (naks_lost more) (any_at_most more)
 
-counts_pdus : (round : Exchange) → lost_of round ≤ lost round.sent + naks_lost round.asking
+counts_pdus : (round : Exchange) → lost_of round ≤ lost round.sent + lost round.sent_again + naks_lost round.asking
 counts_pdus round = omega (arith, any_at_most round.asking)
 
 -- where the sender gets every NAK PDU, pieces alone are counted
@@ -334,10 +407,26 @@ pieces_lost (sent ∷ rounds) = lost sent + pieces_lost rounds
 abbrev each_heard_of : List (List Range) → List Asking
 each_heard_of naks = map (λ (requests : List Range). record { requests = requests; is_lost = false }) naks
 
+abbrev none_heard_of : List (List Range) → List Asking
+none_heard_of naks = map (λ (requests : List Range). record { requests = requests; is_lost = true }) naks
+
+same_again : (naks : List (List Range)) → map (λ (a : Asking). a.requests) (none_heard_of naks) ≡ naks
+same_again [] = refl
+same_again (nak ∷ naks) = ap (λ (rest : List (List Range)). nak ∷ rest) (same_again naks)
+
+none_of_them : (naks : List (List Range)) → heard_requests (none_heard_of naks) ≡ []
+none_of_them [] = refl
+none_of_them (nak ∷ naks) = none_of_them naks
+
 abbrev exchanges : ℕ → ℕ → Received → List (List Sending) → List Exchange
 exchanges most limit rs [] = []
 exchanges most limit rs (sent ∷ rounds) =
-    record { asking = each_heard_of (asked_for most limit rs); sent = sent } ∷ exchanges most limit (keep_all rs (arrived sent)) rounds
+    record {
+      asking = each_heard_of (asked_for most limit rs);
+      sent = sent;
+      asking_again = none_heard_of (asked_for most limit rs);
+      sent_again = [];
+    } ∷ exchanges most limit (keep_all rs (arrived sent)) rounds
 
 same_requests : (naks : List (List Range)) → map (λ (a : Asking). a.requests) (each_heard_of naks) ≡ naks
 same_requests [] = refl
@@ -360,6 +449,8 @@ are_rounds most limit rs (sent ∷ rounds) are =
       record {
         asks = same_requests (asked_for most limit rs);
         in_order = subst (λ (requests : List Range). AnswersInOrder requests sent) asks are.0;
+        asks_again = same_again (asked_for most limit rs);
+        in_order_again = subst (λ (requests : List Range). AnswersInOrder requests []) (sym (none_of_them (asked_for most limit rs))) refl;
       },
       are_rounds most limit (keep_all rs (arrived sent)) rounds are.1,
     )

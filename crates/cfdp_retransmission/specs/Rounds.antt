@@ -1,12 +1,14 @@
 -- A sender that answers each NAK sequence in the order of its requests, over a channel that loses PDUs.
 --     Asking                           a NAK PDU that is sent: its requests, and whether the channel loses it
 --     Sending                          a piece that the sender sends, and whether the channel loses it
---     Exchange                         the NAK PDUs of a round, and the pieces that answer them
+--     Exchange                         the NAK PDUs of a round, and the pieces that answer them; and a second answer, where
+--                                      NAK PDUs of another sequence have the same requests
 --     heard_requests asking            the requests that the sender gets: those of the NAK PDUs that are not lost
 --     Covers at end sent               the pieces follow each other from one offset to another
 --     AnswersInOrder requests sent     they answer each request in turn, from its start to its end
 --     IsExchange naks round            the NAK PDUs have these requests, and the pieces answer those that are heard
 --     arrived sent, lost sent          the pieces that are not lost;  how many are lost
+--     kept_after rs round              what is received after both answers
 --     is_any_lost asking               whether one of the NAK PDUs is lost, or more
 --     lost_of round                    the pieces that are lost, and 1 more where NAK PDUs are: at most the PDUs lost
 --     asked_for most limit rs          the requests of each NAK PDU that asks for what is missing
@@ -31,6 +33,9 @@ pub record Sending : Type 0 where
 pub record Exchange : Type 0 where
   pub asking : List Asking
   pub sent : List Sending
+  -- the second answer: nothing, where all of these are lost
+  pub asking_again : List Asking
+  pub sent_again : List Sending
 
 abbrev pub heard_requests : List Asking → List Range
 heard_requests [] = []
@@ -49,6 +54,8 @@ AnswersInOrder (r ∷ rs) sent =
 pub record IsExchange (naks : List (List Range)) (round : Exchange) : Type 0 where
   pub asks : map (λ a. a.requests) round.asking ≡ naks
   pub in_order : AnswersInOrder (heard_requests round.asking) round.sent
+  pub asks_again : map (λ a. a.requests) round.asking_again ≡ naks
+  pub in_order_again : AnswersInOrder (heard_requests round.asking_again) round.sent_again
 
 abbrev pub arrived : List Sending → List Piece
 arrived [] = []
@@ -63,7 +70,10 @@ is_any_lost [] = false
 is_any_lost (a ∷ more) = a.is_lost || is_any_lost more
 
 abbrev pub lost_of : Exchange → ℕ
-lost_of round = lost round.sent + one_if (is_any_lost round.asking)
+lost_of round = lost round.sent + lost round.sent_again + one_if (is_any_lost round.asking)
+
+abbrev pub kept_after : Received → Exchange → Received
+kept_after rs round = keep_all (keep_all rs (arrived round.sent)) (arrived round.sent_again)
 
 abbrev pub asked_for : ℕ → ℕ → Received → List (List Range)
 asked_for most limit rs = map (λ nak. nak.requests) (naks most 0 limit (gaps_below limit rs))
@@ -71,11 +81,11 @@ asked_for most limit rs = map (λ nak. nak.requests) (naks most 0 limit (gaps_be
 abbrev pub AreRounds : ℕ → ℕ → Received → List Exchange → Type 0
 AreRounds most limit rs [] = ⊤
 AreRounds most limit rs (round ∷ rounds) =
-    IsExchange (asked_for most limit rs) round × AreRounds most limit (keep_all rs (arrived round.sent)) rounds
+    IsExchange (asked_for most limit rs) round × AreRounds most limit (kept_after rs round) rounds
 
 abbrev pub after_rounds : Received → List Exchange → Received
 after_rounds rs [] = rs
-after_rounds rs (round ∷ rounds) = after_rounds (keep_all rs (arrived round.sent)) rounds
+after_rounds rs (round ∷ rounds) = after_rounds (kept_after rs round) rounds
 
 abbrev pub lost_in : List Exchange → ℕ
 lost_in [] = 0

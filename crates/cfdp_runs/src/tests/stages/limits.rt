@@ -1,6 +1,6 @@
 //! A table that is full, and names that are remembered or forgotten.
 
-use super::{Input, Scene, all_hold};
+use super::{Input, Scene, all_hold, each_input_holds};
 use std::alloc::AllocError;
 
 static FORGOTTEN: Scene = Scene {
@@ -41,6 +41,16 @@ static FORGOTTEN: Scene = Scene {
         (Input::AckFinished, "1/5 idle\n", "undefined"),
         (Input::PromptNak, "1/5 idle\n", "undefined"),
         (Input::Cancel, "1/5 unknown\n", "undefined"),
+        (Input::AllData, "1/5 unknown\n", "undefined"),
+        (Input::AckEof, "1/5 idle\n", "undefined"),
+        (Input::PromptKeepAlive, "1/5 idle\n", "undefined"),
+        (Input::Nak, "pdu not-ours\n", "undefined"),
+        (Input::KeepAlive, "pdu not-ours\n", "undefined"),
+        (Input::Finished, "pdu not-ours\n", "undefined"),
+        (Input::Time(&[9]), "", "undefined"),
+        (Input::Work, "", "undefined"),
+        (Input::Finish, "", "undefined"),
+        (Input::Forget, "", "undefined"),
     ],
 };
 
@@ -112,6 +122,16 @@ static FULL: Scene = Scene {
         (Input::AckEof, "1/5 idle\n", "none"),
         (Input::PromptNak, "1/5 idle\n", "none"),
         (Input::Cancel, "1/5 unknown\n", "none"),
+        (Input::AllData, "1/5 unknown\n", "none"),
+        (Input::AckFinished, "1/5 idle\n", "none"),
+        (Input::PromptKeepAlive, "1/5 idle\n", "none"),
+        (Input::Nak, "pdu not-ours\n", "none"),
+        (Input::KeepAlive, "pdu not-ours\n", "none"),
+        (Input::Finished, "pdu not-ours\n", "none"),
+        (Input::Time(&[9]), "", "none"),
+        (Input::Work, "", "none"),
+        (Input::Finish, "", "none"),
+        (Input::Forget, "", "undefined"),
     ],
 };
 
@@ -186,14 +206,14 @@ static FULL_AND_CLOSED: Scene = Scene {
 
 #[test]
 fn names(rt: HostRuntime) -> Result<(), AllocError> {
-    all_hold(&rt, rt.alloc(), &FORGOTTEN)?;
+    each_input_holds(&rt, rt.alloc(), &FORGOTTEN)?;
     all_hold(&rt, rt.alloc(), &REMEMBERED)?;
     all_hold(&rt, rt.alloc(), &DROPPED)
 }
 
 #[test]
 fn a_full_table(rt: HostRuntime) -> Result<(), AllocError> {
-    all_hold(&rt, rt.alloc(), &FULL)?;
+    each_input_holds(&rt, rt.alloc(), &FULL)?;
     all_hold(&rt, rt.alloc(), &FULL_BUT_FOR_ONE)?;
     all_hold(&rt, rt.alloc(), &FULL_WITH_IT)?;
     all_hold(&rt, rt.alloc(), &FULL_AND_CLOSED)
