@@ -1,0 +1,5 @@
+pub mod Uploads
+pub mod Judging
+pub mod Laws
+pub mod Texts
+pub mod Orders
