@@ -1,0 +1,4 @@
+pub mod Parting
+pub mod Taking
+pub mod Printing
+pub mod Telling
