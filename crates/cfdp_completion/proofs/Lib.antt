@@ -1,0 +1,4 @@
+pub mod Keeping
+pub mod Arriving
+pub mod Ordering
+pub mod Reading

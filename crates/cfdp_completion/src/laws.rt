@@ -1,0 +1,25 @@
+//! What is true of uploads at their receiver. These functions do nothing: their contracts are the laws.
+
+ghost use Rattle.cfdp_completion.specs.Delivering.{AdmittedIsComplete, FileIsKept, InOrderStaysFew, OctetsAreEvents};
+
+/// The octets of the PDUs of an upload, in the order in which they are sent, are its events.
+pub fn octets_are_events()
+    ensures { OctetsAreEvents }
+{}
+
+/// What is kept after all pieces of an upload came is its file, whatever their order.
+pub fn file_is_kept()
+    ensures { FileIsKept }
+{}
+
+/// An upload with a file, whose Metadata PDU was admitted, is complete once its PDUs came, if nothing else comes
+/// between them and no more than 32 separate pieces are kept at any time: each File Data PDU is stored, the checksum is
+/// right, and its items are performed next. That none of these fails is the headline of `cfdp_transactions`.
+pub fn admitted_is_complete()
+    ensures { AdmittedIsComplete }
+{}
+
+/// Pieces that come from the first to the last are never more than one piece.
+pub fn in_order_stays_few()
+    ensures { InOrderStaysFew }
+{}
