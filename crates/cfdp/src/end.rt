@@ -18,15 +18,19 @@ pub enum End {
     Line(u64),
     /// The capture has a link type that is not read.
     Capture,
+    /// Something is wrong in a plan: where, and what.
+    Plan(String),
+    /// A file cannot be read: where it is named, and which one.
+    File(String),
 }
 
 impl End {
     /// The exit status.
     pub fn status(&self) -> u8 {
         match self {
-            End::Read | End::Write | End::Memory | End::Capture => 1,
+            End::Read | End::Write | End::Memory | End::Capture | End::File(_) => 1,
             End::Words(_) => 2,
-            End::Line(_) => 3,
+            End::Line(_) | End::Plan(_) => 3,
         }
     }
 }
@@ -34,7 +38,7 @@ impl End {
 impl fmt::Display for End {
     fn fmt<W: fmt::Write>(&self, f: &mut fmt::Formatter<W>) -> fmt::Result {
         match self {
-            End::Words(why) => f.write_str(why.as_str()),
+            End::Words(why) | End::Plan(why) | End::File(why) => f.write_str(why.as_str()),
             End::Read => f.write_str("the input cannot be read"),
             End::Write => f.write_str("the output cannot be written"),
             End::Memory => f.write_str("out of memory"),

@@ -4,16 +4,23 @@
 //! input without one: PDUs in hexadecimal, one a line; PDUs one after the other, as octets; or a capture in the pcap
 //! format, with PDUs in UDP datagrams or of their own link type.
 //!
-//! What goes wrong is said on standard error, and by the exit status: 1 for a fault of reading, writing or memory, 2 for
-//! unknown words, 3 for a line that is not hexadecimal.
+//! `cfdp compose PLAN` writes the script of a plan of uploads, which `cfdpsim replay` runs: the PDUs of each
+//! transaction, from the files that the plan names and its requests in words.
+//!
+//! What goes wrong is said on standard error, and by the exit status: 1 for a fault of reading, writing or memory, 2
+//! for unknown words, 3 for a line that is not hexadecimal, or for something wrong in a plan.
 #![tactic(auto)]
 
+mod compose;
 mod end;
 mod found;
 mod hexadecimal;
 mod input;
 mod octets;
+mod part;
 mod pcap;
+mod plan;
+mod section;
 mod show;
 mod words;
 
@@ -39,5 +46,6 @@ fn run<R: AllocGlobal + Env + Files + Input + Print>(rt: &R) -> Result<(), End> 
     match parse(rt.alloc(), &words)? {
         Asked::Help(text) => show::print(rt, text.as_bytes()),
         Asked::Show(style, path) => show::run(rt, style, path),
+        Asked::Compose(path) => compose::run(rt, path),
     }
 }

@@ -15,6 +15,8 @@ pub enum Asked<'a> {
     Help(String),
     /// To show the PDUs of this file, or of standard input without one.
     Show(Style, Option<&'a str>),
+    /// To write the script of the plan in this file.
+    Compose(&'a str),
 }
 
 /// The words of the command line.
@@ -40,11 +42,18 @@ fn program<'a>(alloc: Global) -> Result<Command<'a>, AllocError> {
         .about("Prints what PDUs say")
         .arg(json)?
         .arg(file)?;
+    let plan = Arg::new(alloc, "PLAN")
+        .required(true)
+        .help("A plan of uploads: docs/FORMATS.md, 'Plans'");
+    let compose = Command::new(alloc, "compose")
+        .about("Writes the script of a plan, for cfdpsim replay")
+        .arg(plan)?;
     Command::new(alloc, "cfdp")
         .about("File transfers by CFDP (CCSDS 727.0-B-5)")
         .version("0.1.0")
         .subcommand_required(true)
-        .subcommand(show)
+        .subcommand(show)?
+        .subcommand(compose)
 }
 
 /// What these words ask for, of which the first is the program's own name.
@@ -74,6 +83,12 @@ fn refused<'a>(alloc: Global, error: &Error) -> Result<Asked<'a>, End> {
 
 /// What the words ask for in which these matches were found.
 fn asked_by<'a>(matches: &ArgMatches<'a>) -> Asked<'a> {
+    if let Some(plan) = matches
+        .subcommand_matches("compose")
+        .and_then(|found| found.get_str("PLAN"))
+    {
+        return Asked::Compose(plan);
+    }
     match matches.subcommand_matches("show") {
         Some(found) if found.get_flag("json") => Asked::Show(Style::Json, found.get_str("FILE")),
         Some(found) => Asked::Show(Style::Text, found.get_str("FILE")),
