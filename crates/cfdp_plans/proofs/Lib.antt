@@ -1,4 +1,3 @@
-pub mod Parting
 pub mod Taking
 pub mod Printing
 pub mod Telling

@@ -5,9 +5,10 @@ use Rattle.std.proofs.lemmas.Bool.{eqb-true}
 use Rattle.hex.specs.Hex.{IsBytes, decode_of, hex_digit_value, encode_lower, encode_with, lower_digits}
 use Rattle.hex.proofs.HexLemmas.{IsDigits-lower_digits, decode_of-encode_lower}
 use Rattle.cfdp_uploads.proofs.Found.{each_at}
-use Rattle.cfdp_plans.specs.Requests.{is_space, words_of}
+use Rattle.cfdp_lines.specs.Hexadecimal.{is_space}
+use Rattle.cfdp_lines.specs.Words.{words_of}
 use Rattle.cfdp_plans.specs.Laws.{PduLineIsRead}
-use Rattle.cfdp_plans.proofs.Parting.{words_of-space, words_of-first, words_of-last}
+use Rattle.cfdp_lines.proofs.Wording.{words_of-space, words_of-first, words_of-last}
 
 no_value : (value : ℕ) → None ≡ Some value → ⊥
 no_value value is = cc

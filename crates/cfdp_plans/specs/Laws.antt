@@ -7,7 +7,7 @@ use Rattle.std.specs.List.{AllByRecursion}
 use Rattle.hex.specs.Hex.{decode_of, encode_lower}
 use Rattle.cfdp_texts.specs.Replies.{shown_octet}
 use Rattle.cfdp_plans.specs.Names.{name_in}
-use Rattle.cfdp_plans.specs.Requests.{words_of}
+use Rattle.cfdp_lines.specs.Words.{words_of}
 
 abbrev pub PrintedIsRead : Type 0
 PrintedIsRead =

@@ -1,27 +1,17 @@
 -- Requests in words: an action, and its one or two paths, with spaces between them.
---   words_of       the words of a text: what is between its spaces
 --   action_of      the action that a word names, if it does
 --   form_of        how a request for an action is written
 --   request_in     the request that a text writes, or the first fault: no word, or one that names no action (Action);
 --                  another number of paths than the action has (Paths); a path that is none (FirstPath, SecondPath)
-use Rattle.std.specs.Prelude.{ℕ, ◌==◌, ◌||◌, Bool, true, false, not, if◌then◌else◌, List, [], ◌∷◌, length, Option, Some, None, Result, Ok, Err, filter, bytes_eq, codes}
-use Rattle.std.specs.List.{slice_split}
+use Rattle.std.specs.Prelude.{ℕ, ◌==◌, ◌||◌, Bool, true, false, if◌then◌else◌, List, [], ◌∷◌, length, Option, Some, None, Result, Ok, Err, bytes_eq, codes}
 use Rattle.cfdp_status.specs.Codes.{has_second}
 use Rattle.cfdp_status.specs.declared.action.Action.{Action}
 use Rattle.cfdp_status.specs.declared.action.Action.TheVariants as actions
 use Rattle.cfdp_tlv.specs.Values.{RequestFields}
+use Rattle.cfdp_lines.specs.Words.{words_of}
 use Rattle.cfdp_plans.specs.Names.{path_in}
 use Rattle.cfdp_plans.specs.declared.fault.RequestFault.{RequestFault}
 use Rattle.cfdp_plans.specs.declared.fault.RequestFault.TheVariants as faults
-
-abbrev pub is_space : ℕ → Bool
-is_space octet = octet == 32
-
-abbrev pub is_word : List ℕ → Bool
-is_word part = not (length part == 0)
-
-abbrev pub words_of : List ℕ → List (List ℕ)
-words_of text = filter is_word (slice_split is_space text)
 
 unfoldable pub action_of : List ℕ → Option Action
 action_of word =

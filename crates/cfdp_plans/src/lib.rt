@@ -12,7 +12,6 @@ mod names;
 mod requests;
 #[cfg(test)]
 mod tests;
-mod words;
 
 pub use fault::{RequestFault, ScriptFault};
 pub use lines::{push_config, push_list, push_protect, write_upload};

@@ -2,13 +2,14 @@
 
 ghost use Rattle.std.specs.Prelude.{◌≡◌, ◌⊎◌, IfOk, IfErr, Ok, Err, true, false};
 ghost use Rattle.cfdp_status.specs.Codes.{has_second};
-ghost use Rattle.cfdp_plans.specs.Requests.{action_of, by_count, request_in, words_of, with_one, with_two};
+ghost use Rattle.cfdp_plans.specs.Requests.{action_of, by_count, request_in, with_one, with_two};
+ghost use Rattle.cfdp_lines.specs.Words.{words_of};
 ghost use Rattle.cfdp_plans.specs.Names.{path_in};
 ghost use Rattle.cfdp_plans.specs.declared.fault.RequestFault.TheVariants.{Memory};
 
 use crate::RequestFault;
 use crate::names::read_path;
-use crate::words::next_word;
+use cfdp_lines::next_word;
 use cfdp_status::Action;
 use cfdp_tlv::FilestoreRequest;
 use std::alloc::Global;
