@@ -64,4 +64,7 @@ pub mod ShiftLaws
 pub mod InOrderLaws
 pub mod SummingLaws
 pub mod LeastLaws
+pub mod SortLaws
+pub mod OrderLaws
+pub mod OrderedLaws
 pub mod NextLaws

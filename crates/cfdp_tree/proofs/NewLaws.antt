@@ -26,6 +26,9 @@ use Rattle.cfdp_tree.specs.Lists.{IsDouble}
 use Rattle.cfdp_tree.specs.Entries.{entry_after, entry_before, entries_at, IsPlace, IsMember, IsGrouped}
 use Rattle.cfdp_tree.specs.Kept.{no_contents, file_in, holdings, Shows, filestore_of, store_of, IsStored}
 use Rattle.cfdp_tree.specs.Slots.{staged_in, IsPlaced, IsFresh, IsStore}
+use Rattle.cfdp_tree.specs.declared.orders.Orders.{Orders}
+use Rattle.cfdp_tree.specs.Orders.{order_at, IsOrdered}
+use Rattle.cfdp_tree.proofs.OrderedLaws.{ordered_none}
 use Rattle.cfdp_tree.proofs.ContentsLaws.{none_filled}
 use Rattle.cfdp_tree.proofs.SlotPlaces.{slot_starts}
 use Rattle.cfdp_tree.proofs.WayLaws.{ways_none}
@@ -213,3 +216,9 @@ module _ (n : ℕ) (some : 1 ≤ n) (few : n ≤ 65536) (heads : List Head) (roo
     };
     placed = placed;
   }
+
+  -- no node is in an order
+  pub new_orders : (orders : Orders) → length orders.links.items ≡ n → length orders.directories.items ≡ n → ((place : Option ℕ) → (order_at orders place).height ≡ 0) → IsOrdered nodes orders None
+  new_orders orders links directories empty =
+      let nodes_long : length nodes ≡ n = ap (λ (ns : Blocks). length ns) nodes_are ∙ length-replicate {A = Option (List ℕ)} n None in
+      ordered_none nodes orders (links ∙ sym nodes_long) (directories ∙ sym nodes_long) no_node empty

@@ -1,7 +1,6 @@
 -- The first node in path order behind a path.
 --     behind_more               one beginning less
 --     between                   what stands between two paths that begin alike begins like them
---     list_of_root, list_of_node    the lists of entries are those of their places
 --     behind_parts, entry_on_way    a node that follows, and the entry on the way to it
 --     least_first, none_first   the entry of the least name is the first node, and where there is none no node follows
 --     apart_last, apart_name    all entries follow, or those of a greater name, where nothing follows below the name's own
@@ -22,17 +21,13 @@ use Rattle.cfdp_paths.specs.Paths.{Name, Path, path_cmp, same_name, is_at_or_bel
 use Rattle.cfdp_paths.proofs.Below.{append_from_at_or_below, at_or_below_from_append, at_or_below-trans}
 use Rattle.cfdp_paths.proofs.Comparing.{path_cmp-total, same_name-Decides}
 use Rattle.cfdp_actions.specs.Filestore.{Node, Filestore, node_at}
-use Rattle.cfdp_tree.specs.declared.index.Head.{Head}
 use Rattle.cfdp_tree.specs.Tree.{IsNode, name_at, path_of, IsEntry, IsTree}
 use Rattle.cfdp_tree.specs.Places.{StandsAt}
-use Rattle.cfdp_tree.specs.Entries.{entries_at, IsMember, IsGrouped}
+use Rattle.cfdp_tree.specs.Entries.{IsMember}
 use Rattle.cfdp_tree.specs.Kept.{Shows}
-use Rattle.cfdp_tree.specs.Walk.{entries_of}
 use Rattle.cfdp_tree.specs.Next.{IsNext, IsLast, name_cmp, IsBehind, IsLeast, IsListOf, Follows, IsFirst}
 use Rattle.cfdp_tree.proofs.ClimbLaws.{entry_at, path_entry, beginning}
 use Rattle.cfdp_tree.proofs.LeastLaws.{flipped, less_greater, equal_greater}
-use Rattle.cfdp_tree.proofs.WalkLaws.{entries_stand}
-use Rattle.cfdp_tree.proofs.SurveyLaws.{entries_has}
 
 name_antisym : (m n : Name) → name_cmp m n ≡ Equal → m ≡ n
 name_antisym = slice_cmp-IsAntisymmetric nat_cmp-IsAntisymmetric
@@ -88,21 +83,6 @@ name_upto m n (l ∷ t) upto greater = by_order (name_cmp m n) refl
     by_order Less e = less_greater (ap (λ o. ordering_then o Less) e) greater
     by_order Equal e = less_greater (ap (λ o. ordering_then o Less) e) greater
     by_order Greater e = upto e
-
--- ---- lists of entries
-
-module _ (nodes : Blocks) (tree : IsTree nodes) (root : Head) (groups : IsGrouped nodes root None) where
-  none_some : {x : ℕ} → None ≡ Some x → ⊥
-  none_some e = cc
-
-  pub list_of_root : IsListOf nodes None (entries_at nodes root None)
-  list_of_root = record {
-    own = groups.own None (record { directory = λ d e. absurd (none_some e) });
-    all = λ b member. subst (λ x. Contains (entries_at nodes root x) b) member.there (groups.all b member.node none_some);
-  }
-
-  pub list_of_node : (d : ℕ) → IsNode nodes d → IsListOf nodes (Some d) (entries_of nodes d)
-  list_of_node d node = record { own = entries_stand nodes tree root groups d node; all = λ b member. entries_has nodes tree root groups d b member.node member.there }
 
 -- ---- the nodes that follow, at and below a place
 

@@ -18,6 +18,7 @@
 --     Survey       the nodes of what stands there
 --     Text         the octets of a path
 --     Next         what comes next in path order
+--     Orders       the entries of a directory and of the root, in order of their names
 --     Found        what is told of a path, and copied of a file
 pub mod Block
 pub mod Changes
@@ -31,6 +32,7 @@ pub mod Links
 pub mod Lists
 pub mod Next
 pub mod Nodes
+pub mod Orders
 pub mod Places
 pub mod Row
 pub mod Runs

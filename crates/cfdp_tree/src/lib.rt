@@ -31,6 +31,7 @@ mod listing;
 mod lookup;
 mod next;
 mod nodes;
+mod orders;
 mod payload;
 mod rows;
 mod runs;

@@ -13,6 +13,7 @@ use crate::index::{Head, insert};
 use crate::listing::{entries, only_standing, standings};
 use crate::lookup::{find_path, lookup};
 use crate::nodes::{create_node, delete_node, rename_node};
+use crate::orders::Orders;
 use crate::rows::{home_of, kind_of, size_of, sum_of};
 use crate::slots::Slot;
 use crate::survey::survey;
@@ -55,6 +56,7 @@ pub struct TreeStore {
     pub(crate) ways: Vec<Way>,
     pub(crate) heads: Vec<Head>,
     pub(crate) root: Head,
+    pub(crate) orders: Orders,
     pub(crate) slots: Vec<Slot>,
 }
 
@@ -62,7 +64,8 @@ impl Model for TreeStore {
     ghost use Rattle.cfdp_actions.specs.Store.{Store};
     ghost use Rattle.cfdp_actions.specs.Codes.{store_code};
     ghost use Rattle.cfdp_tree.specs.Kept.{store_of};
-    ghost use Rattle.cfdp_tree.specs.Slots.{staged_in, IsStore};
+    ghost use Rattle.cfdp_tree.specs.Slots.{staged_in};
+    ghost use Rattle.cfdp_tree.specs.Orders.{IsOrderedStore};
 
     ghost Value = { Store };
 
@@ -70,7 +73,7 @@ impl Model for TreeStore {
 
     ghost view = { λ s. store_of s.arena (staged_in s.slots.items) };
 
-    ghost invariant = { λ s. IsStore s.arena s.ways.items s.heads.items s.root s.slots.items };
+    ghost invariant = { λ s. IsOrderedStore s.arena s.ways.items s.heads.items s.root s.orders s.slots.items };
 }
 
 /// How many slots for staged lists a store has.
@@ -98,11 +101,13 @@ impl TreeStore {
         for _slot in 0..SLOTS {
             slots.push(Slot::empty())?;
         }
+        let orders = Orders::new(alloc, blocks)?;
         Ok(TreeStore {
             arena,
             ways,
             heads,
             root: Head::empty(),
+            orders,
             slots,
         })
     }
@@ -118,6 +123,7 @@ impl TreeStore {
         let directory = &lookup(&self.arena, &self.heads, path, depth);
         let name = path.name(depth);
         let node = create_node(&mut self.arena, *directory, kind, name);
+        self.orders.enter(&self.arena, &node, *directory, name);
         insert(&mut self.arena, &mut self.heads, &node, *directory, name);
         link_entry(&mut self.arena, &mut self.root, &node, *directory);
     }
@@ -235,10 +241,11 @@ impl Filestore for TreeStore {
         let block = self.arena.bytes(node);
         let held = held_by(block);
         let directory = &home_of(block, &node);
+        let name = path.name(path.depth() - 1);
         let blocks = held.run.count;
+        self.orders.leave(&self.arena, &node, *directory, name);
         held.release(&mut self.arena);
         unlink_entry(&mut self.arena, &mut self.root, &node, *directory);
-        let name = path.name(path.depth() - 1);
         index::remove(&mut self.arena, &mut self.heads, &node, *directory, name);
         delete_node(&mut self.arena, node);
         Ok(blocks + 1)
@@ -251,9 +258,11 @@ impl Filestore for TreeStore {
         let depth = to.depth() - 1;
         let new = &lookup(&self.arena, &self.heads, to, depth);
         let new_name = to.name(depth);
+        self.orders.leave(&self.arena, &node, *old, old_name);
         unlink_entry(&mut self.arena, &mut self.root, &node, *old);
         index::remove(&mut self.arena, &mut self.heads, &node, *old, old_name);
         rename_node(&mut self.arena, &node, *new, new_name);
+        self.orders.enter(&self.arena, &node, *new, new_name);
         insert(&mut self.arena, &mut self.heads, &node, *new, new_name);
         link_entry(&mut self.arena, &mut self.root, &node, *new);
         Ok(0)

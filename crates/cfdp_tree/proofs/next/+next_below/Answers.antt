@@ -4,16 +4,15 @@ use Rattle.std.proofs.lemmas.Option.{IfSome_then}
 use Rattle.std.specs.Prelude.{All, IfSome, IfNone}
 use Rattle.cfdp_arena.specs.Arena.{Blocks}
 use Rattle.cfdp_paths.specs.Paths.{Name, Path, IsName}
-use Rattle.cfdp_tree.specs.declared.index.Head.{Head}
 use Rattle.cfdp_tree.specs.Nodes.{nodes_in}
 use Rattle.cfdp_tree.specs.Tree.{IsTree, IsNode, IsEntry, path_of}
 use Rattle.cfdp_tree.specs.Places.{path_at, StandsAt}
-use Rattle.cfdp_tree.specs.Walk.{chain_of, entries_in}
-use Rattle.cfdp_tree.specs.Next.{IsListOf, Follows, IsFirst}
-use Rattle.cfdp_tree.proofs.TreeLaws.{node_live, node_octets}
+use Rattle.cfdp_tree.specs.Orders.{in_order}
+use Rattle.cfdp_tree.specs.Next.{Follows, IsFirst}
 use Rattle.cfdp_tree.proofs.ClimbLaws.{path_entry}
 use Rattle.cfdp_tree.proofs.LeastLaws.{none_then}
-use Rattle.cfdp_tree.proofs.NextLaws.{list_of_node, least_first, none_first, apart_last, apart_name, behind_name, none_below, first_below, NoneBelow}
+use Rattle.cfdp_tree.proofs.OrderedLaws.{listed_in}
+use Rattle.cfdp_tree.proofs.NextLaws.{least_first, none_first, apart_last, apart_name, behind_name, none_below, first_below, NoneBelow}
 use Rattle.cfdp_tree.proofs.next.+next_below.Goals as goal
 use Rattle.cfdp_tree.proofs.next.+next_below.Goals.{in-Some-find+else-is_some, in_default-find}
 
@@ -34,19 +33,19 @@ here nodes place node = record { node = node; path = refl }
 
 pub returns-in_default-clause-first : goal.returns-in_default-clause-first
 returns-in_default-clause-first t c =
-    let nodes = nodes_in c.args.arena.now in let place = c.args.place in let a = path_at nodes place in let list = chain_of nodes c.args.list.now in
+    let nodes = nodes_in c.args.arena.now in let place = c.args.place.now in let a = path_at nodes place in let list = in_order c.args.orders.now place in
     let stands = here nodes place c.requires.place in
     subst (λ (names : Path). IfSome c.least_behind.result (λ b. IsFirst nodes a (a ++ names) b)) (sym c.in_default.ensures.steps.0)
     (IfSome_then c.least_behind.result c.least_behind.ensures.least
-    (least_first nodes c.requires.tree place a stands list c.requires.list [] None (apart_last nodes c.requires.tree place a stands list c.requires.list) (λ m behind. refl)))
+    (least_first nodes c.requires.tree place a stands list (listed_in nodes c.args.orders.now c.requires.ordered place) [] None (apart_last nodes c.requires.tree place a stands list (listed_in nodes c.args.orders.now c.requires.ordered place)) (λ m behind. refl)))
 
 pub returns-in_default-clause-none : goal.returns-in_default-clause-none
 returns-in_default-clause-none t c =
-    let nodes = nodes_in c.args.arena.now in let place = c.args.place in let a = path_at nodes place in let list = chain_of nodes c.args.list.now in
+    let nodes = nodes_in c.args.arena.now in let place = c.args.place.now in let a = path_at nodes place in let list = in_order c.args.orders.now place in
     let stands = here nodes place c.requires.place in
     subst (λ (names : Path). IfNone c.least_behind.result ((b : ℕ) → Follows nodes a (a ++ names) b → ⊥)) (sym c.in_default.ensures.steps.0)
     (none_then c.least_behind.result c.least_behind.ensures.none
-    (none_first nodes c.requires.tree place a stands list c.requires.list [] None (apart_last nodes c.requires.tree place a stands list c.requires.list)))
+    (none_first nodes c.requires.tree place a stands list (listed_in nodes c.args.orders.now c.requires.ordered place) [] None (apart_last nodes c.requires.tree place a stands list (listed_in nodes c.args.orders.now c.requires.ordered place))))
 
 names_good : (p rest : Path) (name : Name) → p ≡ name ∷ rest → All IsName p → IsName name × All IsName rest
 names_good p rest name e all = let parts = subst (All IsName) e all in (All-head IsName name rest parts, All-tail IsName name rest parts)
@@ -54,27 +53,19 @@ names_good p rest name e all = let parts = subst (All IsName) e all in (All-head
 pub find-requires-clause-short : goal.find-requires-clause-short
 find-requires-clause-short t c = (names_good c.args.names c.next.new.self c.in-Some.name.now c.in-Some.ensures.steps c.requires.names).0.short
 
-pub bytes-requires : goal.bytes-requires
-bytes-requires t c = record { live = node_live c.args.arena.now c.in-Some-find.node c.in-Some-find.ensures.found.node }
-
 pub next_below-below-requires : goal.next_below-below-requires
 next_below-below-requires t c =
-    let nodes = nodes_in c.args.arena.now in let d = c.in-Some-find.node in let node = c.in-Some-find.ensures.found.node in
-    let same = node_octets c.args.arena.now d node c.bytes.result.now c.bytes.ensures.octets in (
+    let nodes = nodes_in c.args.arena.now in let node = c.in-Some-find.ensures.found.node in (
       omega (arith, ap length c.in-Some.ensures.steps, c.decreases),
       (
         c.requires.tree,
         (
           c.requires.index,
           (
-            c.requires.lists,
+            c.requires.ordered,
             (
               λ x e. subst (IsNode nodes) (some_same e) node,
-              (
-                subst (IsListOf nodes (Some d)) (ap (λ o. chain_of nodes (entries_in o)) (sym same) ∙ ap (λ (h : Head). chain_of nodes h) (sym c.entries_in-entries.ensures))
-                    (list_of_node nodes c.requires.tree c.requires.lists.0 c.requires.lists.1 d node),
-                (names_good c.args.names c.next.new.self c.in-Some.name.now c.in-Some.ensures.steps c.requires.names).1,
-              ),
+              (names_good c.args.names c.next.new.self c.in-Some.name.now c.in-Some.ensures.steps c.requires.names).1,
             ),
           ),
         ),
@@ -83,7 +74,7 @@ next_below-below-requires t c =
 
 pub returns-then-is_some-clause-first : goal.returns-then-is_some-clause-first
 returns-then-is_some-clause-first t c =
-    let nodes = nodes_in c.args.arena.now in let place = c.args.place in let a = path_at nodes place in let name = c.in-Some.name.now in let rest : Path = c.next.new.self in
+    let nodes = nodes_in c.args.arena.now in let place = c.args.place.now in let a = path_at nodes place in let name = c.in-Some.name.now in let rest : Path = c.next.new.self in
     let stands = here nodes place c.requires.place in
     let way = path_entry nodes c.requires.tree place a name c.in-Some-find.node stands c.in-Some-find.ensures.found in
     subst (λ (names : Path). IfSome c.next_below-below.result (λ b. IsFirst nodes a (a ++ names) b)) (sym c.in-Some.ensures.steps)
@@ -100,8 +91,8 @@ none_found nodes tree place stands name rest d entry none c follows =
 
 pub returns-clause-first : goal.returns-clause-first
 returns-clause-first t c =
-    let nodes = nodes_in c.args.arena.now in let tree = c.requires.tree in let place = c.args.place in let a = path_at nodes place in let name = c.in-Some.name.now in let rest : Path = c.next.new.self in
-    let list = chain_of nodes c.args.list.now in
+    let nodes = nodes_in c.args.arena.now in let tree = c.requires.tree in let place = c.args.place.now in let a = path_at nodes place in let name = c.in-Some.name.now in let rest : Path = c.next.new.self in
+    let list = in_order c.args.orders.now place in
     let stands = here nodes place c.requires.place in
     let none : NoneBelow nodes tree place a stands name rest = elim c.match-find.branch [
       | in-Some-find+else-is_some w ↦ none_found nodes tree place stands name rest w.in-Some-find.node w.in-Some-find.ensures.found
@@ -110,12 +101,12 @@ returns-clause-first t c =
     ] in
     subst (λ (names : Path). IfSome c.least_behind-2.result (λ b. IsFirst nodes a (a ++ names) b)) (sym c.in-Some.ensures.steps)
     (IfSome_then c.least_behind-2.result c.least_behind-2.ensures.least
-    (least_first nodes tree place a stands list c.requires.list (name ∷ rest) (Some name) (apart_name nodes tree place a stands name rest list c.requires.list none) (behind_name nodes tree place a stands name rest)))
+    (least_first nodes tree place a stands list (listed_in nodes c.args.orders.now c.requires.ordered place) (name ∷ rest) (Some name) (apart_name nodes tree place a stands name rest list (listed_in nodes c.args.orders.now c.requires.ordered place) none) (behind_name nodes tree place a stands name rest)))
 
 pub returns-clause-none : goal.returns-clause-none
 returns-clause-none t c =
-    let nodes = nodes_in c.args.arena.now in let tree = c.requires.tree in let place = c.args.place in let a = path_at nodes place in let name = c.in-Some.name.now in let rest : Path = c.next.new.self in
-    let list = chain_of nodes c.args.list.now in
+    let nodes = nodes_in c.args.arena.now in let tree = c.requires.tree in let place = c.args.place.now in let a = path_at nodes place in let name = c.in-Some.name.now in let rest : Path = c.next.new.self in
+    let list = in_order c.args.orders.now place in
     let stands = here nodes place c.requires.place in
     let none : NoneBelow nodes tree place a stands name rest = elim c.match-find.branch [
       | in-Some-find+else-is_some w ↦ none_found nodes tree place stands name rest w.in-Some-find.node w.in-Some-find.ensures.found
@@ -124,4 +115,4 @@ returns-clause-none t c =
     ] in
     subst (λ (names : Path). IfNone c.least_behind-2.result ((b : ℕ) → Follows nodes a (a ++ names) b → ⊥)) (sym c.in-Some.ensures.steps)
     (none_then c.least_behind-2.result c.least_behind-2.ensures.none
-    (none_first nodes tree place a stands list c.requires.list (name ∷ rest) (Some name) (apart_name nodes tree place a stands name rest list c.requires.list none)))
+    (none_first nodes tree place a stands list (listed_in nodes c.args.orders.now c.requires.ordered place) (name ∷ rest) (Some name) (apart_name nodes tree place a stands name rest list (listed_in nodes c.args.orders.now c.requires.ordered place) none)))

@@ -1,9 +1,11 @@
-use Rattle.std.proofs.Common.{◌≡◌, List, length, vec_len, sym, ap, ◌∙◌, subst, arith}
+use Rattle.std.proofs.Common.{◌≡◌, List, None, length, vec_len, sym, ap, ◌∙◌, subst, arith}
 use Rattle.std.proofs.lemmas.List.{length-replicate}
 use Rattle.cfdp_ways.specs.declared.way.Way.{Way}
 use Rattle.cfdp_tree.specs.Kept.{store_of}
 use Rattle.cfdp_tree.specs.Slots.{staged_in, IsStore}
-use Rattle.cfdp_tree.proofs.NewLaws.{head_none, filled_up, new_view, new_store}
+use Rattle.cfdp_tree.specs.Nodes.{nodes_in}
+use Rattle.cfdp_tree.specs.Orders.{IsOrdered}
+use Rattle.cfdp_tree.proofs.NewLaws.{head_none, filled_up, new_view, new_store, new_orders}
 use Rattle.cfdp_tree.proofs.tree_store.TreeStore.new.Goals as goal
 
 pub invariant_of-result : goal.invariant_of-result
@@ -15,8 +17,13 @@ invariant_of-result c =
     let many : length slots.items ≡ 64 = omega (arith, slots.ok.0, made.many, c.loop-slot-test.false, c.loop-slot.auto._slot-end) in
     let ways = filled_up c.args.blocks (vec_len c.new-ways.result) c.none.result c.new-ways.result.items c.resize.new.self.items c.in_ok-resize.ensures.items c.new-ways.ensures.items c.new-ways.ensures.len in
     let ways_long : length c.resize.new.self.items ≡ c.args.blocks = ap (λ (ws : List Way). length ws) ways ∙ length-replicate {A = Way} c.args.blocks c.none.result in
-    subst (λ a. IsStore a c.resize.new.self.items c.resize-2.new.self.items c.empty-2.result slots.items) (sym c.in_ok-arena.ensures.all_free)
-    (new_store c.args.blocks c.requires.some c.requires.few c.resize-2.new.self.items c.empty-2.result c.empty.result heads head root slots.items many made.fresh c.resize.new.self.items ways_long)
+    record {
+      store = subst (λ a. IsStore a c.resize.new.self.items c.resize-2.new.self.items c.empty-2.result slots.items) (sym c.in_ok-arena.ensures.all_free)
+          (new_store c.args.blocks c.requires.some c.requires.few c.resize-2.new.self.items c.empty-2.result c.empty.result heads head root slots.items many made.fresh c.resize.new.self.items ways_long);
+      ordered = subst (λ a. IsOrdered (nodes_in a) c.in_ok-orders.orders None) (sym c.in_ok-arena.ensures.all_free)
+          (new_orders c.args.blocks c.requires.some c.requires.few c.resize-2.new.self.items c.empty-2.result c.empty.result heads head root slots.items many made.fresh c.in_ok-orders.orders
+          c.in_ok-orders.ensures.links c.in_ok-orders.ensures.directories c.in_ok-orders.ensures.empty);
+    }
 
 pub returns : goal.returns
 returns c =

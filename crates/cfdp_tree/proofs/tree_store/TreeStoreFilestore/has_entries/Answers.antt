@@ -29,8 +29,8 @@ of_directory kind.Directory b is directory = cc
 pub returns-then-not-is_file : goal.returns-then-not-is_file
 returns-then-not-is_file c =
     let arena = c.self.inside.arena in let nodes = nodes_in arena in let b = c.in-Some.node in let block = c.bytes-block.result.now in let path = c.args.path.now in let F = c.args.self.now.filestore in
-    let kept = c.self.invariant.kept in
-    let seen = shows _ _ _ _ c.self.invariant _ c.self.view_is in
+    let kept = c.self.invariant.store.kept in
+    let seen = shows _ _ _ _ c.self.invariant.store _ c.self.view_is in
     let same = node_octets arena b c.in-Some.ensures.node block c.bytes-block.ensures.octets in
     let kind = c.kind_of.ensures ∙ ap (λ o. kind_told (row_of o).kind) same in
     let directory : IsDirectory nodes b = record { node = c.in-Some.ensures.node; directory = sym kind ∙ of_directory c.kind_of.result c.is_file.result c.is_file.ensures c.if-not-is_file.true } in
@@ -41,13 +41,13 @@ returns-then-not-is_file c =
 pub returns-else-not-is_file : goal.returns-else-not-is_file
 returns-else-not-is_file c =
     let arena = c.self.inside.arena in let nodes = nodes_in arena in let b = c.in-Some.node in let block = c.bytes-block.result.now in let path = c.args.path.now in let F = c.args.self.now.filestore in
-    let seen = shows _ _ _ _ c.self.invariant _ c.self.view_is in
+    let seen = shows _ _ _ _ c.self.invariant.store _ c.self.view_is in
     let same = node_octets arena b c.in-Some.ensures.node block c.bytes-block.ensures.octets in
     let kind = c.kind_of.ensures ∙ ap (λ o. kind_told (row_of o).kind) same in
     ap not c.if-not-is_file.false
-    ∙ sym (file_none nodes c.self.invariant.kept.tree arena F seen b path c.in-Some.ensures.node c.in-Some.ensures.path (sym kind ∙ of_file c.kind_of.result c.is_file.result c.is_file.ensures c.if-not-is_file.false))
+    ∙ sym (file_none nodes c.self.invariant.store.kept.tree arena F seen b path c.in-Some.ensures.node c.in-Some.ensures.path (sym kind ∙ of_file c.kind_of.result c.is_file.result c.is_file.ensures c.if-not-is_file.false))
 
 pub returns-in-None : goal.returns-in-None
 returns-in-None c =
-    let arena = c.self.inside.arena in let seen = shows _ _ _ _ c.self.invariant _ c.self.view_is in
-    sym (absent_none (nodes_in arena) c.self.invariant.kept.tree arena c.args.self.now.filestore seen c.args.path.now c.in-None.ensures.some c.in-None.ensures.none)
+    let arena = c.self.inside.arena in let seen = shows _ _ _ _ c.self.invariant.store _ c.self.view_is in
+    sym (absent_none (nodes_in arena) c.self.invariant.store.kept.tree arena c.args.self.now.filestore seen c.args.path.now c.in-None.ensures.some c.in-None.ensures.none)
