@@ -68,7 +68,7 @@ impl Links {
     }
 
     /// The order to the left.
-    pub(crate) fn left(&self) -> Order
+    pub fn left(&self) -> Order
         ensures { result ≡ left_of self.now }
     {
         Order {
@@ -78,7 +78,7 @@ impl Links {
     }
 
     /// The order to the right.
-    pub(crate) fn right(&self) -> Order
+    pub fn right(&self) -> Order
         ensures { result ≡ right_of self.now }
     {
         Order {

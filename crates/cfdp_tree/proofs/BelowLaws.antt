@@ -1,12 +1,12 @@
 -- What stands below a directory.
 --     has_some, has_none             the filestore has something below a path, or nothing
 --     entry_below                    where something stands below a directory, it has an entry
---     size_some, size_none, file_none, absent_none     by what a path's node says
+--     order_some, order_none, absent_none     by the order of a path's node
 use Rattle.std.proofs.Common.{◌≡◌, ℕ, zero, suc, ◌+◌, ◌<◌, ◌≤◌, ◌==◌, Bool, true, false, not, cond, [], ◌∷◌, ◌++◌, length, length-append, take, drop, get_or, Option, Some, None, refl, sym, ap, ◌∙◌, subst, inl, inr, arith}
 use Rattle.std.proofs.lemmas.Bool.{cases_lt}
 use Rattle.std.proofs.lemmas.Bool.Decides.{nat_tests}
 use Rattle.std.proofs.lemmas.List.{take_all, take_at, take_more}
-use Rattle.std.specs.Prelude.{All, Contains}
+use Rattle.std.specs.Prelude.{Contains}
 use Rattle.std.specs.FinMap as finite
 use Rattle.std.specs.FinMap.{get-retain_keys, get-empty, len-empty, empty_of_len, same_map}
 use Rattle.cfdp_paths.specs.Paths.{Path, path_cmp, is_below}
@@ -14,16 +14,19 @@ use Rattle.cfdp_paths.proofs.Below.{is_below-Decides, append_from_at_or_below, a
 use Rattle.cfdp_paths.proofs.Comparing.{path_cmp-total}
 use Rattle.cfdp_paths.proofs.InOrder.{path_antisym}
 use Rattle.cfdp_arena.specs.Arena.{Blocks, octets_of}
-use Rattle.cfdp_actions.specs.declared.kind.Kind.TheVariants as kind
 use Rattle.cfdp_actions.specs.Filestore.{Node, Filestore, node_at, inside, has_entries}
-use Rattle.cfdp_tree.specs.Row.{kind_told}
-use Rattle.cfdp_tree.specs.declared.index.Head.{Head}
-use Rattle.cfdp_tree.specs.Tree.{IsNode, IsDirectory, row_at, name_at, home, path_of, IsTree}
-use Rattle.cfdp_tree.specs.Entries.{entry_chain, entries_at, IsPlace, IsMember, IsGrouped}
+use Rattle.cfdp_order.specs.Orders.{links_at, left_of, right_of, times}
+use Rattle.cfdp_order.specs.Orders.{nodes as nodes_of}
+use Rattle.cfdp_order.proofs.Counts.{one_self, times_middle}
+use Rattle.cfdp_order.proofs.TreeLaws.{no_nodes, opened_at}
+use Rattle.cfdp_tree.specs.declared.orders.Orders.{Orders}
+use Rattle.cfdp_tree.specs.Tree.{IsNode, name_at, home, path_of, IsTree}
+use Rattle.cfdp_tree.specs.Orders.{order_at, in_order, IsOrdered}
 use Rattle.cfdp_tree.specs.Places.{path_at}
 use Rattle.cfdp_tree.specs.Kept.{node_of, Shows}
 use Rattle.cfdp_tree.proofs.TreeLaws.{last_same}
 use Rattle.cfdp_tree.proofs.ClimbLaws.{path_by_home, same_place, beginning}
+use Rattle.cfdp_tree.proofs.OrderLaws.{member_at}
 
 -- the filestore
 
@@ -96,38 +99,24 @@ module _ (nodes : Blocks) (tree : IsTree nodes) where
           let entry = entry_below b at.0 p node way at.1 (ap (λ x. is_below x p) at.2 ∙ below) in
           none entry.0 entry.1 entry.2))
 
-      module _ (root : Head) (groups : IsGrouped nodes root None) (directory : IsDirectory nodes b) where
-        place : IsPlace nodes (Some b)
-        place = record { directory = (λ d e. subst (IsDirectory nodes) (some_same e) directory) }
-          where
-            some_same : {x y : ℕ} → Some x ≡ Some y → x ≡ y
-            some_same e = cc
-
-        chain_some : (n x : ℕ) → 1 ≤ n → All (IsMember nodes None (Some b)) (entry_chain nodes n x) → IsMember nodes None (Some b) x
-        chain_some zero x some all = absurd (omega arith)
-        chain_some (suc n) x some all = all 0 x (omega arith)
-
-        pub size_some : 1 ≤ (row_at nodes b).size → has_entries F p ≡ true
-        size_some some =
-            let first = chain_some (row_at nodes b).size (row_at nodes b).first some (groups.own (Some b) place) in
-            entry_some (row_at nodes b).first first.node first.there
+      module _ (orders : Orders) (ordered : IsOrdered nodes orders None) where
+        pub order_some : 0 < (order_at orders (Some b)).height → has_entries F p ≡ true
+        order_some some =
+            let top = (order_at orders (Some b)).root in
+            let at_top = opened_at (ordered.order (Some b)) some {n = top} refl in
+            let before = nodes_of orders.links.items (left_of (links_at orders.links.items top)) in
+            let after = nodes_of orders.links.items (right_of (links_at orders.links.items top)) in
+            let there : 1 ≤ times top (in_order orders (Some b)) = omega (arith, ap (times top) at_top.listed, times_middle top before top after, one_self top) in
+            let entry = member_at nodes orders None ordered (Some b) top there in
+            entry_some top entry.node entry.there
 
         none_is : {x : ℕ} → None ≡ Some x → ⊥
         none_is e = cc
 
-        chain_none : (n x e : ℕ) → n ≡ 0 → Contains (entry_chain nodes n x) e → ⊥
-        chain_none zero x e empty has = omega (arith, has.1)
-        chain_none (suc n) x e empty has = omega (arith, empty)
-
-        pub size_none : (row_at nodes b).size ≡ 0 → has_entries F p ≡ false
-        size_none empty = entry_none (λ e entry there. chain_none (row_at nodes b).size (row_at nodes b).first e empty
-            (subst (λ x. Contains (entries_at nodes root x) e) there (groups.all e entry none_is)))
-
-      pub file_none : kind_told (row_at nodes b).kind ≡ kind.File → has_entries F p ≡ false
-      file_none file = entry_none (λ e entry there. differ (sym file ∙ (tree.homes e b entry there).directory))
-        where
-          differ : kind.File ≡ kind.Directory → ⊥
-          differ e = cc
+        pub order_none : (order_at orders (Some b)).height ≡ 0 → has_entries F p ≡ false
+        order_none empty = entry_none (λ e entry there.
+            (let has = subst (λ x. Contains (in_order orders x) e) there (ordered.all e entry none_is) in
+            omega (arith, has.1, ap length (no_nodes orders.links.items (order_at orders (Some b)) empty))))
 
     pub absent_none : (p : Path) → 1 ≤ length p → ((b : ℕ) → IsNode nodes b → path_of nodes b ≡ p → ⊥) → has_entries F p ≡ false
     absent_none p some none = has_none F p (λ q other is below.

@@ -2,11 +2,12 @@
 --     rising                   paths in order of which no two are one strictly rise
 --     found_own, found_all, found_apart     the nodes of what stands at a path and below it, in another order
 --     found_tree               they are the entries of what stands there
+--     told_tree                they are so where their paths rise
 --     tree_whole               of no name, all that stands
 use Rattle.std.proofs.Common.{◌≡◌, ◌≢◌, ℕ, zero, suc, ◌+◌, ◌<◌, Bool, true, false, ◌&&◌, T, List, [], ◌∷◌, length, map, is_lt, cond, is_some, get_or, Option, Some, None, refl, sym, ap, ◌∙◌, subst, arith}
 use Rattle.std.proofs.lemmas.List.{length-map, get_or-map}
 use Rattle.std.proofs.lemmas.List.Elements.{All-map}
-use Rattle.std.proofs.lemmas.List.Sorted.{All-permutation, Contains-permutation, IsPermutation-map}
+use Rattle.std.proofs.lemmas.List.Sorted.{All-permutation, Contains-permutation, IsPermutation-map, IsPermutation-refl}
 use Rattle.std.proofs.lemmas.Simd.{map-map}
 use Rattle.std.proofs.lemmas.Map.Keys.{IsDistinct-IsPermutation}
 use Rattle.std.proofs.lemmas.Map.Made.{AllPairs-from_IsDistinct, IsDistinct-from_AllPairs}
@@ -18,7 +19,7 @@ use Rattle.std.specs.FinMap.Entries.{below_all}
 use Rattle.std.specs.FinMap.{find, is_sorted, from_sorted, entries-from_sorted, get-from_sorted, same_map}
 use Rattle.cfdp_paths.specs.Paths.{Path, path_cmp, same_path, is_at_or_below}
 use Rattle.cfdp_paths.proofs.Comparing.{same_path-Decides, path_cmp-total}
-use Rattle.cfdp_paths.proofs.InOrder.{path_antisym, greater_back, below_before}
+use Rattle.cfdp_paths.proofs.InOrder.{path_antisym, less_back, greater_back, below_before}
 use Rattle.cfdp_arena.specs.Arena.{Blocks}
 use Rattle.cfdp_actions.specs.Filestore.{Node, Filestore, node_at, tree_at}
 use Rattle.cfdp_tree.specs.Tree.{path_of, IsTree}
@@ -184,6 +185,20 @@ module _ (nodes : Blocks) (tree : IsTree nodes) (p : Path) (list : List ℕ) (su
         sym (entries-from_sorted path_cmp es good)
         ∙ ap (λ m. finite.entries m) (same_map path_cmp-total path_antisym (from_sorted {R = path_cmp} es) (finite.retain_keys F.nodes (λ x. is_at_or_below x p))
         (λ q. get-from_sorted path_cmp es q good ∙ found_at q ∙ sym (tree_got F p q)))
+
+-- nodes whose paths rise, each with its path
+module _ (nodes : Blocks) (tree : IsTree nodes) (p : Path) (list : List ℕ) (survey : IsSurvey nodes p list) (up : AllPairs (λ b c. path_cmp (path_of nodes b) (path_of nodes c) ≡ Less) list) where
+  paths_sorted : IsSorted by_path (map (with_path nodes) list)
+  paths_sorted k d low within =
+      let inside : k + 1 < length list = omega (arith, within, length-map list (with_path nodes)) in
+      let b = get_or list k 0 in let c = get_or list (k + 1) 0 in
+      let back : path_cmp (path_of nodes c) (path_of nodes b) ≡ Greater = less_back (path_of nodes b) (path_of nodes c) (up k (k + 1) 0 (omega arith) inside) in
+      (λ i. is_lt (by_path (get_or-map (with_path nodes) list (k + 1) 0 d inside i) (get_or-map (with_path nodes) list k 0 d (omega (arith, inside)) i))) ∙ ap is_lt back
+
+  pub told_tree : (found : List (Path × ℕ)) → found ≡ map (with_path nodes) list → (arena : Blocks) (F : Filestore) → Shows arena nodes F.nodes → map (shown arena nodes) found ≡ tree_at F p
+  told_tree found is arena F shows =
+      subst (λ es. map (shown arena nodes) es ≡ tree_at F p) (sym is)
+      (found_tree nodes tree p list survey (map (with_path nodes) list) (IsPermutation-refl (map (with_path nodes) list)) paths_sorted arena F shows)
 
 -- all that stands
 pub tree_whole : (F : Filestore) → tree_at F [] ≡ finite.entries F.nodes

@@ -32,7 +32,6 @@ pub mod SlotLaws
 pub mod CutLaws
 pub mod UnlistLaws
 pub mod WalkLaws
-pub mod TurnedLaws
 pub mod SurveyLaws
 pub mod DeepestLaws
 pub mod TextLaws

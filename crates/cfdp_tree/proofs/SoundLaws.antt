@@ -2,13 +2,11 @@
 --     items_are                 what an answer has
 --     node_sound, found_sound   the octets of its nodes are there
 --     under_nodes               what stands there is nodes
---     root_deep                 the entries of the root have one name
 --     none_under                nothing stands below where nothing stands
-use Rattle.std.proofs.Common.{◌≡◌, ℕ, ◌+◌, ◌≤◌, List, [], ◌∷◌, ◌++◌, length, map, take, drop, Option, Some, None, Result, Ok, Err, IfOk, refl, ap, ◌∙◌, subst, arith}
+use Rattle.std.proofs.Common.{◌≡◌, ℕ, ◌+◌, ◌≤◌, List, [], length, map, take, drop, Option, Some, None, Result, Ok, Err, IfOk, refl, sym, ap, ◌∙◌, subst, arith}
 use Rattle.std.proofs.lemmas.List.{take_at}
 use Rattle.std.proofs.lemmas.List.Elements.{All-map, All-nil, All-weaker}
-use Rattle.std.proofs.lemmas.List.Sorted.{All-permutation}
-use Rattle.std.specs.Prelude.{All, IsPermutation, IsSome, unwrap_or}
+use Rattle.std.specs.Prelude.{All, IsSome, unwrap_or}
 use Rattle.cfdp_paths.specs.Paths.{Path}
 use Rattle.cfdp_paths.proofs.Below.{append_from_at_or_below, length-at_or_below}
 use Rattle.cfdp_arena.specs.Arena.{Blocks, octets_at, octets_of}
@@ -23,16 +21,13 @@ use Rattle.cfdp_tree.specs.declared.index.Head.{Head}
 use Rattle.cfdp_tree.specs.Row.{Row, row_of, kind_told}
 use Rattle.cfdp_tree.specs.Contents.{IsFilled, contents_in}
 use Rattle.cfdp_tree.specs.Nodes.{nodes_in}
-use Rattle.cfdp_tree.specs.Tree.{IsNode, name_at, path_of, IsTree}
-use Rattle.cfdp_tree.specs.Places.{path_at}
+use Rattle.cfdp_tree.specs.Tree.{IsNode, path_of, IsTree}
 use Rattle.cfdp_tree.specs.Index.{Heads}
-use Rattle.cfdp_tree.specs.Entries.{entries_at, IsMember, IsGrouped}
 use Rattle.cfdp_tree.specs.Kept.{contents_told, file_of, file_in, node_told, store_of}
 use Rattle.cfdp_tree.specs.Slots.{staged_in, IsStore}
-use Rattle.cfdp_tree.specs.Walk.{StandsDeep, StandAt}
 use Rattle.cfdp_tree.specs.Survey.{IsUnder, IsSurvey, with_path, IsSound}
 use Rattle.cfdp_tree.proofs.ContentsLaws.{length-contents}
-use Rattle.cfdp_tree.proofs.ClimbLaws.{path_by_home, beginning}
+use Rattle.cfdp_tree.proofs.ClimbLaws.{beginning}
 use Rattle.cfdp_tree.proofs.SeenLaws.{shows, file_small, held_at}
 
 -- what an answer has, in other words
@@ -62,24 +57,15 @@ module _ (arena : Blocks) (heads : Heads) (root : Head) (slots : List Slot) {way
         small = omega (arith, length-contents arena (file_of block) filled, ap (λ (xs : List ℕ). length xs) octets, file_small arena heads root slots store now view (path_of nodes b));
       }
 
-  pub found_sound : (list : List ℕ) (found : List (Path × ℕ)) → All (IsNode (nodes_in arena)) list → IsPermutation (map (with_path (nodes_in arena)) list) found → All (IsSound arena) found
-  found_sound list found all perm =
-      All-permutation (IsSound arena) (map (with_path (nodes_in arena)) list) found perm
+  pub found_sound : (list : List ℕ) (found : List (Path × ℕ)) → All (IsNode (nodes_in arena)) list → found ≡ map (with_path (nodes_in arena)) list → All (IsSound arena) found
+  found_sound list found all is =
+      subst (All (IsSound arena)) (sym is)
       (All-map (IsSound arena) (with_path (nodes_in arena)) list (All-weaker (IsNode (nodes_in arena)) (λ b. IsSound arena (with_path (nodes_in arena) b)) node_sound list all))
 
 pub under_nodes : (nodes : Blocks) (p : Path) (list : List ℕ) → IsSurvey nodes p list → All (IsNode nodes) list
 under_nodes nodes p list survey = All-weaker (IsUnder nodes p) (IsNode nodes) (λ b under. under.node) list survey.own
 
 module _ (nodes : Blocks) (tree : IsTree nodes) where
-  none_some : {x : ℕ} → None ≡ Some x → ⊥
-  none_some e = cc
-
-  pub root_deep : (root : Head) → IsGrouped nodes root None → StandAt nodes 1 (entries_at nodes root None)
-  root_deep root groups = All-weaker (IsMember nodes None None) (StandsDeep nodes 1) (λ e member. record {
-    node = member.node;
-    names = ap length (path_by_home nodes tree e member.node ∙ ap (λ x. path_at nodes x ++ name_at nodes e ∷ []) member.there);
-  }) (entries_at nodes root None) (groups.own None (record { directory = (λ d e. absurd (none_some e)) }))
-
   pub none_under : (p : Path) → 1 ≤ length p → ((b : ℕ) → IsNode nodes b → path_of nodes b ≡ p → ⊥) → IsSurvey nodes p []
   none_under p some none = record {
     own = All-nil (IsUnder nodes p);

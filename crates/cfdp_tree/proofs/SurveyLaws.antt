@@ -1,33 +1,34 @@
--- What is walked over is what stands there, each node once.
+-- What is walked over is what is there, each node once, in path order.
 --     Contains-flat_map, All-flat_map, AllPairs-append, AllPairs-flat_map     lists made of lists
---     entries_once, entries_has     the entries of a node
---     walk_own, walk_all, walk_once      what is walked over from a node
---     walks_own, walks_all, walks_once   from the entries of a place
---     walks_nodes               it is nodes
---     survey_node, survey_root           of a node, and of the root
-use Rattle.std.proofs.Common.{◌≡◌, ◌≢◌, ℕ, zero, suc, ◌+◌, ◌<◌, ◌≤◌, true, List, [], ◌∷◌, ◌++◌, length, length-append, take, drop, get_or, Option, Some, None, refl, sym, ap, ◌∙◌, subst, inl, inr, arith}
+--     Before                        a node whose path is less
+--     walk_own, walk_all, walk_rising    what is walked over from a node
+--     walks_own, walks_all, walks_rising from the entries of a place
+--     survey_from, survey_rising    of a place
+use Rattle.std.proofs.Common.{◌≡◌, ◌≢◌, ℕ, zero, suc, ◌+◌, ◌-◌, ◌<◌, true, List, [], ◌∷◌, ◌++◌, length, length-append, take, drop, get_or, Option, Some, None, refl, sym, ap, ◌∙◌, subst, inl, inr, arith}
 use Rattle.std.proofs.lemmas.Bool.{cases_lt}
-use Rattle.std.proofs.lemmas.List.{append-nil, take_at, take_all, take_more, take-append-drop}
+use Rattle.std.proofs.lemmas.List.{append-nil, append_assoc, take_at, take_all, take_more, take-append-drop}
 use Rattle.std.proofs.lemmas.List.Elements.{All-append, All-cons, All-nil, All-head, All-tail, All-weaker, Contains-append_left, Contains-append_right}
 use Rattle.std.proofs.lemmas.List.Kept.{AllPairs-cons}
 use Rattle.std.specs.List.{flat_map}
+use Rattle.std.specs.Ordering.{ordering_then}
 use Rattle.std.specs.Prelude.{All, AllPairs, Contains}
+use Rattle.std.specs.declared.cmp.Ordering.TheVariants.{Less}
 use Rattle.cfdp_arena.specs.Arena.{Blocks}
-use Rattle.cfdp_actions.specs.declared.kind.Kind.{Kind}
-use Rattle.cfdp_actions.specs.declared.kind.Kind.TheVariants as kind
-use Rattle.cfdp_paths.specs.Paths.{is_at_or_below}
+use Rattle.cfdp_paths.specs.Paths.{Path, path_cmp, is_at_or_below}
 use Rattle.cfdp_paths.proofs.Below.{append_from_at_or_below, at_or_below_from_append, at_or_below-itself, at_or_below-trans, length-at_or_below}
-use Rattle.cfdp_tree.specs.Row.{kind_told}
-use Rattle.cfdp_tree.specs.declared.index.Head.{Head}
-use Rattle.cfdp_tree.specs.Tree.{IsNode, row_at, name_at, home, path_of, IsTree}
+use Rattle.cfdp_paths.proofs.InOrder.{less_itself}
+use Rattle.cfdp_tree.specs.declared.orders.Orders.{Orders}
+use Rattle.cfdp_tree.specs.Tree.{IsNode, name_at, home, path_of, IsTree}
 use Rattle.cfdp_tree.specs.Places.{path_at}
-use Rattle.cfdp_tree.specs.Entries.{entries_at, IsPlace, IsMember, IsGrouped}
-use Rattle.cfdp_tree.specs.Walk.{entries_told, chain_of, entries_of, walk, walks, StandsDeep, StandAt}
+use Rattle.cfdp_tree.specs.Entries.{IsMember}
+use Rattle.cfdp_tree.specs.Orders.{in_order, Rises, IsOrdered}
+use Rattle.cfdp_tree.specs.Walk.{walk, walks, walk_from}
 use Rattle.cfdp_tree.specs.Survey.{IsUnder, IsDeeper, IsSurvey}
 use Rattle.cfdp_tree.proofs.IndexLaws.{has_first, has_later}
 use Rattle.cfdp_tree.proofs.TreeLaws.{same_node}
 use Rattle.cfdp_tree.proofs.ClimbLaws.{path_by_home, entry_at, beginning}
-use Rattle.cfdp_tree.proofs.WalkLaws.{few_names, place_is, entries_stand}
+use Rattle.cfdp_tree.proofs.NextLaws.{behind_more}
+use Rattle.cfdp_tree.proofs.WalkLaws.{few_names}
 
 module _ {X Y : Type 0} (f : X → List Y) where
   pub Contains-flat_map : (xs : List X) (x : X) (y : Y) → Contains xs x → Contains (f x) y → Contains (flat_map f xs) y
@@ -62,7 +63,7 @@ module _ {X : Type 0} (R : X → X → Type 0) where
       (AllPairs-flat_map f ys (All-tail (λ y. AllPairs R (f y)) y ys own) (λ i j d less within. across (suc i) (suc j) d (omega arith) (omega arith)))
       (λ k d within. All-flat_map f (R (get_or (f y) k d)) ys (λ i e inside. across 0 (suc i) e (omega arith) (omega arith) k d within))
 
-module _ (nodes : Blocks) (tree : IsTree nodes) (root : Head) (groups : IsGrouped nodes root None) where
+module _ (nodes : Blocks) (tree : IsTree nodes) (orders : Orders) (ordered : IsOrdered nodes orders None) where
   some_same : {x y : ℕ} → Some x ≡ Some y → x ≡ y
   some_same e = cc
 
@@ -87,16 +88,16 @@ module _ (nodes : Blocks) (tree : IsTree nodes) (root : Head) (groups : IsGroupe
     longer = omega (arith, member_length place e node there, length-at_or_below (path_of nodes c) (path_of nodes e) under.below);
   }
 
-  pub walks_own : (n : ℕ) → ((b : ℕ) → IsNode nodes b → All (IsUnder nodes (path_of nodes b)) (walk nodes n b))
-      → (place : Option ℕ) (list : List ℕ) → All (IsMember nodes None place) list → All (IsDeeper nodes (path_at nodes place)) (walks nodes n list)
+  pub walks_own : (n : ℕ) → ((b : ℕ) → IsNode nodes b → All (IsUnder nodes (path_of nodes b)) (walk orders n b))
+      → (place : Option ℕ) (list : List ℕ) → All (IsMember nodes None place) list → All (IsDeeper nodes (path_at nodes place)) (walks orders n list)
   walks_own n below place list members =
-      All-flat_map (walk nodes n) (IsDeeper nodes (path_at nodes place)) list
-      (All-weaker (IsMember nodes None place) (λ e. All (IsDeeper nodes (path_at nodes place)) (walk nodes n e)) (λ e member.
-      All-weaker (IsUnder nodes (path_of nodes e)) (IsDeeper nodes (path_at nodes place)) (deeper place e member.node member.there) (walk nodes n e) (below e member.node)) list members)
+      All-flat_map (walk orders n) (IsDeeper nodes (path_at nodes place)) list
+      (All-weaker (IsMember nodes None place) (λ e. All (IsDeeper nodes (path_at nodes place)) (walk orders n e)) (λ e member.
+      All-weaker (IsUnder nodes (path_of nodes e)) (IsDeeper nodes (path_at nodes place)) (deeper place e member.node member.there) (walk orders n e) (below e member.node)) list members)
 
-  pub walks_all : (n : ℕ) → ((b c : ℕ) → IsNode nodes b → IsUnder nodes (path_of nodes b) c → length (path_of nodes c) < length (path_of nodes b) + n → Contains (walk nodes n b) c)
+  pub walks_all : (n : ℕ) → ((b c : ℕ) → IsNode nodes b → IsUnder nodes (path_of nodes b) c → length (path_of nodes c) < length (path_of nodes b) + n → Contains (walk orders n b) c)
       → (place : Option ℕ) → ((d : ℕ) → place ≡ Some d → IsNode nodes d) → (list : List ℕ) → ((e : ℕ) → IsNode nodes e → home nodes e ≡ place → Contains list e)
-      → (c : ℕ) → IsDeeper nodes (path_at nodes place) c → length (path_of nodes c) < length (path_at nodes place) + suc n → Contains (walks nodes n list) c
+      → (c : ℕ) → IsDeeper nodes (path_at nodes place) c → length (path_of nodes c) < length (path_at nodes place) + suc n → Contains (walks orders n list) c
   walks_all n below place stands list has c deep short =
       let p = path_at nodes place in
       let q = path_of nodes c in
@@ -107,97 +108,99 @@ module _ (nodes : Blocks) (tree : IsTree nodes) (root : Head) (groups : IsGroupe
       let at = entry_at nodes tree place p (get_or q (length p) []) entry.0 (record { node = stands; path = refl }) entry.1 way in
       let under : is_at_or_below q (path_of nodes entry.0) ≡ true = at_or_below_from_append q (path_of nodes entry.0) (drop (length p + 1) q)
       (sym (take-append-drop (length p + 1) q) ∙ ap (λ x. x ++ drop (length p + 1) q) (sym entry.2)) in
-      Contains-flat_map (walk nodes n) list entry.0 c (has entry.0 entry.1 at.there)
+      Contains-flat_map (walk orders n) list entry.0 c (has entry.0 entry.1 at.there)
       (below entry.0 c entry.1 (record { node = deep.under.node; below = under }) (omega (arith, short, member_length place entry.0 entry.1 at.there)))
 
-  -- two entries of one place have nothing in common
-  apart : (place : Option ℕ) (x y : ℕ) → IsMember nodes None place x → IsMember nodes None place y → x ≢ y
-      → (a b : ℕ) → IsUnder nodes (path_of nodes x) a → IsUnder nodes (path_of nodes y) b → a ≢ b
-  apart place x y first second other a b under also same =
-      let p = path_of nodes x in let q = path_of nodes y in
-      let long : length p ≡ length q = member_length place x first.node first.there ∙ sym (member_length place y second.node second.there) in
-      let one : take (length p) (path_of nodes a) ≡ p = ap (take (length p)) (append_from_at_or_below (path_of nodes a) p under.below) ∙ take_at p (drop (length p) (path_of nodes a)) (length p) refl in
-      let two : take (length q) (path_of nodes b) ≡ q = ap (take (length q)) (append_from_at_or_below (path_of nodes b) q also.below) ∙ take_at q (drop (length q) (path_of nodes b)) (length q) refl in
-      other (same_node nodes tree x y first.node second.node (sym one ∙ (λ k. take (long k) (path_of nodes (same k))) ∙ two))
+  -- of two entries of one place all that is at the one or below it comes before all that is so at the other
+  abbrev pub Before : ℕ → ℕ → Type 0
+  Before b c = path_cmp (path_of nodes b) (path_of nodes c) ≡ Less
 
-  pub walks_once : (n : ℕ) → ((b : ℕ) → IsNode nodes b → All (IsUnder nodes (path_of nodes b)) (walk nodes n b)) → ((b : ℕ) → IsNode nodes b → AllPairs (λ x y. x ≢ y) (walk nodes n b))
-      → (place : Option ℕ) (list : List ℕ) → All (IsMember nodes None place) list → AllPairs (λ x y. x ≢ y) list → AllPairs (λ x y. x ≢ y) (walks nodes n list)
-  walks_once n below own place list members once =
-      AllPairs-flat_map (λ x y. x ≢ y) (walk nodes n) list
-      (All-weaker (IsMember nodes None place) (λ e. AllPairs (λ x y. x ≢ y) (walk nodes n e)) (λ e member. own e member.node) list members)
+  under_way : (place : Option ℕ) (x : ℕ) → IsMember nodes None place x → (a : ℕ) → IsUnder nodes (path_of nodes x) a → (s : Path) × (path_of nodes a ≡ path_at nodes place ++ name_at nodes x ∷ s)
+  under_way place x member a under =
+      let s = drop (length (path_of nodes x)) (path_of nodes a) in (
+        s,
+        append_from_at_or_below (path_of nodes a) (path_of nodes x) under.below ∙ ap (λ p. p ++ s) (member_path place x member.node member.there) ∙ append_assoc (path_at nodes place) (name_at nodes x ∷ []) s,
+      )
+
+  across : (place : Option ℕ) (x y : ℕ) → IsMember nodes None place x → IsMember nodes None place y → Rises nodes x y → (a b : ℕ) → IsUnder nodes (path_of nodes x) a → IsUnder nodes (path_of nodes y) b → Before a b
+  across place x y first second less a b under also =
+      let p = path_at nodes place in let one = under_way place x first a under in let two = under_way place y second b also in
+      (λ k. path_cmp (one.1 k) (two.1 k)) ∙ behind_more p (name_at nodes x ∷ one.0) (name_at nodes y ∷ two.0) ∙ ap (λ o. ordering_then o (path_cmp one.0 two.0)) less
+
+  pub walks_rising : (n : ℕ) → ((b : ℕ) → IsNode nodes b → All (IsUnder nodes (path_of nodes b)) (walk orders n b)) → ((b : ℕ) → IsNode nodes b → AllPairs Before (walk orders n b))
+      → (place : Option ℕ) → AllPairs Before (walks orders n (in_order orders place))
+  walks_rising n below own place =
+      let list = in_order orders place in let members = ordered.own place in
+      AllPairs-flat_map Before (walk orders n) list
+      (All-weaker (IsMember nodes None place) (λ e. AllPairs Before (walk orders n e)) (λ e member. own e member.node) list members)
       (λ i j d less within k a inside l b within'.
       (let first = members i d (omega (arith, less, within)) in let second = members j d within in
-      apart place (get_or list i d) (get_or list j d) first second (once i j d less within)
-      (get_or (walk nodes n (get_or list i d)) k a) (get_or (walk nodes n (get_or list j d)) l b)
+      across place (get_or list i d) (get_or list j d) first second (ordered.rising place i j d less within)
+      (get_or (walk orders n (get_or list i d)) k a) (get_or (walk orders n (get_or list j d)) l b)
       (below (get_or list i d) first.node k a inside) (below (get_or list j d) second.node l b within')))
 
-  -- the entries of a node
-  pub entries_once : (b : ℕ) → IsNode nodes b → AllPairs (λ x y. x ≢ y) (entries_of nodes b)
-  entries_once b node = by_kind (kind_told (row_at nodes b).kind) refl
-    where
-      by_kind : (k : Kind) → kind_told (row_at nodes b).kind ≡ k → AllPairs (λ x y. x ≢ y) (entries_of nodes b)
-      by_kind kind.Directory is = subst (λ k. AllPairs (λ x y. x ≢ y) (chain_of nodes (entries_told k (row_at nodes b)))) (sym is)
-          (groups.once (Some b) (place_is nodes tree root groups b (record { node = node; directory = is })))
-      by_kind kind.File is = subst (λ k. AllPairs (λ x y. x ≢ y) (chain_of nodes (entries_told k (row_at nodes b)))) (sym is) (λ i j d less within. absurd (omega (arith, within)))
+  -- a node comes before all that is below it
+  some_names : (a q : Path) → length a < length (a ++ q) → path_cmp [] q ≡ Less
+  some_names a [] longer = absurd (omega (arith, longer, length-append a []))
+  some_names a (m ∷ q) longer = refl
 
-  pub entries_has : (b e : ℕ) → IsNode nodes e → home nodes e ≡ Some b → Contains (entries_of nodes b) e
-  entries_has b e node there =
-      subst (λ k. Contains (chain_of nodes (entries_told k (row_at nodes b))) e) (sym (tree.homes e b node there).directory)
-      (subst (λ x. Contains (entries_at nodes root x) e) there (groups.all e node none_some))
+  before_deeper : (b c : ℕ) → IsDeeper nodes (path_of nodes b) c → Before b c
+  before_deeper b c deep =
+      let p = path_of nodes b in let q = drop (length p) (path_of nodes c) in
+      let whole = append_from_at_or_below (path_of nodes c) p deep.under.below in
+      (λ k. path_cmp (sym (append-nil p) k) (whole k)) ∙ behind_more p [] q ∙ some_names p q (omega (arith, deep.longer, ap length whole))
+
+  entries_has : (b e : ℕ) → IsNode nodes e → home nodes e ≡ Some b → Contains (in_order orders (Some b)) e
+  entries_has b e node there = subst (λ x. Contains (in_order orders x) e) there (ordered.all e node none_some)
 
   -- what is walked over from a node
-  pub walk_own : (n b : ℕ) → IsNode nodes b → All (IsUnder nodes (path_of nodes b)) (walk nodes n b)
+  pub walk_own : (n b : ℕ) → IsNode nodes b → All (IsUnder nodes (path_of nodes b)) (walk orders n b)
   walk_own zero b node = All-nil (IsUnder nodes (path_of nodes b))
   walk_own (suc n) b node =
-      All-cons (IsUnder nodes (path_of nodes b)) b (walks nodes n (entries_of nodes b)) (record { node = node; below = at_or_below-itself (path_of nodes b) })
-      (All-weaker (IsDeeper nodes (path_of nodes b)) (IsUnder nodes (path_of nodes b)) (λ c deep. deep.under) (walks nodes n (entries_of nodes b))
-      (walks_own n (walk_own n) (Some b) (entries_of nodes b) (entries_stand nodes tree root groups b node)))
+      All-cons (IsUnder nodes (path_of nodes b)) b (walks orders n (in_order orders (Some b))) (record { node = node; below = at_or_below-itself (path_of nodes b) })
+      (All-weaker (IsDeeper nodes (path_of nodes b)) (IsUnder nodes (path_of nodes b)) (λ c deep. deep.under) (walks orders n (in_order orders (Some b)))
+      (walks_own n (walk_own n) (Some b) (in_order orders (Some b)) (ordered.own (Some b))))
 
-  pub walk_all : (n b c : ℕ) → IsNode nodes b → IsUnder nodes (path_of nodes b) c → length (path_of nodes c) < length (path_of nodes b) + n → Contains (walk nodes n b) c
+  pub walk_all : (n b c : ℕ) → IsNode nodes b → IsUnder nodes (path_of nodes b) c → length (path_of nodes c) < length (path_of nodes b) + n → Contains (walk orders n b) c
   walk_all zero b c node under short = absurd (omega (arith, short, length-at_or_below (path_of nodes c) (path_of nodes b) under.below))
   walk_all (suc n) b c node under short = elim (cases_lt (length (path_of nodes b)) (length (path_of nodes c))) [
-    | inl longer ↦ has_later b (walks nodes n (entries_of nodes b)) c
-        (walks_all n (walk_all n) (Some b) (λ d is. subst (IsNode nodes) (some_same is) node) (entries_of nodes b) (entries_has b) c (record { under = under; longer = longer }) short)
+    | inl longer ↦ has_later b (walks orders n (in_order orders (Some b))) c
+        (walks_all n (walk_all n) (Some b) (λ d is. subst (IsNode nodes) (some_same is) node) (in_order orders (Some b)) (entries_has b) c (record { under = under; longer = longer }) short)
     | inr past ↦ (let whole = append_from_at_or_below (path_of nodes c) (path_of nodes b) under.below in
         let front = ap (take (length (path_of nodes b))) whole ∙ take_at (path_of nodes b) (drop (length (path_of nodes b)) (path_of nodes c)) (length (path_of nodes b)) refl in
-        subst (Contains (walk nodes (suc n) b)) (same_node nodes tree b c node under.node (sym front ∙ take_all (length (path_of nodes b)) (path_of nodes c) past)) (has_first b (walks nodes n (entries_of nodes b))))
+        subst (Contains (walk orders (suc n) b)) (same_node nodes tree b c node under.node (sym front ∙ take_all (length (path_of nodes b)) (path_of nodes c) past)) (has_first b (walks orders n (in_order orders (Some b)))))
   ]
 
-  pub walk_once : (n b : ℕ) → IsNode nodes b → AllPairs (λ x y. x ≢ y) (walk nodes n b)
-  walk_once zero b node = (λ i j d less within. absurd (omega (arith, within)))
-  walk_once (suc n) b node =
-      AllPairs-cons (λ x y. x ≢ y) b (walks nodes n (entries_of nodes b))
-      (All-weaker (IsDeeper nodes (path_of nodes b)) (λ c. b ≢ c) (λ c deep same. omega (arith, deep.longer, ap (λ x. length (path_of nodes x)) same)) (walks nodes n (entries_of nodes b))
-      (walks_own n (walk_own n) (Some b) (entries_of nodes b) (entries_stand nodes tree root groups b node)))
-      (walks_once n (walk_own n) (walk_once n) (Some b) (entries_of nodes b) (entries_stand nodes tree root groups b node) (entries_once b node))
+  pub walk_rising : (n b : ℕ) → IsNode nodes b → AllPairs Before (walk orders n b)
+  walk_rising zero b node = (λ i j d less within. absurd (omega (arith, within)))
+  walk_rising (suc n) b node =
+      AllPairs-cons Before b (walks orders n (in_order orders (Some b)))
+      (All-weaker (IsDeeper nodes (path_of nodes b)) (Before b) (λ c deep. before_deeper b c deep) (walks orders n (in_order orders (Some b)))
+      (walks_own n (walk_own n) (Some b) (in_order orders (Some b)) (ordered.own (Some b))))
+      (walks_rising n (walk_own n) (walk_rising n) (Some b))
 
-  -- it is nodes
-  pub walks_nodes : (n depth : ℕ) (list : List ℕ) → StandAt nodes depth list → All (IsNode nodes) (walks nodes n list)
-  walks_nodes n depth list all =
-      All-flat_map (walk nodes n) (IsNode nodes) list
-      (All-weaker (StandsDeep nodes depth) (λ e. All (IsNode nodes) (walk nodes n e)) (λ e deep.
-      All-weaker (IsUnder nodes (path_of nodes e)) (IsNode nodes) (λ c under. under.node) (walk nodes n e) (walk_own n e deep.node)) list all)
+  once : (list : List ℕ) → AllPairs Before list → AllPairs (λ x y. x ≢ y) list
+  once list rising i j d less within same =
+      less_itself (path_of nodes (get_or list i d)) (ap (λ x. path_cmp (path_of nodes (get_or list i d)) (path_of nodes x)) same ∙ rising i j d less within)
 
-  -- all that stands at a node and below it
-  pub survey_node : (b n : ℕ) → IsNode nodes b → 8 < length (path_of nodes b) + n → IsSurvey nodes (path_of nodes b) (walks nodes n (b ∷ []))
-  survey_node b n node deep = subst (IsSurvey nodes (path_of nodes b)) (sym (append-nil (walk nodes n b))) (record {
-    own = walk_own n b node;
-    all = (λ c under. walk_all n b c node under (omega (arith, deep, few_names nodes c)));
-    once = walk_once n b node;
-  })
+  -- all that is at a place and below it
+  pub survey_rising : (place : Option ℕ) (depth : ℕ) → ((d : ℕ) → place ≡ Some d → IsNode nodes d) → AllPairs Before (walk_from orders depth place)
+  survey_rising None depth node = walks_rising (8 - depth) (walk_own (8 - depth)) (walk_rising (8 - depth)) None
+  survey_rising (Some b) depth node = walk_rising (suc (8 - depth)) b (node b refl)
 
-  -- all that stands
-  root_place : IsPlace nodes None
-  root_place = record { directory = (λ d e. absurd (none_some e)) }
-
-  pub survey_root : (n : ℕ) → 8 ≤ n → IsSurvey nodes [] (walks nodes n (entries_at nodes root None))
-  survey_root n deep = record {
-    own = All-weaker (IsDeeper nodes []) (IsUnder nodes []) (λ c deep. deep.under) (walks nodes n (entries_at nodes root None))
-        (walks_own n (walk_own n) None (entries_at nodes root None) (groups.own None root_place));
-    all = (λ c under. walks_all n (walk_all n) None (λ d e. absurd (none_some e)) (entries_at nodes root None)
-        (λ e node there. subst (λ x. Contains (entries_at nodes root x) e) there (groups.all e node none_some)) c
-        (record { under = under; longer = named c under.node }) (omega (arith, deep, few_names nodes c)));
-    once = walks_once n (walk_own n) (walk_once n) None (entries_at nodes root None) (groups.own None root_place) (groups.once None root_place);
+  pub survey_from : (place : Option ℕ) (depth : ℕ) → ((d : ℕ) → place ≡ Some d → IsNode nodes d) → length (path_at nodes place) ≡ depth → IsSurvey nodes (path_at nodes place) (walk_from orders depth place)
+  survey_from (Some b) depth node long = record {
+    own = walk_own (suc (8 - depth)) b (node b refl);
+    all = (λ c under. walk_all (suc (8 - depth)) b c (node b refl) under (omega (arith, long, few_names nodes b, few_names nodes c)));
+    once = once (walk orders (suc (8 - depth)) b) (walk_rising (suc (8 - depth)) b (node b refl));
+  }
+  survey_from None depth node long = record {
+    own = All-weaker (IsDeeper nodes []) (IsUnder nodes []) (λ c deep. deep.under) (walks orders (8 - depth) (in_order orders None))
+        (walks_own (8 - depth) (walk_own (8 - depth)) None (in_order orders None) (ordered.own None));
+    all = (λ c under. walks_all (8 - depth) (walk_all (8 - depth)) None (λ d e. absurd (none_some e)) (in_order orders None)
+        (λ e node there. subst (λ x. Contains (in_order orders x) e) there (ordered.all e node none_some)) c
+        (record { under = under; longer = named c under.node }) (omega (arith, long, few_names nodes c)));
+    once = once (walks orders (8 - depth) (in_order orders None)) (walks_rising (8 - depth) (walk_own (8 - depth)) (walk_rising (8 - depth)) None);
   }
     where
       named : (c : ℕ) → IsNode nodes c → 0 < length (path_of nodes c)

@@ -1,28 +1,38 @@
--- Walks over what stands below a place.
+-- Walks over what is below a place.
 --     max_three, longest-append     of numbers and of nodes together
 --     few_names                 a path has no more than 8 names
---     entry_more                a list of entries, the first one apart
---     deep_first                of such a list, the first node and those behind it
---     longest_first, longest_left    the longest path, the first node apart
---     walks_left                what is left to be walked over, the first node apart
---     place_is, entries_stand   the entries of a node stand in it
---     entries_deep              the entries of a directory have a name more
-use Rattle.std.proofs.Common.{◌≡◌, ℕ, zero, suc, ◌+◌, ◌≤◌, max, List, [], ◌∷◌, ◌++◌, length, length-append, Option, Some, None, refl, sym, ap, ◌∙◌, subst, arith}
+--     deep_parts                of an order, a node and those before and after it
+--     longest_parts, walks_parts    the longest path, and a walk, in these parts
+--     place_deep                the entries of a place have a name more
+--     Parts, parts              an order that is not empty, with the orders of its parts
+--     falls_below               how far a walk has to go yet
+--     no_walk                   of an empty order nothing is walked over
+--     filled, read_parts, top_inside    the same by what a walk reads
+--     place_few                 a place has 8 names at most
+--     some_begun, none_begun, one_deeper    where a walk from a place begins
+use Rattle.std.proofs.Common.{◌≡◌, ℕ, zero, suc, ◌+◌, ◌≤◌, max, ◌-◌, ◌*◌, ◌<◌, List, [], ◌∷◌, ◌++◌, length, length-append, get_or, Bool, true, false, inl, inr, Option, Some, None, refl, sym, ap, ◌∙◌, subst, arith}
 use Rattle.std.proofs.Math.Nat.{zero-max}
-use Rattle.std.proofs.lemmas.List.{append_assoc}
-use Rattle.std.proofs.lemmas.List.Elements.{All-nil, All-weaker}
+use Rattle.std.proofs.lemmas.Grind.{flat_map-append}
+use Rattle.std.proofs.lemmas.Bool.{cases_eq}
+use Rattle.std.proofs.lemmas.List.{append_assoc, get_or_default, length-map}
+use Rattle.std.proofs.lemmas.List.Elements.{All-weaker}
 use Rattle.std.specs.Option.{option_map_or}
-use Rattle.std.specs.Prelude.{All}
 use Rattle.cfdp_arena.specs.Arena.{Blocks}
-use Rattle.cfdp_actions.specs.declared.kind.Kind.{Kind}
-use Rattle.cfdp_actions.specs.declared.kind.Kind.TheVariants as kind
-use Rattle.cfdp_tree.specs.Row.{kind_told}
-use Rattle.cfdp_tree.specs.declared.index.Head.{Head}
-use Rattle.cfdp_tree.specs.Tree.{IsNode, IsDirectory, row_at, name_at, home, climb, path_of, IsTree}
+use Rattle.cfdp_arena.proofs.Chains.{live_within}
+use Rattle.cfdp_order.specs.declared.links.Links.{Links}
+use Rattle.cfdp_order.specs.declared.links.Order.{Order}
+use Rattle.cfdp_order.specs.Orders.{no_links, links_at, left_of, right_of, IsOrder}
+use Rattle.cfdp_order.specs.Orders.{nodes as nodes_of}
+use Rattle.cfdp_order.proofs.TreeLaws.{opened, opened_at, no_nodes}
+use Rattle.cfdp_order.proofs.HeightLaws.{low}
+use Rattle.cfdp_order.proofs.SplitLaws.{All_left, All_at, All_right}
+use Rattle.cfdp_tree.specs.declared.orders.Orders.{Orders}
+use Rattle.cfdp_tree.specs.Nodes.{only_node, nodes_in}
+use Rattle.cfdp_tree.specs.Tree.{name_at, home, climb, path_of, IsTree}
 use Rattle.cfdp_tree.specs.Places.{path_at}
-use Rattle.cfdp_tree.specs.Entries.{entry_chain, IsPlace, IsMember, IsGrouped}
-use Rattle.cfdp_tree.specs.Walk.{entries_told, chain_of, entries_of, walk, walks, longest, StandsDeep, StandAt}
-use Rattle.cfdp_tree.proofs.IndexLaws.{own_first, own_rest}
+use Rattle.cfdp_tree.specs.Entries.{IsMember}
+use Rattle.cfdp_tree.specs.Orders.{no_order, order_at, in_order, IsOrdered}
+use Rattle.cfdp_tree.specs.Walk.{walk, walks, walks_at, walk_from, longest, StandsDeep, StandAt}
 use Rattle.cfdp_tree.proofs.ClimbLaws.{most_is, path_by_home}
 
 pub max_three : (a b c : ℕ) → max a (max b c) ≡ max (max a b) c
@@ -44,72 +54,165 @@ climb_few nodes (suc n) b = by_home (λ d. climb_few nodes n d) (home nodes b) r
 pub few_names : (nodes : Blocks) (b : ℕ) → length (path_of nodes b) ≤ 8
 few_names nodes b = subst (λ n. length (climb nodes n b) ≤ 8) (sym most_is) (climb_few nodes 8 b)
 
-pub entry_more : (nodes : Blocks) (n m b : ℕ) → n ≡ suc m → entry_chain nodes n b ≡ b ∷ entry_chain nodes m (row_at nodes b).next_entry
-entry_more nodes n m b e = ap (λ k. entry_chain nodes k b) e
-
--- of a list of entries, the first one and those behind it
-pub deep_first : (nodes : Blocks) (n m b depth : ℕ) → n ≡ suc m → StandAt nodes depth (entry_chain nodes n b) → StandsDeep nodes depth b × StandAt nodes depth (entry_chain nodes m (row_at nodes b).next_entry)
-deep_first nodes n m b depth e all =
-    let parts = subst (StandAt nodes depth) (entry_more nodes n m b e) all in
-    (own_first (StandsDeep nodes depth) b (entry_chain nodes m (row_at nodes b).next_entry) parts, own_rest (StandsDeep nodes depth) b (entry_chain nodes m (row_at nodes b).next_entry) parts)
+-- a node, and those before and after it
+pub deep_parts : (nodes : Blocks) (depth : ℕ) (before : List ℕ) (b : ℕ) (after : List ℕ) → StandAt nodes depth (before ++ b ∷ after) → StandAt nodes depth before × StandsDeep nodes depth b × StandAt nodes depth after
+deep_parts nodes depth before b after all =
+    let P = StandsDeep nodes depth in (All_left P before b after all, All_at P before b after all, All_right P before b after all)
 
 -- a walk of one name more
-pub walk_more : (nodes : Blocks) (n m b : ℕ) → n ≡ suc m → walk nodes n b ≡ b ∷ walks nodes m (entries_of nodes b)
-walk_more nodes n m b e = ap (λ k. walk nodes k b) e
+walk_more : (orders : Orders) (n m b : ℕ) → n ≡ suc m → walk orders n b ≡ b ∷ walks orders m (in_order orders (Some b))
+walk_more orders n m b e = ap (λ k. walk orders k b) e
 
-pub longest_first : (nodes : Blocks) (n m b : ℕ) (rest : List ℕ) → n ≡ suc m
-    → longest nodes (walks nodes n (b ∷ rest)) ≡ max (max (length (path_of nodes b)) (longest nodes (walks nodes m (entries_of nodes b)))) (longest nodes (walks nodes n rest))
-longest_first nodes n m b rest e =
-    longest-append nodes (walk nodes n b) (walks nodes n rest)
-    ∙ ap (λ list. max (longest nodes list) (longest nodes (walks nodes n rest))) (walk_more nodes n m b e)
+max_four : (here below before after : ℕ) → max before (max (max here below) after) ≡ max (max (max here below) before) after
+max_four here below before after = grind arith
 
--- what is left of a list once its first node is looked at
-pub longest_left : (nodes : Blocks) (n m b left more sofar : ℕ) → n ≡ suc m → left ≡ suc more
-    → max sofar (longest nodes (walks nodes left (entry_chain nodes n b)))
-    ≡ max (max (max sofar (length (path_of nodes b))) (longest nodes (walks nodes more (entries_of nodes b)))) (longest nodes (walks nodes left (entry_chain nodes m (row_at nodes b).next_entry)))
-longest_left nodes n m b left more sofar e deeper =
-    let rest = entry_chain nodes m (row_at nodes b).next_entry in
-    let here = length (path_of nodes b) in
-    let below = longest nodes (walks nodes more (entries_of nodes b)) in
-    let behind = longest nodes (walks nodes left rest) in
-    ap (λ list. max sofar (longest nodes (walks nodes left list))) (entry_more nodes n m b e)
-    ∙ ap (max sofar) (longest_first nodes left more b rest deeper)
-    ∙ max_three sofar (max here below) behind
-    ∙ ap (λ x. max x behind) (max_three sofar here below)
+pub longest_parts : (nodes : Blocks) (orders : Orders) (n m : ℕ) (before : List ℕ) (b : ℕ) (after : List ℕ) → n ≡ suc m
+    → longest nodes (walks orders n (before ++ b ∷ after))
+    ≡ max (max (max (length (path_of nodes b)) (longest nodes (walks orders m (in_order orders (Some b))))) (longest nodes (walks orders n before))) (longest nodes (walks orders n after))
+longest_parts nodes orders n m before b after e =
+    ap (longest nodes) (flat_map-append (walk orders n) before (b ∷ after))
+    ∙ longest-append nodes (walks orders n before) (walk orders n b ++ walks orders n after)
+    ∙ ap (max (longest nodes (walks orders n before))) (longest-append nodes (walk orders n b) (walks orders n after)
+    ∙ ap (λ list. max (longest nodes list) (longest nodes (walks orders n after))) (walk_more orders n m b e))
+    ∙ max_four (length (path_of nodes b)) (longest nodes (walks orders m (in_order orders (Some b)))) (longest nodes (walks orders n before)) (longest nodes (walks orders n after))
 
-pub walks_left : (nodes : Blocks) (n m b left more : ℕ) (sofar : List ℕ) → n ≡ suc m → left ≡ suc more
-    → sofar ++ walks nodes left (entry_chain nodes n b)
-    ≡ ((sofar ++ b ∷ []) ++ walks nodes more (entries_of nodes b)) ++ walks nodes left (entry_chain nodes m (row_at nodes b).next_entry)
-walks_left nodes n m b left more sofar e deeper =
-    let rest = entry_chain nodes m (row_at nodes b).next_entry in
-    let below = walks nodes more (entries_of nodes b) in
-    ap (λ list. sofar ++ walks nodes left list) (entry_more nodes n m b e)
-    ∙ ap (λ list. sofar ++ (list ++ walks nodes left rest)) (walk_more nodes left more b deeper)
-    ∙ sym (append_assoc sofar (b ∷ below) (walks nodes left rest))
-    ∙ ap (λ list. list ++ walks nodes left rest) (sym (append_assoc sofar (b ∷ []) below))
+pub walks_parts : (orders : Orders) (n m : ℕ) (sofar before : List ℕ) (b : ℕ) (after : List ℕ) → n ≡ suc m
+    → sofar ++ walks orders n (before ++ b ∷ after) ≡ (((sofar ++ walks orders n before) ++ b ∷ []) ++ walks orders m (in_order orders (Some b))) ++ walks orders n after
+walks_parts orders n m sofar before b after e =
+    let first = walks orders n before in let below = walks orders m (in_order orders (Some b)) in let last = walks orders n after in
+    ap (λ list. sofar ++ list) (flat_map-append (walk orders n) before (b ∷ after))
+    ∙ ap (λ list. sofar ++ (first ++ (list ++ last))) (walk_more orders n m b e)
+    ∙ sym (append_assoc sofar first ((b ∷ below) ++ last))
+    ∙ sym (append_assoc (sofar ++ first) (b ∷ below) last)
+    ∙ ap (λ list. list ++ last) (sym (append_assoc (sofar ++ first) (b ∷ []) below))
 
-module _ (nodes : Blocks) (tree : IsTree nodes) (root : Head) (groups : IsGrouped nodes root None) where
-  some_same : {x y : ℕ} → Some x ≡ Some y → x ≡ y
-  some_same e = cc
+-- a name more than the place
+pub place_deep : (nodes : Blocks) → IsTree nodes → (orders : Orders) → IsOrdered nodes orders None → (place : Option ℕ) (depth : ℕ) → length (path_at nodes place) ≡ depth → StandAt nodes (depth + 1) (in_order orders place)
+place_deep nodes tree orders ordered place depth long = All-weaker (IsMember nodes None place) (StandsDeep nodes (depth + 1)) (λ e member. record {
+  node = member.node;
+  names = omega (
+    arith,
+    long,
+    ap length (path_by_home nodes tree e member.node ∙ ap (λ x. path_at nodes x ++ name_at nodes e ∷ []) member.there),
+    length-append (path_at nodes place) (name_at nodes e ∷ []),
+  );
+}) (in_order orders place) (ordered.own place)
 
-  pub place_is : (b : ℕ) → IsDirectory nodes b → IsPlace nodes (Some b)
-  place_is b directory = record { directory = (λ d e. subst (IsDirectory nodes) (some_same e) directory) }
+lower_left : (l r h : ℕ) → h ≡ max l r + 1 → l < h
+lower_left l r h e = grind (arith, e)
 
-  -- the entries of a node stand in it
-  pub entries_stand : (b : ℕ) → IsNode nodes b → All (IsMember nodes None (Some b)) (entries_of nodes b)
-  entries_stand b node = by_kind (kind_told (row_at nodes b).kind) refl
-    where
-      by_kind : (k : Kind) → kind_told (row_at nodes b).kind ≡ k → All (IsMember nodes None (Some b)) (entries_of nodes b)
-      by_kind kind.Directory is = subst (λ k. All (IsMember nodes None (Some b)) (chain_of nodes (entries_told k (row_at nodes b)))) (sym is)
-          (groups.own (Some b) (place_is b (record { node = node; directory = is })))
-      by_kind kind.File is = subst (λ k. All (IsMember nodes None (Some b)) (chain_of nodes (entries_told k (row_at nodes b)))) (sym is) (All-nil (IsMember nodes None (Some b)))
+lower_right : (l r h : ℕ) → h ≡ max l r + 1 → r < h
+lower_right l r h e = grind (arith, e)
 
-  -- a name more than the directory
-  pub path_in : (b e : ℕ) → IsNode nodes e → home nodes e ≡ Some b → path_of nodes e ≡ path_of nodes b ++ name_at nodes e ∷ []
-  path_in b e node there = path_by_home nodes tree e node ∙ ap (λ x. path_at nodes x ++ name_at nodes e ∷ []) there
+-- an order that is not empty: the node at its top, and the orders of those before it, below it and after it
+pub record Parts (nodes : Blocks) (orders : Orders) (order : Order) (depth : ℕ) (before below after : Order) : Type 0 where
+  pub within : order.root < length orders.links.items
+  pub inside : order.root < length orders.directories.items
+  pub is_before : IsOrder orders.links.items before
+  pub is_below : IsOrder orders.links.items below
+  pub is_after : IsOrder orders.links.items after
+  pub deep_before : StandAt nodes depth (nodes_of orders.links.items before)
+  pub deep_below : StandAt nodes (depth + 1) (nodes_of orders.links.items below)
+  pub deep_after : StandAt nodes depth (nodes_of orders.links.items after)
+  pub few : depth ≤ 8
+  pub low_before : before.height < order.height
+  pub low_below : below.height ≤ 22
+  pub low_after : after.height < order.height
+  pub longest_is : longest nodes (walks_at orders depth (nodes_of orders.links.items order))
+      ≡ max (max (max depth (longest nodes (walks_at orders (depth + 1) (nodes_of orders.links.items below)))) (longest nodes (walks_at orders depth (nodes_of orders.links.items before))))
+      (longest nodes (walks_at orders depth (nodes_of orders.links.items after)))
+  pub walk_is : (sofar : List ℕ) → sofar ++ walks_at orders depth (nodes_of orders.links.items order)
+      ≡ (((sofar ++ walks_at orders depth (nodes_of orders.links.items before)) ++ order.root ∷ []) ++ walks_at orders (depth + 1) (nodes_of orders.links.items below))
+      ++ walks_at orders depth (nodes_of orders.links.items after)
 
-  pub entries_deep : (b depth : ℕ) → IsNode nodes b → length (path_of nodes b) ≡ depth → StandAt nodes (depth + 1) (entries_of nodes b)
-  entries_deep b depth node names = All-weaker (IsMember nodes None (Some b)) (StandsDeep nodes (depth + 1)) (λ e member. record {
-    node = member.node;
-    names = omega (arith, names, ap length (path_in b e member.node member.there), length-append (path_of nodes b) (name_at nodes e ∷ []));
-  }) (entries_of nodes b) (entries_stand b node)
+pub parts : (nodes : Blocks) → IsTree nodes → (orders : Orders) → IsOrdered nodes orders None → length orders.links.items ≤ 65536 → (order : Order) (depth : ℕ) → IsOrder orders.links.items order → 0 < order.height
+    → StandAt nodes depth (nodes_of orders.links.items order) → (n m : ℕ) → n ≡ order.root → m ≡ order.root → (before below after : Order)
+    → before ≡ left_of (links_at orders.links.items n) → below ≡ order_at orders (Some m) → after ≡ right_of (links_at orders.links.items n) → Parts nodes orders order depth before below after
+parts nodes tree orders ordered small order depth is some deep n m n_is m_is before below after before_is below_is after_is =
+    let links = orders.links.items in
+    let at_top = opened is some n_is before_is after_is in
+    let at = deep_parts nodes depth (nodes_of links before) order.root (nodes_of links after) (subst (StandAt nodes depth) at_top.listed deep) in
+    let node = at.1.node in
+    let few : depth ≤ 8 = omega (arith, few_names nodes order.root, at.1.names) in
+    let below_here : below ≡ order_at orders (Some order.root) = below_is ∙ ap (λ k. order_at orders (Some k)) m_is in
+    let list : nodes_of links below ≡ in_order orders (Some order.root) = ap (λ (o : Order). nodes_of links o) below_here in
+    let is_below : IsOrder links below = subst (λ (o : Order). IsOrder links o) (sym below_here) (ordered.order (Some order.root)) in
+    let left = 9 - (depth + 1) in
+    let more : 9 - depth ≡ suc left = omega (arith, few) in
+    record {
+      within = at_top.within;
+      inside = omega (arith, live_within nodes order.root node, ordered.directories);
+      is_before = at_top.is_a;
+      is_below = is_below;
+      is_after = at_top.is_b;
+      deep_before = at.0;
+      deep_below = subst (StandAt nodes (depth + 1)) (sym list) (place_deep nodes tree orders ordered (Some order.root) depth at.1.names);
+      deep_after = at.2;
+      few = few;
+      low_before = lower_left before.height after.height order.height at_top.high;
+      low_below = low links below is_below small;
+      low_after = lower_right before.height after.height order.height at_top.high;
+      longest_is =
+          ap (λ xs. longest nodes (walks_at orders depth xs)) at_top.listed
+          ∙ longest_parts nodes orders (9 - depth) left (nodes_of links before) order.root (nodes_of links after) more
+          ∙ (λ k. max (max (max (at.1.names k) (longest nodes (walks orders left (sym list k)))) (longest nodes (walks_at orders depth (nodes_of links before)))) (longest nodes (walks_at orders depth (nodes_of links after))));
+      walk_is = (λ sofar. ap (λ xs. sofar ++ walks_at orders depth xs) at_top.listed
+          ∙ walks_parts orders (9 - depth) left sofar (nodes_of links before) order.root (nodes_of links after) more
+          ∙ ap (λ xs. (((sofar ++ walks_at orders depth (nodes_of links before)) ++ order.root ∷ []) ++ walks orders left xs) ++ walks_at orders depth (nodes_of links after)) (sym list));
+    }
+
+-- how the measure falls
+pub falls_below : (depth h top : ℕ) → depth ≤ 8 → h ≤ 22 → 0 < top → (9 - (depth + 1)) * 23 + h < (9 - depth) * 23 + top
+falls_below depth h top few low some = omega (arith, few, low, some, ap (λ k. k * 23) (one_less depth few))
+  where
+    one_less : (d : ℕ) → d ≤ 8 → 9 - d ≡ suc (9 - (d + 1))
+    one_less d fits = omega (arith, fits)
+
+pub no_walk : (orders : Orders) (n : ℕ) (order : Order) → order.height ≡ 0 → walks orders n (nodes_of orders.links.items order) ≡ []
+no_walk orders n order none = ap (walks orders n) (no_nodes orders.links.items order none)
+
+-- the same by what a walk reads
+pub filled : (empty : Bool) (h : ℕ) → empty ≡ false → (h ≡ 0 → empty ≡ true) → 0 < h
+filled empty h full none = elim (cases_eq h 0) [
+  | inl e ↦ absurd (differ (sym full ∙ none e))
+  | inr some ↦ omega (arith, some)
+]
+  where
+    differ : false ≡ true → ⊥
+    differ e = cc
+
+pub read_parts : (arena : Blocks) → IsTree (nodes_in arena) → (orders : Orders) → IsOrdered (nodes_in arena) orders None → length arena ≤ 65536 → (order : Order) (depth : ℕ) → IsOrder orders.links.items order → 0 < order.height
+    → StandAt (nodes_in arena) depth (nodes_of orders.links.items order) → (n m : ℕ) → n ≡ order.root → m ≡ order.root → (around : Links) (below : Order)
+    → around ≡ get_or orders.links.items n around → below ≡ get_or orders.directories.items m below → Parts (nodes_in arena) orders order depth (left_of around) below (right_of around)
+read_parts arena tree orders ordered small order depth is some deep n m n_is m_is around below around_is below_is =
+    let links = orders.links.items in
+    let few : length links ≤ 65536 = omega (arith, small, ordered.links, length-map arena only_node) in
+    let within : n < length links = omega (arith, n_is, (opened_at is some n_is).within) in
+    let here : around ≡ links_at links n = around_is ∙ get_or_default links n around no_links within in
+    let plain = parts (nodes_in arena) tree orders ordered few order depth is some deep n order.root n_is refl (left_of (links_at links n)) (order_at orders (Some order.root)) (right_of (links_at links n)) refl refl refl in
+    let inside : m < length orders.directories.items = omega (arith, m_is, plain.inside) in
+    parts (nodes_in arena) tree orders ordered few order depth is some deep n m n_is m_is (left_of around) below (right_of around)
+    (ap (λ (l : Links). left_of l) here) (below_is ∙ get_or_default orders.directories.items m below no_order inside) (ap (λ (l : Links). right_of l) here)
+
+pub top_inside : (arena : Blocks) → IsTree (nodes_in arena) → (orders : Orders) → IsOrdered (nodes_in arena) orders None → length arena ≤ 65536 → (order : Order) (depth : ℕ) → IsOrder orders.links.items order → 0 < order.height
+    → StandAt (nodes_in arena) depth (nodes_of orders.links.items order) → (order.root < length orders.links.items) × (order.root < length orders.directories.items)
+top_inside arena tree orders ordered small order depth is some deep =
+    let links = orders.links.items in
+    let few : length links ≤ 65536 = omega (arith, small, ordered.links, length-map arena only_node) in
+    let plain = parts (nodes_in arena) tree orders ordered few order depth is some deep order.root order.root refl refl (left_of (links_at links order.root)) (order_at orders (Some order.root)) (right_of (links_at links order.root)) refl refl refl in
+    (plain.within, plain.inside)
+
+-- a path has at most 8 names
+pub place_few : (nodes : Blocks) (place : Option ℕ) → length (path_at nodes place) ≤ 8
+place_few nodes None = omega arith
+place_few nodes (Some d) = few_names nodes d
+
+-- where a walk from a place begins
+pub some_begun : (orders : Orders) (depth : ℕ) (place : Option ℕ) (start : List ℕ) (b : ℕ) → place ≡ Some b → start ≡ b ∷ [] → start ++ walks orders (8 - depth) (in_order orders place) ≡ walk_from orders depth place
+some_begun orders depth place start b e is = (λ k. is k ++ walks orders (8 - depth) (in_order orders (e k))) ∙ ap (walk_from orders depth) (sym e)
+
+pub none_begun : (orders : Orders) (depth : ℕ) (place : Option ℕ) (start : List ℕ) → place ≡ None → start ≡ [] → start ++ walks orders (8 - depth) (in_order orders place) ≡ walk_from orders depth place
+none_begun orders depth place start e is = (λ k. is k ++ walks orders (8 - depth) (in_order orders (e k))) ∙ ap (walk_from orders depth) (sym e)
+
+pub one_deeper : (orders : Orders) (depth : ℕ) (list : List ℕ) → walks_at orders (depth + 1) list ≡ walks orders (8 - depth) list
+one_deeper orders depth list = let same : 9 - (depth + 1) ≡ 8 - depth = omega arith in ap (λ n. walks orders n list) same

@@ -66,7 +66,7 @@ impl Orders {
     }
 
     /// The order of a directory, `None` for the root. In constant time.
-    fn of(&self, directory: &Option<BlockId>) -> Order
+    pub(crate) fn of(&self, directory: &Option<BlockId>) -> Order
         requires within { (d : ℕ) → directory.now ≡ Some d → d < length self.now.directories.items }
         ensures { result ≡ order_at self.now directory.now }
     {

@@ -17,7 +17,7 @@ use crate::orders::Orders;
 use crate::rows::{home_of, kind_of, size_of, sum_of};
 use crate::slots::Slot;
 use crate::survey::survey;
-use crate::walk::{deepest_in, entries_in};
+use crate::walk::deepest_in;
 use cfdp_actions::{Entry, Filestore, Kind, Standing};
 use cfdp_arena::Arena;
 use cfdp_paths::{Memory, Path};
@@ -150,10 +150,7 @@ impl Filestore for TreeStore {
 
     fn has_entries(&self, path: &Path) -> bool {
         match find_path(&self.arena, &self.heads, path) {
-            Some(node) => {
-                let block = self.arena.bytes(node);
-                !kind_of(block).is_file() && size_of(block) > 0
-            }
+            Some(node) => !self.orders.of(&Some(node)).is_empty(),
             None => false,
         }
     }
@@ -176,11 +173,10 @@ impl Filestore for TreeStore {
 
     fn deepest(&self, path: &Path) -> u8 {
         let node = find_path(&self.arena, &self.heads, path).unwrap();
-        let alone = Head {
-            first: node,
-            count: 1,
-        };
-        deepest_in(&self.arena, &alone, path.depth()) as u8
+        let depth = path.depth();
+        let entries = self.orders.of(&Some(node));
+        let below = deepest_in(&self.arena, &self.orders, entries, depth + 1);
+        depth.max(below) as u8
     }
 
     fn staged_size(&self, slot: u8) -> u64 {
@@ -206,7 +202,7 @@ impl Filestore for TreeStore {
     }
 
     fn listing(&self, alloc: Global) -> Result<Vec<Entry>, Memory> {
-        let found = survey(alloc, &self.arena, &self.root, 1)?;
+        let found = survey(alloc, &self.arena, &self.orders, &None, 0)?;
         entries(alloc, &self.arena, found)
     }
 
@@ -214,15 +210,11 @@ impl Filestore for TreeStore {
         let Some(node) = find_path(&self.arena, &self.heads, path) else {
             return Ok(Vec::new(alloc));
         };
-        let entries = entries_in(self.arena.bytes(node)).count;
-        if entries == 0 {
+        let place = &Some(node);
+        if self.orders.of(place).is_empty() {
             return only_standing(alloc, &self.arena, path, &node);
         }
-        let alone = Head {
-            first: node,
-            count: 1,
-        };
-        let found = survey(alloc, &self.arena, &alone, path.depth())?;
+        let found = survey(alloc, &self.arena, &self.orders, place, path.depth())?;
         standings(alloc, &self.arena, found)
     }
 

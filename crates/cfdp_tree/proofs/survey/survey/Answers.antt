@@ -1,30 +1,42 @@
-use Rattle.std.proofs.Common.{rules, ◌≡◌, ◌-◌, Bor, Ordering, is_lt, ap}
-use Rattle.std.proofs.lemmas.Fn.{always_returns_same}
-use Rattle.std.proofs.lemmas.List.Sorted.{ranks_by, IsPermutation-trans}
-use Rattle.std.specs.Cmp.{IsTotalOrder, IsStrictWeakOrder}
-use Rattle.std.specs.Fn.{Called, ComparesAs}
-use Rattle.std.specs.Prelude.{List, Bool, IsSorted, IsSortedBy, map}
-use denote.Param.Members.{Mut}
-use Rattle.cfdp_paths.specs.Paths.{path_cmp}
-use Rattle.cfdp_paths.proofs.Comparing.{path_cmp-total}
+use Rattle.std.proofs.Common.{◌≡◌, ◌+◌, ◌-◌, ◌++◌, ◌∷◌, [], ℕ, List, None, Vec, sym, ap, ◌∙◌, subst, arith}
+use Rattle.std.specs.Prelude.{All}
+use Rattle.std.specs.Global.{Global}
+use Rattle.cfdp_arena.specs.declared.block_id.BlockId.{BlockId}
+use Rattle.cfdp_order.specs.declared.links.Order.{Order}
+use Rattle.cfdp_order.specs.Orders.{nodes}
 use Rattle.cfdp_tree.specs.Nodes.{nodes_in}
-use Rattle.cfdp_tree.specs.Walk.{chain_of, walks}
-use Rattle.cfdp_tree.specs.Survey.{with_path}
+use Rattle.cfdp_tree.specs.Tree.{IsNode}
+use Rattle.cfdp_tree.specs.Orders.{in_order}
+use Rattle.cfdp_tree.specs.Walk.{walks, walk_from, StandAt}
+use Rattle.cfdp_tree.proofs.OrderLaws.{place_inside}
+use Rattle.cfdp_tree.proofs.WalkLaws.{place_few, place_deep, some_begun, none_begun, one_deeper}
+use Rattle.cfdp_tree.proofs.SurveyLaws.{survey_from}
+use Rattle.cfdp_tree.proofs.SoundLaws.{under_nodes}
 use Rattle.cfdp_tree.proofs.survey.survey.Goals as goal
+use Rattle.cfdp_tree.proofs.survey.survey.Goals.{in-Some+in_ok-push, in_default}
 
-pub returns-clause-found : goal.returns-clause-found
-returns-clause-found c =
-    let nodes = nodes_in c.args.arena.now in let all = walks nodes (9 - c.args.depth) (chain_of nodes c.args.list.now) in
-    IsPermutation-trans (map (with_path nodes) all) c.in_ok-found.found.items c.sort_unstable_by.new.self.items
-    c.in_ok-found.ensures c.sort_unstable_by.ensures.permutation
+pub of-requires : goal.of-requires
+of-requires c = record { within = place_inside (nodes_in c.args.arena.now) c.args.orders.now None c.args.place.now c.requires.ordered c.requires.place }
 
--- a sort by a closure that compares keys
-sorted_by : {F X K : Type 0} {g : Mut F (Bor X × (Bor X × Unit {0})) Ordering} {f : F} (key : X → K) (cmp : K → K → Ordering) → IsTotalOrder cmp → (xs : List X)
-    → ((lt : X → X → Bool) → IsStrictWeakOrder lt → ComparesAs g lt f → IsSortedBy lt xs)
-    → ((a : Bor X × (Bor X × Unit {0})) (r : Ordering) (f' : F) → Called g f a r f' → (r ≡ cmp (key a.0.now) (key a.1.0.now)) × (f' ≡ f)) → IsSorted (λ x y. cmp (key x) (key y)) xs
-sorted_by {g = g} {f = f} key cmp total xs up h =
-    up (λ x y. is_lt (cmp (key x) (key y))) (ranks_by total key)
-    (always_returns_same g (λ a r. is_lt r ≡ is_lt (cmp (key a.0.now) (key a.1.0.now))) f (λ a r f' k. (ap is_lt (h a r f' k).0, (h a r f' k).1)))
+pub overflow_add-depth : goal.overflow_add-depth
+overflow_add-depth c = omega (arith, place_few (nodes_in c.args.arena.now) c.args.place.now, c.requires.depth)
 
-pub returns-clause-sorted : goal.returns-clause-sorted
-returns-clause-sorted c = sorted_by (λ e. e.0) path_cmp path_cmp-total _ c.sort_unstable_by.ensures.sorted (λ a r q k. search rules)
+pub collect_nodes-requires-clause-deep : goal.collect_nodes-requires-clause-deep
+collect_nodes-requires-clause-deep c =
+    let nodes_now = nodes_in c.args.arena.now in
+    subst (λ (o : Order). StandAt nodes_now (c.args.depth + 1) (nodes c.args.orders.now.links.items o)) (sym c.of.ensures)
+    (place_deep nodes_now c.requires.tree c.args.orders.now c.requires.ordered c.args.place.now c.args.depth c.requires.depth)
+
+pub with_paths-requires-clause-nodes : goal.with_paths-requires-clause-nodes
+with_paths-requires-clause-nodes c =
+    let nodes_now = nodes_in c.args.arena.now in let orders = c.args.orders.now in let place = c.args.place.now in let depth = c.args.depth in
+    let found : c.collect_nodes.new.found.items ≡ c.match-place.nodes.items ++ walks orders (8 - depth) (in_order orders place) =
+    c.in_ok-collect_nodes.ensures ∙ ap (λ xs. c.match-place.nodes.items ++ xs) (one_deeper orders depth (nodes orders.links.items c.of.result) ∙ ap (λ (o : Order). walks orders (8 - depth) (nodes orders.links.items o)) c.of.ensures) in
+    let all : c.match-place.nodes.items ++ walks orders (8 - depth) (in_order orders place) ≡ walk_from orders depth place =
+    elim c.match-place.branch [
+      | in-Some+in_ok-push w ↦ some_begun orders depth place c.match-place.nodes.items w.in-Some.node w.in-Some.is
+          (ap (λ (v : Vec BlockId Global). v.items) w.nodes-is ∙ w.in_ok-push.ensures.items ∙ ap (λ (xs : List ℕ). xs ++ w.in-Some.node ∷ []) c.new-nodes.ensures.items)
+      | in_default w ↦ none_begun orders depth place c.match-place.nodes.items w.in_default.is (ap (λ (v : Vec BlockId Global). v.items) w.nodes-is ∙ c.new-nodes.ensures.items)
+    ] in
+    subst (All (IsNode nodes_now)) (sym (c.deref.ensures.value ∙ found ∙ all))
+    (under_nodes nodes_now _ (walk_from orders depth place) (survey_from nodes_now c.requires.tree orders c.requires.ordered place depth c.requires.place c.requires.depth))

@@ -1,57 +1,93 @@
-use Rattle.std.proofs.Common.{◌≡◌, ◌+◌, ◌-◌, [], ◌∷◌, ◌++◌, sym, ap, ◌∙◌, subst, arith}
-use Rattle.cfdp_tree.specs.declared.index.Head.{Head}
+use Rattle.std.proofs.Common.{◌≡◌, ◌+◌, ◌-◌, ◌++◌, ℕ, List, [], ◌∷◌, Result, Ok, Err, sym, ap, ◌∙◌, subst, arith}
+use Rattle.std.proofs.lemmas.List.{append-nil}
+use Rattle.std.specs.Prelude.{OnOk}
+use Rattle.cfdp_order.specs.declared.links.Order.{Order}
+use Rattle.cfdp_order.specs.Orders.{nodes, left_of, IsOrder}
 use Rattle.cfdp_tree.specs.Nodes.{nodes_in}
-use Rattle.cfdp_tree.specs.Row.{row_of}
-use Rattle.cfdp_tree.specs.Tree.{row_at}
-use Rattle.cfdp_tree.specs.Entries.{entry_chain}
-use Rattle.cfdp_tree.specs.Walk.{chain_of, entries_in, entries_of, walks, StandAt}
-use Rattle.cfdp_tree.proofs.TreeLaws.{node_live, node_octets}
-use Rattle.cfdp_tree.proofs.WalkLaws.{few_names, deep_first, entries_deep, walks_left}
+use Rattle.cfdp_tree.specs.Walk.{walks_at, StandAt}
+use Rattle.cfdp_tree.proofs.WalkLaws.{filled, read_parts, top_inside, falls_below, no_walk}
 use Rattle.cfdp_tree.proofs.walk.+collect_nodes.Goals as goal
 
-pub bytes-block-requires : goal.bytes-block-requires
-bytes-block-requires t c =
-    let nodes = nodes_in c.args.arena.now in let l = c.loop-step in
-    let first = deep_first nodes (c.args.list.now.count - l._step) (c.args.list.now.count - (l._step + 1)) l.node c.args.depth (omega (arith, c.loop-step-test.true)) l.invariant.nodes in
-    record { live = node_live c.args.arena.now l.node first.0.node }
+pub returns-then-is_empty : goal.returns-then-is_empty
+returns-then-is_empty t c =
+    let found = c.args.found.now.items in
+    sym (append-nil found) ∙ ap (λ (xs : List ℕ). found ++ xs) (sym (no_walk c.args.orders.now (9 - c.args.depth) c.args.order (c.is_empty.ensures.0 c.if-is_empty.true)))
+
+pub index-requires : goal.index-requires
+index-requires t c =
+    let top = top_inside c.args.arena.now c.requires.tree c.args.orders.now c.requires.ordered c.free-free.ensures.capacity.1 c.args.order c.args.depth c.requires.order (filled c.is_empty.result c.args.order.height c.if-is_empty.false c.is_empty.ensures.1) c.requires.deep in
+    omega (arith, c.from.ensures, top.0, c.args.orders.now.links.ok.0)
+
+pub index-entries-requires : goal.index-entries-requires
+index-entries-requires t c =
+    let top = top_inside c.args.arena.now c.requires.tree c.args.orders.now c.requires.ordered c.free-free.ensures.capacity.1 c.args.order c.args.depth c.requires.order (filled c.is_empty.result c.args.order.height c.if-is_empty.false c.is_empty.ensures.1) c.requires.deep in
+    omega (arith, c.from-2.ensures, top.1, c.args.orders.now.directories.ok.0)
 
 pub overflow_add-depth : goal.overflow_add-depth
 overflow_add-depth t c =
-    let nodes = nodes_in c.args.arena.now in let l = c.loop-step in
-    let first = deep_first nodes (c.args.list.now.count - l._step) (c.args.list.now.count - (l._step + 1)) l.node c.args.depth (omega (arith, c.loop-step-test.true)) l.invariant.nodes in
-    omega (arith, few_names nodes l.node, first.0.names)
+    let p = read_parts c.args.arena.now c.requires.tree c.args.orders.now c.requires.ordered c.free-free.ensures.capacity.1 c.args.order c.args.depth c.requires.order (filled c.is_empty.result c.args.order.height c.if-is_empty.false c.is_empty.ensures.1) c.requires.deep
+    c.from.result c.from-2.result c.from.ensures c.from-2.ensures c.index.result.now c.index-entries.result.now c.index.ensures c.index-entries.ensures in
+    omega (arith, p.few)
 
 pub collect_nodes-requires : goal.collect_nodes-requires
 collect_nodes-requires t c =
-    let nodes = nodes_in c.args.arena.now in let l = c.loop-step in
-    let first = deep_first nodes (c.args.list.now.count - l._step) (c.args.list.now.count - (l._step + 1)) l.node c.args.depth (omega (arith, c.loop-step-test.true)) l.invariant.nodes in
-    let list : entries_of nodes l.node ≡ chain_of nodes c.entries_in.result =
-    ap (λ o. chain_of nodes (entries_in o)) (sym (node_octets c.args.arena.now l.node first.0.node c.bytes-block.result.now c.bytes-block.ensures.octets)) ∙ ap (λ (h : Head). chain_of nodes h) (sym c.entries_in.ensures) in (
-      omega (arith, few_names nodes l.node, first.0.names, c.decreases),
+    let p = read_parts c.args.arena.now c.requires.tree c.args.orders.now c.requires.ordered c.free-free.ensures.capacity.1 c.args.order c.args.depth c.requires.order (filled c.is_empty.result c.args.order.height c.if-is_empty.false c.is_empty.ensures.1) c.requires.deep
+    c.from.result c.from-2.result c.from.ensures c.from-2.ensures c.index.result.now c.index-entries.result.now c.index.ensures c.index-entries.ensures in (
+      omega (arith, c.decreases, p.low_before, ap (λ (o : Order). o.height) c.left.ensures),
       (
         c.requires.tree,
         (
-          c.requires.lists,
-          subst (StandAt nodes (c.args.depth + 1)) list
-              (entries_deep nodes c.requires.tree c.requires.lists.0 c.requires.lists.1 l.node c.args.depth first.0.node first.0.names),
+          c.requires.ordered,
+          (
+            subst (λ (o : Order). IsOrder c.args.orders.now.links.items o) (sym c.left.ensures) p.is_before,
+            subst (λ (o : Order). StandAt (nodes_in c.args.arena.now) c.args.depth (nodes c.args.orders.now.links.items o)) (sym c.left.ensures) p.deep_before,
+          ),
         ),
       ),
     )
 
-pub loop-step-preserved : goal.loop-step-preserved
-loop-step-preserved t c =
-    let nodes = nodes_in c.args.arena.now in let l = c.loop-step in let depth = c.args.depth in
-    let m = c.args.list.now.count - (l._step + 1) in
-    let first = deep_first nodes (c.args.list.now.count - l._step) m l.node depth (omega (arith, c.loop-step-test.true)) l.invariant.nodes in
-    let few = few_names nodes l.node in
-    let same = node_octets c.args.arena.now l.node first.0.node c.bytes-block.result.now c.bytes-block.ensures.octets in
-    let next : (row_at nodes l.node).next_entry ≡ c.next_entry_of-node.result = ap (λ o. (row_of o).next_entry) (sym same) ∙ sym c.next_entry_of-node.ensures.value in
-    let list : chain_of nodes c.entries_in.result ≡ entries_of nodes l.node = ap (λ (h : Head). chain_of nodes h) c.entries_in.ensures ∙ ap (λ o. chain_of nodes (entries_in o)) same in
-    let found : c.collect_nodes.new.found.items ≡ (l.found.items ++ l.node ∷ []) ++ walks nodes (9 - (depth + 1)) (entries_of nodes l.node) =
-    c.in_ok-collect_nodes.ensures ∙ (λ k. c.in_ok-push.ensures.items k ++ walks nodes (9 - (depth + 1)) (list k)) in
-    record {
-      nodes = subst (λ b. StandAt nodes depth (entry_chain nodes m b)) next first.1;
-      found = (λ k. found k ++ walks nodes (9 - depth) (entry_chain nodes m (sym next k)))
-          ∙ sym (walks_left nodes (c.args.list.now.count - l._step) m l.node (9 - depth) (9 - (depth + 1)) l.found.items (omega (arith, c.loop-step-test.true)) (omega (arith, few, first.0.names)))
-          ∙ l.invariant.found;
-    }
+pub collect_nodes-requires-2 : goal.collect_nodes-requires-2
+collect_nodes-requires-2 t c =
+    let p = read_parts c.args.arena.now c.requires.tree c.args.orders.now c.requires.ordered c.free-free.ensures.capacity.1 c.args.order c.args.depth c.requires.order (filled c.is_empty.result c.args.order.height c.if-is_empty.false c.is_empty.ensures.1) c.requires.deep
+    c.from.result c.from-2.result c.from.ensures c.from-2.ensures c.index.result.now c.index-entries.result.now c.index.ensures c.index-entries.ensures in (
+      omega (arith, c.decreases, falls_below c.args.depth c.index-entries.result.now.height c.args.order.height p.few p.low_below (filled c.is_empty.result c.args.order.height c.if-is_empty.false c.is_empty.ensures.1)),
+      (c.requires.tree, (c.requires.ordered, (p.is_below, p.deep_below))),
+    )
+
+pub collect_nodes-requires-3 : goal.collect_nodes-requires-3
+collect_nodes-requires-3 t c =
+    let p = read_parts c.args.arena.now c.requires.tree c.args.orders.now c.requires.ordered c.free-free.ensures.capacity.1 c.args.order c.args.depth c.requires.order (filled c.is_empty.result c.args.order.height c.if-is_empty.false c.is_empty.ensures.1) c.requires.deep
+    c.from.result c.from-2.result c.from.ensures c.from-2.ensures c.index.result.now c.index-entries.result.now c.index.ensures c.index-entries.ensures in (
+      omega (arith, c.decreases, p.low_after, ap (λ (o : Order). o.height) c.right.ensures),
+      (
+        c.requires.tree,
+        (
+          c.requires.ordered,
+          (
+            subst (λ (o : Order). IsOrder c.args.orders.now.links.items o) (sym c.right.ensures) p.is_after,
+            subst (λ (o : Order). StandAt (nodes_in c.args.arena.now) c.args.depth (nodes c.args.orders.now.links.items o)) (sym c.right.ensures) p.deep_after,
+          ),
+        ),
+      ),
+    )
+
+-- what the last call adds
+added : {A E : Type 0} (r : Result A E) (new was : List ℕ) (list : List ℕ) (whole : List ℕ) → OnOk r (new ≡ was ++ list) → was ++ list ≡ whole → OnOk r (new ≡ whole)
+added (Ok x) new was list whole told same = told ∙ same
+added (Err e) new was list whole told same = tt
+
+pub returns : goal.returns
+returns t c =
+    let orders = c.args.orders.now in let depth = c.args.depth in let links = orders.links.items in let found = c.args.found.now.items in
+    let p = read_parts c.args.arena.now c.requires.tree c.args.orders.now c.requires.ordered c.free-free.ensures.capacity.1 c.args.order c.args.depth c.requires.order (filled c.is_empty.result c.args.order.height c.if-is_empty.false c.is_empty.ensures.1) c.requires.deep
+    c.from.result c.from-2.result c.from.ensures c.from-2.ensures c.index.result.now c.index-entries.result.now c.index.ensures c.index-entries.ensures in
+    let before : c.collect_nodes.new.found.items ≡ found ++ walks_at orders depth (nodes links (left_of c.index.result.now)) =
+    c.in_ok-collect_nodes.ensures ∙ ap (λ (o : Order). found ++ walks_at orders depth (nodes links o)) c.left.ensures in
+    let number : c.of_number.result ≡ c.args.order.root = c.of_number.ensures.same_number ∙ c.from-3.ensures in
+    let top : c.push.new.self.items ≡ (found ++ walks_at orders depth (nodes links (left_of c.index.result.now))) ++ c.args.order.root ∷ [] =
+    c.in_ok-push.ensures.items ∙ (λ k. before k ++ number k ∷ []) in
+    let below : c.collect_nodes-2.new.found.items
+    ≡ ((found ++ walks_at orders depth (nodes links (left_of c.index.result.now))) ++ c.args.order.root ∷ []) ++ walks_at orders (depth + 1) (nodes links c.index-entries.result.now) =
+    c.in_ok-collect_nodes-2.ensures ∙ ap (λ xs. xs ++ walks_at orders (depth + 1) (nodes links c.index-entries.result.now)) top in
+    added c.collect_nodes-3.result c.collect_nodes-3.new.found.items c.collect_nodes-2.new.found.items (walks_at orders depth (nodes links c.right.result)) (found ++ walks_at orders depth (nodes links c.args.order)) c.collect_nodes-3.ensures
+    ((λ k. below k ++ walks_at orders depth (nodes links (c.right.ensures k))) ∙ sym (p.walk_is found))

@@ -1,13 +1,17 @@
-use Rattle.std.proofs.Common.{◌≡◌, ◌-◌, ℕ, [], ◌∷◌, length, Option, Some, None, refl, ap, ◌∙◌, subst, arith}
-use Rattle.std.specs.Prelude.{IfSome, IfNone, IsSome}
+use Rattle.std.proofs.Common.{◌≡◌, ◌+◌, ◌-◌, ℕ, max, length, Option, Some, None, IfNone, refl, sym, ap, ◌∙◌, subst}
+use Rattle.std.specs.Prelude.{IfSome, IsSome}
+use Rattle.cfdp_order.specs.declared.links.Order.{Order}
+use Rattle.cfdp_order.specs.Orders as trees
+use Rattle.cfdp_order.specs.Orders.{IsOrder}
 use Rattle.cfdp_tree.specs.Nodes.{nodes_in}
 use Rattle.cfdp_tree.specs.Tree.{IsNode, path_of}
-use Rattle.cfdp_tree.specs.Walk.{walks}
+use Rattle.cfdp_tree.specs.Orders.{in_order}
+use Rattle.cfdp_tree.specs.Walk.{walks, walk_from, longest, StandAt}
 use Rattle.cfdp_tree.specs.Survey.{IsSurvey}
 use Rattle.cfdp_tree.proofs.SeenLaws.{shows, seen_none}
-use Rattle.cfdp_tree.proofs.WalkLaws.{few_names}
+use Rattle.cfdp_tree.proofs.WalkLaws.{place_deep, one_deeper}
 use Rattle.cfdp_tree.proofs.DeepestLaws.{deepest_is}
-use Rattle.cfdp_tree.proofs.SurveyLaws.{survey_node}
+use Rattle.cfdp_tree.proofs.SurveyLaws.{survey_from}
 use Rattle.cfdp_tree.proofs.tree_store.TreeStoreFilestore.deepest.Goals as goal
 
 there : (found : Option ℕ) (P : Type 0) (A : Type 0) (o : Option A) → IfNone found P → (P → o ≡ None) → IsSome o → IsSome found
@@ -21,15 +25,34 @@ pub unwrap-node-requires : goal.unwrap-node-requires
 unwrap-node-requires c =
     there c.find_path.result _ _ _ c.find_path.ensures.none (seen_none _ _ _ _ c.self.invariant.store _ c.self.view_is c.args.path.now) c.requires
 
+pub deepest_in-below-requires-clause-order : goal.deepest_in-below-requires-clause-order
+deepest_in-below-requires-clause-order c =
+    let orders = c.self.inside.orders in
+    subst (λ (o : Order). IsOrder orders.links.items o) (sym c.of-entries.ensures) (c.self.invariant.ordered.order (Some c.unwrap-node.result))
+
+pub deepest_in-below-requires-clause-deep : goal.deepest_in-below-requires-clause-deep
+deepest_in-below-requires-clause-deep c =
+    let nodes = nodes_in c.self.inside.arena in let orders = c.self.inside.orders in let b = c.unwrap-node.result in let path = c.args.path.now in
+    let way = subst (λ r. IfSome r (λ b. path_of nodes b ≡ path)) c.unwrap-node.ensures c.find_path.ensures.path in
+    subst (λ (o : Order). StandAt nodes (c.depth-depth.result + 1) (trees.nodes orders.links.items o)) (sym c.of-entries.ensures)
+    (place_deep nodes c.self.invariant.store.kept.tree orders c.self.invariant.ordered (Some b) c.depth-depth.result (ap length way ∙ sym c.depth-depth.ensures.depth))
+
+some_node : (P : ℕ → Type 0) (b : ℕ) → P b → (d : ℕ) → Some b ≡ Some d → P d
+some_node P b has d e = subst P (same e) has
+  where
+    same : Some b ≡ Some d → b ≡ d
+    same e = cc
+
 pub returns-clause-value : goal.returns-clause-value
 returns-clause-value c =
-    let arena = c.self.inside.arena in let nodes = nodes_in arena in let b = c.unwrap-node.result in let path = c.args.path.now in let n = 9 - c.depth.result in
-    let kept = c.self.invariant.store.kept in
+    let arena = c.self.inside.arena in let nodes = nodes_in arena in let orders = c.self.inside.orders in let b = c.unwrap-node.result in let path = c.args.path.now in let depth = c.depth-depth.result in
+    let tree = c.self.invariant.store.kept.tree in
     let node = subst (λ r. IfSome r (λ b. IsNode nodes b)) c.unwrap-node.ensures c.find_path.ensures.node in
     let way = subst (λ r. IfSome r (λ b. path_of nodes b ≡ path)) c.unwrap-node.ensures c.find_path.ensures.path in
-    let survey = survey_node nodes kept.tree c.self.inside.root kept.groups b n node (omega (arith, few_names nodes b, ap length way, c.depth.ensures.depth)) in
-    c.deepest_in.ensures.value
-    ∙ deepest_is nodes arena c.args.self.now.filestore (shows _ _ _ _ c.self.invariant.store _ c.self.view_is) path (walks nodes n (b ∷ [])) (subst (λ p. IsSurvey nodes p (walks nodes n (b ∷ []))) way survey)
-
-pub deepest_in-requires-clause-lists : goal.deepest_in-requires-clause-lists
-deepest_in-requires-clause-lists c = (c.self.inside.root, c.self.invariant.store.kept.groups)
+    let long : length (path_of nodes b) ≡ depth = ap length way ∙ sym c.depth-depth.ensures.depth in
+    let survey = survey_from nodes tree orders c.self.invariant.ordered (Some b) depth (some_node (IsNode nodes) b node) long in
+    let below : c.deepest_in-below.result ≡ longest nodes (walks orders (8 - depth) (in_order orders (Some b))) =
+    c.deepest_in-below.ensures.value
+    ∙ ap (longest nodes) (one_deeper orders depth (trees.nodes orders.links.items c.of-entries.result) ∙ ap (λ (o : Order). walks orders (8 - depth) (trees.nodes orders.links.items o)) c.of-entries.ensures) in
+    c.max.ensures ∙ (λ k. max (sym long k) (below k))
+    ∙ deepest_is nodes arena c.args.self.now.filestore (shows _ _ _ _ c.self.invariant.store _ c.self.view_is) path (walk_from orders depth (Some b)) (subst (λ p. IsSurvey nodes p (walk_from orders depth (Some b))) way survey)

@@ -1,4 +1,4 @@
-use Rattle.std.proofs.Common.{◌≡◌, ℕ, ◌-◌, [], ◌∷◌, length, map, Vec, Option, Some, None, refl, sym, ap, ◌∙◌, subst, arith}
+use Rattle.std.proofs.Common.{◌≡◌, ℕ, [], ◌∷◌, length, map, Vec, Option, Some, None, refl, sym, ap, ◌∙◌, subst, arith}
 use Rattle.std.proofs.lemmas.List.Sorted.{IsPermutation-refl}
 use Rattle.std.proofs.lemmas.Simd.{map-map}
 use Rattle.std.specs.Prelude.{IfNone}
@@ -6,36 +6,42 @@ use Rattle.std.specs.declared.alloc.Global.{Global}
 use Rattle.cfdp_paths.specs.Paths.{Path}
 use Rattle.cfdp_actions.specs.declared.kind.Standing.{Standing}
 use Rattle.cfdp_actions.specs.Store.{standing_of, standings_of}
+use Rattle.cfdp_order.specs.declared.links.Order.{Order}
+use Rattle.cfdp_order.proofs.TreeLaws.{no_nodes}
 use Rattle.cfdp_tree.specs.Nodes.{nodes_in}
-use Rattle.cfdp_tree.specs.declared.index.Head.{Head}
-use Rattle.cfdp_tree.specs.Entries.{entry_chain}
-use Rattle.cfdp_tree.specs.Walk.{chain_of, entries_in, entries_of, walks}
+use Rattle.cfdp_tree.specs.Tree.{IsNode}
+use Rattle.cfdp_tree.specs.Orders.{order_at, in_order}
+use Rattle.cfdp_tree.specs.Walk.{walk_from}
 use Rattle.cfdp_tree.specs.Survey.{IsSurvey, shown, IsSound}
 use Rattle.cfdp_tree.proofs.AloneLaws.{alone_tree}
 use Rattle.cfdp_tree.proofs.SeenLaws.{shows}
-use Rattle.cfdp_tree.proofs.TreeLaws.{node_octets}
-use Rattle.cfdp_tree.proofs.WalkLaws.{few_names}
-use Rattle.cfdp_tree.proofs.SurveyLaws.{survey_node}
-use Rattle.cfdp_tree.proofs.InOrderLaws.{found_tree}
+use Rattle.cfdp_tree.proofs.SurveyLaws.{survey_from, survey_rising}
+use Rattle.cfdp_tree.proofs.InOrderLaws.{found_tree, told_tree}
 use Rattle.cfdp_tree.proofs.SoundLaws.{items_are, under_nodes, node_sound, found_sound, none_under}
 use Rattle.cfdp_tree.proofs.tree_store.TreeStoreFilestore.standing.Goals as goal
 
+some_node : (P : ℕ → Type 0) (b : ℕ) → P b → (d : ℕ) → Some b ≡ Some d → P d
+some_node P b has d e = subst P (same e) has
+  where
+    same : Some b ≡ Some d → b ≡ d
+    same e = cc
+
 pub standings-requires : goal.standings-requires
 standings-requires c =
-    let arena = c.self.inside.arena in let nodes = nodes_in arena in let b = c.in-Some.node in let path = c.args.path.now in let n = 9 - c.depth.result in
-    let kept = c.self.invariant.store.kept in let list = walks nodes n (b ∷ []) in
-    let survey = survey_node nodes kept.tree c.self.inside.root kept.groups b n c.in-Some.ensures.node (omega (arith, few_names nodes b, ap length c.in-Some.ensures.path, c.depth.ensures.depth)) in
-    record { sound = found_sound _ _ _ _ c.self.invariant.store _ c.self.view_is list c.in_ok-found.found.items (under_nodes nodes _ list survey) c.in_ok-found.ensures.found }
+    let nodes = nodes_in c.self.inside.arena in let orders = c.self.inside.orders in let b = c.in-Some.node in let depth = c.depth.result in let list = walk_from orders depth (Some b) in
+    let survey = survey_from nodes c.self.invariant.store.kept.tree orders c.self.invariant.ordered (Some b) depth (some_node (IsNode nodes) b c.in-Some.ensures.node) (ap length c.in-Some.ensures.path ∙ sym c.depth.ensures.depth) in
+    record { sound = found_sound _ _ _ _ c.self.invariant.store _ c.self.view_is list c.in_ok-found.found.items (under_nodes nodes _ list survey) c.in_ok-found.ensures }
 
 pub returns : goal.returns
 returns c =
-    let arena = c.self.inside.arena in let nodes = nodes_in arena in let b = c.in-Some.node in let path = c.args.path.now in let n = 9 - c.depth.result in
-    let kept = c.self.invariant.store.kept in let list = walks nodes n (b ∷ []) in let found = c.in_ok-found.found.items in let F = c.args.self.now.filestore in
-    let survey = survey_node nodes kept.tree c.self.inside.root kept.groups b n c.in-Some.ensures.node (omega (arith, few_names nodes b, ap length c.in-Some.ensures.path, c.depth.ensures.depth)) in
-    let tree = found_tree nodes kept.tree path list (subst (λ p. IsSurvey nodes p list) c.in-Some.ensures.path survey) found c.in_ok-found.ensures.found c.in_ok-found.ensures.sorted
+    let arena = c.self.inside.arena in let nodes = nodes_in arena in let orders = c.self.inside.orders in let b = c.in-Some.node in let path = c.args.path.now in let depth = c.depth.result in
+    let tree = c.self.invariant.store.kept.tree in let ordered = c.self.invariant.ordered in let list = walk_from orders depth (Some b) in let found = c.in_ok-found.found.items in let F = c.args.self.now.filestore in
+    let node = some_node (IsNode nodes) b c.in-Some.ensures.node in
+    let survey = survey_from nodes tree orders ordered (Some b) depth node (ap length c.in-Some.ensures.path ∙ sym c.depth.ensures.depth) in
+    let told = told_tree nodes tree path list (subst (λ p. IsSurvey nodes p list) c.in-Some.ensures.path survey) (survey_rising nodes tree orders ordered (Some b) depth node) found c.in_ok-found.ensures
     arena F (shows _ _ _ _ c.self.invariant.store _ c.self.view_is) in
     items_are (λ (v : Vec Standing Global). v.items) c.standings.result (map (λ e. standing_of (shown arena nodes e)) found) (standings_of F path) c.standings.ensures
-    (sym (map-map standing_of (shown arena nodes) found) ∙ ap (map standing_of) tree)
+    (sym (map-map standing_of (shown arena nodes) found) ∙ ap (map standing_of) told)
 
 not_some : (r : Option ℕ) (P : Type 0) → ((x : ℕ) → r ≡ Some x → ⊥) → IfNone r P → P
 not_some None P absent p = p
@@ -49,19 +55,15 @@ returns-in_default c =
     arena c.args.self.now.filestore (shows _ _ _ _ c.self.invariant.store _ c.self.view_is) in
     c.new.ensures.items ∙ ap (map standing_of) tree
 
-pub survey-requires-clause-lists : goal.survey-requires-clause-lists
-survey-requires-clause-lists c = (c.self.inside.root, c.self.invariant.store.kept.groups)
-
 pub only_standing-requires : goal.only_standing-requires
 only_standing-requires c =
     let arena = c.self.inside.arena in let b = c.in-Some.node in
     subst (λ (p : Path). IsSound arena (p, b)) c.in-Some.ensures.path (node_sound _ _ _ _ c.self.invariant.store _ c.self.view_is b c.in-Some.ensures.node)
 
-pub returns-then-entries-eq0 : goal.returns-then-entries-eq0
-returns-then-entries-eq0 c =
-    let arena = c.self.inside.arena in let nodes = nodes_in arena in let b = c.in-Some.node in let path = c.args.path.now in let kept = c.self.invariant.store.kept in let F = c.args.self.now.filestore in
-    let same = node_octets arena b c.in-Some.ensures.node c.bytes.result.now c.bytes.ensures.octets in
-    let none : entries_of nodes b ≡ [] = ap (λ o. chain_of nodes (entries_in o)) (sym same) ∙ ap (λ (h : Head). chain_of nodes h) (sym c.entries_in-entries.ensures) ∙ ap (λ n. entry_chain nodes n c.entries_in-entries.result.first) c.if-entries-eq0.true in
-    let tree = alone_tree nodes kept.tree c.self.inside.root kept.groups b path c.in-Some.ensures.node c.in-Some.ensures.path none arena F (shows _ _ _ _ c.self.invariant.store _ c.self.view_is) in
+pub returns-then-is_empty : goal.returns-then-is_empty
+returns-then-is_empty c =
+    let arena = c.self.inside.arena in let nodes = nodes_in arena in let orders = c.self.inside.orders in let b = c.in-Some.node in let path = c.args.path.now in let F = c.args.self.now.filestore in
+    let none : in_order orders (Some b) ≡ [] = no_nodes orders.links.items (order_at orders (Some b)) (sym (ap (λ (o : Order). o.height) c.of.ensures) ∙ c.is_empty.ensures.0 c.if-is_empty.true) in
+    let tree = alone_tree nodes c.self.invariant.store.kept.tree orders c.self.invariant.ordered b path c.in-Some.ensures.node c.in-Some.ensures.path none arena F (shows _ _ _ _ c.self.invariant.store _ c.self.view_is) in
     items_are (λ (v : Vec Standing Global). v.items) c.only_standing.result (standing_of (shown arena nodes (path, b)) ∷ []) (standings_of F path) c.only_standing.ensures
     (ap (map standing_of) tree)
