@@ -1,7 +1,6 @@
 -- Nodes that say the same but for their links.
 --     Alike                              they stand where they stood, and files hold what they held
---     alike_relinked, alike_regrouped    where links of the index change, or those of entries
---     alike_then                         in two steps
+--     alike_relinked                     where links of the index change
 --     alike_shows                        the same stands at each path
 --     alike_directory, told_by           directories stay;  what stands at a node by what it holds
 --     runs_then                          runs that stay in two steps
@@ -18,7 +17,6 @@ use Rattle.cfdp_tree.specs.Row.{Row, row_of, kind_told}
 use Rattle.cfdp_tree.specs.Runs.{Stays, RunsStay}
 use Rattle.cfdp_tree.specs.Tree.{IsNode, IsDirectory, row_at, unlinked, Relinked, SamePlaces}
 use Rattle.cfdp_tree.specs.Kept.{contents_told, file_of, file_in, node_told, node_of, Shows}
-use Rattle.cfdp_tree.specs.Changes.{Regrouped}
 use Rattle.cfdp_tree.proofs.PlaceLaws.{same_paths}
 use Rattle.cfdp_tree.proofs.LinkLaws.{relinked_places}
 
@@ -42,21 +40,6 @@ pub alike_relinked : (old new : Blocks) → Relinked old new → Alike old new
 alike_relinked old new links = record {
   places = relinked_places old new links;
   files = (λ b. by_row (octets_at new b) (octets_at old b) (links.nodes b) (links.rows b));
-}
-
-pub alike_regrouped : (old new : Blocks) → Regrouped old new → Alike old new
-alike_regrouped old new same = record { places = same.places; files = same.files }
-
-pub alike_then : (first second third : Blocks) → Alike first second → Alike second third → Alike first third
-alike_then first second third one two = record {
-  places = record {
-    nodes = (λ b. two.places.nodes b ∙ one.places.nodes b);
-    homes = (λ b. two.places.homes b ∙ one.places.homes b);
-    names = (λ b. two.places.names b ∙ one.places.names b);
-    kinds = (λ b. two.places.kinds b ∙ one.places.kinds b);
-    named = two.places.named;
-  };
-  files = (λ b. two.files b ∙ one.files b);
 }
 
 held_is : (o : Option (List ℕ)) → IsSome o → file_of (unwrap_or o []) ≡ file_in o

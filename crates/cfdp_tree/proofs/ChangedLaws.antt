@@ -13,7 +13,6 @@ use Rattle.cfdp_paths.specs.Paths.{path_cmp}
 use Rattle.cfdp_arena.specs.Arena.{Blocks, octets_at, free_count}
 use Rattle.cfdp_actions.specs.Filestore.{Node, Filestore, blocks}
 use Rattle.cfdp_tree.specs.declared.contents.Contents.{Contents}
-use Rattle.cfdp_tree.specs.declared.index.Head.{Head}
 use Rattle.cfdp_ways.specs.declared.way.Way.{Way}
 use Rattle.cfdp_tree.specs.declared.slots.Slot.{Slot}
 use Rattle.cfdp_tree.specs.Runs.{IsHeld, Apart, Stays}
@@ -23,7 +22,6 @@ use Rattle.cfdp_tree.specs.Contents.{IsFilled, contents_in}
 use Rattle.cfdp_tree.specs.Nodes.{nodes_in}
 use Rattle.cfdp_tree.specs.Tree.{IsTree}
 use Rattle.cfdp_tree.specs.Index.{Heads, IsIndex}
-use Rattle.cfdp_tree.specs.Entries.{IsGrouped}
 use Rattle.cfdp_tree.specs.Kept.{no_contents, file_in, holdings, Shows, filestore_of, store_of, IsStored}
 use Rattle.cfdp_tree.specs.Slots.{staged_in, IsPlaced, IsStore}
 use Rattle.cfdp_tree.proofs.SlotPlaces.{slot_stays}
@@ -55,7 +53,7 @@ module _ (arena later : Blocks) (before after : Contents) where
   left_apart other now (inr same) (inr alike) apart =
       subst (λ (x : Contents). Apart x.run now.run) (sym same.0) (subst (λ (x : Contents). Apart before.run x.run) (sym alike.0) apart)
 
-module _ (arena : Blocks) (heads : Heads) (root : Head) (slots : List Slot) {ways : List Way} (store : IsStore arena ways heads root slots) where
+module _ (arena : Blocks) (heads : Heads) (slots : List Slot) {ways : List Way} (store : IsStore arena ways heads slots) where
   pub list_held : (j : ℕ) → IsHeld arena (get_or (staged_in slots) j no_contents).run
   list_held j = elim (cases_lt j (length (staged_in slots))) [
     | inl less ↦ subst (λ (x : Contents). IsHeld arena x.run) (get_or_append_left (staged_in slots) (map file_in (nodes_in arena)) no_contents j less) (store.kept.stored.filled j).held
@@ -63,13 +61,13 @@ module _ (arena : Blocks) (heads : Heads) (root : Head) (slots : List Slot) {way
   ]
 
   pub file_held : (b : ℕ) → IsHeld arena (file_in (octets_at (nodes_in arena) b)).run
-  file_held b = subst (λ (x : Contents). IsHeld arena x.run) (held_at arena heads root slots store (store_of arena (staged_in slots)) refl b) (store.kept.stored.filled (length (staged_in slots) + b)).held
+  file_held b = subst (λ (x : Contents). IsHeld arena x.run) (held_at arena heads slots store (store_of arena (staged_in slots)) refl b) (store.kept.stored.filled (length (staged_in slots) + b)).held
 
-module _ (arena later : Blocks) (heads after : Heads) (root end : Head) (slots : List Slot) {ways : List Way} (store : IsStore arena ways heads root slots) (long : length later ≡ length arena)
+module _ (arena later : Blocks) (heads after : Heads) (slots : List Slot) {ways : List Way} (store : IsStore arena ways heads slots) (long : length later ≡ length arena)
     (lists : (j : ℕ) → Stays arena later (get_or (staged_in slots) j no_contents).run)
     (files : (b : ℕ) → IsLeft arena later (file_in (octets_at (nodes_in arena) b)) (file_in (octets_at (nodes_in later) b)))
     (F : finite.FinMap path_cmp Node) (shows : Shows later (nodes_in later) F) (tree : IsTree (nodes_in later))
-    (index : IsIndex (nodes_in later) after None) (groups : IsGrouped (nodes_in later) end None) where
+    (index : IsIndex (nodes_in later) after None) where
   abbrev staged : List Contents
   staged = staged_in slots
 
@@ -116,7 +114,7 @@ module _ (arena later : Blocks) (heads after : Heads) (root end : Head) (slots :
       let stays = subst (λ (x : Contents). Stays arena later x.run) at (lists j) in
       slot_stays arena later s stays (store.placed j d within)
 
-  pub nodes_store : free_count later + blocks seen ≡ length later → IsStore later ways after end slots
+  pub nodes_store : free_count later + blocks seen ≡ length later → IsStore later ways after slots
   nodes_store counted = record {
     kept = record {
       some = omega (arith, long, store.kept.some);
@@ -124,7 +122,6 @@ module _ (arena later : Blocks) (heads after : Heads) (root end : Head) (slots :
       slots = store.kept.slots;
       tree = tree;
       index = index;
-      groups = groups;
       stored = stored_now;
       counted = ap (λ (G : Filestore). free_count later + blocks G) filestore_is ∙ counted;
     };

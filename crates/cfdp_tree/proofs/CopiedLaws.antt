@@ -9,7 +9,6 @@ use Rattle.cfdp_paths.specs.Paths.{Path}
 use Rattle.cfdp_actions.specs.declared.kind.Kind.TheVariants as kind
 use Rattle.cfdp_actions.specs.Filestore.{Directory, File, node_at, is_file}
 use Rattle.cfdp_actions.specs.Store.{Store}
-use Rattle.cfdp_tree.specs.declared.index.Head.{Head}
 use Rattle.cfdp_ways.specs.declared.way.Way.{Way}
 use Rattle.cfdp_tree.specs.declared.slots.Slot.{Slot}
 use Rattle.cfdp_tree.specs.Index.{Heads}
@@ -25,27 +24,27 @@ use Rattle.cfdp_tree.proofs.SeenLaws.{seen_block, seen_file, file_small}
 use Rattle.cfdp_tree.proofs.SeenLaws as seen_laws
 use Rattle.cfdp_tree.specs.Ways.{HasWays}
 
-module _ (arena : Blocks) (heads : Heads) (root : Head) (slots : List Slot) {ways : List Way} (store : IsStore arena ways heads root slots) (now : Store) (view : store_of arena (staged_in slots) ≡ now)
+module _ (arena : Blocks) (heads : Heads) (slots : List Slot) {ways : List Way} (store : IsStore arena ways heads slots) (now : Store) (view : store_of arena (staged_in slots) ≡ now)
     (b : ℕ) (p : Path) (block : List ℕ) (node : IsNode (nodes_in arena) b) (way : path_of (nodes_in arena) b ≡ p) (is : octets_at arena b ≡ Some block) where
   pub directory_there : kind.Directory ≡ kind_told (row_of block).kind → node_at now.filestore p ≡ Some Directory
   directory_there told =
-      seen_block arena heads root slots store now view b p block node way is
+      seen_block arena heads slots store now view b p block node way is
       ∙ ap (λ k. Some (node_told arena k (contents_told k (row_of block)))) (sym told)
 
   module _ (told : kind.File ≡ kind_told (row_of block).kind) where
     pub file_there : node_at now.filestore p ≡ Some (File (contents_in arena (contents_told kind.File (row_of block))))
     file_there =
-        seen_block arena heads root slots store now view b p block node way is
+        seen_block arena heads slots store now view b p block node way is
         ∙ ap (λ k. Some (node_told arena k (contents_told k (row_of block)))) (sym told)
 
     pub file_held : IsFilled arena (contents_told kind.File (row_of block)) × ((row_of block).size ≤ 7864320)
     file_held =
-        let seen = seen_file arena heads root slots store now view b p block node way is (ap is_file file_there) in
-        let small = file_small arena heads root slots store now view p in
+        let seen = seen_file arena heads slots store now view b p block node way is (ap is_file file_there) in
+        let small = file_small arena heads slots store now view p in
         (seen.1, omega (arith, small, ap length seen.0, length-contents arena (contents_told kind.File (row_of block)) seen.1))
 
     pub file_ways : HasWays arena ways (contents_told kind.File (row_of block)).run
-    file_ways = seen_laws.file_ways arena heads root slots store now view b p block node way is (ap is_file file_there)
+    file_ways = seen_laws.file_ways arena heads slots store now view b p block node way is (ap is_file file_there)
 
 none_fits : (at : ℕ) (buffer : List ℕ) → fitting [] at buffer ≡ 0
 none_fits at buffer = omega arith

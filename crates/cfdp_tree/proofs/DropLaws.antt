@@ -22,7 +22,6 @@ use Rattle.cfdp_actions.proofs.StoreLaws.{no_blocks}
 use Rattle.cfdp_actions.proofs.ChangeLaws.{blocks-becomes}
 use Rattle.cfdp_tree.specs.declared.contents.Contents.{Contents}
 use Rattle.cfdp_tree.specs.declared.runs.Run.{Run}
-use Rattle.cfdp_tree.specs.declared.index.Head.{Head}
 use Rattle.cfdp_ways.specs.declared.way.Way.{Way}
 use Rattle.cfdp_tree.specs.declared.slots.Slot.{Slot}
 use Rattle.cfdp_tree.specs.Row.{Row, row_of, kind_told}
@@ -32,10 +31,8 @@ use Rattle.cfdp_tree.specs.Nodes.{nodes_in}
 use Rattle.cfdp_tree.specs.Tree.{IsNode, name_at, home, path_of, IsEntry, IsTree, Relinked}
 use Rattle.cfdp_tree.specs.Places.{path_at}
 use Rattle.cfdp_tree.specs.Index.{Heads, IsIndex}
-use Rattle.cfdp_tree.specs.Entries.{IsGrouped}
 use Rattle.cfdp_tree.specs.Kept.{no_contents, contents_told, file_of, file_in, holdings, node_told, node_of, Shows, store_of}
 use Rattle.cfdp_tree.specs.Slots.{staged_in, IsStore}
-use Rattle.cfdp_tree.specs.Changes.{Regrouped}
 use Rattle.cfdp_tree.proofs.ContentsLaws.{length-contents, none_filled, stays_contents}
 use Rattle.cfdp_tree.proofs.SlotLaws.{told_same}
 use Rattle.cfdp_tree.proofs.SeenLaws.{shows, seen_none, file_small, seen_node, seen_blocks, held_at, told_directory}
@@ -43,9 +40,8 @@ use Rattle.cfdp_tree.proofs.PlaceLaws.{same_paths, same_tree}
 use Rattle.cfdp_tree.proofs.ClimbLaws.{path_by_home}
 use Rattle.cfdp_tree.proofs.BelowLaws.{entry_some}
 use Rattle.cfdp_tree.proofs.RemoveLaws.{removed_tree, removed_shows}
-use Rattle.cfdp_tree.proofs.OutLaws.{index_deleted, nodes_long, index_regrouped}
-use Rattle.cfdp_tree.proofs.GroupLaws.{grouped_deleted, grouped_relinked}
-use Rattle.cfdp_tree.proofs.AlikeLaws.{Alike, alike_relinked, alike_regrouped, alike_then, alike_node, told_by, alike_shows}
+use Rattle.cfdp_tree.proofs.OutLaws.{index_deleted}
+use Rattle.cfdp_tree.proofs.AlikeLaws.{Alike, alike_relinked, alike_node, told_by, alike_shows}
 use Rattle.cfdp_tree.proofs.ChangedLaws.{IsLeft, nodes_seen, nodes_store}
 
 true_false : {b : Bool} → b ≡ true → b ≡ false → ⊥
@@ -76,15 +72,15 @@ stays_two first second third run one runs =
     let two = runs run one.held in
     record { held = two.held; octets = two.octets ∙ one.octets; places = (λ k within. two.places k within ∙ one.places k within) }
 
-module _ (arena : Blocks) (heads : Heads) (root : Head) (slots : List Slot) {ways : List Way} (store : IsStore arena ways heads root slots) (now : Store) (view : store_of arena (staged_in slots) ≡ now) where
+module _ (arena : Blocks) (heads : Heads) (slots : List Slot) {ways : List Way} (store : IsStore arena ways heads slots) (now : Store) (view : store_of arena (staged_in slots) ≡ now) where
   pub seen_found : (p : Path) (found : Option ℕ) → IfNone found ((b : ℕ) → IsNode (nodes_in arena) b → path_of (nodes_in arena) b ≡ p → ⊥) → IsSome (node_at now.filestore p) → IsSome found
-  seen_found p None none some = absurd (none_is (seen_none arena heads root slots store now view p none) some)
+  seen_found p None none some = absurd (none_is (seen_none arena heads slots store now view p none) some)
     where
       none_is : {o : Option Node} → o ≡ None → IsSome o → ⊥
       none_is absent is = cc
   seen_found p (Some b) none some = refl
 
-module _ (arena : Blocks) (heads : Heads) (root : Head) (slots : List Slot) {ways : List Way} (store : IsStore arena ways heads root slots) (now : Store) (view : store_of arena (staged_in slots) ≡ now)
+module _ (arena : Blocks) (heads : Heads) (slots : List Slot) {ways : List Way} (store : IsStore arena ways heads slots) (now : Store) (view : store_of arena (staged_in slots) ≡ now)
     (path : Path) (b : ℕ) (node : IsNode (nodes_in arena) b) (way : path_of (nodes_in arena) b ≡ path) where
   abbrev nodes : Blocks
   nodes = nodes_in arena
@@ -96,10 +92,10 @@ module _ (arena : Blocks) (heads : Heads) (root : Head) (slots : List Slot) {way
   held = file_in (octets_at nodes b)
 
   seen : Shows arena nodes now.filestore.nodes
-  seen = shows arena heads root slots store now view
+  seen = shows arena heads slots store now view
 
   at : node_at now.filestore path ≡ Some (node_of arena (octets_of nodes b))
-  at = seen_node arena heads root slots store now view b path node way
+  at = seen_node arena heads slots store now view b path node way
 
   pub home_none : (is_directory (node_at now.filestore path) ≡ true → has_entries now.filestore path ≡ false) → (c : ℕ) → IsNode nodes c → home nodes c ≡ Some b → ⊥
   home_none childless c inside there =
@@ -109,7 +105,7 @@ module _ (arena : Blocks) (heads : Heads) (root : Head) (slots : List Slot) {way
       true_false (entry_some nodes store.kept.tree arena now.filestore seen b path node way c inside there) (childless directory)
 
   held_there : get_or (holdings nodes staged) (length staged + b) no_contents ≡ held
-  held_there = held_at arena heads root slots store now view b
+  held_there = held_at arena heads slots store now view b
 
   pub held_filled : IsFilled arena held
   held_filled = subst (IsFilled arena) held_there (store.kept.stored.filled (length staged + b))
@@ -123,7 +119,7 @@ module _ (arena : Blocks) (heads : Heads) (root : Head) (slots : List Slot) {way
       let told = told_octets arena (kind_told (row_of here).kind) (row_of here) (sym (ap (λ o. kind_told (row_of o).kind) same) ∙ file) in
       let long = length-contents arena (file_of here) (subst (IsFilled arena) (sym (held_is (octets_at nodes b) node)) held_filled) in
       let octets = ap files.octets_in at ∙ told.0 in
-      omega (arith, file_small arena heads root slots store now view path, ap (λ (xs : List ℕ). length xs) octets, long, told.1, ap (λ o. (row_of o).size) same)
+      omega (arith, file_small arena heads slots store now view path, ap (λ (xs : List ℕ). length xs) octets, long, told.1, ap (λ o. (row_of o).size) same)
 
   pub weight_is : weight (node_at now.filestore path) ≡ 1 + blocks_of held.size
   weight_is =
@@ -139,122 +135,103 @@ module _ (arena : Blocks) (heads : Heads) (root : Head) (slots : List Slot) {way
       let short : length path - 1 ≡ length above = omega (arith, ap length (sym whole), length-append above (name_at nodes b ∷ [])) in
       sym (ap (λ n. get_or path n []) short ∙ ap (λ p. get_or p (length above) []) (sym whole) ∙ last_is above (name_at nodes b))
 
-  -- it is taken out of the list of its directory
+  -- it is taken out of the index
   module _ (one : Blocks) (one_is : nodes_in one ≡ nodes) where
     pub tree_one : IsTree (nodes_in one)
     tree_one = subst IsTree (sym one_is) store.kept.tree
 
-    pub groups_one : IsGrouped (nodes_in one) root None
-    groups_one = subst (λ ns. IsGrouped ns root None) (sym one_is) store.kept.groups
+    pub index_one : IsIndex (nodes_in one) heads None
+    index_one = subst (λ ns. IsIndex ns heads None) (sym one_is) store.kept.index
 
-    pub node_one : IsNode (nodes_in one) b
-    node_one = subst (λ ns. IsNode ns b) (sym one_is) node
+    pub entry_one : (directory : Option ℕ) (name : Name) → directory ≡ home nodes b → name ≡ get_or path (length path - 1) [] → IsEntry (nodes_in one) directory name b
+    entry_one directory name there named = record {
+      node = subst (λ ns. IsNode ns b) (sym one_is) node;
+      there = ap (λ ns. home ns b) one_is ∙ sym there;
+      named = ap (λ ns. name_at ns b) one_is ∙ node_name ∙ sym named;
+    }
 
-    pub home_one : (directory : Option ℕ) → directory ≡ home nodes b → home (nodes_in one) b ≡ directory
-    home_one directory there = ap (λ ns. home ns b) one_is ∙ sym there
+    module _ (two : Blocks) (links : Relinked (nodes_in one) (nodes_in two)) where
+      pub alike_two : Alike nodes (nodes_in two)
+      alike_two = subst (λ ns. Alike ns (nodes_in two)) one_is (alike_relinked (nodes_in one) (nodes_in two) links)
 
-    module _ (two : Blocks) (regrouped : Regrouped (nodes_in one) (nodes_in two)) (long_two : length two ≡ length one) where
-      pub tree_two : IsTree (nodes_in two)
-      tree_two = same_tree (nodes_in one) (nodes_in two) regrouped.places tree_one
+      pub node_two : IsNode (nodes_in two) b
+      node_two = alike_two.places.nodes b ∙ node
 
-      pub index_two : IsIndex (nodes_in two) heads None
-      index_two = index_regrouped (nodes_in one) (nodes_in two) heads None regrouped (nodes_long one two long_two) (subst (λ ns. IsIndex ns heads None) (sym one_is) store.kept.index)
+      module _ (childless : is_directory (node_at now.filestore path) ≡ true → has_entries now.filestore path ≡ false) (later : Blocks) (later_is : nodes_in later ≡ without_block (nodes_in two) b)
+          (heads_now : Heads) (index_two : IsIndex (nodes_in two) heads_now (Some b))
+          (spares : Spares arena one held.run held.run) (runs : RunsStay one later) (long : length later ≡ length arena)
+          (freed : free_count later ≡ free_count arena + blocks_of held.size + 1) where
+        abbrev before : Blocks
+        before = nodes_in two
 
-      pub entry_two : (directory : Option ℕ) (name : Name) → directory ≡ home nodes b → name ≡ get_or path (length path - 1) [] → IsEntry (nodes_in two) directory name b
-      entry_two directory name there named = record {
-        node = regrouped.places.nodes b ∙ node_one;
-        there = regrouped.places.homes b ∙ home_one directory there;
-        named = regrouped.places.names b ∙ ap (λ ns. name_at ns b) one_is ∙ node_name ∙ sym named;
-      }
+        tree_two : IsTree before
+        tree_two = same_tree nodes before alike_two.places store.kept.tree
 
-      module _ (three : Blocks) (links : Relinked (nodes_in two) (nodes_in three)) where
-        pub alike_three : Alike nodes (nodes_in three)
-        alike_three =
-            let first = alike_regrouped (nodes_in one) (nodes_in two) regrouped in
-            alike_then nodes (nodes_in two) (nodes_in three) (subst (λ ns. Alike ns (nodes_in two)) one_is first) (alike_relinked (nodes_in two) (nodes_in three) links)
+        none_two : (c : ℕ) → IsNode before c → home before c ≡ Some b → ⊥
+        none_two c inside there = home_none childless c (alike_node nodes before alike_two c inside) (sym (alike_two.places.homes c) ∙ there)
 
-        pub node_three : IsNode (nodes_in three) b
-        node_three = alike_three.places.nodes b ∙ node
+        tree_later : IsTree (nodes_in later)
+        tree_later = subst IsTree (sym later_is) (removed_tree before b node_two tree_two none_two)
 
-        module _ (childless : is_directory (node_at now.filestore path) ≡ true → has_entries now.filestore path ≡ false) (later : Blocks) (later_is : nodes_in later ≡ without_block (nodes_in three) b)
-            (root_now : Head) (groups_two : IsGrouped (nodes_in two) root_now (Some b)) (heads_now : Heads) (index_three : IsIndex (nodes_in three) heads_now (Some b))
-            (spares : Spares arena one held.run held.run) (runs : RunsStay one later) (long : length later ≡ length arena)
-            (freed : free_count later ≡ free_count arena + blocks_of held.size + 1) where
-          abbrev before : Blocks
-          before = nodes_in three
+        index_later : IsIndex (nodes_in later) heads_now None
+        index_later = subst (λ ns. IsIndex ns heads_now None) (sym later_is) (index_deleted before heads_now b node_two index_two)
 
-          tree_three : IsTree before
-          tree_three = same_tree nodes before alike_three.places store.kept.tree
+        -- what is apart from the run that goes stays
+        spared : (i : ℕ) → i ≢ length staged + b → Stays arena later (get_or (holdings nodes staged) i no_contents).run
+        spared i other =
+            let x = get_or (holdings nodes staged) i no_contents in
+            let apart = subst (λ (y : Contents). Apart y.run x.run) held_there (store.kept.stored.apart (length staged + b) i (λ e. other (sym e))) in
+            stays_two arena one later x.run (spares x.run (store.kept.stored.filled i).held apart).0 runs
 
-          none_three : (c : ℕ) → IsNode before c → home before c ≡ Some b → ⊥
-          none_three c inside there = home_none childless c (alike_node nodes before alike_three c inside) (sym (alike_three.places.homes c) ∙ there)
+        file_stays : (c : ℕ) → c ≢ b → Stays arena later (file_in (octets_at nodes c)).run
+        file_stays c other = subst (λ (x : Contents). Stays arena later x.run) (held_at arena heads slots store now view c) (spared (length staged + c) (λ e. other (omega arith)))
 
-          tree_later : IsTree (nodes_in later)
-          tree_later = subst IsTree (sym later_is) (removed_tree before b node_three tree_three none_three)
+        list_stays : (j : ℕ) → Stays arena later (get_or staged j no_contents).run
+        list_stays j = elim (cases_lt j (length staged)) [
+          | inl less ↦ subst (λ (x : Contents). Stays arena later x.run) (get_or_append_left staged (map file_in nodes) no_contents j less) (spared j (λ e. omega arith))
+          | inr past ↦ subst (λ (x : Contents). Stays arena later x.run) (sym (get_or_past staged j no_contents past)) (none_stays later)
+        ]
+          where
+            none_stays : (new : Blocks) → Stays arena new no_contents.run
+            none_stays new = record { held = (none_filled new no_contents refl refl refl).held; octets = refl; places = (λ k within. zero_nth k within) }
+              where
+                zero_nth : (k : ℕ) → k ≤ 0 → nth new 0 k ≡ nth arena 0 k
+                zero_nth k within =
+                    let none : k ≡ 0 = omega (arith, within) in
+                    ap (λ (n : ℕ). nth new 0 n) none ∙ sym (ap (λ (n : ℕ). nth arena 0 n) none)
 
-          index_later : IsIndex (nodes_in later) heads_now None
-          index_later = subst (λ ns. IsIndex ns heads_now None) (sym later_is) (index_deleted before heads_now b node_three index_three)
+        left_at : (c : ℕ) → IsLeft arena later (file_in (octets_at nodes c)) (file_in (octets_at (nodes_in later) c))
+        left_at c = elim (cases_eq c b) [
+          | inl e ↦ inl (ap (λ x. file_in (octets_at (nodes_in later) x)) e ∙ ap (λ ns. file_in (octets_at ns b)) later_is
+              ∙ ap file_in (get_or-set_same before b None None (live_within before b node_two)))
+          | inr other ↦ inr (ap (λ ns. file_in (octets_at ns c)) later_is ∙ ap file_in (get_or-set_other before b c None None other) ∙ alike_two.files c, file_stays c other)
+        ]
 
-          groups_later : IsGrouped (nodes_in later) root_now None
-          groups_later = subst (λ ns. IsGrouped ns root_now None) (sym later_is)
-              (grouped_deleted before root_now b tree_three node_three none_three (grouped_relinked (nodes_in two) before root_now (Some b) links groups_two))
+        told_kept : (c : ℕ) → IsNode before c → c ≢ b → node_of later (octets_of before c) ≡ node_of arena (octets_of before c)
+        told_kept c inside other =
+            told_by later before c inside
+            ∙ told_same arena later (kind_told (row_of (octets_of before c)).kind) (file_in (octets_at before c))
+            (stays_contents arena later (file_in (octets_at before c)) (subst (λ (x : Contents). Stays arena later x.run) (sym (alike_two.files c)) (file_stays c other)))
+            ∙ sym (told_by arena before c inside)
 
-          -- what is apart from the run that goes stays
-          spared : (i : ℕ) → i ≢ length staged + b → Stays arena later (get_or (holdings nodes staged) i no_contents).run
-          spared i other =
-              let x = get_or (holdings nodes staged) i no_contents in
-              let apart = subst (λ (y : Contents). Apart y.run x.run) held_there (store.kept.stored.apart (length staged + b) i (λ e. other (sym e))) in
-              stays_two arena one later x.run (spares x.run (store.kept.stored.filled i).held apart).0 runs
+        abbrev F : finite.FinMap path_cmp Node
+        F = finite.remove now.filestore.nodes path
 
-          file_stays : (c : ℕ) → c ≢ b → Stays arena later (file_in (octets_at nodes c)).run
-          file_stays c other = subst (λ (x : Contents). Stays arena later x.run) (held_at arena heads root slots store now view c) (spared (length staged + c) (λ e. other (omega arith)))
+        shows_later : Shows later (nodes_in later) F
+        shows_later =
+            subst (λ ns. Shows later ns F) (sym later_is)
+            (subst (λ p. Shows later (without_block before b) (finite.remove now.filestore.nodes p)) (same_paths nodes before alike_two.places b ∙ way)
+            (removed_shows before b node_two tree_two none_two arena later now.filestore.nodes (alike_shows nodes before alike_two arena now.filestore.nodes seen) told_kept))
 
-          list_stays : (j : ℕ) → Stays arena later (get_or staged j no_contents).run
-          list_stays j = elim (cases_lt j (length staged)) [
-            | inl less ↦ subst (λ (x : Contents). Stays arena later x.run) (get_or_append_left staged (map file_in nodes) no_contents j less) (spared j (λ e. omega arith))
-            | inr past ↦ subst (λ (x : Contents). Stays arena later x.run) (sym (get_or_past staged j no_contents past)) (none_stays later)
-          ]
-            where
-              none_stays : (new : Blocks) → Stays arena new no_contents.run
-              none_stays new = record { held = (none_filled new no_contents refl refl refl).held; octets = refl; places = (λ k within. zero_nth k within) }
-                where
-                  zero_nth : (k : ℕ) → k ≤ 0 → nth new 0 k ≡ nth arena 0 k
-                  zero_nth k within =
-                      let none : k ≡ 0 = omega (arith, within) in
-                      ap (λ (n : ℕ). nth new 0 n) none ∙ sym (ap (λ (n : ℕ). nth arena 0 n) none)
+        pub drop_view : store_of later staged ≡ with_changes now (Becomes path None ∷ [])
+        drop_view =
+            nodes_seen arena later heads heads_now slots store long list_stays left_at F shows_later tree_later index_later
+            ∙ (λ i. record (view i) { filestore = record { nodes = F; staged = (view i).filestore.staged } })
 
-          left_at : (c : ℕ) → IsLeft arena later (file_in (octets_at nodes c)) (file_in (octets_at (nodes_in later) c))
-          left_at c = elim (cases_eq c b) [
-            | inl e ↦ inl (ap (λ x. file_in (octets_at (nodes_in later) x)) e ∙ ap (λ ns. file_in (octets_at ns b)) later_is
-                ∙ ap file_in (get_or-set_same before b None None (live_within before b node_three)))
-            | inr other ↦ inr (ap (λ ns. file_in (octets_at ns c)) later_is ∙ ap file_in (get_or-set_other before b c None None other) ∙ alike_three.files c, file_stays c other)
-          ]
+        seen_is : record { nodes = F; staged = (store_of arena staged).filestore.staged } ≡ files.changed now.filestore (Becomes path None)
+        seen_is = (λ i. record { nodes = F; staged = (view i).filestore.staged })
 
-          told_kept : (c : ℕ) → IsNode before c → c ≢ b → node_of later (octets_of before c) ≡ node_of arena (octets_of before c)
-          told_kept c inside other =
-              told_by later before c inside
-              ∙ told_same arena later (kind_told (row_of (octets_of before c)).kind) (file_in (octets_at before c))
-              (stays_contents arena later (file_in (octets_at before c)) (subst (λ (x : Contents). Stays arena later x.run) (sym (alike_three.files c)) (file_stays c other)))
-              ∙ sym (told_by arena before c inside)
-
-          abbrev F : finite.FinMap path_cmp Node
-          F = finite.remove now.filestore.nodes path
-
-          shows_later : Shows later (nodes_in later) F
-          shows_later =
-              subst (λ ns. Shows later ns F) (sym later_is)
-              (subst (λ p. Shows later (without_block before b) (finite.remove now.filestore.nodes p)) (same_paths nodes before alike_three.places b ∙ way)
-              (removed_shows before b node_three tree_three none_three arena later now.filestore.nodes (alike_shows nodes before alike_three arena now.filestore.nodes seen) told_kept))
-
-          pub drop_view : store_of later staged ≡ with_changes now (Becomes path None ∷ [])
-          drop_view =
-              nodes_seen arena later heads heads_now root root_now slots store long list_stays left_at F shows_later tree_later index_later groups_later
-              ∙ (λ i. record (view i) { filestore = record { nodes = F; staged = (view i).filestore.staged } })
-
-          seen_is : record { nodes = F; staged = (store_of arena staged).filestore.staged } ≡ files.changed now.filestore (Becomes path None)
-          seen_is = (λ i. record { nodes = F; staged = (view i).filestore.staged })
-
-          pub drop_store : IsStore later ways heads_now root_now slots
-          drop_store =
-              nodes_store arena later heads heads_now root root_now slots store long list_stays left_at F shows_later tree_later index_later groups_later
-              (omega (arith, ap blocks seen_is, blocks-becomes now.filestore path None, weight_is, freed, long, seen_blocks arena heads root slots store now view))
+        pub drop_store : IsStore later ways heads_now slots
+        drop_store =
+            nodes_store arena later heads heads_now slots store long list_stays left_at F shows_later tree_later index_later
+            (omega (arith, ap blocks seen_is, blocks-becomes now.filestore path None, weight_is, freed, long, seen_blocks arena heads slots store now view))

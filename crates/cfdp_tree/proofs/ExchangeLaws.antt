@@ -21,7 +21,6 @@ use Rattle.cfdp_tree.specs.Ways.{HasWays}
 use Rattle.cfdp_tree.specs.Contents.{IsFilled, contents_in}
 use Rattle.cfdp_tree.specs.Nodes.{nodes_in}
 use Rattle.cfdp_tree.specs.Tree.{IsNode, row_at, name_at, path_of}
-use Rattle.cfdp_tree.specs.declared.index.Head.{Head}
 use Rattle.cfdp_tree.specs.Index.{Heads}
 use Rattle.cfdp_tree.specs.Kept.{no_contents, contents_told, file_of, file_in, holdings, node_of, store_of, IsStored}
 use Rattle.cfdp_tree.specs.Slots.{staged_in, IsPlaced, IsStore}
@@ -141,7 +140,7 @@ module _ (old new : Blocks) (held : List Contents) (i j : ℕ) (first : i < leng
   exchanged = record { filled = filled_at; apart = apart_at; led = led_at }
 
 -- a file of the store, and a slot
-module _ (arena : Blocks) (heads : Heads) (root : Head) (slots : List Slot) {ways : List Way} (store : IsStore arena ways heads root slots) (now : Store) (view : store_of arena (staged_in slots) ≡ now)
+module _ (arena : Blocks) (heads : Heads) (slots : List Slot) {ways : List Way} (store : IsStore arena ways heads slots) (now : Store) (view : store_of arena (staged_in slots) ≡ now)
     (b : ℕ) (p : Path) (node : IsNode (nodes_in arena) b) (way : path_of (nodes_in arena) b ≡ p) (file : is_file (node_at now.filestore p) ≡ true)
     (i : ℕ) (small : i < 64) (slot : Slot) (is : slot ≡ get_or slots i slot) (later : Blocks) (written : List ℕ) (nodes_later : nodes_in later ≡ with_block (nodes_in arena) b written)
     (row : row_of written ≡ with_contents (row_at (nodes_in arena) b) slot.contents) (name : name_of written ≡ name_at (nodes_in arena) b) (whole : length written ≡ 128)
@@ -169,16 +168,16 @@ module _ (arena : Blocks) (heads : Heads) (root : Head) (slots : List Slot) {way
   there = omega (arith, store.kept.slots, small)
 
   slot_held : get_or held i no_contents ≡ slot.contents
-  slot_held = get_or_append_left staged (map file_in nodes) no_contents i there ∙ staged_is arena heads root slots store now view i small slot is
+  slot_held = get_or_append_left staged (map file_in nodes) no_contents i there ∙ staged_is arena heads slots store now view i small slot is
 
   file_held : get_or held (length staged + b) no_contents ≡ before
-  file_held = held_here arena heads root slots store now view b p node way file
+  file_held = held_here arena heads slots store now view b p node way file
 
   filled : IsFilled arena slot.contents
-  filled = slot_filled arena heads root slots store now view i small slot is
+  filled = slot_filled arena heads slots store now view i small slot is
 
   same : SameOctets told slot.contents
-  same = told_written arena heads root slots store now view b p node way file later slot.contents written row name whole filled.blocks
+  same = told_written arena heads slots store now view b p node way file later slot.contents written row name whole filled.blocks
 
   -- no octet moves
   kept_at : (k : ℕ) → contents_in later (get_or held k no_contents) ≡ contents_in arena (get_or held k no_contents)
@@ -188,12 +187,12 @@ module _ (arena : Blocks) (heads : Heads) (root : Head) (slots : List Slot) {way
   here =
       same_contents told slot.contents same later (stays_filled arena later slot.contents (runs slot.contents.run filled.held) filled)
       ∙ stays_contents arena later slot.contents (runs slot.contents.run filled.held)
-      ∙ sym (seen_staged arena heads root slots store now view i small slot is)
+      ∙ sym (seen_staged arena heads slots store now view i small slot is)
 
   node_stays : (c : ℕ) → IsNode nodes c → c ≢ b → node_of later (octets_of nodes c) ≡ node_of arena (octets_of nodes c)
   node_stays c was other =
       let block = octets_of nodes c in
-      let at = held_other arena heads root slots store now view b p node way file c was in
+      let at = held_other arena heads slots store now view b p node way file c was in
       told_same arena later (kind_told (row_of block).kind) (file_of block)
       (ap (contents_in later) (sym at) ∙ kept_at (length staged + c) ∙ ap (contents_in arena) at)
 
@@ -211,12 +210,12 @@ module _ (arena : Blocks) (heads : Heads) (root : Head) (slots : List Slot) {way
 
   stored_now : IsStored later ways (holdings (with_block nodes b written) (staged_in slots_now))
   stored_now =
-      let within = in_held arena heads root slots store now view b p node way file in
+      let within = in_held arena heads slots store now view b p node way file in
       subst (IsStored later ways) (sym holdings_now)
       (exchanged arena later held i (length staged + b) (omega (arith, within, there)) within (λ e. omega (arith, there, e)) store.kept.stored runs long told (subst (SameOctets told) (sym slot_held) same))
 
   file_octets : octets_at now.filestore p ≡ contents_in arena before
-  file_octets = ap octets_in (file_there arena heads root slots store now view b p node way file)
+  file_octets = ap octets_in (file_there arena heads slots store now view b p node way file)
 
   before_stays : contents_in later before ≡ contents_in arena before
   before_stays = ap (contents_in later) (sym file_held) ∙ kept_at (length staged + b) ∙ ap (contents_in arena) file_held
@@ -239,15 +238,15 @@ module _ (arena : Blocks) (heads : Heads) (root : Head) (slots : List Slot) {way
         arith,
         blocks-stages now.filestore i (octets_at now.filestore p) within,
         blocks-becomes changed_slot p (Some (File (files.staged_in now.filestore i))),
-        ap weight (file_there arena heads root slots store now view b p node way file),
+        ap weight (file_there arena heads slots store now view b p node way file),
         ap (λ (xs : List ℕ). blocks_of (length xs)) file_octets,
         free,
         long,
-        seen_blocks arena heads root slots store now view,
+        seen_blocks arena heads slots store now view,
       )
 
   there_slot : i < length slots
-  there_slot = slot_there arena heads root slots store now view i small
+  there_slot = slot_there arena heads slots store now view i small
 
   place_stays : (j : ℕ) (d : Slot) → j < length slots → IsPlaced later (get_or slots j d)
   place_stays j d within =
@@ -265,10 +264,10 @@ module _ (arena : Blocks) (heads : Heads) (root : Head) (slots : List Slot) {way
     | inr other ↦ subst (IsPlaced later) (sym (get_or-set_other slots i j after d other)) (place_stays j d (omega (arith, within, length-set slots i after)))
   ]
 
-  pub exchange_store : IsStore later ways heads root slots_now
-  exchange_store = written_store arena heads root slots store now view b p node way file later slot.contents written row name whole (files.staged_in now.filestore i) here node_stays nodes_later long
+  pub exchange_store : IsStore later ways heads slots_now
+  exchange_store = written_store arena heads slots store now view b p node way file later slot.contents written row name whole (files.staged_in now.filestore i) here node_stays nodes_later long
       slots_now (set now.filestore.staged i (octets_at now.filestore p)) lists_are ways (length-set slots i after) stored_now counted_now placed_now
 
   pub exchange_seen : store_of later (staged_in slots_now) ≡ with_changes now (Stages i (octets_at now.filestore p) ∷ Becomes p (Some (File (files.staged_in now.filestore i))) ∷ [])
-  exchange_seen = written_seen arena heads root slots store now view b p node way file later slot.contents written row name whole (files.staged_in now.filestore i) here node_stays nodes_later long
+  exchange_seen = written_seen arena heads slots store now view b p node way file later slot.contents written row name whole (files.staged_in now.filestore i) here node_stays nodes_later long
       slots_now (set now.filestore.staged i (octets_at now.filestore p)) lists_are

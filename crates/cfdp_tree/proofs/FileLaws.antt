@@ -31,9 +31,7 @@ use Rattle.cfdp_tree.specs.Ways.{HasWays, KeepsWays}
 use Rattle.cfdp_tree.specs.Contents.{IsFilled, contents_in}
 use Rattle.cfdp_tree.specs.Nodes.{nodes_in}
 use Rattle.cfdp_tree.specs.Tree.{IsNode, row_at, name_at, path_of, IsTree, SamePlaces}
-use Rattle.cfdp_tree.specs.declared.index.Head.{Head}
 use Rattle.cfdp_tree.specs.Index.{Heads, IsIndex}
-use Rattle.cfdp_tree.specs.Entries.{IsGrouped}
 use Rattle.cfdp_tree.specs.Kept.{no_contents, contents_told, file_of, file_in, holdings, node_told, node_of, Shows, filestore_of, store_of, IsStored}
 use Rattle.cfdp_tree.specs.Slots.{staged_in, IsPlaced, IsStore}
 use Rattle.cfdp_tree.specs.Files.{with_contents, SameOctets}
@@ -47,7 +45,7 @@ use Rattle.cfdp_tree.proofs.ShowLaws.{tree_shows, shown_same}
 use Rattle.cfdp_tree.proofs.StoredLaws.{stored_changed, stored_others, spared as run_spared}
 use Rattle.cfdp_tree.proofs.SeenLaws.{shows, seen_node, seen_blocks, mapped_at, held_at}
 use Rattle.cfdp_tree.proofs.SlotLaws.{told_same}
-use Rattle.cfdp_tree.proofs.FileRows.{file_kind, file_places, file_index, file_groups}
+use Rattle.cfdp_tree.proofs.FileRows.{file_kind, file_places, file_index}
 use Rattle.cfdp_tree.proofs.FileRows as rows
 
 -- octets that are in the same blocks
@@ -90,7 +88,7 @@ told_file arena kind.File contents file = refl
 told_file arena kind.Directory contents file = cc
 
 -- a file of the store
-module _ (arena : Blocks) (heads : Heads) (root : Head) (slots : List Slot) {ways : List Way} (store : IsStore arena ways heads root slots) (now : Store) (view : store_of arena (staged_in slots) ≡ now)
+module _ (arena : Blocks) (heads : Heads) (slots : List Slot) {ways : List Way} (store : IsStore arena ways heads slots) (now : Store) (view : store_of arena (staged_in slots) ≡ now)
     (b : ℕ) (p : Path) (node : IsNode (nodes_in arena) b) (way : path_of (nodes_in arena) b ≡ p) (file : is_file (node_at now.filestore p) ≡ true) where
   abbrev nodes : Blocks
   nodes = nodes_in arena
@@ -105,14 +103,14 @@ module _ (arena : Blocks) (heads : Heads) (root : Head) (slots : List Slot) {way
   before = contents_told kind.File (row_at nodes b)
 
   pub kind_there : kind_told (row_at nodes b).kind ≡ kind.File
-  kind_there = told_file arena (kind_told (row_at nodes b).kind) (file_of (octets_of nodes b)) (ap is_file (sym (seen_node arena heads root slots store now view b p node way)) ∙ file)
+  kind_there = told_file arena (kind_told (row_at nodes b).kind) (file_of (octets_of nodes b)) (ap is_file (sym (seen_node arena heads slots store now view b p node way)) ∙ file)
 
   pub file_there : node_at now.filestore p ≡ Some (File (contents_in arena before))
-  file_there = seen_node arena heads root slots store now view b p node way ∙ ap (λ k. Some (node_told arena k (contents_told k (row_at nodes b)))) kind_there
+  file_there = seen_node arena heads slots store now view b p node way ∙ ap (λ k. Some (node_told arena k (contents_told k (row_at nodes b)))) kind_there
 
   pub held_here : get_or held (length staged + b) no_contents ≡ before
   held_here =
-      held_at arena heads root slots store now view b ∙ some_is (octets_at nodes b) node
+      held_at arena heads slots store now view b ∙ some_is (octets_at nodes b) node
       ∙ ap (λ k. contents_told k (row_at nodes b)) kind_there
 
   pub file_filled : IsFilled arena before
@@ -123,7 +121,7 @@ module _ (arena : Blocks) (heads : Heads) (root : Head) (slots : List Slot) {way
 
   -- another file's octets
   pub held_other : (c : ℕ) → IsNode nodes c → get_or held (length staged + c) no_contents ≡ file_of (octets_of nodes c)
-  held_other c other = held_at arena heads root slots store now view c ∙ some_is (octets_at nodes c) other
+  held_other c other = held_at arena heads slots store now view c ∙ some_is (octets_at nodes c) other
 
   -- its block is written
   module _ (later : Blocks) (contents : Contents) (written : List ℕ) (row : row_of written ≡ with_contents (row_at nodes b) contents)
@@ -156,7 +154,7 @@ module _ (arena : Blocks) (heads : Heads) (root : Head) (slots : List Slot) {way
       got q = get-insert path_cmp-total now.filestore.nodes p (File octets) q
 
       abbrev was_shown : Shows arena nodes now.filestore.nodes
-      was_shown = shows arena heads root slots store now view
+      was_shown = shows arena heads slots store now view
 
       path_new : (c : ℕ) → path_of new c ≡ path_of nodes c
       path_new = same_paths nodes new places
@@ -215,7 +213,7 @@ module _ (arena : Blocks) (heads : Heads) (root : Head) (slots : List Slot) {way
             (λ k. record { filestore = filestore_is k; capacity = capacity k; takes_no_memory = memory k })
 
         pub written_store : (ways_now : List Way) → length slots_now ≡ length slots → IsStored later ways_now (holdings new (staged_in slots_now)) → free_count later + blocks filestore_now ≡ length later
-            → All (IsPlaced later) slots_now → IsStore later ways_now heads root slots_now
+            → All (IsPlaced later) slots_now → IsStore later ways_now heads slots_now
         written_store ways_now many stored counted placed = record {
           kept = record {
             some = omega (arith, long, store.kept.some);
@@ -223,7 +221,6 @@ module _ (arena : Blocks) (heads : Heads) (root : Head) (slots : List Slot) {way
             slots = length-map slots_now (λ (slot : Slot). slot.contents) ∙ many ∙ sym (length-map slots (λ (slot : Slot). slot.contents)) ∙ store.kept.slots;
             tree = subst IsTree (sym nodes_now) tree_new;
             index = subst (λ ns. IsIndex ns heads None) (sym nodes_now) (file_index nodes store.kept.tree b node kind_there written contents row name whole heads None store.kept.index);
-            groups = subst (λ ns. IsGrouped ns root None) (sym nodes_now) (file_groups nodes store.kept.tree b node kind_there written contents row name whole root None store.kept.groups);
             stored = subst (λ ns. IsStored later ways_now (holdings ns (staged_in slots_now))) (sym nodes_now) stored;
             counted = ap (λ F. free_count later + blocks F) filestore_is ∙ counted;
           };
@@ -306,7 +303,7 @@ module _ (arena : Blocks) (heads : Heads) (root : Head) (slots : List Slot) {way
           free,
           long,
           long_middle,
-          seen_blocks arena heads root slots store now view,
+          seen_blocks arena heads slots store now view,
         )
 
     place_stays : (j : ℕ) (d : Slot) → j < length slots → IsPlaced later (get_or slots j d)
@@ -330,7 +327,7 @@ module _ (arena : Blocks) (heads : Heads) (root : Head) (slots : List Slot) {way
           let still = (spares other is apart_before).0.held in
           ways_still middle later ways_now other long (λ k less. (runs other still).places k (omega (arith, less))) (keeps other is apart_before was)
 
-      pub file_store : IsStore later ways_now heads root slots
+      pub file_store : IsStore later ways_now heads slots
       file_store = written_store later after written row_is name_is whole octets here node_stays nodes_is (long ∙ long_middle) slots now.filestore.staged lists_are ways_now refl
           (subst (IsStored later ways_now) (sym holdings_now) (stored_changed arena later held (length staged + b) in_held told store.kept.stored spares_held filled_told ways_now has_later keeps_later))
           counted_now place_stays

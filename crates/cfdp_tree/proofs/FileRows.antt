@@ -2,7 +2,7 @@
 --     run_keeps       what a row does not say of its blocks stays
 --     row_keeps       what a row does not say of its octets stays
 --     file_places     all nodes stand where they stood
---     file_index, file_groups      and stand in the lists in which they stood
+--     file_index      and are in the lists of the index in which they were
 --     told_same       its contents are those that were written
 use Rattle.std.proofs.Common.{◌≡◌, ℕ, ◌<◌, Bool, true, false, List, [], length, Option, Some, None, refl, sym, ap, ◌∙◌, subst, arith, length-set}
 use Rattle.std.proofs.lemmas.Bool.{ne_eqb}
@@ -13,16 +13,13 @@ use Rattle.cfdp_actions.specs.declared.kind.Kind.TheVariants as kind
 use Rattle.cfdp_actions.specs.Filestore.{blocks_of}
 use Rattle.cfdp_tree.specs.declared.runs.Run.{Run}
 use Rattle.cfdp_tree.specs.declared.contents.Contents.{Contents}
-use Rattle.cfdp_tree.specs.declared.index.Head.{Head}
 use Rattle.cfdp_tree.specs.Row.{Row, row_of, name_of, kind_told}
 use Rattle.cfdp_tree.specs.Tree.{IsNode, row_at, name_at, IsNamed, IsTree, SamePlaces}
 use Rattle.cfdp_tree.specs.Index.{Heads, IsIndex}
-use Rattle.cfdp_tree.specs.Entries.{IsGrouped}
 use Rattle.cfdp_tree.specs.Kept.{contents_told}
 use Rattle.cfdp_tree.specs.Files.{with_run, with_contents, SameOctets}
 use Rattle.cfdp_tree.proofs.PlaceLaws.{kept_by, same_places}
 use Rattle.cfdp_tree.proofs.OutLaws.{index_kept}
-use Rattle.cfdp_tree.proofs.GroupLaws.{grouped_sized}
 
 pub run_keeps : {X : Type 0} (word : Row → X) (row : Row) (run : Run) → word (record row { first = run.first; last = run.last }) ≡ word row → word (with_run row run) ≡ word row
 run_keeps {X = X} word row run same = by_test (run.count == 0)
@@ -86,16 +83,3 @@ module _ (nodes : Blocks) (tree : IsTree nodes) (b : ℕ) (node : IsNode nodes b
 
   pub file_index : (heads : Heads) (out : Option ℕ) → IsIndex nodes heads out → IsIndex new heads out
   file_index heads out index = index_kept nodes new heads out file_places same_head (length-set nodes b (Some block)) index
-
-  -- the row by its numbers
-  row_is : row_of block ≡ record (row_at nodes b) { first = (with_run (row_at nodes b) contents.run).first; last = (with_run (row_at nodes b) contents.run).last; size = contents.size; sum = contents.sum }
-  row_is = row ∙ by_test (contents.run.count == 0)
-    where
-      by_test : (none : Bool) → (let was = row_at nodes b in let with = if none then was else record was { first = contents.run.first; last = contents.run.last } in
-          record with { size = contents.size; sum = contents.sum } ≡ record was { first = with.first; last = with.last; size = contents.size; sum = contents.sum })
-      by_test true = refl
-      by_test false = refl
-
-  pub file_groups : (root : Head) (out : Option ℕ) → IsGrouped nodes root out → IsGrouped new root out
-  file_groups root out groups =
-      grouped_sized nodes root out b block (with_run (row_at nodes b) contents.run).first (with_run (row_at nodes b) contents.run).last contents.size contents.sum tree node file row_is groups

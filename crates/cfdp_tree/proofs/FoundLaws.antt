@@ -28,7 +28,6 @@ use Rattle.cfdp_tree.specs.Ways.{HasWays, KeepsWays}
 use Rattle.cfdp_tree.specs.Contents.{IsFilled, contents_in}
 use Rattle.cfdp_tree.specs.Nodes.{nodes_in}
 use Rattle.cfdp_tree.specs.Tree.{IsNode, row_at, name_at, path_of}
-use Rattle.cfdp_tree.specs.declared.index.Head.{Head}
 use Rattle.cfdp_tree.specs.Index.{Heads}
 use Rattle.cfdp_tree.specs.Kept.{contents_told, no_contents, holdings, store_of}
 use Rattle.cfdp_tree.specs.Slots.{staged_in, IsStore}
@@ -45,12 +44,12 @@ some_node : (o : Option Node) → is_file o ≡ true → (node : Node) × (o ≡
 some_node None file = cc
 some_node (Some node) file = (node, refl)
 
-module _ (arena : Blocks) (heads : Heads) (root : Head) (slots : List Slot) {ways : List Way} (store : IsStore arena ways heads root slots) (now : Store) (view : store_of arena (staged_in slots) ≡ now) where
+module _ (arena : Blocks) (heads : Heads) (slots : List Slot) {ways : List Way} (store : IsStore arena ways heads slots) (now : Store) (view : store_of arena (staged_in slots) ≡ now) where
   abbrev nodes : Blocks
   nodes = nodes_in arena
 
   pub file_found : (p : Path) → is_file (node_at now.filestore p) ≡ true → (b : ℕ) × IsNode nodes b × (path_of nodes b ≡ p)
-  file_found p file = (let some = some_node (node_at now.filestore p) file in (shows arena heads root slots store now view).only p some.0 some.1)
+  file_found p file = (let some = some_node (node_at now.filestore p) file in (shows arena heads slots store now view).only p some.0 some.1)
 
   file_weighed : (p : Path) → blocks_of (length (octets_at now.filestore p)) ≤ blocks now.filestore
   unfolding blocks
@@ -58,23 +57,23 @@ module _ (arena : Blocks) (heads : Heads) (root : Head) (slots : List Slot) {way
 
   module _ (p : Path) (file : is_file (node_at now.filestore p) ≡ true) where
     octets_there : (b : ℕ) (node : IsNode nodes b) (way : path_of nodes b ≡ p) → octets_at now.filestore p ≡ contents_in arena (contents_told kind.File (row_at nodes b))
-    octets_there b node way = ap octets_in (file_there arena heads root slots store now view b p node way file)
+    octets_there b node way = ap octets_in (file_there arena heads slots store now view b p node way file)
 
     pub file_most : (b : ℕ) → IsNode nodes b → path_of nodes b ≡ p → (row_at nodes b).size ≤ 7864320
     file_most b node way = omega (
       arith,
       ap (λ (xs : List ℕ). length xs) (octets_there b node way),
-      length-contents arena (contents_told kind.File (row_at nodes b)) (file_filled arena heads root slots store now view b p node way file),
-      file_small arena heads root slots store now view p,
+      length-contents arena (contents_told kind.File (row_at nodes b)) (file_filled arena heads slots store now view b p node way file),
+      file_small arena heads slots store now view p,
     )
 
     module _ (found : FoundFile) (node : IsNode nodes found.node) (way : path_of nodes found.node ≡ p) (is : found.contents ≡ contents_told kind.File (row_at nodes found.node)) where
       pub found_ways : HasWays arena ways found.contents.run
       found_ways = subst (λ (x : Contents). HasWays arena ways x.run) (sym is)
-          (subst (λ (x : Contents). HasWays arena ways x.run) (held_here arena heads root slots store now view found.node p node way file) (store.kept.stored.led (length (staged_in slots) + found.node)))
+          (subst (λ (x : Contents). HasWays arena ways x.run) (held_here arena heads slots store now view found.node p node way file) (store.kept.stored.led (length (staged_in slots) + found.node)))
 
       pub found_filled : IsFilled arena found.contents
-      found_filled = subst (IsFilled arena) (sym is) (file_filled arena heads root slots store now view found.node p node way file)
+      found_filled = subst (IsFilled arena) (sym is) (file_filled arena heads slots store now view found.node p node way file)
 
       pub found_octets : octets_at now.filestore p ≡ contents_in arena found.contents
       found_octets = octets_there found.node node way ∙ ap (contents_in arena) (sym is)
@@ -91,13 +90,13 @@ module _ (arena : Blocks) (heads : Heads) (root : Head) (slots : List Slot) {way
           (nodes_later : nodes_in later ≡ with_block (nodes_in middle) found.node written) (row : row_of written ≡ with_contents (row_at (nodes_in middle) found.node) after)
           (name : name_of written ≡ name_at (nodes_in middle) found.node) (whole : length written ≡ 128) (runs : RunsStay middle later) (free : free_count later ≡ free_count middle) (long : length later ≡ length middle)
           (octets : List ℕ) (octets_is : contents_in middle after ≡ octets) where
-        pub found_store : (ways_now : List Way) → HasWays middle ways_now after.run → KeepsWays arena middle ways ways_now found.contents.run → IsStore later ways_now heads root slots
-        found_store ways_now has keeps = file_store arena heads root slots store now view found.node p node way file middle later after written nodes_middle long_middle
+        pub found_store : (ways_now : List Way) → HasWays middle ways_now after.run → KeepsWays arena middle ways ways_now found.contents.run → IsStore later ways_now heads slots
+        found_store ways_now has keeps = file_store arena heads slots store now view found.node p node way file middle later after written nodes_middle long_middle
             (subst (λ (x : Contents). Spares arena middle x.run after.run) is spares) filled (taken ∙ ap (λ (x : Contents). free_count arena + blocks_of x.size) is)
             nodes_later row name whole runs free long octets octets_is ways_now has (subst (λ (x : Contents). KeepsWays arena middle ways ways_now x.run) is keeps)
 
         pub found_changes : store_of later (staged_in slots) ≡ with_changes now (Becomes p (Some (File octets)) ∷ [])
-        found_changes = file_changes arena heads root slots store now view found.node p node way file middle later after written nodes_middle long_middle
+        found_changes = file_changes arena heads slots store now view found.node p node way file middle later after written nodes_middle long_middle
             (subst (λ (x : Contents). Spares arena middle x.run after.run) is spares) filled (taken ∙ ap (λ (x : Contents). free_count arena + blocks_of x.size) is)
             nodes_later row name whole runs free long octets octets_is
 
@@ -106,8 +105,8 @@ module _ (arena : Blocks) (heads : Heads) (root : Head) (slots : List Slot) {way
           (other_is : other.contents ≡ contents_told kind.File (row_at nodes other.node)) where
         other_size : length (octets_at now.filestore q) ≡ other.contents.size
         other_size =
-            ap (λ (xs : List ℕ). length xs) (ap octets_in (file_there arena heads root slots store now view other.node q other_node other_way also) ∙ ap (contents_in arena) (sym other_is))
-            ∙ length-contents arena other.contents (subst (IsFilled arena) (sym other_is) (file_filled arena heads root slots store now view other.node q other_node other_way also))
+            ap (λ (xs : List ℕ). length xs) (ap octets_in (file_there arena heads slots store now view other.node q other_node other_way also) ∙ ap (contents_in arena) (sym other_is))
+            ∙ length-contents arena other.contents (subst (IsFilled arena) (sym other_is) (file_filled arena heads slots store now view other.node q other_node other_way also))
 
         pub found_same : found.node ≡ other.node → found.contents ≡ other.contents
         found_same e = is ∙ ap (λ b. contents_told kind.File (row_at nodes b)) e ∙ sym other_is
@@ -126,8 +125,8 @@ module _ (arena : Blocks) (heads : Heads) (root : Head) (slots : List Slot) {way
         pub found_apart : found.node ≢ other.node → Apart found.contents.run other.contents.run
         found_apart differ =
             let staged = staged_in slots in
-            let here = held_here arena heads root slots store now view found.node p node way file ∙ sym is in
-            let there = held_here arena heads root slots store now view other.node q other_node other_way also ∙ sym other_is in
+            let here = held_here arena heads slots store now view found.node p node way file ∙ sym is in
+            let there = held_here arena heads slots store now view other.node q other_node other_way also ∙ sym other_is in
             subst (λ (x : Contents). Apart x.run other.contents.run) here
             (subst (λ (x : Contents). Apart (get_or (holdings nodes staged) (length staged + found.node) no_contents).run x.run) there
             (store.kept.stored.apart (length staged + found.node) (length staged + other.node) (λ e. differ (omega (arith, e)))))
@@ -138,14 +137,14 @@ module _ (arena : Blocks) (heads : Heads) (root : Head) (slots : List Slot) {way
           sizes = (λ k. found_size k + other_size k)
 
           pub append_room : blocks_of (found.contents.size + other.contents.size) ≤ free_count arena + blocks_of found.contents.size
-          append_room = omega (arith, room, ap blocks_of sizes, ap blocks_of found_size, seen_free arena heads root slots store now view)
+          append_room = omega (arith, room, ap blocks_of sizes, ap blocks_of found_size, seen_free arena heads slots store now view)
 
           pub append_most : found.contents.size + other.contents.size ≤ 7864320
           append_most = blocks_of-bound (found.contents.size + other.contents.size)
-              (omega (arith, append_room, ap blocks_of found_size, file_weighed p, seen_blocks arena heads root slots store now view, store.kept.small))
+              (omega (arith, append_room, ap blocks_of found_size, file_weighed p, seen_blocks arena heads slots store now view, store.kept.small))
 
         pub replace_room : blocks_of (length (octets_at now.filestore q)) ≤ free_blocks now + blocks_of (length (octets_at now.filestore p)) → blocks_of other.contents.size ≤ free_count arena + blocks_of found.contents.size
-        replace_room room = omega (arith, room, ap blocks_of found_size, ap blocks_of other_size, seen_free arena heads root slots store now view)
+        replace_room room = omega (arith, room, ap blocks_of found_size, ap blocks_of other_size, seen_free arena heads slots store now view)
 
         pub replace_most : other.contents.size ≤ 7864320
-        replace_most = omega (arith, other_size, file_small arena heads root slots store now view q)
+        replace_most = omega (arith, other_size, file_small arena heads slots store now view q)

@@ -1,8 +1,7 @@
 -- A file or a directory is made.
 --     entry_none, name_good, target_few     under the name of a path at which nothing stands there is no node
---     tree_made, index_made, groups_made, entry_made     a node for it
---     tree_linked, groups_linked            it is put into the index
---     make_view, make_store                 the store once it is in the index and in the list of its directory
+--     tree_made, index_made, entry_made     a node for it
+--     make_view, make_store                 the store once it is in the index
 use Rattle.std.proofs.Common.{◌≡◌, ℕ, ◌+◌, ◌<◌, ◌≤◌, true, List, [], ◌∷◌, ◌++◌, length, take, get_or, Option, Some, None, refl, sym, ap, ◌∙◌, subst, inl, inr, arith}
 use Rattle.std.proofs.lemmas.List.{get_or-set_same, get_or-set_other, length-map, length-take-le, take_more, take_all}
 use Rattle.std.proofs.lemmas.Bool.{cases_eq}
@@ -19,7 +18,6 @@ use Rattle.cfdp_actions.specs.Store.{Store, with_changes}
 use Rattle.cfdp_actions.proofs.StoreLaws.{no_blocks}
 use Rattle.cfdp_actions.proofs.ChangeLaws.{blocks-becomes}
 use Rattle.cfdp_tree.specs.declared.contents.Contents.{Contents}
-use Rattle.cfdp_tree.specs.declared.index.Head.{Head}
 use Rattle.cfdp_ways.specs.declared.way.Way.{Way}
 use Rattle.cfdp_tree.specs.declared.slots.Slot.{Slot}
 use Rattle.cfdp_tree.specs.Row.{Row, row_of, name_of, kind_told, plain_row}
@@ -28,21 +26,18 @@ use Rattle.cfdp_tree.specs.Nodes.{only_node, nodes_in}
 use Rattle.cfdp_tree.specs.Tree.{IsNode, IsDirectory, name_at, home_in, home, path_of, IsEntry, IsNamed, IsTree, Relinked}
 use Rattle.cfdp_tree.specs.Places.{path_at, StandsAt}
 use Rattle.cfdp_tree.specs.Index.{Heads, IsIndex}
-use Rattle.cfdp_tree.specs.Entries.{IsGrouped}
 use Rattle.cfdp_tree.specs.Kept.{no_contents, contents_told, file_of, file_in, node_told, node_of, Shows, store_of}
 use Rattle.cfdp_tree.specs.Slots.{staged_in, IsStore}
-use Rattle.cfdp_tree.specs.Changes.{Regrouped, empty_node}
+use Rattle.cfdp_tree.specs.Changes.{empty_node}
 use Rattle.cfdp_tree.proofs.ContentsLaws.{stays_contents}
 use Rattle.cfdp_tree.proofs.SlotLaws.{told_same}
 use Rattle.cfdp_tree.proofs.SeenLaws.{shows, seen_blocks}
 use Rattle.cfdp_tree.proofs.PlaceLaws.{same_tree}
-use Rattle.cfdp_tree.proofs.LinkLaws.{relinked_places}
 use Rattle.cfdp_tree.proofs.ClimbLaws.{path_entry}
 use Rattle.cfdp_tree.proofs.ParentLaws.{parent_directory, parent_place}
 use Rattle.cfdp_tree.proofs.AddLaws.{added_tree, added_path, added_shows}
-use Rattle.cfdp_tree.proofs.OutLaws.{index_created, nodes_long, index_regrouped}
-use Rattle.cfdp_tree.proofs.GroupLaws.{grouped_created, grouped_relinked}
-use Rattle.cfdp_tree.proofs.AlikeLaws.{Alike, alike_relinked, alike_regrouped, alike_then, told_by, alike_shows}
+use Rattle.cfdp_tree.proofs.OutLaws.{index_created}
+use Rattle.cfdp_tree.proofs.AlikeLaws.{Alike, alike_relinked, told_by, alike_shows}
 use Rattle.cfdp_tree.proofs.ChangedLaws.{IsLeft, list_held, file_held, nodes_seen, nodes_store}
 
 no_node : {node : Node} → None ≡ Some node → ⊥
@@ -60,7 +55,7 @@ empty_weight : (k : Kind) → weight (Some (empty_node k)) ≡ 1
 empty_weight kind.Directory = refl
 empty_weight kind.File = ap (λ n. 1 + n) no_blocks
 
-module _ (arena : Blocks) (heads : Heads) (root : Head) (slots : List Slot) {ways : List Way} (store : IsStore arena ways heads root slots) (now : Store) (view : store_of arena (staged_in slots) ≡ now)
+module _ (arena : Blocks) (heads : Heads) (slots : List Slot) {ways : List Way} (store : IsStore arena ways heads slots) (now : Store) (view : store_of arena (staged_in slots) ≡ now)
     (path : Path) (is_path : IsPath path) (depth : ℕ) (long : length path ≡ depth + 1) (parent_good : parent_is_good now.filestore path ≡ true)
     (place : Option ℕ) (place_node : IfSome place (λ b. IsNode (nodes_in arena) b)) (place_path : IfSome place (λ b. path_of (nodes_in arena) b ≡ take depth path))
     (place_none : IfNone place ((b : ℕ) → IsNode (nodes_in arena) b → path_of (nodes_in arena) b ≡ take depth path → ⊥)) (name : Name) (name_is : name ≡ get_or path depth []) where
@@ -68,10 +63,10 @@ module _ (arena : Blocks) (heads : Heads) (root : Head) (slots : List Slot) {way
   nodes = nodes_in arena
 
   directory : (d : ℕ) → place ≡ Some d → IsDirectory nodes d
-  directory = parent_directory arena nodes store.kept.tree now.filestore (shows arena heads root slots store now view) path depth long parent_good place (place_node, place_path, place_none)
+  directory = parent_directory arena nodes store.kept.tree now.filestore (shows arena heads slots store now view) path depth long parent_good place (place_node, place_path, place_none)
 
   stands : StandsAt nodes place (take depth path)
-  stands = parent_place arena nodes store.kept.tree now.filestore (shows arena heads root slots store now view) path depth long parent_good place (place_node, place_path, place_none)
+  stands = parent_place arena nodes store.kept.tree now.filestore (shows arena heads slots store now view) path depth long parent_good place (place_node, place_path, place_none)
 
   pub path_is : take depth path ++ name ∷ [] ≡ path
   path_is = ap (λ n. take depth path ++ n ∷ []) name_is ∙ sym (take_more path depth [] (omega (arith, long))) ∙ take_all (depth + 1) path (omega (arith, long))
@@ -85,7 +80,7 @@ module _ (arena : Blocks) (heads : Heads) (root : Head) (slots : List Slot) {way
   pub entry_none : node_at now.filestore path ≡ None → (c : ℕ) → IsEntry nodes place name c → ⊥
   entry_none absent c entry =
       let way = path_entry nodes store.kept.tree place (take depth path) name c stands entry ∙ path_is in
-      no_node (sym absent ∙ ap (node_at now.filestore) (sym way) ∙ (shows arena heads root slots store now view).each c entry.node)
+      no_node (sym absent ∙ ap (node_at now.filestore) (sym way) ∙ (shows arena heads slots store now view).each c entry.node)
 
   module _ (absent : node_at now.filestore path ≡ None) (one : Blocks) (b : ℕ) (k : Kind) (free : octets_at arena b ≡ None) (within : b < length arena)
       (one_is : nodes_in one ≡ with_block nodes b (octets_of (nodes_in one) b)) (row : row_of (octets_of (nodes_in one) b) ≡ plain_row (unwrap_or place b) k name)
@@ -127,33 +122,19 @@ module _ (arena : Blocks) (heads : Heads) (root : Head) (slots : List Slot) {way
     pub index_made : IsIndex (nodes_in one) heads (Some b)
     index_made = subst (λ ns. IsIndex ns heads (Some b)) (sym one_is) (index_created nodes heads b block inside free_node store.kept.index)
 
-    pub groups_made : IsGrouped (nodes_in one) root (Some b)
-    groups_made = subst (λ ns. IsGrouped ns root (Some b)) (sym one_is) (grouped_created nodes root b block inside free_node store.kept.tree (ap (λ (r : Row). r.size) row) store.kept.groups)
-
     here : octets_at made b ≡ Some block
     here = get_or-set_same nodes b (Some block) None inside
 
     pub entry_made : IsEntry (nodes_in one) place name b
     entry_made = record { node = subst (λ ns. IsNode ns b) (sym one_is) (subst IsSome (sym here) refl); there = there; named = named }
 
-    module _ (two : Blocks) (links : Relinked (nodes_in one) (nodes_in two)) where
-      pub tree_linked : IsTree (nodes_in two)
-      tree_linked = same_tree (nodes_in one) (nodes_in two) (relinked_places (nodes_in one) (nodes_in two) links) tree_made
-
-      pub groups_linked : IsGrouped (nodes_in two) root (Some b)
-      groups_linked = grouped_relinked (nodes_in one) (nodes_in two) root (Some b) links groups_made
-
-    module _ (two : Blocks) (links : Relinked (nodes_in one) (nodes_in two)) (heads_now : Heads) (index_two : IsIndex (nodes_in two) heads_now None)
-        (later : Blocks) (root_now : Head) (regrouped : Regrouped (nodes_in two) (nodes_in later)) (groups : IsGrouped (nodes_in later) root_now None)
-        (runs : RunsStay arena later) (long_two : length later ≡ length two) (long_now : length later ≡ length arena) (taken : free_count later + 1 ≡ free_count arena) where
+    module _ (later : Blocks) (links : Relinked (nodes_in one) (nodes_in later)) (heads_now : Heads) (index : IsIndex (nodes_in later) heads_now None)
+        (runs : RunsStay arena later) (long_now : length later ≡ length arena) (taken : free_count later + 1 ≡ free_count arena) where
       same : Alike (nodes_in one) (nodes_in later)
-      same = alike_then (nodes_in one) (nodes_in two) (nodes_in later) (alike_relinked (nodes_in one) (nodes_in two) links) (alike_regrouped (nodes_in two) (nodes_in later) regrouped)
+      same = alike_relinked (nodes_in one) (nodes_in later) links
 
       tree : IsTree (nodes_in later)
       tree = same_tree (nodes_in one) (nodes_in later) same.places tree_made
-
-      index : IsIndex (nodes_in later) heads_now None
-      index = index_regrouped (nodes_in two) (nodes_in later) heads_now None regrouped (nodes_long two later long_two) index_two
 
       abbrev staged : List Contents
       staged = staged_in slots
@@ -172,7 +153,7 @@ module _ (arena : Blocks) (heads : Heads) (root : Head) (slots : List Slot) {way
         | inl e ↦ inl (alike.files c ∙ ap (λ x. file_in (octets_at made x)) e ∙ ap file_in here ∙ file_new)
         | inr other ↦ inr (
           alike.files c ∙ ap file_in (get_or-set_other nodes b c (Some block) None other),
-          runs (file_in (octets_at nodes c)).run (file_held arena heads root slots store c),
+          runs (file_in (octets_at nodes c)).run (file_held arena heads slots store c),
         )
       ]
 
@@ -180,7 +161,7 @@ module _ (arena : Blocks) (heads : Heads) (root : Head) (slots : List Slot) {way
       node_kept c node =
           told_by later nodes c node
           ∙ told_same arena later (kind_told (row_of (octets_of nodes c)).kind) (file_in (octets_at nodes c))
-          (stays_contents arena later (file_in (octets_at nodes c)) (runs (file_in (octets_at nodes c)).run (file_held arena heads root slots store c)))
+          (stays_contents arena later (file_in (octets_at nodes c)) (runs (file_in (octets_at nodes c)).run (file_held arena heads slots store c)))
           ∙ sym (told_by arena nodes c node)
 
       path_new : path_of made b ≡ path
@@ -193,22 +174,22 @@ module _ (arena : Blocks) (heads : Heads) (root : Head) (slots : List Slot) {way
           alike_shows made (nodes_in later) alike later (finite.insert now.filestore.nodes path (empty_node k))
           (subst (λ p. Shows later made (finite.insert now.filestore.nodes p (empty_node k))) path_new
           (subst (λ n. Shows later made (finite.insert now.filestore.nodes (path_of made b) n)) node_new
-          (added_shows nodes b block inside free_node store.kept.tree block_named good few fresh arena later now.filestore.nodes (shows arena heads root slots store now view) node_kept)))
+          (added_shows nodes b block inside free_node store.kept.tree block_named good few fresh arena later now.filestore.nodes (shows arena heads slots store now view) node_kept)))
 
       lists_stay : (j : ℕ) → Stays arena later (get_or staged j no_contents).run
-      lists_stay j = runs (get_or staged j no_contents).run (list_held arena heads root slots store j)
+      lists_stay j = runs (get_or staged j no_contents).run (list_held arena heads slots store j)
 
       pub make_view : store_of later staged ≡ with_changes now (Becomes path (Some (empty_node k)) ∷ [])
       make_view =
-          nodes_seen arena later heads heads_now root root_now slots store long_now lists_stay files_left (finite.insert now.filestore.nodes path (empty_node k)) shows_now tree index groups
+          nodes_seen arena later heads heads_now slots store long_now lists_stay files_left (finite.insert now.filestore.nodes path (empty_node k)) shows_now tree index
           ∙ (λ i. record (view i) { filestore = record { nodes = finite.insert now.filestore.nodes path (empty_node k); staged = (view i).filestore.staged } })
 
       seen_is : record { nodes = finite.insert now.filestore.nodes path (empty_node k); staged = (store_of arena staged).filestore.staged } ≡ files.changed now.filestore (Becomes path (Some (empty_node k)))
       seen_is = (λ i. record { nodes = finite.insert now.filestore.nodes path (empty_node k); staged = (view i).filestore.staged })
 
-      pub make_store : IsStore later ways heads_now root_now slots
+      pub make_store : IsStore later ways heads_now slots
       make_store =
-          nodes_store arena later heads heads_now root root_now slots store long_now lists_stay files_left (finite.insert now.filestore.nodes path (empty_node k)) shows_now tree index groups
+          nodes_store arena later heads heads_now slots store long_now lists_stay files_left (finite.insert now.filestore.nodes path (empty_node k)) shows_now tree index
           (omega (
             arith,
             ap blocks seen_is,
@@ -217,5 +198,5 @@ module _ (arena : Blocks) (heads : Heads) (root : Head) (slots : List Slot) {way
             empty_weight k,
             taken,
             long_now,
-            seen_blocks arena heads root slots store now view,
+            seen_blocks arena heads slots store now view,
           ))

@@ -2,13 +2,13 @@
 --     head_none, contents_none      what means nothing
 --     filled_up                     a list that is filled up with one thing
 --     new_view, new_store           the store
-use Rattle.std.proofs.Common.{◌≡◌, ◌≢◌, ℕ, zero, suc, ◌-◌, ◌*◌, ◌<◌, ◌≤◌, true, List, [], ◌∷◌, ◌++◌, length, map, take, get_or, replicate, sum_by, Option, Some, None, refl, sym, ap, ◌∙◌, subst, inl, inr, arith}
+use Rattle.std.proofs.Common.{◌≡◌, ℕ, zero, suc, ◌-◌, ◌*◌, ◌<◌, ◌≤◌, true, List, [], ◌∷◌, ◌++◌, length, map, take, get_or, replicate, sum_by, Option, Some, None, refl, sym, ap, ◌∙◌, subst, inl, inr, arith}
 use Rattle.std.proofs.lemmas.List.{length-replicate, get_or-replicate, get_or_past, get_or-append_right, get_or_append_left}
 use Rattle.std.proofs.lemmas.List.Folds.{sum_by-replicate}
 use Rattle.std.proofs.lemmas.Bool.{cases_lt}
 use Rattle.std.specs.FinMap as finite
 use Rattle.std.specs.FinMap.{get-empty, len-empty, len-entries}
-use Rattle.std.specs.Prelude.{All, AllPairs, IsSome}
+use Rattle.std.specs.Prelude.{All, IsSome}
 use Rattle.cfdp_paths.specs.Paths.{Path, path_cmp}
 use Rattle.cfdp_arena.specs.Arena.{Blocks, octets_at, all_free, live_count}
 use Rattle.cfdp_actions.specs.Filestore.{Node, empty_filestore, weights, blocks, blocks_of}
@@ -22,8 +22,6 @@ use Rattle.cfdp_tree.specs.Contents.{IsFilled, contents_in}
 use Rattle.cfdp_tree.specs.Nodes.{only_node, nodes_in}
 use Rattle.cfdp_tree.specs.Tree.{IsNode, IsTree}
 use Rattle.cfdp_tree.specs.Index.{no_head, list_of, list_at, IsIndex}
-use Rattle.cfdp_tree.specs.Lists.{IsDouble}
-use Rattle.cfdp_tree.specs.Entries.{entry_after, entry_before, entries_at, IsPlace, IsMember, IsGrouped}
 use Rattle.cfdp_tree.specs.Kept.{no_contents, file_in, holdings, Shows, filestore_of, store_of, IsStored}
 use Rattle.cfdp_tree.specs.Slots.{staged_in, IsPlaced, IsFresh, IsStore}
 use Rattle.cfdp_tree.specs.declared.orders.Orders.{Orders}
@@ -71,7 +69,7 @@ none_live : (n : ℕ) → live_count (all_free n) ≡ 0
 none_live zero = refl
 none_live (suc n) = none_live n
 
-module _ (n : ℕ) (some : 1 ≤ n) (few : n ≤ 65536) (heads : List Head) (root : Head) (head : Head) (heads_are : heads ≡ replicate n head) (head_is : head ≡ no_head) (root_is : root ≡ no_head)
+module _ (n : ℕ) (some : 1 ≤ n) (few : n ≤ 65536) (heads : List Head) (head : Head) (heads_are : heads ≡ replicate n head) (head_is : head ≡ no_head)
     (slots : List Slot) (many : length slots ≡ 64) (fresh : All IsFresh slots) where
   abbrev arena : Blocks
   arena = all_free n
@@ -124,27 +122,6 @@ module _ (n : ℕ) (some : 1 ≤ n) (few : n ≤ 65536) (heads : List Head) (roo
       none_live n,
     );
   }
-
-  groups : IsGrouped nodes root None
-  groups = subst (λ r. IsGrouped nodes r None) (sym root_is) (record {
-    own = own_none;
-    once = once_none;
-    double = double_none;
-    all = (λ b node inside. absurd (no_node b node));
-  })
-    where
-      own_none : (place : Option ℕ) → IsPlace nodes place → All (IsMember nodes None place) (entries_at nodes no_head place)
-      own_none None is = (λ i d less. absurd (omega (arith, less)))
-      own_none (Some d) is = absurd (no_node d (is.directory d refl).node)
-
-      once_none : (place : Option ℕ) → IsPlace nodes place → AllPairs (λ b c. b ≢ c) (entries_at nodes no_head place)
-      once_none None is = (λ i j d before less. absurd (omega (arith, less)))
-      once_none (Some d) is = absurd (no_node d (is.directory d refl).node)
-
-      double_none : (place : Option ℕ) → IsPlace nodes place
-          → IsDouble (entry_after nodes) (entry_before nodes) (entries_at nodes no_head place)
-      double_none None is = tt
-      double_none (Some d) is = absurd (no_node d (is.directory d refl).node)
 
   abbrev staged : List Contents
   staged = staged_in slots
@@ -202,7 +179,7 @@ module _ (n : ℕ) (some : 1 ≤ n) (few : n ≤ 65536) (heads : List Head) (roo
   placed : All (IsPlaced arena) slots
   placed i d less = let slot = fresh i d less in slot_starts arena (get_or slots i d) slot.block slot.index (slot.blank ∙ sym (ap (λ (x : Contents). x.size) slot.contents)) slot.gap
 
-  pub new_store : (ways : List Way) → length ways ≡ n → IsStore arena ways heads root slots
+  pub new_store : (ways : List Way) → length ways ≡ n → IsStore arena ways heads slots
   new_store ways ways_long = record {
     kept = record {
       some = omega (arith, length-replicate {A = Option (List ℕ)} n None, some);
@@ -210,7 +187,6 @@ module _ (n : ℕ) (some : 1 ≤ n) (few : n ≤ 65536) (heads : List Head) (roo
       slots = staged_long;
       tree = tree;
       index = index;
-      groups = groups;
       stored = stored ways ways_long;
       counted = omega (arith, ap blocks filestore_empty, none_used, none_live n, length-replicate {A = Option (List ℕ)} n None);
     };

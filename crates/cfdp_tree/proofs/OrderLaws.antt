@@ -1,9 +1,10 @@
 -- Entries in order of their names, as one of them comes and goes.
---     member_at, home_at          a node of an order is one of its place
---     all_known                   its name can be read
+--     member_at                   a node of an order is one of its place
 --     apart_places                no node is in the orders of two places
---     sorted_with                 one entry more
+--     out_nowhere                 a node that is out is in none
 --     entered, left               the orders once an entry is put into that of its place, and once it is taken out
+--     same_change, same_others    what stays, by what was read first
+--     place_inside, home_node     a place that is there has an order
 use Rattle.std.proofs.Common.{◌≡◌, ◌≢◌, ℕ, ◌+◌, ◌<◌, ◌≤◌, List, ◌∷◌, ◌++◌, length, Option, Some, None, refl, sym, ap, ◌∙◌, subst, inl, inr, arith}
 use Rattle.std.proofs.lemmas.Bool.{cases_eq, cases_lt}
 use Rattle.std.proofs.lemmas.List.Elements.{All-weaker}
@@ -28,7 +29,7 @@ use Rattle.cfdp_tree.specs.declared.orders.Orders.{Orders}
 use Rattle.cfdp_tree.specs.Tree.{IsNode, name_at, home, IsEntry, IsTree}
 use Rattle.cfdp_tree.specs.Entries.{IsMember}
 use Rattle.cfdp_tree.specs.Next.{name_cmp}
-use Rattle.cfdp_tree.specs.Orders.{order_at, in_order, IsKnown, Rises, IsOrdered}
+use Rattle.cfdp_tree.specs.Orders.{order_at, in_order, Rises, IsOrdered}
 use Rattle.cfdp_tree.proofs.LeastLaws.{flipped}
 use Rattle.cfdp_tree.proofs.SortLaws.{of_times, at_times, split_at, pairs_front, pairs_back, less_back, less_first, place_cases}
 
@@ -44,10 +45,6 @@ none_times m list never = elim (cases_lt 0 (times m list)) [
 module _ (nodes : Blocks) (orders : Orders) (out : Option ℕ) (ordered : IsOrdered nodes orders out) where
   pub member_at : (place : Option ℕ) (m : ℕ) → 1 ≤ times m (in_order orders place) → IsMember nodes out place m
   member_at place m some = at_times (IsMember nodes out place) (in_order orders place) m (ordered.own place) some
-
-  pub all_known : IsTree nodes → (place : Option ℕ) → All (IsKnown nodes) (in_order orders place)
-  all_known tree place =
-      All-weaker (IsMember nodes out place) (IsKnown nodes) (λ m member. record { node = member.node; named = tree.named m member.node }) (in_order orders place) (ordered.own place)
 
   pub apart_places : (p q : Option ℕ) → p ≢ q → (m : ℕ) → 1 ≤ times m (in_order orders p) → times m (in_order orders q) ≡ 0
   apart_places p q other m some = none_times m (in_order orders q) (λ too. other (sym (member_at p m some).there ∙ (member_at q m too).there))
@@ -115,9 +112,6 @@ module _ (nodes : Blocks) (tree : IsTree nodes) (old : Orders) (place : Option �
   module _ (ordered : IsOrdered nodes old (Some b)) where
     pub enters : times b (in_order old place) ≡ 0
     enters = out_nowhere nodes old (Some b) ordered b refl place
-
-    pub enters_within : b < length old.links.items
-    enters_within = omega (arith, within, ordered.links)
 
     -- of another name than those that are there
     later : (m : ℕ) → IsMember nodes (Some b) place m → side m ≢ Less → name_cmp (name_at nodes b) (name_at nodes m) ≡ Less

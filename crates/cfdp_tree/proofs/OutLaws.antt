@@ -1,7 +1,6 @@
 -- The index where a node changes that stands in none of its lists, and where links change that are not its own.
 --     index_created, index_moved, index_deleted     a node is made, is put elsewhere, goes
 --     index_kept                                    neither nodes nor links of the index change
---     index_regrouped                               the links of entries change
 --     nodes_long                                    there are as many blocks
 use Rattle.std.proofs.Common.{◌≡◌, ◌≢◌, ℕ, suc, zero, ◌+◌, ◌<◌, List, [], ◌∷◌, length, get_or, Option, Some, None, refl, sym, ap, ◌∙◌, subst, arith}
 use Rattle.std.proofs.lemmas.List.{get_or-set_same, get_or-set_other, length-map}
@@ -12,7 +11,6 @@ use Rattle.cfdp_tree.specs.Row.{row_of, name_of}
 use Rattle.cfdp_tree.specs.Nodes.{only_node, nodes_in}
 use Rattle.cfdp_tree.specs.Tree.{IsNode, row_at, name_at, home_in, home, SamePlaces}
 use Rattle.cfdp_tree.specs.Index.{Heads, place_of, chain, no_head, list_at, count_out, IsListed, IsIndex}
-use Rattle.cfdp_tree.specs.Changes.{Regrouped}
 use Rattle.cfdp_tree.proofs.Counts.{live_count-taken, live_count-written, live_count-given, live_count-same}
 use Rattle.cfdp_tree.proofs.IndexLaws.{place_within, kept_chain}
 
@@ -116,6 +114,3 @@ module _ (old new : Blocks) (heads : Heads) (out : Option ℕ) (places : SamePla
         (subst (λ k. Contains (list_at old heads k) c) (sym (place_kept c)) (index.all c (sym (places.nodes c) ∙ node) inside)));
     counted = omega (arith, index.counted, live);
   }
-
-pub index_regrouped : (old new : Blocks) (heads : Heads) (out : Option ℕ) → Regrouped old new → length new ≡ length old → IsIndex old heads out → IsIndex new heads out
-index_regrouped old new heads out same long index = index_kept old new heads out same.places same.same_heads long index

@@ -31,11 +31,9 @@ module _ (a b : List ℕ) (same : (i : ℕ) → i < 32 → get_or a i 0 ≡ get_
       let kind = same 18 (omega arith) in
       let name = same 19 (omega arith) in
       let head = number_same 20 (omega arith) in
-      let next = number_same 22 (omega arith) in
-      let previous = number_same 24 (omega arith) in
       let sum_low = number_same 26 (omega arith) in
       let sum_high = number_same 28 (omega arith) in
-      (λ k. record { parent = parent k; first = first k; last = last k; size = low k + 65536 * high k; kind = kind k; name_length = name k; same_head = head k; next_entry = next k; previous_entry = previous k; sum = sum_low k + 65536 * sum_high k })
+      (λ k. record { parent = parent k; first = first k; last = last k; size = low k + 65536 * high k; kind = kind k; name_length = name k; same_head = head k; sum = sum_low k + 65536 * sum_high k })
 
   pub header_same : header_of a ≡ header_of b
   header_same =
@@ -61,13 +59,11 @@ row-payload a b same =
     let kind = octet 10 18 refl in
     let name = octet 11 19 refl in
     let head = pair 12 20 refl in
-    let next = pair 14 22 refl in
-    let previous = pair 16 24 refl in
     let sum_low = pair 18 26 refl in
     let sum_high = pair 20 28 refl in
-    (λ k. record { parent = parent k; first = first k; last = last k; size = low k + 65536 * high k; kind = kind k; name_length = name k; same_head = head k; next_entry = next k; previous_entry = previous k; sum = sum_low k + 65536 * sum_high k })
+    (λ k. record { parent = parent k; first = first k; last = last k; size = low k + 65536 * high k; kind = kind k; name_length = name k; same_head = head k; sum = sum_low k + 65536 * sum_high k })
 
-pub blank_row : row_of blank_block ≡ record { parent = 0; first = 0; last = 0; size = 0; kind = 0; name_length = 0; same_head = 0; next_entry = 0; previous_entry = 0; sum = 0 }
+pub blank_row : row_of blank_block ≡ record { parent = 0; first = 0; last = 0; size = 0; kind = 0; name_length = 0; same_head = 0; sum = 0 }
 unfolding blank_block
 blank_row = refl
 
@@ -149,12 +145,10 @@ module _ (block : List ℕ) (whole : length block ≡ 128) (lowest low high high
       let kind = other block whole 14 (omega arith) lowest low high highest 18 (inr (omega arith)) in
       let name = other block whole 14 (omega arith) lowest low high highest 19 (inr (omega arith)) in
       let head = after block whole 14 (omega arith) lowest low high highest 20 (omega arith) in
-      let next = after block whole 14 (omega arith) lowest low high highest 22 (omega arith) in
-      let previous = after block whole 14 (omega arith) lowest low high highest 24 (omega arith) in
       let sum_low = after block whole 14 (omega arith) lowest low high highest 26 (omega arith) in
       let sum_high = after block whole 14 (omega arith) lowest low high highest 28 (omega arith) in
       let size = number_put block whole 14 (omega arith) lowest low high highest number is in
-      (λ k. record { parent = parent k; first = first k; last = last k; size = size k; kind = kind k; name_length = name k; same_head = head k; next_entry = next k; previous_entry = previous k; sum = sum_low k + 65536 * sum_high k })
+      (λ k. record { parent = parent k; first = first k; last = last k; size = size k; kind = kind k; name_length = name k; same_head = head k; sum = sum_low k + 65536 * sum_high k })
 
   pub row-summed : row_of (four block whole 26 (omega arith) lowest low high highest) ≡ record (row_of block) { sum = number }
   row-summed =
@@ -166,7 +160,5 @@ module _ (block : List ℕ) (whole : length block ≡ 128) (lowest low high high
       let kind = other block whole 26 (omega arith) lowest low high highest 18 (inl (omega arith)) in
       let name = other block whole 26 (omega arith) lowest low high highest 19 (inl (omega arith)) in
       let head = before block whole 26 (omega arith) lowest low high highest 20 (omega arith) in
-      let next = before block whole 26 (omega arith) lowest low high highest 22 (omega arith) in
-      let previous = before block whole 26 (omega arith) lowest low high highest 24 (omega arith) in
       let sum = number_put block whole 26 (omega arith) lowest low high highest number is in
-      (λ k. record { parent = parent k; first = first k; last = last k; size = low_size k + 65536 * high_size k; kind = kind k; name_length = name k; same_head = head k; next_entry = next k; previous_entry = previous k; sum = sum k })
+      (λ k. record { parent = parent k; first = first k; last = last k; size = low_size k + 65536 * high_size k; kind = kind k; name_length = name k; same_head = head k; sum = sum k })

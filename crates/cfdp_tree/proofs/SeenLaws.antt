@@ -30,7 +30,6 @@ use Rattle.cfdp_tree.specs.Contents.{IsFilled, contents_in}
 use Rattle.cfdp_tree.specs.Nodes.{nodes_in}
 use Rattle.cfdp_tree.specs.Ways.{HasWays}
 use Rattle.cfdp_tree.specs.Tree.{IsNode, path_of}
-use Rattle.cfdp_tree.specs.declared.index.Head.{Head}
 use Rattle.cfdp_tree.specs.Index.{Heads}
 use Rattle.cfdp_tree.specs.Kept.{no_contents, contents_told, file_in, holdings, node_told, node_of, Shows, store_of}
 use Rattle.cfdp_tree.specs.Slots.{staged_in, IsPlaced, IsStore}
@@ -72,7 +71,7 @@ seen_parent F p depth long some =
     ∙ ap (is_good F) above
     ∙ good_at F (take depth p) (omega (arith, long, length-take-le depth p (omega (arith, long))))
 
-module _ (arena : Blocks) (heads : Heads) (root : Head) (slots : List Slot) {ways : List Way} (store : IsStore arena ways heads root slots) (now : Store) (view : store_of arena (staged_in slots) ≡ now) where
+module _ (arena : Blocks) (heads : Heads) (slots : List Slot) {ways : List Way} (store : IsStore arena ways heads slots) (now : Store) (view : store_of arena (staged_in slots) ≡ now) where
   pub shows : Shows arena (nodes_in arena) now.filestore.nodes
   shows = subst (λ (s : Store). Shows arena (nodes_in arena) s.filestore.nodes) view (tree_shows arena (nodes_in arena) store.kept.tree)
 

@@ -1,7 +1,7 @@
 -- What stands at a path is moved to another one, with all that stands below it.
 --     shallow_each                      each path of a tree that is not too deep has at most 8 names
 --     place_nodes, place_other          the new directory is a node, and another one
---     tree_three, index_three, groups_three, entry_three     the node is put into it while it is in no list
+--     tree_three, index_three, entry_three     the node is put into it while it is in no list
 --     shift_view, shift_store           the store once it is in the lists of its new place
 use Rattle.std.proofs.Common.{◌≡◌, ◌≢◌, ℕ, ◌+◌, ◌≤◌, nat_lt, Bool, true, false, not, cond, ◌||◌, List, [], ◌∷◌, ◌++◌, length, take, get_or, Option, Some, None, is_some, refl, sym, ap, ◌∙◌, subst, inr, arith}
 use Rattle.std.proofs.lemmas.Bool.Decides.{nat_tests}
@@ -20,7 +20,6 @@ use Rattle.cfdp_actions.specs.Store.{Store, with_changes}
 use Rattle.cfdp_states.proofs.Prefixes.{rebased-below, rebased_back}
 use Rattle.cfdp_states.proofs.Moves.{after-append, find-tree_at, moved, nothing_there, moved_there, moved_apart, blocks-moved}
 use Rattle.cfdp_tree.specs.declared.contents.Contents.{Contents}
-use Rattle.cfdp_tree.specs.declared.index.Head.{Head}
 use Rattle.cfdp_ways.specs.declared.way.Way.{Way}
 use Rattle.cfdp_tree.specs.declared.slots.Slot.{Slot}
 use Rattle.cfdp_tree.specs.Row.{Row, row_of, name_of, kind_told}
@@ -29,7 +28,6 @@ use Rattle.cfdp_tree.specs.Nodes.{nodes_in}
 use Rattle.cfdp_tree.specs.Tree.{IsNode, IsDirectory, row_at, name_at, home_in, home, path_of, IsEntry, IsNamed, IsTree}
 use Rattle.cfdp_tree.specs.Places.{path_at, StandsAt}
 use Rattle.cfdp_tree.specs.Index.{Heads, IsIndex}
-use Rattle.cfdp_tree.specs.Entries.{IsGrouped}
 use Rattle.cfdp_tree.specs.Kept.{no_contents, contents_told, file_of, file_in, node_told, node_of, Shows, store_of}
 use Rattle.cfdp_tree.specs.Slots.{staged_in, IsStore}
 use Rattle.cfdp_tree.proofs.ContentsLaws.{stays_contents}
@@ -41,7 +39,6 @@ use Rattle.cfdp_tree.proofs.RootedLaws.{tree_rooted}
 use Rattle.cfdp_tree.proofs.MakeLaws.{path_is, name_good, entry_none}
 use Rattle.cfdp_tree.proofs.MoveLaws.{moved_tree, moved_path, stayed_path}
 use Rattle.cfdp_tree.proofs.OutLaws.{index_moved}
-use Rattle.cfdp_tree.proofs.GroupLaws.{grouped_moved}
 use Rattle.cfdp_tree.proofs.AlikeLaws.{Alike, alike_node, alike_directory, told_by, alike_shows}
 use Rattle.cfdp_tree.proofs.ChangedLaws.{IsLeft, list_held, file_held, nodes_seen, nodes_store}
 
@@ -100,7 +97,7 @@ held_is : (o : Option (List ℕ)) → IsSome o → file_of (unwrap_or o []) ≡ 
 held_is None some = cc
 held_is (Some block) some = refl
 
-module _ (arena : Blocks) (heads : Heads) (root : Head) (slots : List Slot) {ways : List Way} (store : IsStore arena ways heads root slots) (now : Store) (view : store_of arena (staged_in slots) ≡ now)
+module _ (arena : Blocks) (heads : Heads) (slots : List Slot) {ways : List Way} (store : IsStore arena ways heads slots) (now : Store) (view : store_of arena (staged_in slots) ≡ now)
     (p : Path) (b : ℕ) (node : IsNode (nodes_in arena) b) (way : path_of (nodes_in arena) b ≡ p)
     (q : Path) (is_path : IsPath q) (depth : ℕ) (long : length q ≡ depth + 1) (parent_good : parent_is_good now.filestore q ≡ true)
     (place : Option ℕ) (place_node : IfSome place (λ x. IsNode (nodes_in arena) x)) (place_path : IfSome place (λ x. path_of (nodes_in arena) x ≡ take depth q))
@@ -110,7 +107,7 @@ module _ (arena : Blocks) (heads : Heads) (root : Head) (slots : List Slot) {way
   nodes = nodes_in arena
 
   seen : Shows arena nodes now.filestore.nodes
-  seen = shows arena heads root slots store now view
+  seen = shows arena heads slots store now view
 
   directory : (d : ℕ) → place ≡ Some d → IsDirectory nodes d
   directory = parent_directory arena nodes store.kept.tree now.filestore seen q depth long parent_good place (place_node, place_path, place_none)
@@ -119,10 +116,10 @@ module _ (arena : Blocks) (heads : Heads) (root : Head) (slots : List Slot) {way
   stands = parent_place arena nodes store.kept.tree now.filestore seen q depth long parent_good place (place_node, place_path, place_none)
 
   whole : take depth q ++ name ∷ [] ≡ q
-  whole = path_is arena heads root slots store now view q is_path depth long parent_good place place_node place_path place_none name name_is
+  whole = path_is arena heads slots store now view q is_path depth long parent_good place place_node place_path place_none name name_is
 
   named : IsName name
-  named = name_good arena heads root slots store now view q is_path depth long parent_good place place_node place_path place_none name name_is
+  named = name_good arena heads slots store now view q is_path depth long parent_good place place_node place_path place_none name name_is
 
   -- the node does not go into itself
   pub place_other : place ≢ Some b
@@ -185,7 +182,7 @@ module _ (arena : Blocks) (heads : Heads) (root : Head) (slots : List Slot) {way
 
       fresh : (c : ℕ) → IsEntry before (home_in b block) (name_of block) c → ⊥
       fresh c entry =
-          entry_none arena heads root slots store now view q is_path depth long parent_good place place_node place_path place_none name name_is absent c (record {
+          entry_none arena heads slots store now view q is_path depth long parent_good place place_node place_path place_none name name_is absent c (record {
             node = alike_node nodes before same c entry.node;
             there = sym (same.places.homes c) ∙ entry.there ∙ there;
             named = sym (same.places.names c) ∙ entry.named ∙ name_there;
@@ -210,9 +207,6 @@ module _ (arena : Blocks) (heads : Heads) (root : Head) (slots : List Slot) {way
 
       pub index_three : (hs : Heads) → IsIndex before hs (Some b) → IsIndex (nodes_in three) hs (Some b)
       index_three hs index = subst (λ ns. IsIndex ns hs (Some b)) (sym three_is) (index_moved before hs b block node_two index)
-
-      pub groups_three : (top : Head) → IsGrouped before top (Some b) → IsGrouped (nodes_in three) top (Some b)
-      groups_three top groups = subst (λ ns. IsGrouped ns top (Some b)) (sym three_is) (grouped_moved before top b block parent (length name) node_two row groups)
 
       pub entry_three : IsEntry (nodes_in three) place name b
       entry_three = record { node = subst (λ ns. IsNode ns b) (sym three_is) (subst IsSome (sym (at_b before b block node_two)) refl); there = there; named = name_there }
@@ -244,7 +238,7 @@ module _ (arena : Blocks) (heads : Heads) (root : Head) (slots : List Slot) {way
         file_later c = alike.files c ∙ ap (λ ns. file_in (octets_at ns c)) three_is ∙ file_three c ∙ same.files c
 
         file_stays : (c : ℕ) → Stays arena later (file_in (octets_at nodes c)).run
-        file_stays c = runs (file_in (octets_at nodes c)).run (file_held arena heads root slots store c)
+        file_stays c = runs (file_in (octets_at nodes c)).run (file_held arena heads slots store c)
 
         was_two : (c : ℕ) → IsNode put c → IsNode before c
         was_two c inside = sym (some_three c) ∙ inside
@@ -318,22 +312,22 @@ module _ (arena : Blocks) (heads : Heads) (root : Head) (slots : List Slot) {way
         left_at c = inr (file_later c, file_stays c)
 
         list_stays : (j : ℕ) → Stays arena later (get_or (staged_in slots) j no_contents).run
-        list_stays j = runs (get_or (staged_in slots) j no_contents).run (list_held arena heads root slots store j)
+        list_stays j = runs (get_or (staged_in slots) j no_contents).run (list_held arena heads slots store j)
 
         tree_later : IsTree (nodes_in later)
         tree_later = same_tree (nodes_in three) (nodes_in later) alike.places tree_three
 
-        module _ (heads_now : Heads) (index : IsIndex (nodes_in later) heads_now None) (root_now : Head) (groups : IsGrouped (nodes_in later) root_now None)
+        module _ (heads_now : Heads) (index : IsIndex (nodes_in later) heads_now None)
             (long_now : length later ≡ length arena) (free : free_count later ≡ free_count arena) where
           filestore_is : record { nodes = G.nodes; staged = (store_of arena (staged_in slots)).filestore.staged } ≡ G
           filestore_is = (λ i. record { nodes = G.nodes; staged = (ap (λ (s : Store). s.filestore.staged) view ∙ sym (moved_lists F p q)) i })
 
           pub shift_view : store_of later (staged_in slots) ≡ with_changes now (vacated (tree_at F p) ++ settled p q (tree_at F p))
           shift_view =
-              nodes_seen arena later heads heads_now root root_now slots store long_now list_stays left_at G.nodes shows_later tree_later index groups
+              nodes_seen arena later heads heads_now slots store long_now list_stays left_at G.nodes shows_later tree_later index
               ∙ (λ i. record (view i) { filestore = filestore_is i })
 
-          pub shift_store : IsStore later ways heads_now root_now slots
+          pub shift_store : IsStore later ways heads_now slots
           shift_store =
-              nodes_store arena later heads heads_now root root_now slots store long_now list_stays left_at G.nodes shows_later tree_later index groups
-              (omega (arith, ap blocks filestore_is, blocks-moved F p q rooted some_q absent, free, long_now, seen_blocks arena heads root slots store now view))
+              nodes_store arena later heads heads_now slots store long_now list_stays left_at G.nodes shows_later tree_later index
+              (omega (arith, ap blocks filestore_is, blocks-moved F p q rooted some_q absent, free, long_now, seen_blocks arena heads slots store now view))

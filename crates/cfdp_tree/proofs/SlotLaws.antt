@@ -25,9 +25,7 @@ use Rattle.cfdp_tree.specs.Ways.{HasWays, KeepsWays}
 use Rattle.cfdp_tree.specs.Contents.{IsFilled, contents_in}
 use Rattle.cfdp_tree.specs.Nodes.{nodes_in}
 use Rattle.cfdp_tree.specs.Tree.{IsNode, IsTree}
-use Rattle.cfdp_tree.specs.declared.index.Head.{Head}
 use Rattle.cfdp_tree.specs.Index.{Heads, IsIndex}
-use Rattle.cfdp_tree.specs.Entries.{IsGrouped}
 use Rattle.cfdp_tree.specs.Kept.{no_contents, file_of, file_in, holdings, node_told, node_of, Shows, filestore_of, store_of, IsStored}
 use Rattle.cfdp_tree.specs.Slots.{staged_in, IsPlaced, IsStore}
 use Rattle.cfdp_tree.proofs.SlotPlaces.{slot_stays}
@@ -54,7 +52,7 @@ set_maps {A = A} {B = B} f g (x ∷ xs) zero y d same = ap (λ ys. y ∷ ys) (al
     all_same (x ∷ xs) same = (λ k. same 0 (omega arith) k ∷ all_same xs (λ j within. same (suc j) (omega arith)) k)
 set_maps f g (x ∷ xs) (suc i) y d same = (λ k. same 0 (omega arith) (λ e. omega arith) k ∷ set_maps f g xs i y d (λ j within other. same (suc j) (omega arith) (λ e. other (omega arith))) k)
 
-module _ (arena later : Blocks) (heads : Heads) (root : Head) (slots : List Slot) {ways : List Way} (store : IsStore arena ways heads root slots) (i : ℕ) (small : i < 64) (slot : Slot) (is : slot ≡ get_or slots i slot) (after : Slot)
+module _ (arena later : Blocks) (heads : Heads) (slots : List Slot) {ways : List Way} (store : IsStore arena ways heads slots) (i : ℕ) (small : i < 64) (slot : Slot) (is : slot ≡ get_or slots i slot) (after : Slot)
     (nodes : nodes_in later ≡ nodes_in arena) (long : length later ≡ length arena) (spares : Spares arena later slot.contents.run after.contents.run)
     (filled : IsFilled later after.contents) (placed : IsPlaced later after) (taken : free_count later + blocks_of after.contents.size ≡ free_count arena + blocks_of slot.contents.size) where
   abbrev staged : List Contents
@@ -70,7 +68,7 @@ module _ (arena later : Blocks) (heads : Heads) (root : Head) (slots : List Slot
   there = omega (arith, store.kept.slots)
 
   held_slot : get_or held i no_contents ≡ slot.contents
-  held_slot = get_or_append_left staged (map file_in (nodes_in arena)) no_contents i there ∙ staged_is arena heads root slots store (store_of arena staged) refl i small slot is
+  held_slot = get_or_append_left staged (map file_in (nodes_in arena)) no_contents i there ∙ staged_is arena heads slots store (store_of arena staged) refl i small slot is
 
   spared : Spares arena later (get_or held i no_contents).run after.contents.run
   spared = subst (λ (x : Contents). Spares arena later x.run after.contents.run) (sym held_slot) spares
@@ -97,7 +95,7 @@ module _ (arena later : Blocks) (heads : Heads) (root : Head) (slots : List Slot
   node_stays : (b : ℕ) → IsNode (nodes_in arena) b → node_of later (octets_of (nodes_in arena) b) ≡ node_of arena (octets_of (nodes_in arena) b)
   node_stays b node =
       let block = octets_of (nodes_in arena) b in
-      let at : get_or held (length staged + b) no_contents ≡ file_of block = held_at arena heads root slots store (store_of arena staged) refl b ∙ some_is (octets_at (nodes_in arena) b) node in
+      let at : get_or held (length staged + b) no_contents ≡ file_of block = held_at arena heads slots store (store_of arena staged) refl b ∙ some_is (octets_at (nodes_in arena) b) node in
       let same = others (length staged + b) (λ e. omega (arith, there)) in
       told_same arena later (kind_told (row_of block).kind) (file_of block) (ap (contents_in later) (sym at) ∙ same ∙ ap (contents_in arena) at)
 
@@ -129,7 +127,7 @@ module _ (arena later : Blocks) (heads : Heads) (root : Head) (slots : List Slot
       let F = filestore_of arena staged in
       let within : i < length F.staged = omega (arith, there, length-map staged (contents_in arena)) in
       let was : length (files.staged_in F i) ≡ slot.contents.size =
-      ap length (seen_staged arena heads root slots store (store_of arena staged) refl i small slot is) ∙ length-contents arena slot.contents (slot_filled arena heads root slots store (store_of arena staged) refl i small slot is) in
+      ap length (seen_staged arena heads slots store (store_of arena staged) refl i small slot is) ∙ length-contents arena slot.contents (slot_filled arena heads slots store (store_of arena staged) refl i small slot is) in
       omega (
         arith,
         ap blocks filestore_now,
@@ -142,7 +140,7 @@ module _ (arena later : Blocks) (heads : Heads) (root : Head) (slots : List Slot
       )
 
   there_slot : i < length slots
-  there_slot = slot_there arena heads root slots store (store_of arena staged) refl i small
+  there_slot = slot_there arena heads slots store (store_of arena staged) refl i small
 
   place_stays : (j : ℕ) → j ≢ i → (d : Slot) → j < length slots → IsPlaced later (get_or slots j d)
   place_stays j other d within =
@@ -167,7 +165,7 @@ module _ (arena later : Blocks) (heads : Heads) (root : Head) (slots : List Slot
     stored_now = subst (IsStored later ways_now) (sym holdings_now)
         (stored_changed arena later held i in_held after.contents store.kept.stored spared filled ways_now has keeps_held)
 
-    pub slot_store : IsStore later ways_now heads root now
+    pub slot_store : IsStore later ways_now heads now
     slot_store = record {
       kept = record {
         some = omega (arith, long, store.kept.some);
@@ -175,7 +173,6 @@ module _ (arena later : Blocks) (heads : Heads) (root : Head) (slots : List Slot
         slots = length-map now (λ (slot : Slot). slot.contents) ∙ length-set slots i after ∙ sym (length-map slots (λ (slot : Slot). slot.contents)) ∙ store.kept.slots;
         tree = subst IsTree (sym nodes) store.kept.tree;
         index = subst (λ ns. IsIndex ns heads None) (sym nodes) store.kept.index;
-        groups = subst (λ ns. IsGrouped ns root None) (sym nodes) store.kept.groups;
         stored = stored_now;
         counted = counted_now;
       };

@@ -15,8 +15,7 @@ use Rattle.std.specs.Cmp.Lexicographic.{nat_list_cmp_total}
 use Rattle.std.specs.List.{slice_get}
 use Rattle.std.specs.Ordering.{ordering_reverse}
 use Rattle.std.specs.Prelude.{All, AllPairs, IfSome, IfNone}
-use Rattle.std.specs.declared.cmp.Ordering.{Ordering}
-use Rattle.std.specs.declared.cmp.Ordering.TheVariants.{Less, Equal, Greater}
+use Rattle.std.specs.declared.cmp.Ordering.TheVariants.{Less, Greater}
 use Rattle.cfdp_arena.specs.Arena.{Blocks}
 use Rattle.cfdp_paths.specs.Paths.{Name}
 use Rattle.cfdp_order.specs.Orders.{times, SplitsAfter}
@@ -27,7 +26,7 @@ use Rattle.cfdp_order.proofs.SortedLaws.{head_pairs, tail_pairs}
 use Rattle.cfdp_tree.specs.Tree.{name_at}
 use Rattle.cfdp_tree.specs.Next.{name_cmp, IsBehind, IsLeast}
 use Rattle.cfdp_tree.specs.Orders.{Rises}
-use Rattle.cfdp_tree.proofs.LeastLaws.{flipped}
+use Rattle.cfdp_tree.proofs.LeastLaws.{flipped, less_greater, equal_greater}
 
 pub of_times : (P : ℕ → Type 0) (list : List ℕ) → ((m : ℕ) → 1 ≤ times m list → P m) → All P list
 of_times P list each k d less = each (get_or list k d) (contains_times list (get_or list k d) (k, less, get_or_default list k (get_or list k d) d less))
@@ -75,18 +74,12 @@ place_cases (Some c) (Some d) = elim (cases_eq c d) [
     same : Some c ≡ Some d → c ≡ d
     same e = cc
 
-no_greater : {o : Ordering} → o ≡ Less → o ≡ Greater → ⊥
-no_greater e f = cc
-
-no_tie : {o : Ordering} → o ≡ Equal → o ≡ Greater → ⊥
-no_tie e f = cc
-
 module _ (nodes : Blocks) (list : List ℕ) (rising : AllPairs (Rises nodes) list) where
   abbrev Upto : ℕ → ℕ → Type 0
   Upto b c = name_cmp (name_at nodes b) (name_at nodes c) ≢ Greater
 
   itself : (b : ℕ) → Upto b b
-  itself b = no_tie (tied_itself nat_list_cmp_total (name_at nodes b))
+  itself b = equal_greater (tied_itself nat_list_cmp_total (name_at nodes b))
 
   -- the first of all
   pub first_least : (r : Option ℕ) → r ≡ slice_get list 0 → IfSome r (IsLeast nodes None list) × IfNone r (All (λ c. IsBehind None (name_at nodes c) → ⊥) list)
@@ -99,7 +92,7 @@ module _ (nodes : Blocks) (list : List ℕ) (rising : AllPairs (Rises nodes) lis
           listed = (0, omega arith, refl);
           behind = tt;
           least = All-cons (λ c. IsBehind None (name_at nodes c) → Upto b c) b l (λ behind. itself b)
-              (All-weaker (Rises nodes b) (λ c. IsBehind None (name_at nodes c) → Upto b c) (λ c less behind. no_greater less) l (head_pairs (Rises nodes) b l pairs));
+              (All-weaker (Rises nodes b) (λ c. IsBehind None (name_at nodes c) → Upto b c) (λ c less behind. less_greater less) l (head_pairs (Rises nodes) b l pairs));
         },
         tt,
       )
@@ -129,7 +122,7 @@ module _ (nodes : Blocks) (list : List ℕ) (rising : AllPairs (Rises nodes) lis
             least = All-append (λ c. IsBehind (Some name) (name_at nodes c) → Upto b c) before (b ∷ l)
                 (All-weaker (λ m. name_cmp (name_at nodes m) name ≢ Greater) (λ c. IsBehind (Some name) (name_at nodes c) → Upto b c) (λ c upto behind. absurd (not_behind c upto behind)) before splits.rest)
                 (All-cons (λ c. IsBehind (Some name) (name_at nodes c) → Upto b c) b l (λ behind. itself b)
-                (All-weaker (Rises nodes b) (λ c. IsBehind (Some name) (name_at nodes c) → Upto b c) (λ c less behind. no_greater less) l (pairs_back (Rises nodes) before b l pairs)));
+                (All-weaker (Rises nodes b) (λ c. IsBehind (Some name) (name_at nodes c) → Upto b c) (λ c less behind. less_greater less) l (pairs_back (Rises nodes) before b l pairs)));
           },
           tt,
         )

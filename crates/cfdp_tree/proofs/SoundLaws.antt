@@ -17,7 +17,6 @@ use Rattle.cfdp_actions.specs.Filestore as files
 use Rattle.cfdp_actions.specs.Store.{Store}
 use Rattle.cfdp_ways.specs.declared.way.Way.{Way}
 use Rattle.cfdp_tree.specs.declared.slots.Slot.{Slot}
-use Rattle.cfdp_tree.specs.declared.index.Head.{Head}
 use Rattle.cfdp_tree.specs.Row.{Row, row_of, kind_told}
 use Rattle.cfdp_tree.specs.Contents.{IsFilled, contents_in}
 use Rattle.cfdp_tree.specs.Nodes.{nodes_in}
@@ -43,18 +42,18 @@ told_octets : (arena : Blocks) (k : Kind) (row : Row) → octets_in (Some (node_
 told_octets arena kind.Directory row = refl
 told_octets arena kind.File row = refl
 
-module _ (arena : Blocks) (heads : Heads) (root : Head) (slots : List Slot) {ways : List Way} (store : IsStore arena ways heads root slots) (now : Store) (view : store_of arena (staged_in slots) ≡ now) where
+module _ (arena : Blocks) (heads : Heads) (slots : List Slot) {ways : List Way} (store : IsStore arena ways heads slots) (now : Store) (view : store_of arena (staged_in slots) ≡ now) where
   pub node_sound : (b : ℕ) → IsNode (nodes_in arena) b → IsSound arena (with_path (nodes_in arena) b)
   node_sound b node =
       let nodes = nodes_in arena in let block = octets_of nodes b in
       let filled : IsFilled arena (file_of block) =
-      subst (IsFilled arena) (held_at arena heads root slots store now view b ∙ file_some (octets_at nodes b) node) (store.kept.stored.filled (length (staged_in slots) + b)) in
+      subst (IsFilled arena) (held_at arena heads slots store now view b ∙ file_some (octets_at nodes b) node) (store.kept.stored.filled (length (staged_in slots) + b)) in
       let octets : files.octets_at now.filestore (path_of nodes b) ≡ contents_in arena (file_of block) =
-      ap octets_in ((shows arena heads root slots store now view).each b node) ∙ told_octets arena (kind_told (row_of block).kind) (row_of block) in
+      ap octets_in ((shows arena heads slots store now view).each b node) ∙ told_octets arena (kind_told (row_of block).kind) (row_of block) in
       record {
         node = node;
         filled = filled;
-        small = omega (arith, length-contents arena (file_of block) filled, ap (λ (xs : List ℕ). length xs) octets, file_small arena heads root slots store now view (path_of nodes b));
+        small = omega (arith, length-contents arena (file_of block) filled, ap (λ (xs : List ℕ). length xs) octets, file_small arena heads slots store now view (path_of nodes b));
       }
 
   pub found_sound : (list : List ℕ) (found : List (Path × ℕ)) → All (IsNode (nodes_in arena)) list → found ≡ map (with_path (nodes_in arena)) list → All (IsSound arena) found

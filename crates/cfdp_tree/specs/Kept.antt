@@ -7,7 +7,7 @@
 --     standing_from arena nodes b    the nodes from b on, each with its path
 --     Shows arena nodes F            what stands at a path in the map is what stands at the node of this path
 --     filestore_of, store_of         the filestore, and the store
---     IsKept arena ways heads root staged     what is true of every such store
+--     IsKept arena ways heads staged     what is true of every such store
 use Rattle.std.specs.Prelude.{◌≡◌, ◌≢◌, ℕ, suc, ◌+◌, ◌<◌, ◌≤◌, true, List, [], ◌∷◌, ◌++◌, Option, Some, None, length, map, slice_index_or}
 use Rattle.std.specs.FinMap as finite
 use Rattle.cfdp_paths.specs.Paths.{Path, path_cmp}
@@ -24,9 +24,7 @@ use Rattle.cfdp_tree.specs.Ways.{HasWays}
 use Rattle.cfdp_tree.specs.Contents.{IsFilled, contents_in}
 use Rattle.cfdp_tree.specs.Nodes.{nodes_in}
 use Rattle.cfdp_tree.specs.Tree.{IsNode, path_of, IsTree}
-use Rattle.cfdp_tree.specs.declared.index.Head.{Head}
 use Rattle.cfdp_tree.specs.Index.{Heads, IsIndex}
-use Rattle.cfdp_tree.specs.Entries.{IsGrouped}
 
 abbrev pub no_contents : Contents
 no_contents = record { run = record { first = 0; last = 0; count = 0 }; size = 0; sum = 0 }
@@ -75,13 +73,12 @@ filestore_of arena staged = record {
 abbrev pub store_of : Blocks → List Contents → Store
 store_of arena staged = record { filestore = filestore_of arena staged; capacity = length arena; takes_no_memory = true }
 
-pub record IsKept (arena : Blocks) (ways : List Way) (heads : Heads) (root : Head) (staged : List Contents) : Type 0 where
+pub record IsKept (arena : Blocks) (ways : List Way) (heads : Heads) (staged : List Contents) : Type 0 where
   pub some : 0 < length arena
   pub small : length arena ≤ 65536
   pub slots : length staged ≡ 64
   pub tree : IsTree (nodes_in arena)
   pub index : IsIndex (nodes_in arena) heads None
-  pub groups : IsGrouped (nodes_in arena) root None
   pub stored : IsStored arena ways (holdings (nodes_in arena) staged)
   -- each block that is not free is a node or has octets of a file or of a staged list
   pub counted : free_count arena + blocks (filestore_of arena staged) ≡ length arena

@@ -10,11 +10,10 @@
 --     Lists        lists of nodes by links
 --     Index        nodes by their directory and their name
 --     Entries      the entries of a directory and of the root
---     Links        what changes where a link between entries does
 --     Kept         the store that an arena is
 --     Slots        its staged lists
---     Changes      what stays where links change
---     Walk         walks over what stands below a place
+--     Changes      what is made
+--     Walk         walks over what is below a place, in path order
 --     Survey       the nodes of what stands there
 --     Text         the octets of a path
 --     Next         what comes next in path order
@@ -28,7 +27,6 @@ pub mod Files
 pub mod Found
 pub mod Index
 pub mod Kept
-pub mod Links
 pub mod Lists
 pub mod Next
 pub mod Nodes

@@ -6,14 +6,13 @@
 --     Rises nodes b c             the name of one node is less than that of the other
 --     IsOrdered nodes orders out  each node is in the order of its directory, but for the one that is out, each order has just
 --                                 its nodes, and their names rise
---     IsOrderedStore arena ways heads root orders slots    a store, and its entries are in order
+--     IsOrderedStore arena ways heads orders slots    a store, and its entries are in order
 use Rattle.std.specs.Prelude.{◌≡◌, ◌≢◌, ℕ, List, Option, Some, None, All, AllPairs, Contains, length, slice_index_or}
 use Rattle.std.specs.declared.cmp.Ordering.TheVariants.{Less}
 use Rattle.cfdp_arena.specs.Arena.{Blocks, octets_of}
 use Rattle.cfdp_ways.specs.declared.way.Way.{Way}
 use Rattle.cfdp_order.specs.declared.links.Order.{Order}
 use Rattle.cfdp_order.specs.Orders as trees
-use Rattle.cfdp_tree.specs.declared.index.Head.{Head}
 use Rattle.cfdp_tree.specs.declared.orders.Orders.{Orders}
 use Rattle.cfdp_tree.specs.declared.slots.Slot.{Slot}
 use Rattle.cfdp_tree.specs.Nodes.{nodes_in}
@@ -51,6 +50,6 @@ pub record IsOrdered (nodes : Blocks) (orders : Orders) (out : Option ℕ) : Typ
   -- and of all of them
   pub all : (b : ℕ) → IsNode nodes b → out ≢ Some b → Contains (in_order orders (home nodes b)) b
 
-pub record IsOrderedStore (arena : Blocks) (ways : List Way) (heads : Heads) (root : Head) (orders : Orders) (slots : List Slot) : Type 0 where
-  pub store : IsStore arena ways heads root slots
+pub record IsOrderedStore (arena : Blocks) (ways : List Way) (heads : Heads) (orders : Orders) (slots : List Slot) : Type 0 where
+  pub store : IsStore arena ways heads slots
   pub ordered : IsOrdered (nodes_in arena) orders None

@@ -1,23 +1,21 @@
--- A node's block: what stands at one path of the tree, and its links. Its payload begins with 24 octets of numbers, the
--- low octet first, and its name stands in the last 96 octets of the block. How many nodes an index head has, and how many
--- entries a directory, is counted where their links begin: so the link of an index head's last node means nothing, nor
--- does the link back of a first entry. The last entry names itself as the next one.
+-- A node's block: what is at one path of the tree, and its link of the index. Its payload begins with 24 octets of
+-- numbers, the low octet first, and its name is in the last 96 octets of the block. How many nodes an index head has is
+-- counted where their links begin: so the link of an index head's last node means nothing.
 --     octets 8 and 9      the parent: the directory's number, its own where the root is the parent
---     octets 10 and 11    of a file the first block of its octets, of a directory its first entry
+--     octets 10 and 11    of a file the first block of its octets
 --     octets 12 and 13    of a file the last block of its octets
---     octets 14 to 17     of a file how many octets it has, of a directory how many entries
+--     octets 14 to 17     of a file how many octets it has
 --     octet 18            0 for a directory, 1 for a file
 --     octet 19            how many octets the name has
 --     octets 20 and 21    the next node of the same index head
---     octets 22 and 23    the next entry of the parent
---     octets 24 and 25    the entry of the parent before it
+--     octets 22 to 25     nothing
 --     octets 26 to 29     of a file the checksum of its octets
 --     octets 30 and 31    nothing
 --     octets 32 to 127    the name, and zeros
 --     Row, row_of         what a node's block says
 --     name_of             its name
 --     standing_octet, kind_told   the octet for a file or a directory, and which of them an octet stands for
---     plain_row           what the block of a node says that has no octets, no entries and no links
+--     plain_row           what the block of a node says that has no octets and no link
 use Rattle.std.specs.Prelude.{ℕ, ◌+◌, ◌*◌, suc, zero, List, slice_index_or, length, take, drop}
 use Rattle.cfdp_actions.specs.declared.kind.Kind.{Kind}
 use Rattle.cfdp_actions.specs.declared.kind.Kind.TheVariants as kind
@@ -31,8 +29,6 @@ pub record Row : Type 0 where
   pub kind : ℕ
   pub name_length : ℕ
   pub same_head : ℕ
-  pub next_entry : ℕ
-  pub previous_entry : ℕ
   pub sum : ℕ
 
 abbrev pub row_of : List ℕ → Row
@@ -44,8 +40,6 @@ row_of block = record {
   kind = slice_index_or block 18 0;
   name_length = slice_index_or block 19 0;
   same_head = number_at block 20;
-  next_entry = number_at block 22;
-  previous_entry = number_at block 24;
   sum = number_at block 26 + 65536 * number_at block 28;
 }
 
@@ -69,7 +63,5 @@ plain_row parent kind name = record {
   kind = standing_octet kind;
   name_length = length name;
   same_head = 0;
-  next_entry = 0;
-  previous_entry = 0;
   sum = 0;
 }

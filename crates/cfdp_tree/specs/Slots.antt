@@ -7,7 +7,7 @@
 --     IsUnwritten octets slot    there are zeros alone there and in the slot's gap
 --     IsPlaced arena slot        the position is one of the list's run, and its octets are zeros where none was written
 --     IsFresh slot               the list is empty, the position and the offset are its beginning, and there is no gap
---     IsStore arena ways heads root slots     what is true of every store of such parts
+--     IsStore arena ways heads slots     what is true of every store of such parts
 use Rattle.std.specs.Prelude.{◌≡◌, ℕ, ◌-◌, ◌≤◌, List, All, map, replicate, slice_range}
 use Rattle.cfdp_arena.specs.Arena.{Blocks}
 use Rattle.cfdp_ways.specs.declared.way.Way.{Way}
@@ -16,7 +16,6 @@ use Rattle.cfdp_tree.specs.declared.gap.Gap.{Gap}
 use Rattle.cfdp_tree.specs.declared.slots.Slot.{Slot}
 use Rattle.cfdp_tree.specs.Runs.{IsAt}
 use Rattle.cfdp_tree.specs.Contents.{contents_in}
-use Rattle.cfdp_tree.specs.declared.index.Head.{Head}
 use Rattle.cfdp_tree.specs.Index.{Heads}
 use Rattle.cfdp_tree.specs.Kept.{no_contents, IsKept}
 
@@ -48,6 +47,6 @@ pub record IsFresh (slot : Slot) : Type 0 where
   pub blank : slot.blank_from ≡ 0
   pub gap : slot.gap ≡ no_gap
 
-pub record IsStore (arena : Blocks) (ways : List Way) (heads : Heads) (root : Head) (slots : List Slot) : Type 0 where
-  pub kept : IsKept arena ways heads root (staged_in slots)
+pub record IsStore (arena : Blocks) (ways : List Way) (heads : Heads) (slots : List Slot) : Type 0 where
+  pub kept : IsKept arena ways heads (staged_in slots)
   pub placed : All (IsPlaced arena) slots

@@ -20,7 +20,6 @@
 mod contents;
 mod copy;
 mod cursor;
-mod entries;
 mod files;
 mod found;
 mod gap;

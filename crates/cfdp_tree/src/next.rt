@@ -1,4 +1,4 @@
-//! What comes next behind a path in path order.
+//! What comes next after a path in path order.
 ghost use Rattle.std.specs.Prelude.{◌≡◌, ◌≤◌, ◌++◌, ℕ, Some, None, All, IfSome, IfNone, take, drop, length};
 ghost use Rattle.cfdp_paths.specs.Paths.{IsName};
 ghost use Rattle.cfdp_tree.specs.Nodes.{nodes_in};
@@ -63,8 +63,8 @@ impl TreeStore {
     }
 }
 
-/// The first node in path order behind the path that a place and more names make, among the nodes at and below the
-/// place; `None` is the root. Takes no memory. In expected time linear in the octets of the names, times the logarithm of
+/// The first node in path order after the path that a place and more names make, among the nodes at and below the place;
+/// `None` is the root. Takes no memory. In expected time linear in the octets of the names, times the logarithm of
 /// the entries of each directory on the way, by at most 9 calls within one another.
 fn next_below(
     arena: &Arena,
@@ -84,7 +84,7 @@ fn next_below(
         (path_at (nodes_in arena.now) place.now) (path_at (nodes_in arena.now) place.now ++ names.entry) b → ⊥) }
 {
     let Some(name) = names.next() else {
-        return orders.least_behind(arena, place, None);
+        return orders.least_after(arena, place, None);
     };
     if let Some(node) = find(arena, heads, *place, name) {
         let below = next_below(arena, heads, orders, &Some(node), names);
@@ -92,5 +92,5 @@ fn next_below(
             return below;
         }
     }
-    orders.least_behind(arena, place, Some(name))
+    orders.least_after(arena, place, Some(name))
 }

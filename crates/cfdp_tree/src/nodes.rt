@@ -11,8 +11,8 @@ use crate::runs::take_block;
 use cfdp_actions::Kind;
 use cfdp_arena::{Arena, BlockId};
 
-/// Makes a node in a directory, `None` for the root, under a name of at most 96 octets. It has no octets and no entries,
-/// and is linked to no other node. In constant time.
+/// Makes a node in a directory, `None` for the root, under a name of at most 96 octets. It has no octets, and
+/// is linked to no other node. In constant time.
 pub(crate) fn create_node(
     arena: &mut Arena,
     directory: Option<BlockId>,

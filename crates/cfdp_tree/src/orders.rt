@@ -13,8 +13,9 @@ use cfdp_paths::Memory;
 use std::alloc::Global;
 use std::cmp::Ordering;
 
-/// The orders of the entries of all directories and of the root. [`Orders::new`] takes their memory: for each block of
-/// the arena 6 octets for the links of a node, and 4 for the order of a directory.
+/// The orders of the entries of all directories and of the root, each by the names of the entries. The links of a node and
+/// the order of a directory are at the number of its block. [`Orders::new`] takes all their memory: for each block of the
+/// arena 6 octets for links, and 4 for an order.
 #[derive(Drop)]
 pub(crate) struct Orders {
     /// The links of each node to the others of its directory.
@@ -132,9 +133,10 @@ impl Orders {
         self.set(&directory, order);
     }
 
-    /// The entry of a directory, `None` for the root, whose name is the least one behind another name, or of all where none
-    /// is given. In time logarithmic in the entries of the directory, whatever their names: at most 22 names are compared.
-    pub(crate) fn least_behind(
+    /// The entry of a directory, `None` for the root, with the least of the names that are greater than this one, or of all
+    /// names if none is given. In time logarithmic in the entries of the directory, whatever their names: at most 22 names
+    /// are compared.
+    pub(crate) fn least_after(
         &self,
         arena: &Arena,
         directory: &Option<BlockId>,

@@ -1,4 +1,4 @@
-//! A node's block: what stands at one path of the tree, and its links.
+//! A node's block: what is at one path of the tree, and its link of the index.
 ghost use Rattle.std.specs.Prelude.{◌≡◌, ◌<◌, ◌≤◌, ◌↔◌, IsTrue, drop, length};
 ghost use Rattle.cfdp_arena.specs.Blocks.{blank_block};
 ghost use Rattle.cfdp_tree.specs.Block.{header_of, tagged};
@@ -19,7 +19,7 @@ const NAME_LENGTH_AT: usize = 19;
 /// Where its name begins.
 const NAME_AT: usize = 32;
 
-/// Makes a blank block a node of this number, without octets or entries, that is linked to no other node.
+/// Makes a blank block a node of this number, without octets, that is linked to no other node.
 pub(crate) fn write_node(block: &mut Block, own: BlockId, parent: BlockId, kind: Kind, name: &[u8])
     requires blank { block.old ≡ blank_block }
     requires own { own < 65536 }
@@ -130,7 +130,7 @@ pub(crate) fn set_parent(block: &mut Block, parent: BlockId)
     set_number(block, 8, parent.number());
 }
 
-/// The first block of a file's octets, or the first entry of a directory.
+/// The first block of a file's octets.
 pub(crate) fn first_of(block: &Block) -> BlockId
     ensures value { result ≡ (row_of block.now).first }
     ensures small { result < 65536 }
@@ -138,7 +138,7 @@ pub(crate) fn first_of(block: &Block) -> BlockId
     BlockId::of_number(number_in(block, 10))
 }
 
-/// Names the first block of a file's octets, or the first entry of a directory. The rest of the block stays.
+/// Names the first block of a file's octets. The rest of the block stays.
 pub(crate) fn set_first(block: &mut Block, first: BlockId)
     requires small { first < 65536 }
     ensures row { row_of block.new ≡ record (row_of block.old) { first = first } }
@@ -187,45 +187,7 @@ pub(crate) fn set_same_head(block: &mut Block, same_head: BlockId)
     set_number(block, 20, same_head.number());
 }
 
-/// The next entry of the parent; the node itself where it is the last one.
-pub(crate) fn next_entry_of(block: &Block) -> BlockId
-    ensures value { result ≡ (row_of block.now).next_entry }
-    ensures small { result < 65536 }
-{
-    BlockId::of_number(number_in(block, 22))
-}
-
-/// Names the next entry of the parent. The rest of the block stays.
-pub(crate) fn set_next_entry(block: &mut Block, next_entry: BlockId)
-    requires small { next_entry < 65536 }
-    ensures row { row_of block.new ≡ record (row_of block.old) { next_entry = next_entry } }
-    ensures header { header_of block.new ≡ header_of block.old }
-    ensures name { drop 32 block.new ≡ drop 32 block.old }
-    ensures whole { length block.new ≡ 128 }
-{
-    set_number(block, 22, next_entry.number());
-}
-
-/// The entry of the parent before the node, which means nothing where it is the first one.
-pub(crate) fn previous_entry_of(block: &Block) -> BlockId
-    ensures value { result ≡ (row_of block.now).previous_entry }
-    ensures small { result < 65536 }
-{
-    BlockId::of_number(number_in(block, 24))
-}
-
-/// Names the entry of the parent before the node. The rest of the block stays.
-pub(crate) fn set_previous_entry(block: &mut Block, previous_entry: BlockId)
-    requires small { previous_entry < 65536 }
-    ensures row { row_of block.new ≡ record (row_of block.old) { previous_entry = previous_entry } }
-    ensures header { header_of block.new ≡ header_of block.old }
-    ensures name { drop 32 block.new ≡ drop 32 block.old }
-    ensures whole { length block.new ≡ 128 }
-{
-    set_number(block, 24, previous_entry.number());
-}
-
-/// How many octets a file has, or how many entries a directory.
+/// How many octets a file has.
 pub(crate) fn size_of(block: &Block) -> u32
     ensures { result ≡ (row_of block.now).size }
 {
@@ -253,7 +215,7 @@ pub(crate) fn set_sum(block: &mut Block, sum: u32)
     block[29] = highest;
 }
 
-/// Says how many octets a file has, or how many entries a directory. The rest of the block stays.
+/// Says how many octets a file has. The rest of the block stays.
 pub(crate) fn set_size(block: &mut Block, size: u32)
     ensures row { row_of block.new ≡ record (row_of block.old) { size = size } }
     ensures header { header_of block.new ≡ header_of block.old }

@@ -6,7 +6,6 @@ ghost use Rattle.cfdp_actions.specs.Store.{empty_store, free_blocks, with_change
 ghost use Rattle.cfdp_tree.specs.Changes.{empty_node};
 
 use crate::contents::{Contents, contents_of, held_by};
-use crate::entries::{link_entry, unlink_entry};
 use crate::files::{find_file, set_contents};
 use crate::index;
 use crate::index::{Head, insert};
@@ -55,7 +54,6 @@ pub struct TreeStore {
     pub(crate) arena: Arena,
     pub(crate) ways: Vec<Way>,
     pub(crate) heads: Vec<Head>,
-    pub(crate) root: Head,
     pub(crate) orders: Orders,
     pub(crate) slots: Vec<Slot>,
 }
@@ -73,7 +71,7 @@ impl Model for TreeStore {
 
     ghost view = { λ s. store_of s.arena (staged_in s.slots.items) };
 
-    ghost invariant = { λ s. IsOrderedStore s.arena s.ways.items s.heads.items s.root s.orders s.slots.items };
+    ghost invariant = { λ s. IsOrderedStore s.arena s.ways.items s.heads.items s.orders s.slots.items };
 }
 
 /// How many slots for staged lists a store has.
@@ -106,7 +104,6 @@ impl TreeStore {
             arena,
             ways,
             heads,
-            root: Head::empty(),
             orders,
             slots,
         })
@@ -125,7 +122,6 @@ impl TreeStore {
         let node = create_node(&mut self.arena, *directory, kind, name);
         self.orders.enter(&self.arena, &node, *directory, name);
         insert(&mut self.arena, &mut self.heads, &node, *directory, name);
-        link_entry(&mut self.arena, &mut self.root, &node, *directory);
     }
 }
 
@@ -237,7 +233,6 @@ impl Filestore for TreeStore {
         let blocks = held.run.count;
         self.orders.leave(&self.arena, &node, *directory, name);
         held.release(&mut self.arena);
-        unlink_entry(&mut self.arena, &mut self.root, &node, *directory);
         index::remove(&mut self.arena, &mut self.heads, &node, *directory, name);
         delete_node(&mut self.arena, node);
         Ok(blocks + 1)
@@ -251,12 +246,10 @@ impl Filestore for TreeStore {
         let new = &lookup(&self.arena, &self.heads, to, depth);
         let new_name = to.name(depth);
         self.orders.leave(&self.arena, &node, *old, old_name);
-        unlink_entry(&mut self.arena, &mut self.root, &node, *old);
         index::remove(&mut self.arena, &mut self.heads, &node, *old, old_name);
         rename_node(&mut self.arena, &node, *new, new_name);
         self.orders.enter(&self.arena, &node, *new, new_name);
         insert(&mut self.arena, &mut self.heads, &node, *new, new_name);
-        link_entry(&mut self.arena, &mut self.root, &node, *new);
         Ok(0)
     }
 

@@ -35,16 +35,16 @@ pub returns-in_default-clause-first : goal.returns-in_default-clause-first
 returns-in_default-clause-first t c =
     let nodes = nodes_in c.args.arena.now in let place = c.args.place.now in let a = path_at nodes place in let list = in_order c.args.orders.now place in
     let stands = here nodes place c.requires.place in
-    subst (λ (names : Path). IfSome c.least_behind.result (λ b. IsFirst nodes a (a ++ names) b)) (sym c.in_default.ensures.steps.0)
-    (IfSome_then c.least_behind.result c.least_behind.ensures.least
+    subst (λ (names : Path). IfSome c.least_after.result (λ b. IsFirst nodes a (a ++ names) b)) (sym c.in_default.ensures.steps.0)
+    (IfSome_then c.least_after.result c.least_after.ensures.least
     (least_first nodes c.requires.tree place a stands list (listed_in nodes c.args.orders.now c.requires.ordered place) [] None (apart_last nodes c.requires.tree place a stands list (listed_in nodes c.args.orders.now c.requires.ordered place)) (λ m behind. refl)))
 
 pub returns-in_default-clause-none : goal.returns-in_default-clause-none
 returns-in_default-clause-none t c =
     let nodes = nodes_in c.args.arena.now in let place = c.args.place.now in let a = path_at nodes place in let list = in_order c.args.orders.now place in
     let stands = here nodes place c.requires.place in
-    subst (λ (names : Path). IfNone c.least_behind.result ((b : ℕ) → Follows nodes a (a ++ names) b → ⊥)) (sym c.in_default.ensures.steps.0)
-    (none_then c.least_behind.result c.least_behind.ensures.none
+    subst (λ (names : Path). IfNone c.least_after.result ((b : ℕ) → Follows nodes a (a ++ names) b → ⊥)) (sym c.in_default.ensures.steps.0)
+    (none_then c.least_after.result c.least_after.ensures.none
     (none_first nodes c.requires.tree place a stands list (listed_in nodes c.args.orders.now c.requires.ordered place) [] None (apart_last nodes c.requires.tree place a stands list (listed_in nodes c.args.orders.now c.requires.ordered place))))
 
 names_good : (p rest : Path) (name : Name) → p ≡ name ∷ rest → All IsName p → IsName name × All IsName rest
@@ -99,8 +99,8 @@ returns-clause-first t c =
           (no_result w.next_below-below.result (sym w.is_some.ensures ∙ w.if-is_some.false) w.next_below-below.ensures.none)
       | in_default-find w ↦ none_below nodes tree place a stands name rest (not_some c.find.result w.in_default-find.not-Some c.find.ensures.none)
     ] in
-    subst (λ (names : Path). IfSome c.least_behind-2.result (λ b. IsFirst nodes a (a ++ names) b)) (sym c.in-Some.ensures.steps)
-    (IfSome_then c.least_behind-2.result c.least_behind-2.ensures.least
+    subst (λ (names : Path). IfSome c.least_after-2.result (λ b. IsFirst nodes a (a ++ names) b)) (sym c.in-Some.ensures.steps)
+    (IfSome_then c.least_after-2.result c.least_after-2.ensures.least
     (least_first nodes tree place a stands list (listed_in nodes c.args.orders.now c.requires.ordered place) (name ∷ rest) (Some name) (apart_name nodes tree place a stands name rest list (listed_in nodes c.args.orders.now c.requires.ordered place) none) (behind_name nodes tree place a stands name rest)))
 
 pub returns-clause-none : goal.returns-clause-none
@@ -113,6 +113,6 @@ returns-clause-none t c =
           (no_result w.next_below-below.result (sym w.is_some.ensures ∙ w.if-is_some.false) w.next_below-below.ensures.none)
       | in_default-find w ↦ none_below nodes tree place a stands name rest (not_some c.find.result w.in_default-find.not-Some c.find.ensures.none)
     ] in
-    subst (λ (names : Path). IfNone c.least_behind-2.result ((b : ℕ) → Follows nodes a (a ++ names) b → ⊥)) (sym c.in-Some.ensures.steps)
-    (none_then c.least_behind-2.result c.least_behind-2.ensures.none
+    subst (λ (names : Path). IfNone c.least_after-2.result ((b : ℕ) → Follows nodes a (a ++ names) b → ⊥)) (sym c.in-Some.ensures.steps)
+    (none_then c.least_after-2.result c.least_after-2.ensures.none
     (none_first nodes tree place a stands list (listed_in nodes c.args.orders.now c.requires.ordered place) (name ∷ rest) (Some name) (apart_name nodes tree place a stands name rest list (listed_in nodes c.args.orders.now c.requires.ordered place) none)))

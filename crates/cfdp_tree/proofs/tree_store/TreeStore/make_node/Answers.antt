@@ -4,7 +4,7 @@ use Rattle.cfdp_tree.specs.Nodes.{only_node, nodes_in}
 use Rattle.cfdp_tree.specs.Index.{IsIndex}
 use Rattle.cfdp_tree.specs.Slots.{IsStore}
 use Rattle.cfdp_tree.proofs.AlikeLaws.{runs_then}
-use Rattle.cfdp_tree.proofs.MakeLaws.{tree_made, index_made, tree_linked, groups_linked, make_view, make_store}
+use Rattle.cfdp_tree.proofs.MakeLaws.{tree_made, index_made, make_view, make_store}
 use Rattle.std.proofs.Math.ListN.{get_or-map}
 use Rattle.cfdp_arena.specs.Arena.{octets_of}
 use Rattle.cfdp_tree.specs.Orders.{IsOrdered}
@@ -16,7 +16,7 @@ use Rattle.cfdp_tree.proofs.tree_store.TreeStore.make_node.Goals as goal
 pub enter-requires-clause-tree : goal.enter-requires-clause-tree
 enter-requires-clause-tree c =
     let made = c.create_node-node.ensures in let found = c.lookup.ensures in
-    tree_made _ _ _ _ c.self.invariant.store _ c.self.view_is c.args.path.now c.depth-depth.ensures.within _ (omega (arith, c.depth-depth.ensures.depth, c.depth-depth.ensures.within.some)) c.requires.parent
+    tree_made _ _ _ c.self.invariant.store _ c.self.view_is c.args.path.now c.depth-depth.ensures.within _ (omega (arith, c.depth-depth.ensures.depth, c.depth-depth.ensures.within.some)) c.requires.parent
     c.lookup.result found.node found.path found.none c.name-name.result.now c.name-name.ensures.name
     c.requires.absent c.create_node-node.new.arena c.create_node-node.result c.args.kind made.fresh made.within made.nodes made.row made.home made.name made.whole
 
@@ -29,7 +29,7 @@ enter-requires-clause-ordered c =
 pub insert-requires-clause-tree : goal.insert-requires-clause-tree
 insert-requires-clause-tree c =
     let made = c.create_node-node.ensures in let found = c.lookup.ensures in
-    tree_made _ _ _ _ c.self.invariant.store _ c.self.view_is c.args.path.now c.depth-depth.ensures.within _ (omega (arith, c.depth-depth.ensures.depth, c.depth-depth.ensures.within.some)) c.requires.parent
+    tree_made _ _ _ c.self.invariant.store _ c.self.view_is c.args.path.now c.depth-depth.ensures.within _ (omega (arith, c.depth-depth.ensures.depth, c.depth-depth.ensures.within.some)) c.requires.parent
     c.lookup.result found.node found.path found.none c.name-name.result.now c.name-name.ensures.name
     c.requires.absent c.create_node-node.new.arena c.create_node-node.result c.args.kind made.fresh made.within made.nodes made.row made.home made.name made.whole
 
@@ -37,51 +37,30 @@ pub insert-requires-clause-index : goal.insert-requires-clause-index
 insert-requires-clause-index c =
     let made = c.create_node-node.ensures in let found = c.lookup.ensures in
     subst (λ hs. IsIndex (nodes_in c.create_node-node.new.arena) hs (Some c.create_node-node.result)) (sym c.deref_mut.ensures.value)
-    (index_made _ _ _ _ c.self.invariant.store _ c.self.view_is c.args.path.now c.depth-depth.ensures.within _ (omega (arith, c.depth-depth.ensures.depth, c.depth-depth.ensures.within.some)) c.requires.parent
+    (index_made _ _ _ c.self.invariant.store _ c.self.view_is c.args.path.now c.depth-depth.ensures.within _ (omega (arith, c.depth-depth.ensures.depth, c.depth-depth.ensures.within.some)) c.requires.parent
     c.lookup.result found.node found.path found.none c.name-name.result.now c.name-name.ensures.name
     c.requires.absent c.create_node-node.new.arena c.create_node-node.result c.args.kind made.fresh made.within made.nodes made.row made.home made.name made.whole)
 
-pub link_entry-requires-clause-tree : goal.link_entry-requires-clause-tree
-link_entry-requires-clause-tree c =
-    let made = c.create_node-node.ensures in let found = c.lookup.ensures in
-    tree_linked _ _ _ _ c.self.invariant.store _ c.self.view_is c.args.path.now c.depth-depth.ensures.within _ (omega (arith, c.depth-depth.ensures.depth, c.depth-depth.ensures.within.some)) c.requires.parent
-    c.lookup.result found.node found.path found.none c.name-name.result.now c.name-name.ensures.name
-    c.requires.absent c.create_node-node.new.arena c.create_node-node.result c.args.kind made.fresh made.within made.nodes made.row made.home made.name made.whole
-    c.insert.new.arena c.insert.ensures.links
-
-pub link_entry-requires-clause-groups : goal.link_entry-requires-clause-groups
-link_entry-requires-clause-groups c =
-    let made = c.create_node-node.ensures in let found = c.lookup.ensures in
-    groups_linked _ _ _ _ c.self.invariant.store _ c.self.view_is c.args.path.now c.depth-depth.ensures.within _ (omega (arith, c.depth-depth.ensures.depth, c.depth-depth.ensures.within.some)) c.requires.parent
-    c.lookup.result found.node found.path found.none c.name-name.result.now c.name-name.ensures.name
-    c.requires.absent c.create_node-node.new.arena c.create_node-node.result c.args.kind made.fresh made.within made.nodes made.row made.home made.name made.whole
-    c.insert.new.arena c.insert.ensures.links
-
 pub invariant_of-self : goal.invariant_of-self
 invariant_of-self c =
-    let made = c.create_node-node.ensures in let found = c.lookup.ensures in let linked = c.insert.ensures in let grouped = c.link_entry.ensures in
-    let two = c.insert.new.arena in let later = c.link_entry.new.arena in
+    let made = c.create_node-node.ensures in let found = c.lookup.ensures in let linked = c.insert.ensures in
+    let later = c.insert.new.arena in
     let heads = with_items_is c.self.inside.heads c.insert.new.heads (c.insert.auto.heads ∙ c.deref_mut.ensures.len) in
-    let one = nodes_in c.create_node-node.new.arena in
-    let entered = ordered_kept one (nodes_in two) c.enter.new.self None (nodes_long c.create_node-node.new.arena two linked.size) (kept_places one (nodes_in two) None (relinked_places one (nodes_in two) linked.links)) c.enter.ensures in
     record {
-      store = subst (λ hs. IsStore later c.self.inside.ways.items hs c.link_entry.new.root c.self.inside.slots.items) (sym heads)
-          (make_store _ _ _ _ c.self.invariant.store _ c.self.view_is c.args.path.now c.depth-depth.ensures.within _ (omega (arith, c.depth-depth.ensures.depth, c.depth-depth.ensures.within.some)) c.requires.parent
+      store = subst (λ hs. IsStore later c.self.inside.ways.items hs c.self.inside.slots.items) (sym heads)
+          (make_store _ _ _ c.self.invariant.store _ c.self.view_is c.args.path.now c.depth-depth.ensures.within _ (omega (arith, c.depth-depth.ensures.depth, c.depth-depth.ensures.within.some)) c.requires.parent
           c.lookup.result found.node found.path found.none c.name-name.result.now c.name-name.ensures.name
           c.requires.absent c.create_node-node.new.arena c.create_node-node.result c.args.kind made.fresh made.within made.nodes made.row made.home made.name made.whole
-          two linked.links c.insert.new.heads linked.index later c.link_entry.new.root grouped.same grouped.groups
-          (runs_then c.self.inside.arena two later (runs_then c.self.inside.arena c.create_node-node.new.arena two made.runs linked.runs) grouped.runs)
-          grouped.capacity (grouped.capacity ∙ linked.size ∙ made.capacity) (ap (λ n. n + 1) (grouped.free ∙ linked.free) ∙ made.taken));
-      ordered = ordered_kept (nodes_in two) (nodes_in later) c.enter.new.self None (nodes_long two later grouped.capacity) (kept_places (nodes_in two) (nodes_in later) None grouped.same.places) entered;
+          later linked.links c.insert.new.heads linked.index (runs_then c.self.inside.arena c.create_node-node.new.arena later made.runs linked.runs) (linked.size ∙ made.capacity) (ap (λ n. n + 1) linked.free ∙ made.taken));
+      ordered = ordered_kept (nodes_in c.create_node-node.new.arena) (nodes_in later) c.enter.new.self None (nodes_long c.create_node-node.new.arena later linked.size)
+          (kept_places (nodes_in c.create_node-node.new.arena) (nodes_in later) None (relinked_places (nodes_in c.create_node-node.new.arena) (nodes_in later) linked.links)) c.enter.ensures;
     }
 
 pub returns : goal.returns
 returns c =
-    let made = c.create_node-node.ensures in let found = c.lookup.ensures in let linked = c.insert.ensures in let grouped = c.link_entry.ensures in
-    let two = c.insert.new.arena in let later = c.link_entry.new.arena in
-    make_view _ _ _ _ c.self.invariant.store _ c.self.view_is c.args.path.now c.depth-depth.ensures.within _ (omega (arith, c.depth-depth.ensures.depth, c.depth-depth.ensures.within.some)) c.requires.parent
+    let made = c.create_node-node.ensures in let found = c.lookup.ensures in let linked = c.insert.ensures in
+    let later = c.insert.new.arena in
+    make_view _ _ _ c.self.invariant.store _ c.self.view_is c.args.path.now c.depth-depth.ensures.within _ (omega (arith, c.depth-depth.ensures.depth, c.depth-depth.ensures.within.some)) c.requires.parent
     c.lookup.result found.node found.path found.none c.name-name.result.now c.name-name.ensures.name
     c.requires.absent c.create_node-node.new.arena c.create_node-node.result c.args.kind made.fresh made.within made.nodes made.row made.home made.name made.whole
-    two linked.links c.insert.new.heads linked.index later c.link_entry.new.root grouped.same grouped.groups
-    (runs_then c.self.inside.arena two later (runs_then c.self.inside.arena c.create_node-node.new.arena two made.runs linked.runs) grouped.runs)
-    grouped.capacity (grouped.capacity ∙ linked.size ∙ made.capacity) (ap (λ n. n + 1) (grouped.free ∙ linked.free) ∙ made.taken)
+    later linked.links c.insert.new.heads linked.index (runs_then c.self.inside.arena c.create_node-node.new.arena later made.runs linked.runs) (linked.size ∙ made.capacity) (ap (λ n. n + 1) linked.free ∙ made.taken)

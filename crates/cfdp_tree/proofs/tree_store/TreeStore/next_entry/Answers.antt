@@ -15,18 +15,18 @@ pub returns-in_err-node-clause-none : goal.returns-in_err-node-clause-none
 returns-in_err-node-clause-none c =
     let arena = c.self.inside.arena in let F = c.args.self.now.filestore in
     subst (λ r. IfNone r (IsLast F c.args.after)) (sym c.from_residual.ensures)
-    (none_last arena (nodes_in arena) F (shows _ _ _ _ c.self.invariant.store _ c.self.view_is) c.args.after c.in_err-node.ensures.none)
+    (none_last arena (nodes_in arena) F (shows _ _ _ c.self.invariant.store _ c.self.view_is) c.args.after c.in_err-node.ensures.none)
 
 pub tell-told-requires : goal.tell-told-requires
 tell-told-requires c =
-    let sound = node_sound _ _ _ _ c.self.invariant.store _ c.self.view_is c.in_ok-node.node c.in_ok-node.ensures.first.follows.node in
+    let sound = node_sound _ _ _ c.self.invariant.store _ c.self.view_is c.in_ok-node.node c.in_ok-node.ensures.first.follows.node in
     record { node = sound.node; filled = sound.filled; small = sound.small }
 
 pub returns-clause-next : goal.returns-clause-next
 returns-clause-next c =
     let arena = c.self.inside.arena in let nodes = nodes_in arena in let b = c.in_ok-node.node in let F = c.args.self.now.filestore in
     let first = c.in_ok-node.ensures.first in
-    let shown = shows _ _ _ _ c.self.invariant.store _ c.self.view_is in
+    let shown = shows _ _ _ c.self.invariant.store _ c.self.view_is in
     let good = path_good nodes c.self.invariant.store.kept.tree b first.follows.node in
     record {
       path = path_of nodes b;

@@ -23,7 +23,7 @@ there (Some b) P A o none absent some = refl
 
 pub unwrap-node-requires : goal.unwrap-node-requires
 unwrap-node-requires c =
-    there c.find_path.result _ _ _ c.find_path.ensures.none (seen_none _ _ _ _ c.self.invariant.store _ c.self.view_is c.args.path.now) c.requires
+    there c.find_path.result _ _ _ c.find_path.ensures.none (seen_none _ _ _ c.self.invariant.store _ c.self.view_is c.args.path.now) c.requires
 
 pub deepest_in-below-requires-clause-order : goal.deepest_in-below-requires-clause-order
 deepest_in-below-requires-clause-order c =
@@ -55,4 +55,4 @@ returns-clause-value c =
     c.deepest_in-below.ensures.value
     ∙ ap (longest nodes) (one_deeper orders depth (trees.nodes orders.links.items c.of-entries.result) ∙ ap (λ (o : Order). walks orders (8 - depth) (trees.nodes orders.links.items o)) c.of-entries.ensures) in
     c.max.ensures ∙ (λ k. max (sym long k) (below k))
-    ∙ deepest_is nodes arena c.args.self.now.filestore (shows _ _ _ _ c.self.invariant.store _ c.self.view_is) path (walk_from orders depth (Some b)) (subst (λ p. IsSurvey nodes p (walk_from orders depth (Some b))) way survey)
+    ∙ deepest_is nodes arena c.args.self.now.filestore (shows _ _ _ c.self.invariant.store _ c.self.view_is) path (walk_from orders depth (Some b)) (subst (λ p. IsSurvey nodes p (walk_from orders depth (Some b))) way survey)

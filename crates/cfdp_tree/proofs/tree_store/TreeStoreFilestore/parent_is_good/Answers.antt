@@ -9,7 +9,7 @@ use Rattle.cfdp_tree.proofs.tree_store.TreeStoreFilestore.parent_is_good.Goals a
 pub returns-in-Some : goal.returns-in-Some
 returns-in-Some c =
     let arena = c.self.inside.arena in let block = c.bytes.result.now in let path = c.args.path.now in let depth = c.depth-depth.result - 1 in
-    let there = seen_block _ _ _ _ c.self.invariant.store _ c.self.view_is c.in-Some.node (take depth path) block c.in-Some.ensures.node c.in-Some.ensures.path c.bytes.ensures.octets in
+    let there = seen_block _ _ _ c.self.invariant.store _ c.self.view_is c.in-Some.node (take depth path) block c.in-Some.ensures.node c.in-Some.ensures.path c.bytes.ensures.octets in
     ap not (c.is_file.ensures ∙ ap is_file_kind c.kind_of.ensures)
     ∙ sym (told_directory arena (kind_told (row_of block).kind) (file_of block))
     ∙ sym (ap is_directory there)
@@ -18,5 +18,5 @@ returns-in-Some c =
 pub returns-in-None : goal.returns-in-None
 returns-in-None c =
     let path = c.args.path.now in let depth = c.depth-depth.result - 1 in
-    sym (ap is_directory (seen_none _ _ _ _ c.self.invariant.store _ c.self.view_is (take depth path) c.in-None.ensures.none))
+    sym (ap is_directory (seen_none _ _ _ c.self.invariant.store _ c.self.view_is (take depth path) c.in-None.ensures.none))
     ∙ sym (seen_parent c.args.self.now.filestore path depth (omega (arith, c.depth-depth.ensures.depth)) (omega arith))

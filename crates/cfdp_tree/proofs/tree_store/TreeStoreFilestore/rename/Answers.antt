@@ -7,13 +7,10 @@ use Rattle.cfdp_tree.specs.Tree.{IsNode, home_in, path_of}
 use Rattle.cfdp_tree.specs.Index.{IsIndex}
 use Rattle.cfdp_tree.specs.Slots.{IsStore}
 use Rattle.cfdp_tree.proofs.TreeLaws.{node_octets}
-use Rattle.cfdp_tree.proofs.PlaceLaws.{same_tree}
-use Rattle.cfdp_tree.proofs.LinkLaws.{relinked_places}
-use Rattle.cfdp_tree.proofs.OutLaws.{nodes_long, index_regrouped}
-use Rattle.cfdp_tree.proofs.GroupLaws.{grouped_relinked}
-use Rattle.cfdp_tree.proofs.AlikeLaws.{alike_relinked, alike_regrouped, alike_then, runs_then}
-use Rattle.cfdp_tree.proofs.DropLaws.{seen_found, tree_two, index_two, entry_two, node_name, alike_three}
-use Rattle.cfdp_tree.proofs.ShiftLaws.{place_nodes, place_other, tree_three, index_three, entry_three, groups_three, shift_view, shift_store}
+use Rattle.cfdp_tree.proofs.OutLaws.{nodes_long}
+use Rattle.cfdp_tree.proofs.AlikeLaws.{alike_relinked, runs_then}
+use Rattle.cfdp_tree.proofs.DropLaws.{seen_found, tree_one, index_one, entry_one, node_name, alike_two}
+use Rattle.cfdp_tree.proofs.ShiftLaws.{place_nodes, place_other, tree_three, index_three, entry_three, shift_view, shift_store}
 use Rattle.cfdp_arena.specs.Arena.{octets_of}
 use Rattle.cfdp_tree.specs.Orders.{IsOrdered}
 use Rattle.cfdp_tree.proofs.OrderedLaws.{kept_places, ordered_kept, ordered_moved}
@@ -21,7 +18,7 @@ use Rattle.cfdp_tree.proofs.tree_store.TreeStoreFilestore.rename.Goals as goal
 
 pub unwrap-node-requires : goal.unwrap-node-requires
 unwrap-node-requires c =
-    seen_found _ _ _ _ c.self.invariant.store _ c.self.view_is c.args.from.now c.find_path.result c.find_path.ensures.none c.requires.present
+    seen_found _ _ _ c.self.invariant.store _ c.self.view_is c.args.from.now c.find_path.result c.find_path.ensures.none c.requires.present
 
 pub leave-requires-clause-entry : goal.leave-requires-clause-entry
 leave-requires-clause-entry c =
@@ -30,22 +27,22 @@ leave-requires-clause-entry c =
     let way = subst (λ r. IfSome r (λ x. path_of (nodes_in arena) x ≡ p)) c.unwrap-node.ensures c.find_path.ensures.path in
     let there = c.home_of.ensures ∙ ap (home_in b) (node_octets arena b node c.bytes.result.now c.bytes.ensures.octets) in
     let name = c.name-old_name.ensures.name ∙ ap (λ n. get_or p (n - 1) []) c.depth.ensures.depth in
-    record { node = node; there = sym there; named = node_name _ _ _ _ c.self.invariant.store _ c.self.view_is p b node way ∙ sym name }
+    record { node = node; there = sym there; named = node_name _ _ _ c.self.invariant.store _ c.self.view_is p b node way ∙ sym name }
 
 pub remove-requires-clause-tree : goal.remove-requires-clause-tree
 remove-requires-clause-tree c =
     let arena = c.self.inside.arena in let b = c.unwrap-node.result in let p = c.args.from.now in let q = c.args.to.now in
     let node = subst (λ r. IfSome r (λ x. IsNode (nodes_in arena) x)) c.unwrap-node.ensures c.find_path.ensures.node in
     let way = subst (λ r. IfSome r (λ x. path_of (nodes_in arena) x ≡ p)) c.unwrap-node.ensures c.find_path.ensures.path in
-    tree_two _ _ _ _ c.self.invariant.store _ c.self.view_is p b node way arena refl c.unlink_entry.new.arena c.unlink_entry.ensures.same c.unlink_entry.ensures.capacity
+    tree_one _ _ _ c.self.invariant.store _ c.self.view_is p b node way arena refl
 
 pub remove-requires-clause-index : goal.remove-requires-clause-index
 remove-requires-clause-index c =
     let arena = c.self.inside.arena in let b = c.unwrap-node.result in let p = c.args.from.now in let q = c.args.to.now in
     let node = subst (λ r. IfSome r (λ x. IsNode (nodes_in arena) x)) c.unwrap-node.ensures c.find_path.ensures.node in
     let way = subst (λ r. IfSome r (λ x. path_of (nodes_in arena) x ≡ p)) c.unwrap-node.ensures c.find_path.ensures.path in
-    subst (λ hs. IsIndex (nodes_in c.unlink_entry.new.arena) hs None) (sym c.deref_mut.ensures.value)
-    (index_two _ _ _ _ c.self.invariant.store _ c.self.view_is p b node way arena refl c.unlink_entry.new.arena c.unlink_entry.ensures.same c.unlink_entry.ensures.capacity)
+    subst (λ hs. IsIndex (nodes_in c.self.inside.arena) hs None) (sym c.deref_mut.ensures.value)
+    (index_one _ _ _ c.self.invariant.store _ c.self.view_is p b node way arena refl)
 
 pub remove-requires-clause-entry : goal.remove-requires-clause-entry
 remove-requires-clause-entry c =
@@ -54,7 +51,7 @@ remove-requires-clause-entry c =
     let way = subst (λ r. IfSome r (λ x. path_of (nodes_in arena) x ≡ p)) c.unwrap-node.ensures c.find_path.ensures.path in
     let there = c.home_of.ensures ∙ ap (home_in b) (node_octets arena b node c.bytes.result.now c.bytes.ensures.octets) in
     let name = c.name-old_name.ensures.name ∙ ap (λ n. get_or p (n - 1) []) c.depth.ensures.depth in
-    entry_two _ _ _ _ c.self.invariant.store _ c.self.view_is p b node way arena refl c.unlink_entry.new.arena c.unlink_entry.ensures.same c.unlink_entry.ensures.capacity
+    entry_one _ _ _ c.self.invariant.store _ c.self.view_is p b node way arena refl
     c.home_of.result c.name-old_name.result.now there name
 
 pub rename_node-requires-clause-directory : goal.rename_node-requires-clause-directory
@@ -62,16 +59,16 @@ rename_node-requires-clause-directory c =
     let arena = c.self.inside.arena in let b = c.unwrap-node.result in let p = c.args.from.now in let q = c.args.to.now in
     let node = subst (λ r. IfSome r (λ x. IsNode (nodes_in arena) x)) c.unwrap-node.ensures c.find_path.ensures.node in
     let way = subst (λ r. IfSome r (λ x. path_of (nodes_in arena) x ≡ p)) c.unwrap-node.ensures c.find_path.ensures.path in
-    place_nodes _ _ _ _ c.self.invariant.store _ c.self.view_is p b node way q c.depth-depth.ensures.within _ (omega (arith, c.depth-depth.ensures.depth, c.depth-depth.ensures.within.some)) c.requires.parent
+    place_nodes _ _ _ c.self.invariant.store _ c.self.view_is p b node way q c.depth-depth.ensures.within _ (omega (arith, c.depth-depth.ensures.depth, c.depth-depth.ensures.within.some)) c.requires.parent
     c.lookup.result c.lookup.ensures.node c.lookup.ensures.path c.lookup.ensures.none c.name-new_name.result.now c.name-new_name.ensures.name c.requires.apart
-    c.remove.new.arena (alike_three _ _ _ _ c.self.invariant.store _ c.self.view_is p b node way arena refl c.unlink_entry.new.arena c.unlink_entry.ensures.same c.unlink_entry.ensures.capacity c.remove.new.arena c.remove.ensures.links)
+    c.remove.new.arena (alike_two _ _ _ c.self.invariant.store _ c.self.view_is p b node way arena refl c.remove.new.arena c.remove.ensures.links)
 
 pub rename_node-requires-clause-apart : goal.rename_node-requires-clause-apart
 rename_node-requires-clause-apart c =
     let arena = c.self.inside.arena in let b = c.unwrap-node.result in let p = c.args.from.now in let q = c.args.to.now in
     let node = subst (λ r. IfSome r (λ x. IsNode (nodes_in arena) x)) c.unwrap-node.ensures c.find_path.ensures.node in
     let way = subst (λ r. IfSome r (λ x. path_of (nodes_in arena) x ≡ p)) c.unwrap-node.ensures c.find_path.ensures.path in
-    place_other _ _ _ _ c.self.invariant.store _ c.self.view_is p b node way q c.depth-depth.ensures.within _ (omega (arith, c.depth-depth.ensures.depth, c.depth-depth.ensures.within.some)) c.requires.parent
+    place_other _ _ _ c.self.invariant.store _ c.self.view_is p b node way q c.depth-depth.ensures.within _ (omega (arith, c.depth-depth.ensures.depth, c.depth-depth.ensures.within.some)) c.requires.parent
     c.lookup.result c.lookup.ensures.node c.lookup.ensures.path c.lookup.ensures.none c.name-new_name.result.now c.name-new_name.ensures.name c.requires.apart
 
 pub enter-requires-clause-tree : goal.enter-requires-clause-tree
@@ -79,9 +76,9 @@ enter-requires-clause-tree c =
     let arena = c.self.inside.arena in let b = c.unwrap-node.result in let p = c.args.from.now in let q = c.args.to.now in
     let node = subst (λ r. IfSome r (λ x. IsNode (nodes_in arena) x)) c.unwrap-node.ensures c.find_path.ensures.node in
     let way = subst (λ r. IfSome r (λ x. path_of (nodes_in arena) x ≡ p)) c.unwrap-node.ensures c.find_path.ensures.path in
-    tree_three _ _ _ _ c.self.invariant.store _ c.self.view_is p b node way q c.depth-depth.ensures.within _ (omega (arith, c.depth-depth.ensures.depth, c.depth-depth.ensures.within.some)) c.requires.parent
+    tree_three _ _ _ c.self.invariant.store _ c.self.view_is p b node way q c.depth-depth.ensures.within _ (omega (arith, c.depth-depth.ensures.depth, c.depth-depth.ensures.within.some)) c.requires.parent
     c.lookup.result c.lookup.ensures.node c.lookup.ensures.path c.lookup.ensures.none c.name-new_name.result.now c.name-new_name.ensures.name c.requires.apart
-    c.remove.new.arena (alike_three _ _ _ _ c.self.invariant.store _ c.self.view_is p b node way arena refl c.unlink_entry.new.arena c.unlink_entry.ensures.same c.unlink_entry.ensures.capacity c.remove.new.arena c.remove.ensures.links)
+    c.remove.new.arena (alike_two _ _ _ c.self.invariant.store _ c.self.view_is p b node way arena refl c.remove.new.arena c.remove.ensures.links)
     c.rename_node.new.arena _ c.rename_node.ensures.nodes c.rename_node.ensures.row c.rename_node.ensures.home c.rename_node.ensures.name c.rename_node.ensures.whole c.requires.absent c.requires.depth
 
 pub enter-requires-clause-ordered : goal.enter-requires-clause-ordered
@@ -90,19 +87,19 @@ enter-requires-clause-ordered c =
     let node = subst (λ r. IfSome r (λ x. IsNode (nodes_in arena) x)) c.unwrap-node.ensures c.find_path.ensures.node in
     let way = subst (λ r. IfSome r (λ x. path_of (nodes_in arena) x ≡ p)) c.unwrap-node.ensures c.find_path.ensures.path in
     let two = c.remove.new.arena in
-    let alike = alike_three _ _ _ _ c.self.invariant.store _ c.self.view_is p b node way arena refl c.unlink_entry.new.arena c.unlink_entry.ensures.same c.unlink_entry.ensures.capacity two c.remove.ensures.links in
+    let alike = alike_two _ _ _ c.self.invariant.store _ c.self.view_is p b node way arena refl two c.remove.ensures.links in
     subst (λ ns. IsOrdered ns c.leave.new.self (Some b)) (sym c.rename_node.ensures.nodes)
     (ordered_moved (nodes_in two) c.leave.new.self b (octets_of (nodes_in c.rename_node.new.arena) b)
-    (ordered_kept (nodes_in arena) (nodes_in two) c.leave.new.self (Some b) (nodes_long arena two (c.remove.ensures.size ∙ c.unlink_entry.ensures.capacity)) (kept_places (nodes_in arena) (nodes_in two) (Some b) alike.places) c.leave.ensures))
+    (ordered_kept (nodes_in arena) (nodes_in two) c.leave.new.self (Some b) (nodes_long arena two c.remove.ensures.size) (kept_places (nodes_in arena) (nodes_in two) (Some b) alike.places) c.leave.ensures))
 
 pub insert-requires-clause-tree : goal.insert-requires-clause-tree
 insert-requires-clause-tree c =
     let arena = c.self.inside.arena in let b = c.unwrap-node.result in let p = c.args.from.now in let q = c.args.to.now in
     let node = subst (λ r. IfSome r (λ x. IsNode (nodes_in arena) x)) c.unwrap-node.ensures c.find_path.ensures.node in
     let way = subst (λ r. IfSome r (λ x. path_of (nodes_in arena) x ≡ p)) c.unwrap-node.ensures c.find_path.ensures.path in
-    tree_three _ _ _ _ c.self.invariant.store _ c.self.view_is p b node way q c.depth-depth.ensures.within _ (omega (arith, c.depth-depth.ensures.depth, c.depth-depth.ensures.within.some)) c.requires.parent
+    tree_three _ _ _ c.self.invariant.store _ c.self.view_is p b node way q c.depth-depth.ensures.within _ (omega (arith, c.depth-depth.ensures.depth, c.depth-depth.ensures.within.some)) c.requires.parent
     c.lookup.result c.lookup.ensures.node c.lookup.ensures.path c.lookup.ensures.none c.name-new_name.result.now c.name-new_name.ensures.name c.requires.apart
-    c.remove.new.arena (alike_three _ _ _ _ c.self.invariant.store _ c.self.view_is p b node way arena refl c.unlink_entry.new.arena c.unlink_entry.ensures.same c.unlink_entry.ensures.capacity c.remove.new.arena c.remove.ensures.links)
+    c.remove.new.arena (alike_two _ _ _ c.self.invariant.store _ c.self.view_is p b node way arena refl c.remove.new.arena c.remove.ensures.links)
     c.rename_node.new.arena _ c.rename_node.ensures.nodes c.rename_node.ensures.row c.rename_node.ensures.home c.rename_node.ensures.name c.rename_node.ensures.whole c.requires.absent c.requires.depth
 
 pub insert-requires-clause-entry : goal.insert-requires-clause-entry
@@ -110,9 +107,9 @@ insert-requires-clause-entry c =
     let arena = c.self.inside.arena in let b = c.unwrap-node.result in let p = c.args.from.now in let q = c.args.to.now in
     let node = subst (λ r. IfSome r (λ x. IsNode (nodes_in arena) x)) c.unwrap-node.ensures c.find_path.ensures.node in
     let way = subst (λ r. IfSome r (λ x. path_of (nodes_in arena) x ≡ p)) c.unwrap-node.ensures c.find_path.ensures.path in
-    entry_three _ _ _ _ c.self.invariant.store _ c.self.view_is p b node way q c.depth-depth.ensures.within _ (omega (arith, c.depth-depth.ensures.depth, c.depth-depth.ensures.within.some)) c.requires.parent
+    entry_three _ _ _ c.self.invariant.store _ c.self.view_is p b node way q c.depth-depth.ensures.within _ (omega (arith, c.depth-depth.ensures.depth, c.depth-depth.ensures.within.some)) c.requires.parent
     c.lookup.result c.lookup.ensures.node c.lookup.ensures.path c.lookup.ensures.none c.name-new_name.result.now c.name-new_name.ensures.name c.requires.apart
-    c.remove.new.arena (alike_three _ _ _ _ c.self.invariant.store _ c.self.view_is p b node way arena refl c.unlink_entry.new.arena c.unlink_entry.ensures.same c.unlink_entry.ensures.capacity c.remove.new.arena c.remove.ensures.links)
+    c.remove.new.arena (alike_two _ _ _ c.self.invariant.store _ c.self.view_is p b node way arena refl c.remove.new.arena c.remove.ensures.links)
     c.rename_node.new.arena _ c.rename_node.ensures.nodes c.rename_node.ensures.row c.rename_node.ensures.home c.rename_node.ensures.name c.rename_node.ensures.whole c.requires.absent c.requires.depth
 
 pub insert-requires-clause-index : goal.insert-requires-clause-index
@@ -121,61 +118,30 @@ insert-requires-clause-index c =
     let node = subst (λ r. IfSome r (λ x. IsNode (nodes_in arena) x)) c.unwrap-node.ensures c.find_path.ensures.node in
     let way = subst (λ r. IfSome r (λ x. path_of (nodes_in arena) x ≡ p)) c.unwrap-node.ensures c.find_path.ensures.path in
     subst (λ hs. IsIndex (nodes_in c.rename_node.new.arena) hs (Some b)) (sym (c.deref_mut-2.ensures.value ∙ with_items_is c.self.inside.heads c.remove.new.heads (c.remove.auto.heads ∙ c.deref_mut.ensures.len)))
-    (index_three _ _ _ _ c.self.invariant.store _ c.self.view_is p b node way q c.depth-depth.ensures.within _ (omega (arith, c.depth-depth.ensures.depth, c.depth-depth.ensures.within.some)) c.requires.parent
+    (index_three _ _ _ c.self.invariant.store _ c.self.view_is p b node way q c.depth-depth.ensures.within _ (omega (arith, c.depth-depth.ensures.depth, c.depth-depth.ensures.within.some)) c.requires.parent
     c.lookup.result c.lookup.ensures.node c.lookup.ensures.path c.lookup.ensures.none c.name-new_name.result.now c.name-new_name.ensures.name c.requires.apart
-    c.remove.new.arena (alike_three _ _ _ _ c.self.invariant.store _ c.self.view_is p b node way arena refl c.unlink_entry.new.arena c.unlink_entry.ensures.same c.unlink_entry.ensures.capacity c.remove.new.arena c.remove.ensures.links)
+    c.remove.new.arena (alike_two _ _ _ c.self.invariant.store _ c.self.view_is p b node way arena refl c.remove.new.arena c.remove.ensures.links)
     c.rename_node.new.arena _ c.rename_node.ensures.nodes c.rename_node.ensures.row c.rename_node.ensures.home c.rename_node.ensures.name c.rename_node.ensures.whole c.requires.absent c.requires.depth c.remove.new.heads c.remove.ensures.index)
-
-pub link_entry-requires-clause-tree : goal.link_entry-requires-clause-tree
-link_entry-requires-clause-tree c =
-    let arena = c.self.inside.arena in let b = c.unwrap-node.result in let p = c.args.from.now in let q = c.args.to.now in
-    let node = subst (λ r. IfSome r (λ x. IsNode (nodes_in arena) x)) c.unwrap-node.ensures c.find_path.ensures.node in
-    let way = subst (λ r. IfSome r (λ x. path_of (nodes_in arena) x ≡ p)) c.unwrap-node.ensures c.find_path.ensures.path in
-    same_tree (nodes_in c.rename_node.new.arena) (nodes_in c.insert.new.arena) (relinked_places (nodes_in c.rename_node.new.arena) (nodes_in c.insert.new.arena) c.insert.ensures.links)
-    (tree_three _ _ _ _ c.self.invariant.store _ c.self.view_is p b node way q c.depth-depth.ensures.within _ (omega (arith, c.depth-depth.ensures.depth, c.depth-depth.ensures.within.some)) c.requires.parent
-    c.lookup.result c.lookup.ensures.node c.lookup.ensures.path c.lookup.ensures.none c.name-new_name.result.now c.name-new_name.ensures.name c.requires.apart
-    c.remove.new.arena (alike_three _ _ _ _ c.self.invariant.store _ c.self.view_is p b node way arena refl c.unlink_entry.new.arena c.unlink_entry.ensures.same c.unlink_entry.ensures.capacity c.remove.new.arena c.remove.ensures.links)
-    c.rename_node.new.arena _ c.rename_node.ensures.nodes c.rename_node.ensures.row c.rename_node.ensures.home c.rename_node.ensures.name c.rename_node.ensures.whole c.requires.absent c.requires.depth)
-
-pub link_entry-requires-clause-groups : goal.link_entry-requires-clause-groups
-link_entry-requires-clause-groups c =
-    let arena = c.self.inside.arena in let b = c.unwrap-node.result in let p = c.args.from.now in let q = c.args.to.now in
-    let node = subst (λ r. IfSome r (λ x. IsNode (nodes_in arena) x)) c.unwrap-node.ensures c.find_path.ensures.node in
-    let way = subst (λ r. IfSome r (λ x. path_of (nodes_in arena) x ≡ p)) c.unwrap-node.ensures c.find_path.ensures.path in
-    grouped_relinked (nodes_in c.rename_node.new.arena) (nodes_in c.insert.new.arena) c.unlink_entry.new.root (Some b) c.insert.ensures.links
-    (groups_three _ _ _ _ c.self.invariant.store _ c.self.view_is p b node way q c.depth-depth.ensures.within _ (omega (arith, c.depth-depth.ensures.depth, c.depth-depth.ensures.within.some)) c.requires.parent
-    c.lookup.result c.lookup.ensures.node c.lookup.ensures.path c.lookup.ensures.none c.name-new_name.result.now c.name-new_name.ensures.name c.requires.apart
-    c.remove.new.arena (alike_three _ _ _ _ c.self.invariant.store _ c.self.view_is p b node way arena refl c.unlink_entry.new.arena c.unlink_entry.ensures.same c.unlink_entry.ensures.capacity c.remove.new.arena c.remove.ensures.links)
-    c.rename_node.new.arena _ c.rename_node.ensures.nodes c.rename_node.ensures.row c.rename_node.ensures.home c.rename_node.ensures.name c.rename_node.ensures.whole c.requires.absent c.requires.depth c.unlink_entry.new.root
-    (grouped_relinked (nodes_in c.unlink_entry.new.arena) (nodes_in c.remove.new.arena) c.unlink_entry.new.root (Some b) c.remove.ensures.links c.unlink_entry.ensures.groups))
-
-pub link_entry-requires-clause-there : goal.link_entry-requires-clause-there
-link_entry-requires-clause-there c =
-    let arena = c.self.inside.arena in let b = c.unwrap-node.result in let p = c.args.from.now in let q = c.args.to.now in
-    let node = subst (λ r. IfSome r (λ x. IsNode (nodes_in arena) x)) c.unwrap-node.ensures c.find_path.ensures.node in
-    let way = subst (λ r. IfSome r (λ x. path_of (nodes_in arena) x ≡ p)) c.unwrap-node.ensures c.find_path.ensures.path in
-    (relinked_places (nodes_in c.rename_node.new.arena) (nodes_in c.insert.new.arena) c.insert.ensures.links).homes b ∙ c.rename_node.ensures.home
 
 pub invariant_of-self : goal.invariant_of-self
 invariant_of-self c =
     let arena = c.self.inside.arena in let b = c.unwrap-node.result in let p = c.args.from.now in let q = c.args.to.now in
     let node = subst (λ r. IfSome r (λ x. IsNode (nodes_in arena) x)) c.unwrap-node.ensures c.find_path.ensures.node in
     let way = subst (λ r. IfSome r (λ x. path_of (nodes_in arena) x ≡ p)) c.unwrap-node.ensures c.find_path.ensures.path in
-    let one = c.unlink_entry.new.arena in let two = c.remove.new.arena in let three = c.rename_node.new.arena in let four = c.insert.new.arena in let later = c.link_entry.new.arena in
-    let alike = alike_then (nodes_in three) (nodes_in four) (nodes_in later) (alike_relinked (nodes_in three) (nodes_in four) c.insert.ensures.links) (alike_regrouped (nodes_in four) (nodes_in later) c.link_entry.ensures.same) in
-    let runs = runs_then arena four later (runs_then arena three four (runs_then arena two three (runs_then arena one two c.unlink_entry.ensures.runs c.remove.ensures.runs) c.rename_node.ensures.runs) c.insert.ensures.runs) c.link_entry.ensures.runs in
-    let index = index_regrouped (nodes_in four) (nodes_in later) c.insert.new.heads None c.link_entry.ensures.same (nodes_long four later c.link_entry.ensures.capacity) c.insert.ensures.index in
-    let long = c.link_entry.ensures.capacity ∙ c.insert.ensures.size ∙ c.rename_node.ensures.capacity ∙ c.remove.ensures.size ∙ c.unlink_entry.ensures.capacity in
-    let free = c.link_entry.ensures.free ∙ c.insert.ensures.free ∙ c.rename_node.ensures.free ∙ c.remove.ensures.free ∙ c.unlink_entry.ensures.free in
+    let two = c.remove.new.arena in let three = c.rename_node.new.arena in let later = c.insert.new.arena in
+    let alike = alike_relinked (nodes_in three) (nodes_in later) c.insert.ensures.links in
+    let runs = runs_then arena three later (runs_then arena two three c.remove.ensures.runs c.rename_node.ensures.runs) c.insert.ensures.runs in
+    let long = c.insert.ensures.size ∙ c.rename_node.ensures.capacity ∙ c.remove.ensures.size in
+    let free = c.insert.ensures.free ∙ c.rename_node.ensures.free ∙ c.remove.ensures.free in
     let heads = with_items_is (with_items c.self.inside.heads c.remove.new.heads) c.insert.new.heads (c.insert.auto.heads ∙ c.deref_mut-2.ensures.len) in
     record {
-      store = subst (λ hs. IsStore later c.self.inside.ways.items hs c.link_entry.new.root c.self.inside.slots.items) (sym heads)
-          (shift_store _ _ _ _ c.self.invariant.store _ c.self.view_is p b node way q c.depth-depth.ensures.within _ (omega (arith, c.depth-depth.ensures.depth, c.depth-depth.ensures.within.some)) c.requires.parent
+      store = subst (λ hs. IsStore later c.self.inside.ways.items hs c.self.inside.slots.items) (sym heads)
+          (shift_store _ _ _ c.self.invariant.store _ c.self.view_is p b node way q c.depth-depth.ensures.within _ (omega (arith, c.depth-depth.ensures.depth, c.depth-depth.ensures.within.some)) c.requires.parent
           c.lookup.result c.lookup.ensures.node c.lookup.ensures.path c.lookup.ensures.none c.name-new_name.result.now c.name-new_name.ensures.name c.requires.apart
-          c.remove.new.arena (alike_three _ _ _ _ c.self.invariant.store _ c.self.view_is p b node way arena refl c.unlink_entry.new.arena c.unlink_entry.ensures.same c.unlink_entry.ensures.capacity c.remove.new.arena c.remove.ensures.links)
+          c.remove.new.arena (alike_two _ _ _ c.self.invariant.store _ c.self.view_is p b node way arena refl c.remove.new.arena c.remove.ensures.links)
           c.rename_node.new.arena _ c.rename_node.ensures.nodes c.rename_node.ensures.row c.rename_node.ensures.home c.rename_node.ensures.name c.rename_node.ensures.whole c.requires.absent c.requires.depth
-          later alike runs c.insert.new.heads index c.link_entry.new.root c.link_entry.ensures.groups long free);
-      ordered = ordered_kept (nodes_in three) (nodes_in later) c.enter.new.self None (nodes_long three later (c.link_entry.ensures.capacity ∙ c.insert.ensures.size)) (kept_places (nodes_in three) (nodes_in later) None alike.places) c.enter.ensures;
+          later alike runs c.insert.new.heads c.insert.ensures.index long free);
+      ordered = ordered_kept (nodes_in three) (nodes_in later) c.enter.new.self None (nodes_long three later c.insert.ensures.size) (kept_places (nodes_in three) (nodes_in later) None alike.places) c.enter.ensures;
     }
 
 pub returns-clause-moved : goal.returns-clause-moved
@@ -183,14 +149,13 @@ returns-clause-moved c =
     let arena = c.self.inside.arena in let b = c.unwrap-node.result in let p = c.args.from.now in let q = c.args.to.now in
     let node = subst (λ r. IfSome r (λ x. IsNode (nodes_in arena) x)) c.unwrap-node.ensures c.find_path.ensures.node in
     let way = subst (λ r. IfSome r (λ x. path_of (nodes_in arena) x ≡ p)) c.unwrap-node.ensures c.find_path.ensures.path in
-    let one = c.unlink_entry.new.arena in let two = c.remove.new.arena in let three = c.rename_node.new.arena in let four = c.insert.new.arena in let later = c.link_entry.new.arena in
-    let alike = alike_then (nodes_in three) (nodes_in four) (nodes_in later) (alike_relinked (nodes_in three) (nodes_in four) c.insert.ensures.links) (alike_regrouped (nodes_in four) (nodes_in later) c.link_entry.ensures.same) in
-    let runs = runs_then arena four later (runs_then arena three four (runs_then arena two three (runs_then arena one two c.unlink_entry.ensures.runs c.remove.ensures.runs) c.rename_node.ensures.runs) c.insert.ensures.runs) c.link_entry.ensures.runs in
-    let index = index_regrouped (nodes_in four) (nodes_in later) c.insert.new.heads None c.link_entry.ensures.same (nodes_long four later c.link_entry.ensures.capacity) c.insert.ensures.index in
-    let long = c.link_entry.ensures.capacity ∙ c.insert.ensures.size ∙ c.rename_node.ensures.capacity ∙ c.remove.ensures.size ∙ c.unlink_entry.ensures.capacity in
-    let free = c.link_entry.ensures.free ∙ c.insert.ensures.free ∙ c.rename_node.ensures.free ∙ c.remove.ensures.free ∙ c.unlink_entry.ensures.free in
-    shift_view _ _ _ _ c.self.invariant.store _ c.self.view_is p b node way q c.depth-depth.ensures.within _ (omega (arith, c.depth-depth.ensures.depth, c.depth-depth.ensures.within.some)) c.requires.parent
+    let two = c.remove.new.arena in let three = c.rename_node.new.arena in let later = c.insert.new.arena in
+    let alike = alike_relinked (nodes_in three) (nodes_in later) c.insert.ensures.links in
+    let runs = runs_then arena three later (runs_then arena two three c.remove.ensures.runs c.rename_node.ensures.runs) c.insert.ensures.runs in
+    let long = c.insert.ensures.size ∙ c.rename_node.ensures.capacity ∙ c.remove.ensures.size in
+    let free = c.insert.ensures.free ∙ c.rename_node.ensures.free ∙ c.remove.ensures.free in
+    shift_view _ _ _ c.self.invariant.store _ c.self.view_is p b node way q c.depth-depth.ensures.within _ (omega (arith, c.depth-depth.ensures.depth, c.depth-depth.ensures.within.some)) c.requires.parent
     c.lookup.result c.lookup.ensures.node c.lookup.ensures.path c.lookup.ensures.none c.name-new_name.result.now c.name-new_name.ensures.name c.requires.apart
-    c.remove.new.arena (alike_three _ _ _ _ c.self.invariant.store _ c.self.view_is p b node way arena refl c.unlink_entry.new.arena c.unlink_entry.ensures.same c.unlink_entry.ensures.capacity c.remove.new.arena c.remove.ensures.links)
+    c.remove.new.arena (alike_two _ _ _ c.self.invariant.store _ c.self.view_is p b node way arena refl c.remove.new.arena c.remove.ensures.links)
     c.rename_node.new.arena _ c.rename_node.ensures.nodes c.rename_node.ensures.row c.rename_node.ensures.home c.rename_node.ensures.name c.rename_node.ensures.whole c.requires.absent c.requires.depth
-    later alike runs c.insert.new.heads index c.link_entry.new.root c.link_entry.ensures.groups long free
+    later alike runs c.insert.new.heads c.insert.ensures.index long free

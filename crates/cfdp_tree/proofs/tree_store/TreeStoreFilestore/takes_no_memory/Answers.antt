@@ -7,4 +7,4 @@ pub returns-clause-value : goal.returns-clause-value
 returns-clause-value c = ap (λ (s : Store). s.takes_no_memory) c.self.view_is
 
 pub returns-clause-in_use : goal.returns-clause-in_use
-returns-clause-in_use c = few_blocks _ _ _ _ c.self.invariant.store _ c.self.view_is
+returns-clause-in_use c = few_blocks _ _ _ c.self.invariant.store _ c.self.view_is

@@ -14,8 +14,8 @@ use Rattle.cfdp_tree.specs.Next.{name_cmp, IsBehind, IsLeast}
 use Rattle.cfdp_tree.specs.Orders.{in_order, IsOrdered}
 use Rattle.cfdp_tree.proofs.OrderLaws.{place_inside}
 use Rattle.cfdp_tree.proofs.SortLaws.{first_least, after_least, greater_last}
-use Rattle.cfdp_tree.proofs.orders.Orders.least_behind.Goals as goal
-use Rattle.cfdp_tree.proofs.orders.Orders.least_behind.Goals.{in-Some+in_ok-found-in-Some, in-None+in_ok-found-in-None}
+use Rattle.cfdp_tree.proofs.orders.Orders.least_after.Goals as goal
+use Rattle.cfdp_tree.proofs.orders.Orders.least_after.Goals.{in-Some+in_ok-found-in-Some, in-None+in_ok-found-in-None}
 
 pub of-order-requires : goal.of-order-requires
 of-order-requires c = record { within = place_inside (nodes_in c.args.arena.now) c.args.self.now _ c.args.directory.now c.requires.ordered c.requires.place }
