@@ -57,8 +57,8 @@ impl Entity {
     ///
     /// # Errors
     ///
-    /// [`Memory`] when out of memory. Cost: for each block of the filestore 128 octets, 8 for its index and 6 for the
-    /// ways back from block to block, and the room of 64 transactions.
+    /// [`Memory`] when out of memory. Cost: for each block of the filestore 128 octets, 8 for its index, 6 for the ways
+    /// back from block to block and 10 for the entries of directories in order, and the room of 64 transactions.
     pub fn new(alloc: Global, config: Config) -> Result<Entity, Memory>
         ensures { IfOk result (λ entity. entity ≡ start config) }
     {

@@ -5,6 +5,7 @@
 --     less_back, side_of       how a name compares with that of a node
 --     less_first, greater_last the nodes with names before another name come first, and those with names after it last
 --     place_cases              two places are one or not
+--     none_from, other_from, there_from    the first node that does not come before a name, and whether it has the name
 --     first_least, after_least the first node is that of the least name, and the first one behind a name the next one
 use Rattle.std.proofs.Common.{◌≡◌, ◌≢◌, ℕ, ◌≤◌, List, [], ◌∷◌, ◌++◌, get_or, Option, Some, None, refl, sym, ap, ◌∙◌, subst, ◌⊎◌, inl, inr, arith}
 use Rattle.std.proofs.lemmas.Bool.{cases_eq}
@@ -14,11 +15,12 @@ use Rattle.std.specs.Cmp.{tied_itself}
 use Rattle.std.specs.Cmp.Lexicographic.{nat_list_cmp_total}
 use Rattle.std.specs.List.{slice_get}
 use Rattle.std.specs.Ordering.{ordering_reverse}
-use Rattle.std.specs.Prelude.{All, AllPairs, IfSome, IfNone}
-use Rattle.std.specs.declared.cmp.Ordering.TheVariants.{Less, Greater}
+use Rattle.std.specs.Prelude.{All, AllPairs, Contains, IfSome, IfNone}
+use Rattle.std.specs.declared.cmp.Ordering.{Ordering}
+use Rattle.std.specs.declared.cmp.Ordering.TheVariants.{Less, Equal, Greater}
 use Rattle.cfdp_arena.specs.Arena.{Blocks}
 use Rattle.cfdp_paths.specs.Paths.{Name}
-use Rattle.cfdp_order.specs.Orders.{times, SplitsAfter}
+use Rattle.cfdp_order.specs.Orders.{times, SplitsFrom, SplitsAfter}
 use Rattle.cfdp_order.proofs.Counts.{one_other}
 use Rattle.cfdp_order.proofs.MemberLaws.{times_contains, contains_times}
 use Rattle.cfdp_order.proofs.SplitLaws.{All_at}
@@ -126,3 +128,49 @@ module _ (nodes : Blocks) (list : List ℕ) (rising : AllPairs (Rises nodes) lis
           },
           tt,
         )
+
+-- the entry of a name
+module _ (nodes : Blocks) (list : List ℕ) (rising : AllPairs (Rises nodes) list) (name : Name) (before after : List ℕ) (is : list ≡ before ++ after) (splits : SplitsFrom (λ m. name_cmp (name_at nodes m) name) before after) where
+  abbrev None-named : List ℕ → Type 0
+  None-named l = All (λ e. name_at nodes e ≡ name → ⊥) l
+
+  -- a name that is less than another one is not that one
+  less_other : (e : ℕ) → name_cmp (name_at nodes e) name ≡ Less → name_at nodes e ≡ name → ⊥
+  less_other e less same = less_equal less (ap (λ n. name_cmp n name) same ∙ tied_itself nat_list_cmp_total name)
+    where
+      less_equal : {o : Ordering} → o ≡ Less → o ≡ Equal → ⊥
+      less_equal first second = cc
+
+  front_other : None-named before
+  front_other = All-weaker (λ m. name_cmp (name_at nodes m) name ≡ Less) (λ e. name_at nodes e ≡ name → ⊥) less_other before splits.less
+
+  pub none_from : slice_get after 0 ≡ None → None-named list
+  none_from none = subst None-named (sym is) (All-append (λ e. name_at nodes e ≡ name → ⊥) before after front_other (empty after none))
+    where
+      empty : (l : List ℕ) → slice_get l 0 ≡ None → None-named l
+      empty [] e = All-nil (λ e. name_at nodes e ≡ name → ⊥)
+      empty (x ∷ l) e = cc
+
+  pub other_from : (b : ℕ) → slice_get after 0 ≡ Some b → (name_at nodes b ≡ name → ⊥) → None-named list
+  other_from b found other = subst None-named (sym is) (All-append (λ e. name_at nodes e ≡ name → ⊥) before after front_other
+      (go after (subst (AllPairs (Rises nodes)) is rising) splits.rest found))
+    where
+      same : {x y : ℕ} → Some x ≡ Some y → x ≡ y
+      same e = cc
+
+      go : (l : List ℕ) → AllPairs (Rises nodes) (before ++ l) → All (λ m. name_cmp (name_at nodes m) name ≢ Less) l → slice_get l 0 ≡ Some b → None-named l
+      go [] pairs rest e = All-nil (λ e. name_at nodes e ≡ name → ⊥)
+      go (x ∷ l) pairs rest e =
+          All-cons (λ e. name_at nodes e ≡ name → ⊥) x l (subst (λ y. name_at nodes y ≡ name → ⊥) (sym (same e)) other)
+          (All-weaker (Rises nodes x) (λ e. name_at nodes e ≡ name → ⊥)
+          (λ e less named. All-head (λ m. name_cmp (name_at nodes m) name ≢ Less) x l rest (subst (λ n. name_cmp (name_at nodes x) n ≡ Less) named less)) l (pairs_back (Rises nodes) before x l pairs))
+
+  pub there_from : (b : ℕ) → slice_get after 0 ≡ Some b → 1 ≤ times b list
+  there_from b found = contains_times list b (subst (λ l. Contains l b) (sym is) (Contains-append_right before after b (first after found)))
+    where
+      first : (l : List ℕ) → slice_get l 0 ≡ Some b → Contains l b
+      first [] e = cc
+      first (x ∷ l) e = (0, omega arith, same e)
+        where
+          same : Some x ≡ Some b → x ≡ b
+          same e = cc

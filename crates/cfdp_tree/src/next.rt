@@ -3,12 +3,10 @@ ghost use Rattle.std.specs.Prelude.{◌≡◌, ◌≤◌, ◌++◌, ℕ, Some, N
 ghost use Rattle.cfdp_paths.specs.Paths.{IsName};
 ghost use Rattle.cfdp_tree.specs.Nodes.{nodes_in};
 ghost use Rattle.cfdp_tree.specs.Tree.{IsTree, IsNode};
-ghost use Rattle.cfdp_tree.specs.Index.{IsIndex};
 ghost use Rattle.cfdp_tree.specs.Places.{path_at};
 ghost use Rattle.cfdp_tree.specs.Orders.{IsOrdered};
 ghost use Rattle.cfdp_tree.specs.Next.{IsNextEntry, IsLast, Follows, IsFirst};
 
-use crate::index::{Head, find};
 use crate::listing::tell;
 use crate::orders::Orders;
 use crate::spelling::write_path;
@@ -38,9 +36,8 @@ impl TreeStore {
     /// at least 776 octets. They begin at [`NextEntry::start`], and the octets before that stay as they were. `None`
     /// where no path in the store is greater: the whole buffer then stays as it was.
     ///
-    /// Takes no memory. In expected time linear in the octets of the path, with at most 22 comparisons of names in each
-    /// directory on the way, of which there are at most 9: the logarithm of its entries, whatever their names and whatever
-    /// the size of the found file.
+    /// Takes no memory. In time logarithmic in the entries of the directories on the way, whatever their names and whatever
+    /// the size of the found file: in each of them at most 45 names are compared. There are at most 9, with the root.
     pub fn next_entry(&self, after: Names<'_>, text: &mut [u8]) -> Option<NextEntry>
         requires names { All IsName after }
         requires room { 776 ≤ length text.old }
@@ -51,7 +48,7 @@ impl TreeStore {
         ensures unchanged { IfNone result (text.new ≡ text.old) }
         ensures length { length text.new ≡ length text.old }
     {
-        let node = next_below(&self.arena, &self.heads, &self.orders, &None, after)?;
+        let node = next_below(&self.arena, &self.orders, &None, after)?;
         let start = write_path(&self.arena, &node, text);
         let told = tell(&self.arena, &node);
         Some(NextEntry {
@@ -64,17 +61,15 @@ impl TreeStore {
 }
 
 /// The first node in path order after the path that a place and more names make, among the nodes at and below the place;
-/// `None` is the root. Takes no memory. In expected time linear in the octets of the names, times the logarithm of
-/// the entries of each directory on the way, by at most 9 calls within one another.
+/// `None` is the root. Takes no memory. In time logarithmic in the entries of the directories on the way, by at most 9
+/// calls within one another.
 fn next_below(
     arena: &Arena,
-    heads: &[Head],
     orders: &Orders,
     place: &Option<BlockId>,
     mut names: Names<'_>,
 ) -> Option<BlockId>
     requires tree { IsTree (nodes_in arena.now) }
-    requires index { IsIndex (nodes_in arena.now) heads.now None }
     requires ordered { IsOrdered (nodes_in arena.now) orders.now None }
     requires place { (d : ℕ) → place.now ≡ Some d → IsNode (nodes_in arena.now) d }
     requires names { All IsName names }
@@ -86,8 +81,8 @@ fn next_below(
     let Some(name) = names.next() else {
         return orders.least_after(arena, place, None);
     };
-    if let Some(node) = find(arena, heads, *place, name) {
-        let below = next_below(arena, heads, orders, &Some(node), names);
+    if let Some(node) = orders.find(arena, place, name) {
+        let below = next_below(arena, orders, &Some(node), names);
         if below.is_some() {
             return below;
         }

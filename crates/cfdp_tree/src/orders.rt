@@ -1,14 +1,14 @@
 //! The entries of each directory, and of the root, in order of their names.
 ghost use Rattle.std.specs.Option.{option_map};
-ghost use Rattle.std.specs.Prelude.{◌≡◌, ◌≢◌, ◌<◌, ℕ, Option, Some, None, All, IfOk, IfSome, IfNone, length};
+ghost use Rattle.std.specs.Prelude.{◌≡◌, ◌≢◌, ◌<◌, ◌≤◌, ℕ, Option, Some, None, All, IfOk, IfSome, IfNone, length};
 ghost use Rattle.cfdp_tree.specs.Nodes.{nodes_in};
 ghost use Rattle.cfdp_tree.specs.Tree.{IsTree, IsNode, IsEntry, name_at};
 ghost use Rattle.cfdp_tree.specs.Next.{name_cmp, IsBehind, IsLeast};
 ghost use Rattle.cfdp_tree.specs.Orders.{order_at, in_order, IsKnown, IsOrdered};
 
-use crate::rows::name_in;
+use crate::rows::{name_in, name_is};
 use cfdp_arena::{Arena, BlockId};
-use cfdp_order::{Links, Order, Sought, first, first_after, insert, remove};
+use cfdp_order::{Links, Order, Sought, first, first_after, first_from, insert, remove};
 use cfdp_paths::Memory;
 use std::alloc::Global;
 use std::cmp::Ordering;
@@ -28,9 +28,9 @@ pub(crate) struct Orders {
 
 /// A name that is sought among the entries of a directory.
 #[derive(Clone, Copy)]
-struct ByName<'a, 'n> {
-    arena: &'a Arena,
-    name: &'n [u8],
+pub(crate) struct ByName<'a, 'n> {
+    pub(crate) arena: &'a Arena,
+    pub(crate) name: &'n [u8],
 }
 
 impl Sought for ByName<'_, '_> {
@@ -131,6 +131,32 @@ impl Orders {
         let sought = ByName { arena, name };
         let order = remove(&mut self.links, order, node.number() as u16, &sought);
         self.set(&directory, order);
+    }
+
+    /// The entry of a directory, `None` for the root, under this name. In time logarithmic in the entries of the directory,
+    /// whatever their names: at most 23 names are compared.
+    pub(crate) fn find(
+        &self,
+        arena: &Arena,
+        directory: &Option<BlockId>,
+        name: &[u8],
+    ) -> Option<BlockId>
+        requires tree { IsTree (nodes_in arena.now) }
+        requires ordered { IsOrdered (nodes_in arena.now) self.now None }
+        requires place { (d : ℕ) → directory.now ≡ Some d → IsNode (nodes_in arena.now) d }
+        requires short { length name.now ≤ 96 }
+        ensures found { IfSome result (λ b. IsEntry (nodes_in arena.now) directory.now name.now b) }
+        ensures none { IfNone result ((b : ℕ) → IsEntry (nodes_in arena.now) directory.now name.now b → ⊥) }
+    {
+        let _free = arena.free();
+        let order = self.of(directory);
+        let found = first_from(&self.links, order, &ByName { arena, name })?;
+        let node = BlockId::of_number(u32::from(found));
+        if name_is(arena.bytes(node), name) {
+            Some(node)
+        } else {
+            None
+        }
     }
 
     /// The entry of a directory, `None` for the root, with the least of the names that are greater than this one, or of all

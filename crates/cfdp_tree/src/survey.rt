@@ -42,6 +42,9 @@ pub(crate) fn survey(
 }
 
 /// The nodes, each with its path. One buffer serves to spell all of them.
+///
+/// The paths are made from the last one to the first, and turned round after that. Made the other way, they would be freed
+/// in the order of their addresses, and glibc's allocator would give pages back and ask for them again.
 fn with_paths(
     alloc: Global,
     arena: &Arena,
@@ -53,8 +56,10 @@ fn with_paths(
 {
     let mut found = Vec::with_capacity(alloc, nodes.len())?;
     let mut text = [0; MOST_OCTETS];
-    for node in nodes {
+    for made in 0..nodes.len() {
+        let node = &nodes[nodes.len() - 1 - made];
         found.push((path_of(alloc, arena, node, &mut text)?, *node))?;
     }
+    found.reverse();
     Ok(found)
 }

@@ -60,13 +60,10 @@ next_below-below-requires t c =
       (
         c.requires.tree,
         (
-          c.requires.index,
+          c.requires.ordered,
           (
-            c.requires.ordered,
-            (
-              λ x e. subst (IsNode nodes) (some_same e) node,
-              (names_good c.args.names c.next.new.self c.in-Some.name.now c.in-Some.ensures.steps c.requires.names).1,
-            ),
+            λ x e. subst (IsNode nodes) (some_same e) node,
+            (names_good c.args.names c.next.new.self c.in-Some.name.now c.in-Some.ensures.steps c.requires.names).1,
           ),
         ),
       ),

@@ -1,7 +1,8 @@
-use Rattle.std.proofs.Common.{◌≡◌, ◌++◌, map, drop}
+use Rattle.std.proofs.Common.{◌≡◌, ◌-◌, length, map, drop}
+use Rattle.std.specs.Prelude.{reverse}
 use Rattle.cfdp_tree.specs.Nodes.{nodes_in}
 use Rattle.cfdp_tree.specs.Survey.{with_path}
 use Rattle.cfdp_tree.proofs.survey.with_paths.Given as goal
 
-abbrev pub invariant-loop-node : goal.invariant-loop-node
-invariant-loop-node l = l.found.items ++ map (with_path (nodes_in l.arena)) (drop l.node-index l.nodes) ≡ map (with_path (nodes_in l.arena)) l.nodes
+abbrev pub invariant-loop-made : goal.invariant-loop-made
+invariant-loop-made l = l.found.items ≡ reverse (map (with_path (nodes_in l.arena)) (drop (length l.nodes - l.made) l.nodes))
