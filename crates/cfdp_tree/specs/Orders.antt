@@ -1,11 +1,11 @@
--- The entries of each directory, and of the root, in order of their names. They are in orders (`cfdp_order`), whose links
--- are beside the arena.
+-- The entries of each directory, and of the root, in order of their names. They are in orders (`cfdp_order`), whose
+-- links are beside the arena.
 --     order_at orders place       the order of a directory, or of the root
 --     in_order orders place       the nodes of this order, from the least name to the greatest
 --     IsKnown nodes b             a node, whose name can be read
 --     Rises nodes b c             the name of one node is less than that of the other
---     IsOrdered nodes orders out  each node is in the order of its directory, but for the one that is out, each order has just
---                                 its nodes, and their names rise
+--     IsOrdered nodes orders out  each node is in the order of its directory, but for the one that is out, each order has
+--                                 just its nodes, and their names rise
 --     IsOrderedStore arena ways heads orders slots    a store, and its entries are in order
 use Rattle.std.specs.Prelude.{◌≡◌, ◌≢◌, ℕ, List, Option, Some, None, All, AllPairs, Contains, length, slice_index_or}
 use Rattle.std.specs.declared.cmp.Ordering.TheVariants.{Less}

@@ -36,8 +36,9 @@ impl TreeStore {
     /// at least 776 octets. They begin at [`NextEntry::start`], and the octets before that stay as they were. `None`
     /// where no path in the store is greater: the whole buffer then stays as it was.
     ///
-    /// Takes no memory. In time logarithmic in the entries of the directories on the way, whatever their names and whatever
-    /// the size of the found file: in each of them at most 45 names are compared. There are at most 9, with the root.
+    /// Takes no memory. In time logarithmic in the entries of the directories on the way, whatever their names and
+    /// whatever the size of the found file: in each of them at most 45 names are compared. There are at most 9, with
+    /// the root.
     pub fn next_entry(&self, after: Names<'_>, text: &mut [u8]) -> Option<NextEntry>
         requires names { All IsName after }
         requires room { 776 ≤ length text.old }
@@ -60,9 +61,9 @@ impl TreeStore {
     }
 }
 
-/// The first node in path order after the path that a place and more names make, among the nodes at and below the place;
-/// `None` is the root. Takes no memory. In time logarithmic in the entries of the directories on the way, by at most 9
-/// calls within one another.
+/// The first node in path order after the path that a place and more names make, among the nodes at and below the
+/// place; `None` is the root. Takes no memory. In time logarithmic in the entries of the directories on the way, by at
+/// most 9 calls within one another.
 fn next_below(
     arena: &Arena,
     orders: &Orders,

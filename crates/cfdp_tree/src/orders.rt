@@ -13,9 +13,9 @@ use cfdp_paths::Memory;
 use std::alloc::Global;
 use std::cmp::Ordering;
 
-/// The orders of the entries of all directories and of the root, each by the names of the entries. The links of a node and
-/// the order of a directory are at the number of its block. [`Orders::new`] takes all their memory: for each block of the
-/// arena 6 octets for links, and 4 for an order.
+/// The orders of the entries of all directories and of the root, each by the names of the entries. The links of a node
+/// and the order of a directory are at the number of its block. [`Orders::new`] takes all their memory: for each block
+/// of the arena 6 octets for links, and 4 for an order.
 #[derive(Drop)]
 pub(crate) struct Orders {
     /// The links of each node to the others of its directory.
@@ -81,7 +81,8 @@ impl Orders {
     fn set(&mut self, directory: &Option<BlockId>, order: Order)
         requires within { (d : ℕ) → directory.now ≡ Some d → d < length self.old.directories.items }
         ensures here { order_at self.new directory.now ≡ order }
-        ensures others { (other : Option ℕ) → other ≢ directory.now → order_at self.new other ≡ order_at self.old other }
+        ensures others { (other : Option ℕ) → other ≢ directory.now
+            → order_at self.new other ≡ order_at self.old other }
         ensures links { self.new.links.items ≡ self.old.links.items }
         ensures length { length self.new.directories.items ≡ length self.old.directories.items }
     {
@@ -91,8 +92,8 @@ impl Orders {
         }
     }
 
-    /// Puts a node that is in no order into that of its directory, `None` for the root, by its name. In time logarithmic
-    /// in the entries of the directory, whatever their names: at most 22 names are compared.
+    /// Puts a node that is in no order into that of its directory, `None` for the root, by its name. In time
+    /// logarithmic in the entries of the directory, whatever their names: at most 22 names are compared.
     pub(crate) fn enter(
         &mut self,
         arena: &Arena,
@@ -133,8 +134,8 @@ impl Orders {
         self.set(&directory, order);
     }
 
-    /// The entry of a directory, `None` for the root, under this name. In time logarithmic in the entries of the directory,
-    /// whatever their names: at most 23 names are compared.
+    /// The entry of a directory, `None` for the root, under this name. In time logarithmic in the entries of the
+    /// directory, whatever their names: at most 23 names are compared.
     pub(crate) fn find(
         &self,
         arena: &Arena,
@@ -159,9 +160,9 @@ impl Orders {
         }
     }
 
-    /// The entry of a directory, `None` for the root, with the least of the names that are greater than this one, or of all
-    /// names if none is given. In time logarithmic in the entries of the directory, whatever their names: at most 22 names
-    /// are compared.
+    /// The entry of a directory, `None` for the root, with the least of the names that are greater than this one, or of
+    /// all names if none is given. In time logarithmic in the entries of the directory, whatever their names: at most
+    /// 22 names are compared.
     pub(crate) fn least_after(
         &self,
         arena: &Arena,

@@ -31,7 +31,8 @@ pub(crate) fn survey(
     requires ordered { IsOrdered (nodes_in arena.now) orders.now None }
     requires place { (d : ℕ) → place.now ≡ Some d → IsNode (nodes_in arena.now) d }
     requires depth { length (path_at (nodes_in arena.now) place.now) ≡ depth }
-    ensures { IfOk result (λ found. found.items ≡ map (with_path (nodes_in arena.now)) (walk_from orders.now depth place.now)) }
+    ensures { IfOk result (λ found. found.items
+        ≡ map (with_path (nodes_in arena.now)) (walk_from orders.now depth place.now)) }
 {
     let mut nodes = Vec::new(alloc);
     if let Some(node) = place {
@@ -43,8 +44,8 @@ pub(crate) fn survey(
 
 /// The nodes, each with its path. One buffer serves to spell all of them.
 ///
-/// The paths are made from the last one to the first, and turned round after that. Made the other way, they would be freed
-/// in the order of their addresses, and glibc's allocator would give pages back and ask for them again.
+/// The paths are made from the last one to the first, and turned round after that. Made the other way, they would be
+/// freed in the order of their addresses, and glibc's allocator would give pages back and ask for them again.
 fn with_paths(
     alloc: Global,
     arena: &Arena,

@@ -28,28 +28,27 @@ use std::marker::Model;
 ///
 /// In the arena are the nodes, one block for each file or directory, with its name and the checksum of a file's octets,
 /// and the octets of files and of staged lists, 120 in each block. Beside the arena are the ways back from block to
-/// block, one for each block ([`Way`]), the heads of the index's lists, one for each block, the entries of each directory
-/// and of the root in order of their names (`cfdp_order`), with links and an order for each block, and 64 slots, each with
-/// the size, the checksum, the first and the last block of a staged list, where it was last written, and what of it was
-/// never written. [`TreeStore::new`] takes the memory of all of these, and none of them grows after it. `listing` and
-/// `standing` take memory for what they return, and no other call takes any.
+/// block, one for each block ([`Way`]), the heads of the index's lists, one for each block, the entries of each
+/// directory and of the root in order of their names (`cfdp_order`), with links and an order for each block, and 64
+/// slots, each with the size, the checksum, the first and the last block of a staged list, where it was last written,
+/// and what of it was never written. [`TreeStore::new`] takes the memory of all of these, and none of them grows after
+/// it. `listing` and `standing` take memory for what they return, and no other call takes any.
 ///
 /// Cost: a call looks each name of its paths up by the directory and the name, in expected constant time whatever else
 /// the directory has. `kind`, `parent_is_good`, `has_entries`, `size` and `checksum` take no more than that; `free`,
-/// `staged_size` and `staged_checksum` take constant time. `make_file`, `make_dir`, `install` of a new file, `remove` and
-/// `rename`, also of a directory, also change the order of each directory that they touch: for that they compare at most
-/// 22 names, whatever the names are.
-/// `remove`, `unstage` and `install` over a file give back the blocks that are dropped as one, in constant time;
-/// `stage_extend` fills those that it takes with zeros. `read`, `read_staged`, `stage_put`, `append` and `replace` copy
-/// the octets that they are asked for by slices of a block; `append` and `replace` from block to block with no buffer.
-/// `stage_put` sums what it writes. It sums what it overwrites too, unless that comes after all that was written, or in
-/// the gap that the slot keeps: the longest one that was left out before later octets. So octets that come in order, in
-/// reverse or with neighbours swapped are summed once. `append` sums the second file unless the first one's size is a
-/// multiple of 4.
-/// `read`, `read_staged` and `stage_put` find the offset in at most 3 steps for each binary digit of the number of
-/// blocks, so 48 in a file of 65,536 blocks, in whatever order its octets came and are read. `deepest` and `standing` go
-/// through what is at and below the path, and `listing` through everything but the octets, in time linear in it; they sort
-/// nothing. `next_entry` compares at most 22 names in each directory on the way.
+/// `staged_size` and `staged_checksum` take constant time. `make_file`, `make_dir`, `install` of a new file, `remove`
+/// and `rename`, also of a directory, also change the order of each directory that they touch: for that they compare at
+/// most 22 names, whatever the names are. `remove`, `unstage` and `install` over a file give back the blocks that are
+/// dropped as one, in constant time; `stage_extend` fills those that it takes with zeros. `read`, `read_staged`,
+/// `stage_put`, `append` and `replace` copy the octets that they are asked for by slices of a block; `append` and
+/// `replace` from block to block with no buffer. `stage_put` sums what it writes. It sums what it overwrites too,
+/// unless that comes after all that was written, or in the gap that the slot keeps: the longest one that was left out
+/// before later octets. So octets that come in order, in reverse or with neighbours swapped are summed once. `append`
+/// sums the second file unless the first one's size is a multiple of 4. `read`, `read_staged` and `stage_put` find the
+/// offset in at most 3 steps for each binary digit of the number of blocks, so 48 in a file of 65,536 blocks, in
+/// whatever order its octets came and are read. `deepest` and `standing` go through what is at and below the path, and
+/// `listing` through everything but the octets, in time linear in it; they sort nothing. `next_entry` compares at most
+/// 22 names in each directory on the way.
 #[derive(Drop)]
 pub struct TreeStore {
     pub(crate) arena: Arena,
@@ -80,8 +79,8 @@ const SLOTS: usize = 64;
 
 impl TreeStore {
     /// Makes a store of `blocks` blocks, from 1 to 65,536, with no files, no directories and no staged lists. It takes
-    /// all the memory that the store ever keeps: for each block 128 octets, 6 for its way, 8 for a head of the index and 10
-    /// for the order of entries, and the 64 slots. In time linear in the blocks.
+    /// all the memory that the store ever keeps: for each block 128 octets, 6 for its way, 8 for a head of the index
+    /// and 10 for the order of entries, and the 64 slots. In time linear in the blocks.
     ///
     /// # Errors
     ///
@@ -110,8 +109,8 @@ impl TreeStore {
         })
     }
 
-    /// Makes an empty file or directory. In expected time linear in the octets of the path, and at most 22 comparisons of
-    /// names.
+    /// Makes an empty file or directory. In expected time linear in the octets of the path, and at most 22 comparisons
+    /// of names.
     fn make_node(&mut self, path: &Path, kind: Kind)
         requires absent { node_at self.old.filestore path.now ≡ None }
         requires parent { IsTrue (parent_is_good self.old.filestore path.now) }

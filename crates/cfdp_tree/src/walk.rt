@@ -11,15 +11,16 @@ use cfdp_arena::{Arena, BlockId};
 use cfdp_order::Order;
 use cfdp_paths::Memory;
 
-/// The number of names of the longest path among the nodes of an order, each of which has a path of `depth` names, and all
-/// that is below them; 0 for an empty order. Takes no memory, and reads no block. In time linear in the nodes, by at most
-/// 23 calls within one another for each directory on the way down.
+/// The number of names of the longest path among the nodes of an order, each of which has a path of `depth` names, and
+/// all that is below them; 0 for an empty order. Takes no memory, and reads no block. In time linear in the nodes, by
+/// at most 23 calls within one another for each directory on the way down.
 pub(crate) fn deepest_in(arena: &Arena, orders: &Orders, order: Order, depth: usize) -> usize
     requires tree { IsTree (nodes_in arena.now) }
     requires ordered { IsOrdered (nodes_in arena.now) orders.now None }
     requires order { IsOrder orders.now.links.items order }
     requires deep { StandAt (nodes_in arena.now) depth (nodes orders.now.links.items order) }
-    ensures value { result ≡ longest (nodes_in arena.now) (walks_at orders.now depth (nodes orders.now.links.items order)) }
+    ensures value { result ≡ longest (nodes_in arena.now)
+        (walks_at orders.now depth (nodes orders.now.links.items order)) }
     ensures within { result ≤ 8 }
 {
     let _free = arena.free();
@@ -28,15 +29,29 @@ pub(crate) fn deepest_in(arena: &Arena, orders: &Orders, order: Order, depth: us
     }
     let around = orders.links[usize::from(order.root)];
     let entries = orders.directories[usize::from(order.root)];
-    let before = deepest_in(arena, orders, around.left(), depth);
-    let below = deepest_in(arena, orders, entries, depth + 1);
-    let after = deepest_in(arena, orders, around.right(), depth);
+    let below = if entries.is_empty() {
+        0
+    } else {
+        deepest_in(arena, orders, entries, depth + 1)
+    };
+    let left = around.left();
+    let before = if left.is_empty() {
+        0
+    } else {
+        deepest_in(arena, orders, left, depth)
+    };
+    let right = around.right();
+    let after = if right.is_empty() {
+        0
+    } else {
+        deepest_in(arena, orders, right, depth)
+    };
     depth.max(below).max(before).max(after)
 }
 
-/// Puts the nodes of an order, each of which has a path of `depth` names, at the end of a vector, and what is below each
-/// after it: so they come in path order. In time linear in the nodes, by at most 23 calls within one another for each
-/// directory on the way down.
+/// Puts the nodes of an order, each of which has a path of `depth` names, at the end of a vector, and what is below
+/// each after it: so they come in path order. In time linear in the nodes, by at most 23 calls within one another for
+/// each directory on the way down.
 ///
 /// # Errors
 ///
