@@ -48,7 +48,7 @@ use std::marker::Model;
 /// offset in at most 3 steps for each binary digit of the number of blocks, so 48 in a file of 65,536 blocks, in
 /// whatever order its octets came and are read. `deepest` and `standing` go through what is at and below the path, and
 /// `listing` through everything but the octets, in time linear in it; they sort nothing. `next_entry` compares at most
-/// 22 names in each directory on the way.
+/// 45 names in each directory on the way, and looks its names up in the orders, not in the index.
 #[derive(Drop)]
 pub struct TreeStore {
     pub(crate) arena: Arena,
