@@ -1,5 +1,5 @@
 ghost use Rattle.std.specs.Prelude.{◌≡◌, ◌+◌, ◌<◌, ◌≤◌, ◌↔◌, IsTrue, Some};
-ghost use Rattle.cfdp_quota.specs.Budget.{IsBalanced, IsOpen, closing, entry_at, giving, reserve_at, reserved, reserving, spare, taking, untouched, used};
+ghost use Rattle.cfdp_quota.specs.Budget.{IsBalanced, IsOpen, closing, entry_at, giving, reserve_at, reserved, reserving, spare, taking, unreserved, untouched, used};
 
 use std::marker::Model;
 
@@ -37,6 +37,19 @@ impl Quota {
             capacity,
             used: 0,
             spare: capacity,
+            reserves: [None; SLOTS],
+        }
+    }
+
+    /// `capacity` blocks, of which `free` are free and spare and the others are in use, every slot closed.
+    pub fn with_free(capacity: u32, free: u32) -> Quota
+        requires { free ≤ capacity }
+        ensures { result ≡ unreserved capacity free }
+    {
+        Quota {
+            capacity,
+            used: capacity - free,
+            spare: free,
             reserves: [None; SLOTS],
         }
     }

@@ -7,7 +7,7 @@ use Rattle.std.proofs.Common.{◌≡◌, ℕ, zero, suc, ◌+◌, List, [], ◌�
 use Rattle.std.specs.Prelude.{Bool, false, not, ◌&&◌, ◌||◌, ◌==◌, nat_le, nat_lt, Option, Some, None, slice_get, IsTrue, IsFalse}
 use Rattle.std.proofs.lemmas.Bool.{cond_both, or_parts, ne_eqb}
 use Rattle.cfdp_paths.specs.Paths.{Path}
-use Rattle.cfdp_actions.specs.Filestore.{Filestore}
+use Rattle.cfdp_actions.specs.Filestore.{Filestore, empty_filestore}
 use Rattle.cfdp_actions.specs.Actions.{Item, Install, Perform, Answer, succeeded, Outcome, denied, row, act_item}
 use Rattle.cfdp_pdus.specs.Values.{MetadataFields, FileDataFields}
 use Rattle.cfdp_pdus.specs.declared.header.Header.{Header}
@@ -17,7 +17,7 @@ use Rattle.cfdp_verifier.specs.Verdict.{Verdict, Refuse, Grant, verdict}
 use Rattle.cfdp_transactions.specs.Received.{kept_with, pieces, is_whole}
 use Rattle.cfdp_transactions.specs.Entry.{Phase, Receiving, Awaiting, Executing, Refused, Done, Ended, Entry, id_of, is_live, is_receiving, takes_data, has_file}
 use Rattle.cfdp_transactions.specs.Events.{Event, MetadataCame, DataCame, EofCame, Step, Cancel, Check, Take, Reply}
-use Rattle.cfdp_transactions.specs.World.{World, start, bound, spare, leases_of, free, index_of, entry_of}
+use Rattle.cfdp_transactions.specs.World.{World, bound, spare, leases_of, free, index_of, entry_of}
 use Rattle.cfdp_transactions.specs.Admission.{judged, is_known_checksum, metadata_came, proposal_of}
 use Rattle.cfdp_transactions.specs.Delivery.{is_right_checksum, whole, limit, storing, stores, after_eof, stored, data_came, eof_came, check_at, checked}
 use Rattle.cfdp_transactions.specs.Execution.{is_install, replied}
@@ -30,10 +30,11 @@ use Rattle.cfdp_transactions.specs.Beside.{is_step, says_installed, is_first, in
 use Rattle.cfdp_transactions.proofs.RowAnswers.{HasStatus, row_of_request}
 use Rattle.cfdp_transactions.proofs.Acting.{is_installed}
 use Rattle.cfdp_transactions.proofs.ItemsListed.{has_install, first_is}
-use Rattle.cfdp_transactions.proofs.ItemOrder.{IsInOrder, run_ordered}
+use Rattle.cfdp_transactions.specs.Beginning.{start_with, FirstIsInstalledFrom}
+use Rattle.cfdp_transactions.proofs.ItemOrder.{IsInOrder, ordered_from}
 use Rattle.cfdp_transactions.proofs.NextWorld.{next_sound}
 use Rattle.cfdp_transactions.proofs.Promise.{next_promised}
-use Rattle.cfdp_transactions.proofs.Starting.{start_sound}
+use Rattle.cfdp_transactions.proofs.Starting.{empty_good, good_sound}
 
 -- the events that are no step ------------------------------------------------------------
 
@@ -187,5 +188,9 @@ run_sound : (laws : LowerLaws) (W : World) (events : List Event) → Sound W →
 run_sound laws W [] s = s
 run_sound laws W (event ∷ events) s = run_sound laws (next W event).0 events (next_sound laws W s event)
 
+pub first_from : LowerLaws → FirstIsInstalledFrom
+first_from laws c F events event good =
+    next_says laws (run (start_with c F) events) (run_sound laws (start_with c F) events (good_sound c F good)) (ordered_from c F events) event
+
 pub first_is_installed : LowerLaws → FirstIsInstalled
-first_is_installed laws c events event = next_says laws (run (start c) events) (run_sound laws (start c) events (start_sound c)) (run_ordered c events) event
+first_is_installed laws c events event = first_from laws c empty_filestore events event (empty_good c)

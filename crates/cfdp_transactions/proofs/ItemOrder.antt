@@ -1,11 +1,12 @@
 -- What holds of each entry in each world of a run: its items are those of a list, and its file is installed or still to be.
 --     IsInOrder e               of an entry
---     next_ordered, run_ordered          each event, and each run, keeps it so
+--     next_ordered, from_ordered         each event, and each run, keeps it so
+--     ordered_from                       so it holds in each run, whatever the filestore at its start
 use Rattle.std.proofs.Common.{◌≡◌, ℕ, suc, ◌+◌, List, [], ◌∷◌, length, drop, refl, ap, sym, ◌∙◌}
 use Rattle.std.specs.Prelude.{Bool, true, false, Option, Some, None, slice_get, not, ◌&&◌, ◌||◌, ◌==◌, nat_lt, nat_le, IsTrue}
 use Rattle.std.specs.List.{AllByRecursion}
 use Rattle.std.proofs.lemmas.Bool.{cond_both, not-false, eqb-true}
-use Rattle.cfdp_actions.specs.Filestore.{Change, Stages}
+use Rattle.cfdp_actions.specs.Filestore.{Filestore, Change, Stages}
 use Rattle.cfdp_actions.specs.Actions.{Item, succeeded}
 use Rattle.cfdp_leases.specs.Laws.{NamesPaths}
 use Rattle.cfdp_pdus.specs.Values.{MetadataFields, FileDataFields}
@@ -16,7 +17,8 @@ use Rattle.cfdp_transactions.specs.Config.{Config}
 use Rattle.cfdp_transactions.specs.Received.{kept_with, pieces, is_whole, Received, staged_of}
 use Rattle.cfdp_transactions.specs.Entry.{Phase, Receiving, Awaiting, Executing, Refused, Done, Ended, is_live, is_receiving, takes_data, Entry, has_file, rest, rest_in, id_of}
 use Rattle.cfdp_transactions.specs.Events.{Event, MetadataCame, DataCame, EofCame, Step, Cancel, Check, Take, Reply}
-use Rattle.cfdp_transactions.specs.World.{World, spare, leases_of, bound, index_of, entry_of, change_at, free_slot, start}
+use Rattle.cfdp_transactions.specs.World.{World, spare, leases_of, bound, index_of, entry_of, change_at, free_slot}
+use Rattle.cfdp_transactions.specs.Beginning.{start_with}
 use Rattle.cfdp_transactions.specs.Ending.{ended, ends, cancelled, taken_out}
 use Rattle.cfdp_transactions.specs.Delivery.{turned, turns, is_right_checksum, whole, limit, storing, stores, after_eof, stored, data_came, eof_came, check_at, checked}
 use Rattle.cfdp_transactions.specs.Execution.{is_install, act_now, phase_before, entry_after, entry_failed, step_at, step_in, stepped}
@@ -249,5 +251,5 @@ pub from_ordered : (W : World) (events : List Event) → Each IsInOrder W.table 
 from_ordered W [] all = all
 from_ordered W (event ∷ events) all = from_ordered (next W event).0 events (next_ordered W all event)
 
-pub run_ordered : (c : Config) (events : List Event) → Each IsInOrder (run (start c) events).table
-run_ordered c events = from_ordered (start c) events (λ k e at. absurd cc)
+pub ordered_from : (c : Config) (F : Filestore) (events : List Event) → Each IsInOrder (run (start_with c F) events).table
+ordered_from c F events = from_ordered (start_with c F) events (λ k e at. absurd cc)

@@ -1,25 +1,28 @@
 -- In each world of a run something stands in the filestore only at paths.
 --     step_keyed                a step keeps the keys paths, as the names of its item are
 --     next_keyed, run_keyed     each event, and each run, keeps them so
---     each_key_is_a_path
+--     each_key_from             from whatever filestore whose keys are paths
+--     each_key_is_a_path        and from the empty one
 use Rattle.std.proofs.Common.{◌≡◌, ℕ, zero, suc, List, [], ◌∷◌, drop, refl, ap, sym, ◌∙◌, subst}
 use Rattle.std.specs.Prelude.{Option, Some, None, is_some, nat_le, ◌+◌, IsFalse, slice_get}
 use Rattle.std.specs.List.{AllByRecursion}
 use Rattle.std.specs.FinMap as finite
-use Rattle.std.proofs.lemmas.Bool.{cond_both, true≢false}
+use Rattle.std.proofs.lemmas.Bool.{cond_both}
 use Rattle.cfdp_paths.specs.Paths.{path_cmp}
-use Rattle.cfdp_actions.specs.Filestore.{Node, Filestore, empty_filestore, after}
+use Rattle.cfdp_actions.specs.Filestore.{Filestore, empty_filestore, after}
 use Rattle.cfdp_actions.specs.Actions.{Item, Install, Perform, succeeded, Outcome, denied, row}
 use Rattle.cfdp_leases.specs.Laws.{KeysArePaths, NamesPaths, KeysStayPaths}
 use Rattle.cfdp_transactions.specs.Entry.{Phase, Receiving, Awaiting, Executing, Refused, Done, Ended, Entry}
 use Rattle.cfdp_transactions.specs.Events.{Event, MetadataCame, DataCame, EofCame, Step, Cancel, Check, Take, Reply}
-use Rattle.cfdp_transactions.specs.World.{World, start, index_of, entry_of, free}
+use Rattle.cfdp_transactions.specs.World.{World, index_of, entry_of, free}
 use Rattle.cfdp_transactions.specs.Execution.{act_now, step_at, step_in, stepped}
 use Rattle.cfdp_transactions.specs.Next.{next, run}
 use Rattle.cfdp_transactions.specs.Sound.{Each}
 use Rattle.cfdp_transactions.specs.Beside.{is_step, EachKeyIsAPath}
 use Rattle.cfdp_transactions.proofs.Standing.{only_steps_change}
+use Rattle.cfdp_transactions.specs.Beginning.{start_with, EachKeyIsAPathFrom}
 use Rattle.cfdp_transactions.proofs.ItemOrder.{IsInOrder, next_ordered}
+use Rattle.cfdp_transactions.proofs.Starting.{empty_good}
 
 -- the nodes alone tell
 same_nodes : (F G : Filestore) → G.nodes ≡ F.nodes → KeysArePaths F → KeysArePaths G
@@ -79,8 +82,8 @@ run_keyed : (law : KeysStayPaths) (W : World) (events : List Event) → KeysAreP
 run_keyed law W [] keys all = keys
 run_keyed law W (event ∷ events) keys all = run_keyed law (next W event).0 events (next_keyed law W keys all event) (next_ordered W all event)
 
-nothing_keyed : KeysArePaths empty_filestore
-nothing_keyed p there = absurd (true≢false (sym there ∙ ap is_some (finite.get-empty {X = Node} path_cmp p)))
+pub each_key_from : KeysStayPaths → EachKeyIsAPathFrom
+each_key_from law c F events keys = run_keyed law (start_with c F) events keys (λ k e at. absurd cc)
 
 pub each_key_is_a_path : KeysStayPaths → EachKeyIsAPath
-each_key_is_a_path law c events = run_keyed law (start c) events nothing_keyed (λ k e at. absurd cc)
+each_key_is_a_path law c events = each_key_from law c empty_filestore events (empty_good c).paths

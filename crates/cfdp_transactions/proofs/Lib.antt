@@ -19,6 +19,7 @@ pub mod Granted
 pub mod Parsing
 pub mod Admitting
 pub mod Starting
+pub mod PutThere
 pub mod NextWorld
 pub mod Carried
 pub mod Admissions

@@ -1,10 +1,9 @@
 -- Outcomes fit a Finished PDU, where the events that came fit theirs.
 use Rattle.std.proofs.Common.{◌≡◌, ℕ, suc, ◌+◌, ◌^◌, ◌≤◌, ◌<◌, List, [], ◌∷◌, length, refl, sym, ◌∙◌, arith}
-use Rattle.cfdp_transactions.specs.Config.{Config}
 use Rattle.std.specs.Prelude.{Option, Some, None, IfSome, slice_get, true, not, ◌&&◌, ◌||◌, ◌==◌, nat_lt, nat_le, drop}
 use Rattle.std.specs.List.{AllByRecursion}
 use Rattle.std.proofs.lemmas.Bool.{cond_both, ltb-false}
-use Rattle.cfdp_actions.specs.Filestore.{Change, Stages}
+use Rattle.cfdp_actions.specs.Filestore.{empty_filestore, Change, Stages}
 use Rattle.cfdp_actions.specs.Actions.{Item, Answer, succeeded}
 use Rattle.cfdp_pdus.specs.Values.{MetadataFields, FileDataFields}
 use Rattle.cfdp_pdus.specs.declared.header.Header.{Header}
@@ -16,14 +15,15 @@ use Rattle.cfdp_verifier.specs.Verdict.{Verdict, Refuse, Grant, verdict}
 use Rattle.cfdp_transactions.specs.Entry.{Phase, Receiving, Awaiting, Executing, Refused, Done, Ended, is_live, is_receiving, takes_data, Entry, has_file, id_of}
 use Rattle.cfdp_transactions.specs.Events.{Event, MetadataCame, DataCame, EofCame, Step, Cancel, Check, Take, Reply}
 use Rattle.cfdp_transactions.specs.Outcome.{condition_of, is_refused, file_status_of, fault_of, finished, outcome_of}
-use Rattle.cfdp_transactions.specs.World.{World, spare, leases_of, bound, index_of, entry_of, change_at, free_slot, start}
+use Rattle.cfdp_transactions.specs.World.{World, spare, leases_of, bound, index_of, entry_of, change_at, free_slot}
 use Rattle.cfdp_transactions.specs.Ending.{ended, ends, cancelled, taken_out}
 use Rattle.cfdp_transactions.specs.Delivery.{is_right_checksum, whole, limit, storing, stores, after_eof, stored, data_came, eof_came, check_at, checked}
 use Rattle.cfdp_transactions.specs.Execution.{act_now, replied, phase_before, entry_after, entry_failed, step_at, step_in, stepped}
 use Rattle.cfdp_transactions.specs.Admission.{proposal_of, judged, is_known_checksum, metadata_came, new_entry, refused_entry, with_new}
 use Rattle.cfdp_transactions.specs.Next.{for_us, next, replies}
 use Rattle.cfdp_transactions.specs.Sound.{Each}
-use Rattle.cfdp_transactions.specs.Writable.{IsWritable, FitsReply, IsShort, IsReadable}
+use Rattle.cfdp_transactions.specs.Writable.{IsWritable, FitsReply, IsShort, IsReadable, OutcomesFit}
+use Rattle.cfdp_transactions.specs.Beginning.{start_with, OutcomesFitFrom}
 use Rattle.cfdp_transactions.proofs.Lengths.{fields_fit, octets_fit}
 use Rattle.cfdp_transactions.proofs.Places.{set_each, append_each, remove_place, before, get_set_same}
 
@@ -221,5 +221,8 @@ pub replies_fit : (W : World) (events : List Event) → Each IsSendable W.table 
 replies_fit W [] all readable = tt
 replies_fit W (event ∷ events) all readable = let a = next_fits W all event readable.0 in (a.reply, replies_fit (next W event).0 events a.table readable.1)
 
-pub outcomes_fit : (c : Config) (events : List Event) → AllByRecursion IsReadable events → AllByRecursion FitsReply (replies (start c) events)
-outcomes_fit c events readable = replies_fit (start c) events (λ k e at. absurd cc) readable
+pub fit_from : OutcomesFitFrom
+fit_from c F events readable = replies_fit (start_with c F) events (λ k e at. absurd cc) readable
+
+pub outcomes_fit : OutcomesFit
+outcomes_fit c events readable = fit_from c empty_filestore events readable

@@ -1,14 +1,27 @@
--- A receiving entity that has just begun: its books say what its world says.
-use Rattle.std.proofs.Common.{◌≡◌, ℕ, zero, suc, ◌≤◌, [], refl, arith}
-use Rattle.std.specs.Prelude.{Bool, true, false, ◌||◌, if◌then◌else◌, nat_lt, Option, Some, None, slice_index_or, replicate}
+-- A receiving entity without transactions: its books say what its world says.
+--     begun_booked          whatever its filestore has
+--     room_in               the blocks of what can be put there are free
+--     put_booked            after something was put there
+--     start_whole           where it has just begun
+use Rattle.std.proofs.Common.{◌≡◌, ℕ, zero, suc, ◌-◌, ◌≤◌, List, [], ◌∷◌, length, refl, ap, sym, ◌∙◌, arith}
+use Rattle.std.specs.Prelude.{Bool, true, false, ◌||◌, if◌then◌else◌, nat_lt, Option, Some, None, slice_get, slice_index_or, replicate}
 use Rattle.std.proofs.lemmas.Bool.Decides.{nat_tests}
 use Rattle.std.proofs.lemmas.List.Folds.{sum_by-replicate}
-use Rattle.cfdp_actions.specs.Store.{Store, empty_store}
-use Rattle.cfdp_quota.specs.Budget.{untouched, reserve_of}
+use Rattle.std.proofs.lemmas.List.{length-map}
+use Rattle.cfdp_paths.specs.Paths.{Path}
+use Rattle.cfdp_actions.specs.Filestore.{Node, Becomes, weight, blocks}
+use Rattle.cfdp_actions.specs.Store.{Store, free_blocks, with_changes}
+use Rattle.cfdp_quota.specs.Budget.{Budget, unreserved, reserve_of, spare, entry_at}
 use Rattle.cfdp_transactions.specs.Config.{Config, ConfigFault, BadBlocks, first_fault}
+use Rattle.cfdp_transactions.specs.World.{leases_of, reserves}
+use Rattle.cfdp_transactions.specs.Rows.{Row, entry_in, table_of}
+use Rattle.cfdp_transactions.specs.Books.{IsBooked, world_of}
 use Rattle.cfdp_transactions.specs.Engine.{IsWhole}
+use Rattle.cfdp_transactions.specs.Beginning.{IsGoodStart, put_fault}
 use Rattle.cfdp_transactions.specs.declared.books.Books.{Books}
-use Rattle.cfdp_transactions.proofs.Starting.{start_sound, blocks-empty}
+use Rattle.cfdp_transactions.proofs.Turning.{empty_by_length}
+use Rattle.cfdp_transactions.proofs.Starting.{good_sound}
+use Rattle.cfdp_transactions.proofs.PutThere.{can_put}
 
 not_large : (small large : Bool) (x : Option ConfigFault) → (if small || large then Some BadBlocks else x) ≡ None → large ≡ false
 not_large true large x h = absurd cc
@@ -23,23 +36,43 @@ none_in zero i = refl
 none_in (suc n) zero = refl
 none_in (suc n) (suc i) = none_in n i
 
-abbrev begun : Config → Books
-begun c = record { config = c; table = []; leases = []; quota = untouched c.blocks }
-
-pub start_whole : (c : Config) (s : Store) → s ≡ empty_store c.blocks s.takes_no_memory → first_fault c.blocks c.cap c.checks c.journal ≡ None → IsWhole s (begun c)
-start_whole c s is limits = rw is (record {
-  sound = start_sound c;
-  booked = record {
-    leases = refl;
-    budget = record {
-      in_all = refl;
-      not_used = omega (arith, blocks-empty);
-      not_granted = omega (arith, blocks-empty, sum_by-replicate reserve_of 64 None);
-      opened = λ k e at. absurd cc;
-      closed = λ slot vacant. none_in 64 slot;
-    };
-    capacity = refl;
-    few = few_blocks c limits;
-    pieces = λ k r at. absurd cc;
+-- no transaction is known, and so many blocks are free
+pub begun_booked : (s : Store) (b : Books) → b.table ≡ [] → b.leases ≡ [] → s.capacity ≡ b.config.blocks → b.config.blocks ≤ 65536 →
+    b.quota ≡ unreserved b.config.blocks (free_blocks s) → IsBooked s b
+begun_booked s b none unleased capacity few quota = record {
+  leases = unleased ∙ sym (ap (λ (rows : List Row). leases_of (table_of s.filestore rows)) none);
+  budget = record {
+    in_all = ap (λ (q : Budget). q.capacity) quota;
+    not_used = ap (λ (q : Budget). q.free) quota ∙ ap (λ (n : ℕ). n - blocks s.filestore) capacity;
+    not_granted = omega (arith, ap spare quota, ap (λ (rows : List Row). reserves (table_of s.filestore rows)) none, capacity, sum_by-replicate reserve_of 64 None);
+    opened = λ k e at. absurd (let empty : slice_get (table_of s.filestore b.table) k ≡ None = ap (λ (rows : List Row). slice_get (table_of s.filestore rows) k) none in cc);
+    closed = λ slot vacant. ap (λ (q : Budget). entry_at q slot) quota ∙ none_in 64 slot;
   };
-})
+  capacity = capacity;
+  few = few;
+  pieces = λ k r at. absurd (let empty : slice_get b.table k ≡ None = ap (λ (rows : List Row). slice_get rows k) none in cc);
+}
+
+pub room_in : (s : Store) (b : Books) (p : Path) (node : Node) → IsBooked s b → put_fault (world_of s b) p node ≡ None → weight (Some node) ≤ free_blocks s
+room_in s b p node booked none = let can = can_put (world_of s b) p node none in omega (arith, can.room, booked.capacity)
+
+-- what is put there takes its blocks
+pub put_booked : (s t : Store) (b : Books) (p : Path) (node : Node) (q : Budget) → IsBooked s b → put_fault (world_of s b) p node ≡ None →
+    t ≡ with_changes s (Becomes p (Some node) ∷ []) → q ≡ unreserved b.config.blocks (free_blocks t) → IsBooked t (record b { quota = q })
+put_booked s t b p node q booked none put is =
+    let idle : table_of s.filestore b.table ≡ [] = (can_put (world_of s b) p node none).idle in
+    begun_booked t (record b { quota = q })
+    (empty_by_length b.table (sym (length-map b.table (entry_in s.filestore)) ∙ ap length idle))
+    (booked.leases ∙ ap leases_of idle)
+    (ap (λ (u : Store). u.capacity) put ∙ booked.capacity)
+    booked.few
+    is
+
+abbrev begun : Config → Store → Books
+begun c s = record { config = c; table = []; leases = []; quota = unreserved c.blocks (free_blocks s) }
+
+pub start_whole : (c : Config) (s : Store) → IsGoodStart c s.filestore → s.capacity ≡ c.blocks → first_fault c.blocks c.cap c.checks c.journal ≡ None → IsWhole s (begun c s)
+start_whole c s good capacity limits = record {
+  sound = good_sound c s.filestore good;
+  booked = begun_booked s (begun c s) refl refl capacity (few_blocks c limits) refl;
+}

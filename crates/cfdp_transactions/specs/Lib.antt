@@ -30,3 +30,4 @@ pub mod Taking
 pub mod Engine
 pub mod Beside
 pub mod Fitting
+pub mod Beginning

@@ -8,6 +8,7 @@ ghost use Rattle.cfdp_transactions.specs.Needs.{StepNeeds, DataNeeds, TakeNeeds,
 ghost use Rattle.cfdp_transactions.specs.Beside.{DoneIsInstalled, EachKeyIsAPath, FirstIsInstalled, OnlyStepsChange};
 ghost use Rattle.cfdp_transactions.specs.Writable.{OutcomesFit, ReadIsReadable};
 
+pub mod beginning;
 pub mod received;
 
 use cfdp_leases::laws::{isolation, keys_stay_paths, own_footprint, stays_rooted};

@@ -1,7 +1,9 @@
 //! The core of a receiving entity.
 
-ghost use Rattle.std.specs.Prelude.{◌≡◌, ◌∷◌, [], Some, IfOk, IfErr, IsOk, IsNone, IsTrue, IsFalse, map, slice_get};
+ghost use Rattle.std.specs.Prelude.{◌≡◌, ◌≢◌, ◌∷◌, [], None, Some, IfOk, IfErr, IsOk, IsNone, IsTrue, IsFalse, OnErr, OnOk, map, slice_get};
+ghost use Rattle.cfdp_actions.specs.Filestore.{Directory, File};
 ghost use Rattle.cfdp_actions.specs.Store.{empty_store};
+ghost use Rattle.cfdp_transactions.specs.Beginning.{IsGoodStart, IsNotPut, Memory as NoMemory, put_fault, start_with, with_node};
 ghost use Rattle.cfdp_transactions.specs.Sound.{Sound};
 ghost use Rattle.cfdp_transactions.specs.World.{leases_of, next_outcome, next_runnable, spare, start};
 ghost use Rattle.cfdp_transactions.specs.Events.{Cancel, Check, DataCame, EofCame, MetadataCame, Step, Take};
@@ -19,13 +21,13 @@ use crate::event::transaction_of;
 use crate::ranges::{MOST_GAPS, Range};
 use crate::table::{MOST_TRANSACTIONS, Table};
 use crate::{
-    Config, Event, Outcome, Phase, Reply, admission, closing, delivery, file_data, laws, step,
-    taking,
+    Config, Event, NotPut, Outcome, Phase, Reply, admission, closing, delivery, file_data, laws,
+    putting, step, taking,
 };
 use arrayvec::ArrayVec;
 use cfdp_actions::Filestore;
 use cfdp_leases::Leases;
-use cfdp_paths::Memory;
+use cfdp_paths::{Memory, Path};
 use cfdp_pdus::{Eof, Header, Metadata, Piece};
 use cfdp_quota::Quota;
 use cfdp_status::TransactionId;
@@ -68,8 +70,24 @@ impl<S: Filestore> Core<S> {
         ensures world { IfOk result (λ core. core.world ≡ start config) }
         ensures store { IfOk result (λ core. core.takes_no_memory ≡ (S.state store).takes_no_memory) }
     {
-        let blocks = config.blocks();
-        let quota = Quota::new(blocks);
+        laws::beginning::empty_is_good();
+        Core::over(alloc, config, store)
+    }
+
+    /// A receiving entity that has just begun, over a store of the configuration's capacity that may have directories and files
+    /// already: each parent is a directory, each path has 1 to 8 names, and nothing is staged.
+    ///
+    /// # Errors
+    ///
+    /// Want of memory: both are dropped. Cost: the room of 64 transactions.
+    pub fn over(alloc: Global, config: Config, store: S) -> Result<Core<S>, Memory>
+        requires good { IsGoodStart config (S.state store).filestore }
+        requires capacity { (S.state store).capacity ≡ config.blocks }
+        ensures world { IfOk result (λ core. core.world ≡ start_with config (S.state store).filestore) }
+        ensures store { IfOk result (λ core. core.takes_no_memory ≡ (S.state store).takes_no_memory) }
+    {
+        laws::beginning::good_start_is_sound();
+        let quota = Quota::with_free(config.blocks(), store.free());
         let books = Books {
             config,
             table: Table::new(alloc)?,
@@ -81,6 +99,43 @@ impl<S: Filestore> Core<S> {
             store,
             books,
         })
+    }
+
+    /// Puts an empty directory at a path of the filestore, while no transaction is known: before launch, or after a restart. Out of
+    /// memory nothing is put, which comes only over a store that takes some. Cost: look-ups of the path's names, and of its
+    /// parent's.
+    ///
+    /// # Errors
+    ///
+    /// The first reason for which nothing is put, in the order of [`NotPut`]: all is as before.
+    pub fn put_directory(&mut self, path: &Path) -> Result<(), NotPut>
+        ensures ok { OnOk result (put_fault self.old.world path.now Directory ≡ None) }
+        ensures put { OnOk result (self.new.world ≡ with_node self.old.world path.now Directory) }
+        ensures err { IfErr result (IsNotPut self.old.world path.now Directory) }
+        ensures unchanged { OnErr result (self.new.world ≡ self.old.world) }
+        ensures thrifty { IsTrue self.old.takes_no_memory → IfErr result (λ why. why ≢ NoMemory) }
+        ensures steady { self.new.takes_no_memory ≡ self.old.takes_no_memory }
+    {
+        laws::beginning::put_is_sound();
+        putting::put_directory(&mut self.store, &mut self.books, path)
+    }
+
+    /// Puts a file with these octets at a path of the filestore, as [`put_directory`](Core::put_directory) puts a directory. Cost:
+    /// look-ups, and two passes over its blocks in the store: zeros, and then the octets.
+    ///
+    /// # Errors
+    ///
+    /// The first reason for which nothing is put, in the order of [`NotPut`]: all is as before.
+    pub fn put_file(&mut self, path: &Path, octets: &[u8]) -> Result<(), NotPut>
+        ensures ok { OnOk result (put_fault self.old.world path.now (File octets.now) ≡ None) }
+        ensures put { OnOk result (self.new.world ≡ with_node self.old.world path.now (File octets.now)) }
+        ensures err { IfErr result (IsNotPut self.old.world path.now (File octets.now)) }
+        ensures unchanged { OnErr result (self.new.world ≡ self.old.world) }
+        ensures thrifty { IsTrue self.old.takes_no_memory → IfErr result (λ why. why ≢ NoMemory) }
+        ensures steady { self.new.takes_no_memory ≡ self.old.takes_no_memory }
+    {
+        laws::beginning::put_is_sound();
+        putting::put_file(&mut self.store, &mut self.books, path, octets)
     }
 
     /// What is true at all times: the world is sound. Does nothing.

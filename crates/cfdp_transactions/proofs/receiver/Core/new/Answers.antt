@@ -1,7 +1,4 @@
-use Rattle.cfdp_transactions.proofs.StartWhole.{start_whole}
 use Rattle.cfdp_transactions.proofs.receiver.Core.new.Goals as goal
 
-pub invariant_of-result : goal.invariant_of-result
-invariant_of-result g c =
-    rw (c.in_ok-new.ensures, c.new-2.ensures, c.new-quota.ensures, c.blocks-blocks.ensures.value)
-    (start_whole c.args.config (g.S.Filestore.state c.args.store) c.requires c.blocks-blocks.ensures.limits)
+pub over-requires-clause-good : goal.over-requires-clause-good
+over-requires-clause-good g c = rw c.requires (c.empty_is_good.ensures c.args.config)

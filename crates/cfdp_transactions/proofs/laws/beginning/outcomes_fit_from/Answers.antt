@@ -1,0 +1,5 @@
+use Rattle.cfdp_transactions.proofs.Outgoing.{fit_from}
+use Rattle.cfdp_transactions.proofs.laws.beginning.outcomes_fit_from.Goals as goal
+
+pub returns : goal.returns
+returns c = fit_from
