@@ -1,7 +1,7 @@
 //! The receiving entity.
-ghost use Rattle.std.specs.Prelude.{◌≡◌, ◌<◌, ◌≤◌, ◌++◌, ℕ, List, [], drop, length, true, IsFalse, IsNone, IsOk, IfOk, IfErr, IfSome, OnErr, Ok, Err, Some, None};
+ghost use Rattle.std.specs.Prelude.{◌≡◌, ◌<◌, ◌≤◌, ◌++◌, ℕ, List, [], drop, length, true, IsFalse, IsNone, IsOk, IfOk, IfErr, IfSome, OnErr, OnOk, Ok, Err, Some, None};
 ghost use Rattle.std.specs.Option.{option_map};
-ghost use Rattle.cfdp_actions.specs.Filestore.{File, node_at};
+ghost use Rattle.cfdp_actions.specs.Filestore.{Directory, File, node_at};
 ghost use Rattle.cfdp_pdus.specs.First.{pdu_at};
 ghost use Rattle.cfdp_pdus.specs.Sound.{IsNoFileData};
 ghost use Rattle.cfdp_pdus.specs.Canonical.{IsHeader};
@@ -10,6 +10,7 @@ ghost use Rattle.cfdp_transactions.specs.Engine.{AsksForNone, outcome_in, read_o
 ghost use Rattle.cfdp_transactions.specs.Events.{about};
 ghost use Rattle.cfdp_transactions.specs.declared.event.Event.{Event as EventOf};
 ghost use Rattle.cfdp_transactions.specs.declared.event.Event.TheVariants.{Data as DataCame, Eof as EofCame, Cancel as CancelCame, Check as CheckCame, Step as StepCame, Take as TakeCame};
+ghost use Rattle.cfdp_transactions.specs.Beginning.{put_fault, with_node};
 ghost use Rattle.cfdp_transactions.specs.Fitting.{OnlyWritable, only_writable_prop};
 ghost use Rattle.cfdp_transactions.specs.Next.{next};
 ghost use Rattle.cfdp_transactions.specs.World.{start};
@@ -22,10 +23,12 @@ ghost use Rattle.cfdp_entity.specs.Sending.{IsUntaken, sent};
 ghost use Rattle.cfdp_entity.specs.declared.fault.NotTaken.TheVariants.{Memory as NoMemory, TooShort};
 
 use crate::{NotHeard, NotTaken};
-use cfdp_paths::Memory;
+use cfdp_paths::{Memory, Path};
 use cfdp_pdus::{Eof, Header, PduFault, Piece, read_piece};
 use cfdp_status::TransactionId;
-use cfdp_transactions::{Config, Core, Event, Outcome, Reply, laws, read_event, transaction_of};
+use cfdp_transactions::{
+    Config, Core, Event, NotPut, Outcome, Reply, laws, read_event, transaction_of,
+};
 use cfdp_tree::TreeStore;
 use std::alloc::Global;
 use std::marker::Model;
@@ -53,7 +56,8 @@ impl Model for Entity {
 }
 
 impl Entity {
-    /// An entity that has just begun, over an empty filestore.
+    /// An entity that has just begun, over an empty filestore. Directories and files can be put there before the first PDU, by
+    /// [`put_directory`](Entity::put_directory) and [`put_file`](Entity::put_file).
     ///
     /// # Errors
     ///
@@ -66,6 +70,41 @@ impl Entity {
         let store = TreeStore::new(alloc, config.blocks())?;
         let core = Core::new(alloc, config, store)?;
         Ok(Entity { core })
+    }
+
+    /// Puts an empty directory at a path of the filestore, while no transaction is known: before launch, or after a
+    /// restart. Takes no memory. Cost: a look-up of the path and of its parent.
+    ///
+    /// # Errors
+    ///
+    /// The first reason for which nothing is put, in the order of [`NotPut`], and never [`NotPut::Memory`]. The entity
+    /// is as before.
+    pub fn put_directory(&mut self, path: &Path) -> Result<(), NotPut>
+        ensures ok { OnOk result (put_fault self.old path.now Directory ≡ None) }
+        ensures put { OnOk result (self.new ≡ with_node self.old path.now Directory) }
+        ensures err { IfErr result (λ why. put_fault self.old path.now Directory ≡ Some why) }
+        ensures unchanged { OnErr result (self.new ≡ self.old) }
+    {
+        laws::beginning::outcomes_fit_from();
+        self.core.put_directory(path)
+    }
+
+    /// Puts a file with these octets at a path of the filestore, as [`put_directory`](Entity::put_directory) puts a
+    /// directory. Takes no memory: the octets are copied into the filestore. Cost: the look-ups, and two passes over the
+    /// octets.
+    ///
+    /// # Errors
+    ///
+    /// The first reason for which nothing is put, in the order of [`NotPut`], and never [`NotPut::Memory`]. The entity
+    /// is as before.
+    pub fn put_file(&mut self, path: &Path, octets: &[u8]) -> Result<(), NotPut>
+        ensures ok { OnOk result (put_fault self.old path.now (File octets.now) ≡ None) }
+        ensures put { OnOk result (self.new ≡ with_node self.old path.now (File octets.now)) }
+        ensures err { IfErr result (λ why. put_fault self.old path.now (File octets.now) ≡ Some why) }
+        ensures unchanged { OnErr result (self.new ≡ self.old) }
+    {
+        laws::beginning::outcomes_fit_from();
+        self.core.put_file(path, octets)
     }
 
     /// The core, for what it tells of transactions, and for its filestore. Costs nothing.
