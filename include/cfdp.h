@@ -13,9 +13,9 @@
  *  - One call at a time uses an engine. It may come from any thread, in an order that a lock, a start or a join makes sure of.
  *    No call comes from a signal handler, nor from the forked child of a process with threads.
  *
- * MEMORY comes from rattle_alloc, rattle_realloc and rattle_dealloc (docs/C.md). It is asked for by cfdp_new, by cfdp_receive for
- * a Metadata PDU alone, by cfdp_take of a transaction that is over, and by cfdp_reply_text, which uses no engine; by nothing else. So no
- * file that arrives, no request that is performed and no look at the filestore takes memory.
+ * MEMORY comes from rattle_alloc, rattle_realloc and rattle_dealloc (docs/C.md). It is asked for by cfdp_new, by cfdp_put, by
+ * cfdp_receive for a Metadata PDU alone, by cfdp_take of a transaction that is over, and by cfdp_reply_text, which uses no engine; by
+ * nothing else. So no file that arrives, no request that is performed and no look at the filestore takes memory.
  */
 #ifndef CFDP_H
 #define CFDP_H
@@ -44,6 +44,10 @@ enum cfdp_answer {
     CFDP_TOO_SHORT = 4,             /* what was asked for does not fit in the buffer */
     CFDP_NOTHING = 5,               /* there is no such thing */
     CFDP_BAD_PATH = 6,              /* the octets of a path spell none */
+    CFDP_HAS_TRANSACTIONS = 7,      /* a transaction is known, so that nothing can be put into the filestore */
+    CFDP_EXISTS = 8,                /* something exists at the path */
+    CFDP_NO_PARENT = 9,             /* the path's parent does not exist, or is a file */
+    CFDP_FILESTORE_FULL = 10,       /* the filestore has too few free blocks */
     CFDP_BAD_BLOCKS = 16,           /* the filestore has not 16 to 65536 blocks */
     CFDP_BAD_CAP = 17,              /* the cap is above 7864320 octets */
     CFDP_BAD_CHECKS = 18,           /* the check limit is not 1 to 1000 */
@@ -121,10 +125,19 @@ struct cfdp_reply {
     uint64_t other_number;
 };
 
-/* Makes an engine in an empty `struct cfdp_engine`: an entity of this configuration over an empty filestore, in which what
+/* Makes an engine in an empty `struct cfdp_engine`: an entity of this configuration over an empty filestore (cfdp_put fills it), in which what
  * stands at or below one of the prefixes is neither changed nor removed by a request. `count` is at most 8.
  * Answers CFDP_DONE, CFDP_HAS_ENGINE, CFDP_NO_MEMORY, or the first fault: a prefix in its order, and then blocks, cap, checks. */
 uint32_t cfdp_new(struct cfdp_engine *engine, const struct cfdp_config *config, const struct cfdp_path *prefixes, size_t count);
+
+/* Puts a directory or a file at a path, while no transaction is known: before the first PDU, as it was before launch or before a
+ * restart. `kind` is CFDP_DIRECTORY or CFDP_FILE (enum cfdp_entry_kind). A file gets the octets, which are copied; for a directory
+ * they are not looked at. A directory takes one block, and a file one more for each 120 octets. Answers CFDP_DONE; CFDP_BAD_PATH;
+ * CFDP_NOTHING if the kind is neither; the first that holds of CFDP_HAS_TRANSACTIONS, CFDP_EXISTS, CFDP_NO_PARENT and
+ * CFDP_FILESTORE_FULL; CFDP_NO_MEMORY (for the path); or CFDP_NO_ENGINE. What cfdp_next and cfdp_read told of one engine can be put
+ * into a new engine of the same configuration in the same order. It has the same filestore then. Cost: a look-up, and two passes over
+ * the octets. */
+uint32_t cfdp_put(struct cfdp_engine *engine, const struct cfdp_path *path, uint32_t kind, const uint8_t *octets, size_t length);
 
 /* Frees the engine and all its memory; the struct is empty again. Answers CFDP_DONE or CFDP_NO_ENGINE. */
 uint32_t cfdp_free(struct cfdp_engine *engine);

@@ -51,13 +51,17 @@ static bool again(uint32_t answer) {
 static int run(void) {
     static const struct cfdp_config config = {.entity = 2, .cap = 2400, .blocks = 64, .checks = 2};
     static const struct cfdp_path boot = {.length = 4, .octets = "boot"};
+    static const struct cfdp_path image = {.length = 5, .octets = "image"};
     struct cfdp_engine engine = CFDP_ENGINE_EMPTY;
     struct cfdp_reply reply = {0};
     uint8_t pdu[64];
     size_t count = 0;
     while (again(cfdp_new(&engine, &config, &boot, 1))) {}
+    uint32_t put;
+    while (again(put = cfdp_put(&engine, &image, CFDP_FILE, eof, sizeof eof))) {}
+    int wrong = put != CFDP_DONE;
     while (again(cfdp_receive(&engine, metadata, sizeof metadata, &reply))) {}
-    int wrong = reply.kind != CFDP_ADMITTED;
+    wrong |= reply.kind != CFDP_ADMITTED;
     unsigned before = calls;
     wrong |= cfdp_receive(&engine, eof, sizeof eof, &reply) != CFDP_DONE || reply.kind != CFDP_COMPLETE;
     wrong |= cfdp_step(&engine, 1, 1, &reply) != CFDP_DONE || reply.kind != CFDP_PERFORMED;

@@ -1,12 +1,15 @@
 -- What calls from C answer.
 --   code_of answer      the number of an answer
 --   config_answer       what is answered of a number of the configuration outside its limits
+--   put_answer          what is answered of a reason for which nothing is put into the filestore
 --   fault_answer        what is answered of octets that are no PDU;  unheard_answer: of any that got no reply
 use Rattle.std.specs.Prelude.{ℕ}
 use Rattle.cfdp_pdus.specs.declared.fault.PduFault.{PduFault}
 use Rattle.cfdp_pdus.specs.declared.fault.PduFault.TheVariants as pdu
 use Rattle.cfdp_transactions.specs.declared.config.ConfigFault.{ConfigFault}
 use Rattle.cfdp_transactions.specs.declared.config.ConfigFault.TheVariants as config
+use Rattle.cfdp_transactions.specs.declared.putting.NotPut.{NotPut}
+use Rattle.cfdp_transactions.specs.declared.putting.NotPut.TheVariants as not_put
 use Rattle.cfdp_entity.specs.declared.fault.NotHeard.{NotHeard}
 use Rattle.cfdp_entity.specs.declared.fault.NotHeard.TheVariants as unheard
 use Rattle.cfdp_c.specs.declared.answer.Answer.{Answer}
@@ -23,6 +26,10 @@ code_of answer.BadBlocks = 16
 code_of answer.BadCap = 17
 code_of answer.BadChecks = 18
 code_of answer.BadPath = 6
+code_of answer.HasTransactions = 7
+code_of answer.Exists = 8
+code_of answer.NoParent = 9
+code_of answer.FilestoreFull = 10
 code_of answer.TooManyPrefixes = 20
 code_of answer.NotOurs = 32
 code_of answer.Truncated = 33
@@ -39,6 +46,13 @@ config_answer config.BadBlocks = answer.BadBlocks
 config_answer config.BadCap = answer.BadCap
 config_answer config.BadChecks = answer.BadChecks
 config_answer config.BadJournal = answer.BadChecks
+
+abbrev pub put_answer : NotPut → Answer
+put_answer not_put.HasTransactions = answer.HasTransactions
+put_answer not_put.Exists = answer.Exists
+put_answer not_put.NoParent = answer.NoParent
+put_answer not_put.NoRoom = answer.FilestoreFull
+put_answer not_put.Memory = answer.Memory
 
 abbrev pub fault_answer : PduFault → Answer
 fault_answer pdu.Truncated = answer.Truncated

@@ -8,3 +8,4 @@ pub mod Stored
 pub mod Shown
 pub mod Announced
 pub mod Next
+pub mod Puts

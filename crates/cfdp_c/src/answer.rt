@@ -1,10 +1,10 @@
 //! What a call from C answers.
 ghost use Rattle.std.specs.Prelude.{◌≡◌};
-ghost use Rattle.cfdp_c.specs.Answers.{code_of, config_answer, fault_answer, unheard_answer};
+ghost use Rattle.cfdp_c.specs.Answers.{code_of, config_answer, fault_answer, put_answer, unheard_answer};
 
 use cfdp_entity::NotHeard;
 use cfdp_pdus::PduFault;
-use cfdp_transactions::ConfigFault;
+use cfdp_transactions::{ConfigFault, NotPut};
 
 /// What a call answers. After any other than `Done` nothing has changed, but for what the call's own text says.
 #[derive(Clone, Copy, Debug, PartialEq, Eq)]
@@ -29,6 +29,14 @@ pub(crate) enum Answer {
     BadChecks,
     /// The octets of a path spell none.
     BadPath,
+    /// A transaction is known, so that nothing can be put into the filestore.
+    HasTransactions,
+    /// Something exists at the path.
+    Exists,
+    /// The path's parent does not exist, or is a file.
+    NoParent,
+    /// The filestore has too few free blocks.
+    FilestoreFull,
     /// More than eight prefixes are to be protected.
     TooManyPrefixes,
     /// The PDU is not for the receiver of a file.
@@ -65,6 +73,10 @@ impl Answer {
             Answer::BadCap => 17,
             Answer::BadChecks => 18,
             Answer::BadPath => 6,
+            Answer::HasTransactions => 7,
+            Answer::Exists => 8,
+            Answer::NoParent => 9,
+            Answer::FilestoreFull => 10,
             Answer::TooManyPrefixes => 20,
             Answer::NotOurs => 32,
             Answer::Truncated => 33,
@@ -86,6 +98,19 @@ impl Answer {
             ConfigFault::BadBlocks => Answer::BadBlocks,
             ConfigFault::BadCap => Answer::BadCap,
             ConfigFault::BadChecks | ConfigFault::BadJournal => Answer::BadChecks,
+        }
+    }
+
+    /// What is answered where nothing was put into the filestore.
+    pub(crate) fn of_not_put(why: NotPut) -> Answer
+        ensures { result ≡ put_answer why }
+    {
+        match why {
+            NotPut::HasTransactions => Answer::HasTransactions,
+            NotPut::Exists => Answer::Exists,
+            NotPut::NoParent => Answer::NoParent,
+            NotPut::NoRoom => Answer::FilestoreFull,
+            NotPut::Memory => Answer::Memory,
         }
     }
 

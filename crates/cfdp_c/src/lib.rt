@@ -14,6 +14,7 @@ mod handle;
 mod making;
 mod next;
 mod paths;
+mod puts;
 mod reads;
 mod reply;
 mod slot;
@@ -24,6 +25,7 @@ pub use announced::{cfdp_destination_name, cfdp_metadata, cfdp_source_name};
 pub use events::{cfdp_cancel, cfdp_check, cfdp_receive, cfdp_step, cfdp_take};
 pub use making::{cfdp_engine_octets, cfdp_free, cfdp_new};
 pub use next::cfdp_next;
+pub use puts::cfdp_put;
 pub use reads::{
     cfdp_blocks, cfdp_blocks_spent, cfdp_gap, cfdp_grant, cfdp_next_outcome, cfdp_next_runnable,
     cfdp_phase, cfdp_progress, cfdp_reach, cfdp_steps_spent, cfdp_transaction_at,

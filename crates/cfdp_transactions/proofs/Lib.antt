@@ -20,6 +20,7 @@ pub mod Parsing
 pub mod Admitting
 pub mod Starting
 pub mod PutThere
+pub mod PutBack
 pub mod NextWorld
 pub mod Carried
 pub mod Admissions

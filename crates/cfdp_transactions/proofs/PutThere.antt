@@ -1,5 +1,5 @@
 -- What is put into the filestore while no transaction is known.
---     CanPut W p node       what it tells that nothing is in the way
+--     CanPut W p node       nothing is in the way: can_put, no_fault
 --     no_memory             what is in the way is never want of memory
 --     file_weight           the blocks of a file
 --     put_good, put_sound   a filestore to begin with stays one;  an entity stays sound
@@ -7,7 +7,7 @@
 --     file_put, none_put    a file whose octets come to its path by way of a slot;  or nothing
 use Rattle.std.proofs.Common.{◌≡◌, ◌≢◌, ℕ, ◌+◌, ◌-◌, ◌/◌, ◌%◌, min, ◌≤◌, Bool, true, false, List, [], ◌∷◌, ◌++◌, length, set, get_or, refl, ap, sym, ◌∙◌, subst, arith}
 use Rattle.std.specs.Prelude.{Option, Some, None, Result, Ok, Err, OnOk, OnErr, is_some, not, ◌==◌, nat_lt, if◌then◌else◌, replicate, slice_get}
-use Rattle.std.proofs.lemmas.Bool.{true≢false, not-false, eqb-true, ltb-false, and_parts}
+use Rattle.std.proofs.lemmas.Bool.{true≢false, not-false, eqb-true, ltb-false, le-ltb, and_parts}
 use Rattle.std.proofs.lemmas.List.{set-set, set-get_or, get_or-set_same, length-replicate, length-set, drop_all, append-nil}
 use Rattle.cfdp_paths.specs.Paths.{Path, parent}
 use Rattle.cfdp_actions.specs.Filestore.{Node, File, Filestore, node_at, staged_in, blocks_of, weight, blocks, Becomes, Stages, changed, is_directory, is_good, parent_is_good, IsRooted}
@@ -51,6 +51,17 @@ can_put W p node none =
       room = ltb-false _ _ four.0;
     }
 
+skipped : (b : Bool) (say : NotPut) (x : Option NotPut) → b ≡ false → x ≡ None → (if b then Some say else x) ≡ None
+skipped true say x other none = absurd (true≢false other)
+skipped false say x other none = none
+
+pub no_fault : (W : World) (p : Path) (node : Node) → CanPut W p node → put_fault W p node ≡ None
+no_fault W p node can =
+    skipped _ HasTransactions _ (ap (λ (es : List Entry). not (length es == 0)) can.idle)
+    (skipped _ Exists _ (ap is_some can.absent)
+    (skipped _ NoParent _ (ap not can.parent)
+    (skipped _ NoRoom None (le-ltb (free W) (weight (Some node)) can.room) refl)))
+
 -- a reason that is told is never want of memory
 told : (b : Bool) (say : NotPut) (x : Option NotPut) (why : NotPut) → say ≢ Memory → (x ≡ Some why → why ≢ Memory) → (if b then Some say else x) ≡ Some why → why ≢ Memory
 told true say x why other later is = λ memory. other (let same : say ≡ why = cc in same ∙ memory)
@@ -70,7 +81,7 @@ file_weight octets n is = omega (arith, is)
 
 -- what is rooted stays so ------------------------------------------------------------------
 
-no_root : (F : Filestore) (p : Path) → parent_is_good F p ≡ true → p ≢ []
+pub no_root : (F : Filestore) (p : Path) → parent_is_good F p ≡ true → p ≢ []
 no_root F [] good = absurd (true≢false (sym good))
 no_root F (n ∷ p) good = λ e. cc
 
@@ -86,7 +97,7 @@ rooted_put F p node rooted none good =
     rooted_becomes F p (Some node) rooted (λ _. good)
     (λ x some above there. absurd (none_good F p (no_root F p good) none (subst (λ (a : Path). is_good F a ≡ true) above (above_good F x (rooted x there)))))
 
-grown : (F : Filestore) (p : Path) (node : Node) → node_at F p ≡ None → blocks (changed F (Becomes p (Some node))) ≡ blocks F + weight (Some node)
+pub grown : (F : Filestore) (p : Path) (node : Node) → node_at F p ≡ None → blocks (changed F (Becomes p (Some node))) ≡ blocks F + weight (Some node)
 grown F p node none = let h = blocks-becomes F p (Some node) in omega (arith, ap weight none)
 
 pub put_good : PutIsGood

@@ -32,7 +32,7 @@ pub blocks-empty : blocks empty_filestore ≡ 0
 unfolding blocks
 blocks-empty = no_blocks (finite.entries (finite.empty {X = Node} {R = path_cmp})) 64 no_entries
 
-nowhere : (p : Path) → node_at empty_filestore p ≡ None
+pub nowhere : (p : Path) → node_at empty_filestore p ≡ None
 nowhere p = finite.get-empty path_cmp p
 
 nothing_keyed : KeysArePaths empty_filestore

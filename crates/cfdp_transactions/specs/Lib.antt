@@ -31,3 +31,4 @@ pub mod Engine
 pub mod Beside
 pub mod Fitting
 pub mod Beginning
+pub mod Restart

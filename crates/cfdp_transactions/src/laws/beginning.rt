@@ -2,6 +2,7 @@
 //! there.
 
 ghost use Rattle.cfdp_transactions.specs.Beginning.{StartIsEmpty, EmptyIsGood, PutIsGood, PutIsSound, GoodStartIsSound, HeadlineFrom, EachKeyIsAPathFrom, DoneIsInstalledFrom, FirstIsInstalledFrom, OutcomesFitFrom};
+ghost use Rattle.cfdp_transactions.specs.Restart.{PutBackIsSame};
 
 use crate::laws::lower_laws;
 use cfdp_leases::laws::keys_stay_paths;
@@ -24,6 +25,12 @@ pub fn put_is_good()
 /// What can be put keeps an entity sound.
 pub fn put_is_sound()
     ensures { PutIsSound }
+{}
+
+/// All directories and files of a sound entity's filestore, in path order, can be put into the empty filestore of a new entity of
+/// the same configuration. That one then has the same, and nothing is staged.
+pub fn put_back_is_same()
+    ensures { PutBackIsSame }
 {}
 
 /// An entity over a filestore with which it may begin is sound.
