@@ -134,7 +134,7 @@ uint32_t cfdp_new(struct cfdp_engine *engine, const struct cfdp_config *config, 
  * restart. `kind` is CFDP_DIRECTORY or CFDP_FILE (enum cfdp_entry_kind). A file gets the octets, which are copied; for a directory
  * they are not looked at. A directory takes one block, and a file one more for each 120 octets. Answers CFDP_DONE; CFDP_BAD_PATH;
  * CFDP_NOTHING if the kind is neither; the first that holds of CFDP_HAS_TRANSACTIONS, CFDP_EXISTS, CFDP_NO_PARENT and
- * CFDP_FILESTORE_FULL; CFDP_NO_MEMORY (for the path); or CFDP_NO_ENGINE. What cfdp_next and cfdp_read told of one engine can be put
+ * CFDP_FILESTORE_FULL; CFDP_NO_MEMORY (for the path); or CFDP_NO_ENGINE. What cfdp_next and cfdp_read give of one engine can be put
  * into a new engine of the same configuration in the same order. It has the same filestore then. Cost: a look-up, and two passes over
  * the octets. */
 uint32_t cfdp_put(struct cfdp_engine *engine, const struct cfdp_path *path, uint32_t kind, const uint8_t *octets, size_t length);

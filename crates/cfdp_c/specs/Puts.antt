@@ -1,7 +1,7 @@
 -- What C puts into an engine's filestore.
 --   node_in kind octets       what a kind asks for: a file with the octets, or a directory;  no other kind is one
 --   Puts path what            it is put there;  or why not, with all as before: a path that is none, a kind that is none, a reason
---                             of the entity's, or want of memory;  PutsPath, PutsNode, PutsBy: by the first of these that is known
+--                             of the entity's, or out of memory;  PutsPath, PutsNode, PutsBy: by the first of these that is known
 use Rattle.std.specs.Prelude.{◌≡◌, ◌⊎◌, ℕ, ◌==◌, if◌then◌else◌, List, Option, Some, None}
 use Rattle.cfdp_paths.specs.Paths.{Path}
 use Rattle.cfdp_actions.specs.Filestore.{Node, Directory, File}
@@ -17,21 +17,21 @@ abbrev pub node_in : ℕ → List ℕ → Option Node
 node_in kind octets = if kind == 1 then Some (File octets) else if kind == 2 then Some Directory else None
 
 abbrev pub PutsBy : Option NotPut → World → Path → Node → World → ℕ → Type 0
-PutsBy None W p node after told = (after ≡ with_node W p node) × (told ≡ code_of answer.Done)
-PutsBy (Some reason) W p node after told = (after ≡ W) × (told ≡ code_of (put_answer reason))
+PutsBy None W p node after code = (after ≡ with_node W p node) × (code ≡ code_of answer.Done)
+PutsBy (Some reason) W p node after code = (after ≡ W) × (code ≡ code_of (put_answer reason))
 
 abbrev pub PutsNode : Option Node → World → Path → World → ℕ → Type 0
-PutsNode None W p after told = (after ≡ W) × (told ≡ code_of answer.Nothing)
-PutsNode (Some node) W p after told = PutsBy (put_fault W p node) W p node after told
+PutsNode None W p after code = (after ≡ W) × (code ≡ code_of answer.Nothing)
+PutsNode (Some node) W p after code = PutsBy (put_fault W p node) W p node after code
 
 abbrev pub PutsPath : Option Path → Option Node → World → World → ℕ → Type 0
-PutsPath None what W after told = (after ≡ W) × (told ≡ code_of answer.BadPath)
-PutsPath (Some p) what W after told = PutsNode what W p after told
+PutsPath None what W after code = (after ≡ W) × (code ≡ code_of answer.BadPath)
+PutsPath (Some p) what W after code = PutsNode what W p after code
 
 abbrev pub PutsIn : PathFields → Option Node → World → Option World → ℕ → Type 0
-PutsIn path what W None told = ⊥
-PutsIn path what W (Some after) told = PutsPath (path_in path) what W after told ⊎ ((after ≡ W) × (told ≡ code_of answer.Memory))
+PutsIn path what W None code = ⊥
+PutsIn path what W (Some after) code = PutsPath (path_in path) what W after code ⊎ ((after ≡ W) × (code ≡ code_of answer.Memory))
 
 abbrev pub Puts : PathFields → Option Node → Option World → Option World → ℕ → Type 0
-Puts path what None after told = (after ≡ None) × (told ≡ code_of answer.NoEngine)
-Puts path what (Some W) after told = PutsIn path what W after told
+Puts path what None after code = (after ≡ None) × (code ≡ code_of answer.NoEngine)
+Puts path what (Some W) after code = PutsIn path what W after code

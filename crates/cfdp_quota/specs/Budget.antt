@@ -2,7 +2,7 @@
 -- the room of a filestore to the implementation; reserving it ahead of a request list is this project's own.
 --     Budget                    the capacity, the free blocks, and each slot's reserve (None where it is closed)
 --     untouched capacity        all blocks are free, and no slot is open
---     unreserved capacity free  so many blocks are free, and no slot is open
+--     unreserved capacity free  `free` of the blocks are free, and no slot is open
 --     used b                    the blocks that are not free
 --     reserve_at b slot         the slot's reserve, 0 where it is closed
 --     reserved b, spare b       all reserves together;  the free blocks that nobody has reserved

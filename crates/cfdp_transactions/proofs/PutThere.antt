@@ -1,6 +1,6 @@
 -- What is put into the filestore while no transaction is known.
 --     CanPut W p node       nothing is in the way: can_put, no_fault
---     no_memory             what is in the way is never want of memory
+--     no_memory             what is in the way is never that memory was refused
 --     file_weight           the blocks of a file
 --     put_good, put_sound   a filestore to begin with stays one;  an entity stays sound
 --     put_keeps             an entity is sound after a call
@@ -62,17 +62,17 @@ no_fault W p node can =
     (skipped _ NoParent _ (ap not can.parent)
     (skipped _ NoRoom None (le-ltb (free W) (weight (Some node)) can.room) refl)))
 
--- a reason that is told is never want of memory
-told : (b : Bool) (say : NotPut) (x : Option NotPut) (why : NotPut) → say ≢ Memory → (x ≡ Some why → why ≢ Memory) → (if b then Some say else x) ≡ Some why → why ≢ Memory
-told true say x why other later is = λ memory. other (let same : say ≡ why = cc in same ∙ memory)
-told false say x why other later is = later is
+-- a reason that is found is never that memory was refused
+found : (b : Bool) (say : NotPut) (x : Option NotPut) (why : NotPut) → say ≢ Memory → (x ≡ Some why → why ≢ Memory) → (if b then Some say else x) ≡ Some why → why ≢ Memory
+found true say x why other later is = λ memory. other (let same : say ≡ why = cc in same ∙ memory)
+found false say x why other later is = later is
 
 pub no_memory : (W : World) (p : Path) (node : Node) (why : NotPut) → put_fault W p node ≡ Some why → why ≢ Memory
 no_memory W p node why =
-    told (not (length W.table == 0)) HasTransactions _ why (λ e. cc)
-    (told (is_some (node_at W.filestore p)) Exists _ why (λ e. cc)
-    (told (not (parent_is_good W.filestore p)) NoParent _ why (λ e. cc)
-    (told (nat_lt (free W) (weight (Some node))) NoRoom None why (λ e. cc) (λ e. absurd cc))))
+    found (not (length W.table == 0)) HasTransactions _ why (λ e. cc)
+    (found (is_some (node_at W.filestore p)) Exists _ why (λ e. cc)
+    (found (not (parent_is_good W.filestore p)) NoParent _ why (λ e. cc)
+    (found (nat_lt (free W) (weight (Some node))) NoRoom None why (λ e. cc) (λ e. absurd cc))))
 
 -- the blocks of a file: one more where the last one is not full
 pub file_weight : (octets : List ℕ) (n : ℕ) → n ≡ length octets / 120 + min 1 (length octets % 120) → weight (Some (File octets)) ≡ 1 + n
@@ -144,7 +144,7 @@ put_keeps W V p node (Err why) s none put kept = rw kept s
 
 -- a file, by way of a slot -----------------------------------------------------------------
 
--- its octets in the place of as many zeros
+-- its octets written over as many zeros
 all_written : (octets : List ℕ) → overwritten (extended [] (length octets)) 0 octets ≡ octets
 all_written octets =
     let zeros : List ℕ = replicate (length octets - 0) 0 in

@@ -36,7 +36,7 @@ none_in zero i = refl
 none_in (suc n) zero = refl
 none_in (suc n) (suc i) = none_in n i
 
--- no transaction is known, and so many blocks are free
+-- no transaction is known, and all blocks that are not in use are free
 pub begun_booked : (s : Store) (b : Books) → b.table ≡ [] → b.leases ≡ [] → s.capacity ≡ b.config.blocks → b.config.blocks ≤ 65536 →
     b.quota ≡ unreserved b.config.blocks (free_blocks s) → IsBooked s b
 begun_booked s b none unleased capacity few quota = record {

@@ -4,7 +4,7 @@
 --     IsGoodStart c F           a filestore as an entity of this configuration may begin with
 --     with_node W p node        a directory or a file is put at a path, and nothing else changes
 --     put_fault W p node        the first reason, in the order of tests, for which it can't be put there;  filestore_fault: by
---                               the filestore, so many of its blocks free
+--                               a filestore with `free` free blocks
 --     IsNotPut W p node why     it is this reason, or memory was refused
 --     StartIsEmpty              `start` is the start over the empty filestore
 --     EmptyIsGood, PutIsGood    that one is good;  and one stays good with what is put there

@@ -28,7 +28,7 @@ pub enum NotPut {
     Memory,
 }
 
-/// The slot by way of which the octets of a file come to their path. While no transaction is known, nothing is staged in it.
+/// The slot through which the octets of a file come to their path. While no transaction is known, nothing is staged in it.
 const SLOT: u8 = 0;
 
 /// Puts an empty directory at a path.
@@ -85,7 +85,7 @@ pub(crate) fn put_file<S: Filestore>(
     Ok(())
 }
 
-/// Why nothing that takes so many blocks can be put at a path: the first reason.
+/// Why nothing that takes `blocks` blocks can be put at a path: the first reason.
 fn fault<S: Filestore>(store: &S, books: &Books, path: &Path, blocks: u64) -> Option<NotPut>
     requires booked { IsBooked (S.state store.now) books.now }
     ensures { (node : Node) → weight (Some node) ≡ blocks → result ≡ put_fault (world_of (S.state store.now) books.now) path.now node }
@@ -109,7 +109,7 @@ fn fault<S: Filestore>(store: &S, books: &Books, path: &Path, blocks: u64) -> Op
 ///
 /// # Errors
 ///
-/// Want of memory, where the store takes any: the store is as before.
+/// Out of memory, if the store takes any: the store is as before.
 fn write_file<S: Filestore>(store: &mut S, path: &Path, octets: &[u8]) -> Result<(), Memory>
     requires absent { node_at (S.state store.old).filestore path.now ≡ None }
     requires parent { IsTrue (parent_is_good (S.state store.old).filestore path.now) }

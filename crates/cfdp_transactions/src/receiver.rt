@@ -79,7 +79,7 @@ impl<S: Filestore> Core<S> {
     ///
     /// # Errors
     ///
-    /// Want of memory: both are dropped. Cost: the room of 64 transactions.
+    /// Out of memory: both are dropped. Cost: the room of 64 transactions.
     pub fn over(alloc: Global, config: Config, store: S) -> Result<Core<S>, Memory>
         requires good { IsGoodStart config (S.state store).filestore }
         requires capacity { (S.state store).capacity ≡ config.blocks }
@@ -101,9 +101,8 @@ impl<S: Filestore> Core<S> {
         })
     }
 
-    /// Puts an empty directory at a path of the filestore, while no transaction is known: before launch, or after a restart. Out of
-    /// memory nothing is put, which comes only over a store that takes some. Cost: look-ups of the path's names, and of its
-    /// parent's.
+    /// Puts an empty directory at a path of the filestore, while no transaction is known: before launch, or after a restart. It is out
+    /// of memory only over a store that takes some. Cost: a look-up of the path and of its parent.
     ///
     /// # Errors
     ///
@@ -121,7 +120,7 @@ impl<S: Filestore> Core<S> {
     }
 
     /// Puts a file with these octets at a path of the filestore, as [`put_directory`](Core::put_directory) puts a directory. Cost:
-    /// look-ups, and two passes over its blocks in the store: zeros, and then the octets.
+    /// the look-ups, and two passes over its blocks: zeros are written, and then the octets.
     ///
     /// # Errors
     ///
