@@ -1,6 +1,6 @@
 //! Each module has the lists or the events of one kind. `scene` has what lists are judged on, and `entity` a receiving entity
 //! that is handed events; `guide` has the lists of the repository's `docs/GUIDE.md`, octet for octet; `hostile` has what means
-//! harm: PDUs that are cut or changed, and cancels at every moment.
+//! harm: PDUs that are cut or changed, and cancels at every moment; `put_back` has what is put into a filestore before the first PDU.
 
 mod crowded;
 mod directories;
@@ -20,6 +20,7 @@ mod order;
 mod peak;
 mod phases;
 mod protected;
+mod put_back;
 mod refused_views;
 mod scene;
 mod settings;
