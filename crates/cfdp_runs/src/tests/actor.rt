@@ -76,25 +76,6 @@ impl Input {
     }
 }
 
-/// Where a PDU goes.
-#[derive(Clone, Copy)]
-pub(super) enum Toward {
-    Us,
-    AnotherReceiver,
-    TheSender,
-}
-
-impl Toward {
-    /// Changes a PDU whose three names have one octet each, so that it goes there.
-    fn turn(self, octets: &mut [u8]) {
-        match (self, octets) {
-            (Toward::AnotherReceiver, [_, _, _, _, _, _, destination, ..]) => *destination = 3,
-            (Toward::TheSender, [first, ..]) => *first |= 8,
-            _ => {}
-        }
-    }
-}
-
 /// The transaction that all inputs are about.
 const ID: TransactionId = TransactionId {
     source: 1,
@@ -311,7 +292,7 @@ impl Actor {
     }
 
     /// A PDU comes, in the mode of the stage.
-    fn hear(&mut self, alloc: Global, spelled: &str, toward: Toward) -> Result<(), AllocError> {
+    fn hear(&mut self, alloc: Global, spelled: &str) -> Result<(), AllocError> {
         let mut room = [0u8; LONGEST];
         let Some(octets) = room.get_mut(..spelled.len() / 2) else {
             return Ok(());
@@ -324,7 +305,6 @@ impl Actor {
                 *first |= 4;
             }
         }
-        toward.turn(octets);
         self.receive(alloc, octets)
     }
 
@@ -362,7 +342,7 @@ impl Actor {
     pub(super) fn take(&mut self, alloc: Global, input: Input) -> Result<(), AllocError> {
         self.text.clear();
         if let Some(spelled) = octets_of(input) {
-            return self.hear(alloc, spelled, Toward::Us);
+            return self.hear(alloc, spelled);
         }
         let answer = match input {
             Input::Time(moments) => return self.pass(alloc, moments),
@@ -384,20 +364,6 @@ impl Actor {
             _ => self.receiver.cancel(self.moment, ID),
         };
         self.write(alloc, &answer)
-    }
-
-    /// Takes a PDU that goes elsewhere.
-    pub(super) fn take_astray(
-        &mut self,
-        alloc: Global,
-        pdu: Input,
-        toward: Toward,
-    ) -> Result<(), AllocError> {
-        self.text.clear();
-        match octets_of(pdu) {
-            Some(spelled) => self.hear(alloc, spelled, toward),
-            None => Ok(()),
-        }
     }
 
     /// How far the transaction is, in a word.

@@ -6,7 +6,7 @@ mod begun;
 mod ended;
 mod limits;
 
-use super::actor::{Actor, Input, Toward};
+use super::actor::{Actor, Input};
 use std::alloc::{AllocError, Global};
 use std::process::Abort;
 
@@ -83,34 +83,7 @@ fn all_hold<R: Abort + Print>(rt: &R, alloc: Global, scene: &Scene) -> Result<()
     Ok(())
 }
 
-/// At each stage a PDU that goes elsewhere leaves the transaction as it is.
-fn astray_change_nothing<R: Abort + Print>(
-    rt: &R,
-    alloc: Global,
-    scene: &Scene,
-    toward: Toward,
-    text: &str,
-) -> Result<(), AllocError> {
-    let name = scene.name;
-    let Some(mut actor) = at_stage(alloc, scene)? else {
-        assert!(rt; false, "{name}: no receiver");
-        return Ok(());
-    };
-    for pdu in &PDUS {
-        let case = pdu.name();
-        actor.take_astray(alloc, *pdu, toward)?;
-        let written = str::from_utf8(&actor.text).unwrap_or("no text");
-        assert_eq!(rt; written, text, "{name}: {case} that goes elsewhere");
-        assert_eq!(rt;
-            actor.stage(),
-            name,
-            "the stage after {case} that goes elsewhere"
-        );
-    }
-    Ok(())
-}
-
-/// A scene has a case for each input, and all hold. So do the PDUs that go elsewhere.
+/// A scene has a case for each input, and all hold.
 fn each_input_holds<R: Abort + Print>(
     rt: &R,
     alloc: Global,
@@ -122,13 +95,5 @@ fn each_input_holds<R: Abort + Print>(
         let is_there = scene.cases.iter().any(|(case, _, _)| case.name() == sought);
         assert!(rt; is_there, "{name}: no case of {sought}");
     }
-    all_hold(rt, alloc, scene)?;
-    astray_change_nothing(
-        rt,
-        alloc,
-        scene,
-        Toward::AnotherReceiver,
-        "1/5 not-for-us\n",
-    )?;
-    astray_change_nothing(rt, alloc, scene, Toward::TheSender, "pdu not-ours\n")
+    all_hold(rt, alloc, scene)
 }
