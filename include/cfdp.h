@@ -266,7 +266,7 @@ uint32_t cfdp_read(struct cfdp_engine *engine, const struct cfdp_path *path, uin
 /* What comes next in the filestore behind a path, in path order (a directory before what is below it). The path need not stand there; one of
  * length 0 is before all. Answers CFDP_DONE with the path of what comes next in `*path`, zeros behind its octets, and what stands
  * there in `*entry`; CFDP_NOTHING behind the last one; CFDP_BAD_PATH; or CFDP_NO_ENGINE. So a loop that begins with length 0 and passes the
- * same struct on goes over all that stands there. Cost: at most 45 comparisons of names in each directory on
+ * same struct on goes over all entries. Cost: at most 45 comparisons of names in each directory on
  * the way (the root and at most 8 others), however many entries it has and whatever their names are. */
 uint32_t cfdp_next(struct cfdp_engine *engine, struct cfdp_path *path, struct cfdp_entry *entry);
 

@@ -1,6 +1,6 @@
 -- The words of a line, and what they say.
 --
---   words_of       the words of a line: what stands between its spaces
+--   words_of       the words of a line: what is between its spaces
 --   is_numeral     a word of decimal digits
 --   number_of      the number that such a word writes, if it is below 2^64
 --   numbers_of     the numbers of some words, if each writes one
@@ -12,7 +12,7 @@ use Rattle.std.specs.Str.Parse.{digits_value}
 use Rattle.cfdp_status.specs.declared.transaction.TransactionId.{TransactionId}
 use Rattle.cfdp_lines.specs.Hexadecimal.{is_space}
 
--- something stands there
+-- it has an octet
 abbrev pub is_word : List ℕ → Bool
 is_word part = not (length part == 0)
 

@@ -6,7 +6,7 @@
 --     less_first, greater_last the nodes with names before another name come first, and those with names after it last
 --     place_cases              two places are one or not
 --     none_from, other_from, there_from    the first node that does not come before a name, and whether it has the name
---     first_least, after_least the first node is that of the least name, and the first one behind a name the next one
+--     first_least, after_least the first node is that of the least name, and the first one after a name the next one
 use Rattle.std.proofs.Common.{◌≡◌, ◌≢◌, ℕ, ◌≤◌, List, [], ◌∷◌, ◌++◌, get_or, Option, Some, None, refl, sym, ap, ◌∙◌, subst, ◌⊎◌, inl, inr, arith}
 use Rattle.std.proofs.lemmas.Bool.{cases_eq}
 use Rattle.std.proofs.lemmas.List.{get_or_default}
@@ -103,7 +103,7 @@ module _ (nodes : Blocks) (list : List ℕ) (rising : AllPairs (Rises nodes) lis
     not_behind : (m : ℕ) → name_cmp (name_at nodes m) name ≢ Greater → IsBehind (Some name) (name_at nodes m) → ⊥
     not_behind m upto behind = upto (less_back name (name_at nodes m) behind)
 
-    -- the first one behind a name
+    -- the first one after a name
     pub after_least : (r : Option ℕ) → r ≡ slice_get after 0 → IfSome r (IsLeast nodes (Some name) list) × IfNone r (All (λ c. IsBehind (Some name) (name_at nodes c) → ⊥) list)
     after_least r found =
         subst (λ o. IfSome o (IsLeast nodes (Some name) list) × IfNone o (All (λ c. IsBehind (Some name) (name_at nodes c) → ⊥) list)) (sym found)

@@ -1,4 +1,4 @@
-//! What is put into a filestore before the first PDU: each reason for which nothing is put, want of memory, and a filestore that is
+//! What is put into a filestore before the first PDU: each reason for which nothing is put, out of memory, and a filestore that is
 //! read out of one entity and put into another.
 
 use super::entity::octets_of;
@@ -11,7 +11,7 @@ use cfdp_transactions::{Config, Core, NotPut};
 use std::alloc::{AllocError, Global};
 use std::process::Abort;
 
-/// A path, and a directory, or a file of so many equal octets.
+/// A path, and a directory, or a file of this many equal octets.
 type Put = (&'static [u8], Option<(usize, u8)>);
 
 /// What is put, and why it is not.

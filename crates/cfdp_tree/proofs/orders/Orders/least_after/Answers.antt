@@ -20,7 +20,7 @@ use Rattle.cfdp_tree.proofs.orders.Orders.least_after.Goals.{in-Some+in_ok-found
 pub of-order-requires : goal.of-order-requires
 of-order-requires c = record { within = place_inside (nodes_in c.args.arena.now) c.args.self.now _ c.args.directory.now c.requires.ordered c.requires.place }
 
--- what a search behind a name finds
+-- what a search after a name finds
 abbrev Told : Blocks → Option Name → List ℕ → Option ℕ → Type 0
 Told nodes after list r = IfSome r (IsLeast nodes after list) × IfNone r (All (λ c. IsBehind after (name_at nodes c) → ⊥) list)
 
