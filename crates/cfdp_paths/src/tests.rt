@@ -1,6 +1,7 @@
 //! The calls that take memory, with ample memory, on the names of worked transactions.
 
 mod moves;
+mod octets;
 mod separators;
 
 use crate::{Memory, Path, PathFault};
