@@ -19,7 +19,7 @@ use Rattle.cfdp_states.proofs.Viewing.{sketch, outlined, nothing_staged, needs, 
 abbrev pub install_row : List Path → Path → List ℕ → Option Node → Bool → Outcome
 install_row prefixes p x a good = if is_some a && is_protected prefixes p then unchanged NotInstalled else install 0 p x a good
 
-row-install : (prefixes : List Path) (F : Filestore) (p : Path) (x : List ℕ) → row prefixes (alone F x) 0 (Install p) ≡ install_row prefixes p x (node_at F p) (parent_is_good F p)
+pub row-install : (prefixes : List Path) (F : Filestore) (p : Path) (x : List ℕ) → row prefixes (alone F x) 0 (Install p) ≡ install_row prefixes p x (node_at F p) (parent_is_good F p)
 unfolding row free_row
 row-install prefixes F p x = refl
 
@@ -75,7 +75,7 @@ module _ (prefixes : List Path) (m : Extents) (F : Filestore) (h : IsOutline m F
 
 -- ---- on a view
 
-staged_more : (F : Filestore) (x : List ℕ) → F.staged ≡ [] ∷ [] → blocks (alone F x) ≡ blocks F + blocks_of (length x)
+pub staged_more : (F : Filestore) (x : List ℕ) → F.staged ≡ [] ∷ [] → blocks (alone F x) ≡ blocks F + blocks_of (length x)
 unfolding blocks
 staged_more F x same =
     let lists : sum_by (λ (octets : List ℕ). blocks_of (length octets)) F.staged ≡ 0 = ap (λ lists. sum_by (λ (octets : List ℕ). blocks_of (length octets)) lists) same ∙ nothing_staged in

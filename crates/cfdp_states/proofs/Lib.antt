@@ -22,3 +22,9 @@ pub mod Surveys
 pub mod Surveyed
 pub mod Leased
 pub mod Appending
+pub mod StandIns
+pub mod StandInMoves
+pub mod StandInRows
+pub mod ClosedViews
+pub mod Fillers
+pub mod ClosedSurveys

@@ -30,7 +30,7 @@ directory_there : (a : Option Node) → is_directory a ≡ true → a ≢ None
 directory_there None e none = true≢false (sym e)
 directory_there (Some node) e none = not_none node none
 
-none_unless : (a : Option Node) → (is_some a ≡ true → ⊥) → a ≡ None
+pub none_unless : (a : Option Node) → (is_some a ≡ true → ⊥) → a ≡ None
 none_unless None f = refl
 none_unless (Some node) f = absurd (f refl)
 
@@ -191,22 +191,32 @@ node_at-settled_apart p q G (e ∷ es) x apart =
 abbrev pub moved : Filestore → Path → Path → Filestore
 moved F p q = after F (vacated (tree_at F p) ++ settled p q (tree_at F p))
 
-module _ (F : Filestore) (p q : Path) (rooted : IsRooted F) (named : q ≢ []) (none : node_at F q ≡ None) where
-  pub nothing_there : (x : Path) → is_at_or_below x q ≡ true → node_at F x ≡ None
-  nothing_there x below = below_absent F q rooted named none (length x) x (le_refl _) below
+pub holds_tree : (F : Filestore) (p : Path) → Holds F (tree_at F p)
+holds_tree F p x there =
+    elim (is_at_or_below x p) as (λ b. find path_cmp x (tree_at F p) ≡ cond b (node_at F x) None → node_at F x ≡ find path_cmp x (tree_at F p)) [
+      | true ↦ λ e. sym e
+      | false ↦ λ e. absurd (true≢false (sym there ∙ ap is_some e))
+    ] (find-tree_at F p x)
 
-  pub holds_tree : Holds F (tree_at F p)
-  holds_tree x there =
-      elim (is_at_or_below x p) as (λ b. find path_cmp x (tree_at F p) ≡ cond b (node_at F x) None → node_at F x ≡ find path_cmp x (tree_at F p)) [
-        | true ↦ λ e. sym e
-        | false ↦ λ e. absurd (true≢false (sym there ∙ ap is_some e))
-      ] (find-tree_at F p x)
-
+-- where nothing stands at or below q
+module _ (F : Filestore) (p q : Path) (empty : (x : Path) → is_at_or_below x q ≡ true → node_at F x ≡ None) where
   pub nothing_vacated : (x : Path) → is_at_or_below x q ≡ true → node_at (after F (vacated (tree_at F p))) x ≡ None
   nothing_vacated x below =
       node_at-vacated F (tree_at F p) x
-      ∙ ap (λ v. cond (is_some (find path_cmp x (tree_at F p))) None v) (nothing_there x below)
+      ∙ ap (λ v. cond (is_some (find path_cmp x (tree_at F p))) None v) (empty x below)
       ∙ elim (is_some (find path_cmp x (tree_at F p))) as (λ b. cond {A = Option Node} b None None ≡ None) [ true ↦ refl | false ↦ refl ]
+
+  -- the blocks stay
+  pub blocks-moved_free : blocks (moved F p q) ≡ blocks F
+  blocks-moved_free =
+      let es = tree_at F p in
+      let out : blocks (after F (vacated es)) + weights es ≡ blocks F = blocks-vacated F es (tree_at-sorted F p) (holds_tree F p) in
+      let back : blocks (after (after F (vacated es)) (settled p q es)) ≡ blocks (after F (vacated es)) + weights es = blocks-settled p q (after F (vacated es)) es (tree_at-sorted F p) (tree_at-all F p) (λ x below there. nothing_vacated x below) in
+      ap blocks (after-append F (vacated es) (settled p q es)) ∙ back ∙ out
+
+module _ (F : Filestore) (p q : Path) (rooted : IsRooted F) (named : q ≢ []) (none : node_at F q ≡ None) where
+  pub nothing_there : (x : Path) → is_at_or_below x q ≡ true → node_at F x ≡ None
+  nothing_there x below = below_absent F q rooted named none (length x) x (le_refl _) below
 
   -- at or below q stands what stood at or below p
   pub moved_there : (x : Path) → is_at_or_below x q ≡ true → node_at (moved F p q) x ≡ node_at F (rebased q p x)
@@ -215,7 +225,7 @@ module _ (F : Filestore) (p q : Path) (rooted : IsRooted F) (named : q ≢ []) (
       let es = tree_at F p in
       ap (λ G. node_at G x) (after-append F (vacated es) (settled p q es))
       ∙ node_at-settled p q (after F (vacated es)) es (tree_at-sorted F p) (tree_at-all F p) x below
-      ∙ ap (λ v. cond (is_some (find path_cmp y es)) (find path_cmp y es) v) (nothing_vacated x below)
+      ∙ ap (λ v. cond (is_some (find path_cmp y es)) (find path_cmp y es) v) (nothing_vacated F p q nothing_there x below)
       ∙ itself (find path_cmp y es)
       ∙ find-tree_at F p y ∙ ap (λ b. cond b (node_at F y) None) (rebased-below q p x)
     where
@@ -242,11 +252,7 @@ module _ (F : Filestore) (p q : Path) (rooted : IsRooted F) (named : q ≢ []) (
 
   -- the blocks stay
   pub blocks-moved : blocks (moved F p q) ≡ blocks F
-  blocks-moved =
-      let es = tree_at F p in
-      let out : blocks (after F (vacated es)) + weights es ≡ blocks F = blocks-vacated F es (tree_at-sorted F p) holds_tree in
-      let back : blocks (after (after F (vacated es)) (settled p q es)) ≡ blocks (after F (vacated es)) + weights es = blocks-settled p q (after F (vacated es)) es (tree_at-sorted F p) (tree_at-all F p) (λ x below there. nothing_vacated x below) in
-      ap blocks (after-append F (vacated es) (settled p q es)) ∙ back ∙ out
+  blocks-moved = blocks-moved_free F p q nothing_there
 
 pub rename-grows : (F : Filestore) (p q : Path) (a b : Option Node) (good below : Bool) → IsRooted F → node_at F q ≡ b → parent_is_good F q ≡ good → Grows F (rename p q a b good below (tree_at F p))
 unfolding rename

@@ -3,7 +3,7 @@
 --     entries-outlined                         the entries of the map are those of the filestore
 --     good_parent-is, entries-is, depth-is     whether the parent is good, anything stands below, a path would be too deep
 --     Follows, does-at                         what `Does` asks at one filestore;  `Does` is that at each
---     follows-same, follows-one, follows-moved    no change;  one path changes;  a directory moves
+--     follows-same, follows-one, follows-moved    no change;  one path changes;  a directory moves (moved_where, staged-moved: what is where then)
 --     kept                                     a map to which what stands already is put
 use Rattle.std.proofs.Common.{◌≡◌, ◌≢◌, refl, sym, ◌∙◌, ap, subst, Bool, true, false, cond, not, ◌&&◌, ◌||◌, ◌==◌, T, is_some, Option, Some, None, List, [], ◌∷◌, ◌++◌, map, length, nat_lt, ne_eqb, arith}
 use Rattle.std.specs.List.{list_any}
@@ -154,7 +154,7 @@ kept m m' F p c h here now = record {
 
 -- ---- a directory that moves
 
-moved_where : (F : Filestore) (p q x : Path) →
+pub moved_where : (F : Filestore) (p q x : Path) →
     node_at (moved F p q) x
     ≡ cond (is_at_or_below x q) (cond (is_some (node_at F (rebased q p x))) (node_at F (rebased q p x)) (cond (is_at_or_below x p) None (node_at F x))) (cond (is_at_or_below x p) None (node_at F x))
 moved_where F p q x =
@@ -188,6 +188,9 @@ staged-settled : (p q : Path) (F : Filestore) (es : List (Path × Node)) → (af
 staged-settled p q F [] = refl
 staged-settled p q F (e ∷ es) = staged-settled p q (changed F (Becomes (rebased p q e.0) (Some e.1))) es
 
+pub staged-moved : (F : Filestore) (p q : Path) → (moved F p q).staged ≡ F.staged
+staged-moved F p q = ap (λ (G : Filestore). G.staged) (after-append F (vacated (tree_at F p)) (settled p q (tree_at F p))) ∙ staged-settled p q (after F (vacated (tree_at F p))) (tree_at F p) ∙ staged-vacated F (tree_at F p)
+
 pub follows-moved : (m : Extents) (F : Filestore) (o : Outcome) (told : Status) (p q : Path) → IsOutline m F → Performed told ≡ o.answer → o.changes ≡ vacated (tree_at F p) ++ settled p q (tree_at F p) → Follows (rehomed p q m) F o told
 follows-moved m F o told p q h answer changes = record {
   status = answer;
@@ -199,7 +202,7 @@ follows-moved m F o told p q h answer changes = record {
         ∙ through (is_at_or_below x q) (is_at_or_below x p) (node_at F y) (node_at F x)
         ∙ ap extent_in (sym (moved_where F p q x));
   });
-  staged = ap (λ (cs : List Change). (after F cs).staged) changes ∙ ap (λ (G : Filestore). G.staged) (after-append F (vacated (tree_at F p)) (settled p q (tree_at F p))) ∙ staged-settled p q (after F (vacated (tree_at F p))) (tree_at F p) ∙ staged-vacated F (tree_at F p);
+  staged = ap (λ (cs : List Change). (after F cs).staged) changes ∙ staged-moved F p q;
 }
   where
     through : (a b : Bool) (v w : Option Node) → cond a (cond (is_some (extent_in v)) (extent_in v) (cond b None (extent_in w))) (cond b None (extent_in w)) ≡ extent_in (cond a (cond (is_some v) v (cond b None w)) (cond b None w))

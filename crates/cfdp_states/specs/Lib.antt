@@ -1,4 +1,5 @@
 pub mod Alone
+pub mod Closed
 pub mod Laws
 pub mod Sketching
 pub mod Views

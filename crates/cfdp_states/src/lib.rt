@@ -5,6 +5,8 @@
 //! without octets: what it tells is stated in `specs/Views.antt`.
 #![tactic(auto)]
 
+mod closed;
+mod closing;
 mod extent;
 mod extents;
 mod kinds;
@@ -14,4 +16,5 @@ mod surveying;
 mod table;
 mod view;
 
+pub use closed::ClosedView;
 pub use view::View;

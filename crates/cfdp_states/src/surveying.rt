@@ -58,7 +58,7 @@ fn is_inside(roots: &[Path], earlier: usize, place: usize) -> bool
 }
 
 /// Adds what stands at the path and below it.
-fn add_tree<S: Filestore>(
+pub fn add_tree<S: Filestore>(
     alloc: Global,
     extents: &mut Extents,
     store: &S,
@@ -85,7 +85,11 @@ fn add_all(extents: &mut Extents, found: Vec<Standing>) -> Result<(), Memory>
 }
 
 /// Adds what stands at the paths.
-fn add_paths<S: Filestore>(extents: &mut Extents, store: &S, paths: &[Path]) -> Result<(), Memory>
+pub fn add_paths<S: Filestore>(
+    extents: &mut Extents,
+    store: &S,
+    paths: &[Path],
+) -> Result<(), Memory>
     requires { blocks (S.state store.now).filestore ≤ 65536 }
     ensures { OnOk result (Adds (λ path. list_any (same_path path) paths.now) (S.state store.now).filestore extents.old extents.new) }
 {

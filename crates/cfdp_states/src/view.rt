@@ -5,6 +5,8 @@ ghost use Rattle.std.specs.FinMap as finite;
 ghost use Rattle.cfdp_actions.specs.Filestore.{blocks};
 ghost use Rattle.cfdp_actions.specs.Actions.{Perform, Performed};
 ghost use Rattle.cfdp_states.specs.Alone.{alone};
+ghost use Rattle.cfdp_paths.specs.PathMaps.{any_below};
+ghost use Rattle.cfdp_states.specs.Sketching.{total_blocks};
 ghost use Rattle.cfdp_states.specs.Views.{most_count, most_need, size_of, only, IsViewOf, Makes, Tells, TellsInstall};
 
 use crate::extent::Extent;
@@ -67,14 +69,28 @@ impl<'a> View<'a> {
         ensures prefixes { IfOk result (λ view. view.prefixes ≡ protected.now) }
     {
         let extents = survey(alloc, store, footprint)?;
+        Ok(View::begun(protected, extents))
+    }
+
+    /// The view that has these extents, before any item.
+    pub(crate) fn begun(protected: &'a Protected, extents: Extents) -> View<'a>
+        ensures { result ≡ record { prefixes = protected.now; extents = extents; base = total_blocks extents; need = 0; steps = 0 } }
+    {
         let base = extents.blocks();
-        Ok(View {
+        View {
             protected,
             extents,
             base,
             need: 0,
             steps: 0,
-        })
+        }
+    }
+
+    /// Whether it has anything strictly below the path. Takes no memory. Cost: two searches.
+    pub(crate) fn has_below(&self, path: &Path) -> bool
+        ensures { result ≡ any_below path.now (finite.entries self.now.extents) }
+    {
+        self.extents.has_below(path)
     }
 
     /// Performs the next request on the view, with unlimited room, and answers its status (CCSDS 727.0-B-5 §4.9); a

@@ -1,0 +1,133 @@
+-- Views in which directories stay closed: what is below such a directory is not looked at. In its place the view has one
+-- directory, which is as deep as the deepest path there.
+--     is_inside closed p              p is below one of these directories
+--     Reaches F p n, ReachesIn m p n  something is below p, and its path has n names or more: in a filestore, in a map
+--     IsClosedSurvey m closed test F  the map tells what is in F at the paths that pass the test, these directories closed
+--     IsFiller p n d, Closes m p n m' d is below p and has n names;  the map with p as a directory, and with one such d
+--     AreAlike a b                    what is at two paths: of one kind, and files of one length
+--     IsStandIn closed F G            with these directories closed, F and G are one
+--     moved_closed p q closed         the closed directories once each p/r is at q/r;  after_request: after a request
+--     looks_inside closed m request   the request names something in a closed directory, or moves onto what is there
+--     IsClosedViewOf v closed F start peak taken    the view tells of F, as far as its closed directories let it
+--     TellsClosed, TellsClosedInstall               how such a view goes on with an item, and with the install
+use Rattle.std.specs.Prelude.{◌≡◌, ⊤, ℕ, ◌+◌, ◌≤◌, max, Bool, ◌&&◌, ◌||◌, nat_lt, IsTrue, IsFalse, IsSome, ◌↔◌, ◌⊎◌, if◌then◌else◌, List, map, length, Option, Some, None}
+use Rattle.std.specs.List.{list_any}
+use Rattle.std.specs.FinMap as finite
+use Rattle.cfdp_paths.specs.Paths.{Path, same_path, is_at_or_below, is_below, rebased}
+use Rattle.cfdp_paths.specs.PathMaps.{any_below}
+use Rattle.cfdp_actions.specs.Filestore.{Node, Directory, File, Filestore, node_at, blocks}
+use Rattle.cfdp_actions.specs.Actions.{Request, CreateFile, DeleteFile, RenameFile, AppendFile, ReplaceFile, CreateDirectory, RemoveDirectory, DenyFile, DenyDirectory, Item, Install, Answer, row}
+use Rattle.cfdp_leases.specs.Items.{performed, step_bound}
+use Rattle.cfdp_states.specs.Alone.{alone}
+use Rattle.cfdp_states.specs.declared.extent.Extent.TheVariants as extent
+use Rattle.cfdp_states.specs.Sketching.{Extents, extent_at}
+use Rattle.cfdp_states.specs.Views.{Sketch, IsViewOf, installed_if}
+
+abbrev pub is_inside : List Path → Path → Bool
+is_inside closed p = list_any (λ c. is_below p c) closed
+
+-- something is below p that is so deep
+pub record Reaches (F : Filestore) (p : Path) (n : ℕ) : Type 0 where
+  pub path : Path
+  pub below : IsTrue (is_below path p)
+  pub there : IsSome (node_at F path)
+  pub deep : n ≤ length path
+
+pub record ReachesIn (m : Extents) (p : Path) (n : ℕ) : Type 0 where
+  pub path : Path
+  pub below : IsTrue (is_below path p)
+  pub there : IsSome (finite.get m path)
+  pub deep : n ≤ length path
+
+pub record IsClosedSurvey (m : Extents) (closed : List Path) (test : Path → Bool) (F : Filestore) : Type 0 where
+  pub told : (p : Path) → IsFalse (is_inside closed p) → finite.get m p ≡ (if test p then extent_at F p else None)
+  -- a file is one of the filestore, whether it is in a closed directory or not
+  pub kept : (p : Path) → (finite.get m p ≡ None) ⊎ ((finite.get m p ≡ Some extent.Directory) ⊎ (finite.get m p ≡ extent_at F p))
+  pub there : (c : Path) → IsTrue (list_any (same_path c) closed) → IsSome (finite.get m c)
+  pub covered : (c p : Path) → IsTrue (list_any (same_path c) closed) → IsTrue (is_below p c) → IsTrue (test p)
+  -- it is as deep in each closed directory as the filestore, and no deeper
+  pub deep : (c : Path) (n : ℕ) → IsTrue (list_any (same_path c) closed) → Reaches F c n ↔ ReachesIn m c n
+
+abbrev pub IsFiller : Path → ℕ → Path → Type 0
+IsFiller p n d = IsTrue (is_below d p) × (length d ≡ n)
+
+abbrev pub Closes : Extents → Path → ℕ → Extents → Type 0
+Closes m p n m' = (d : Path) × IsFiller p n d × (m' ≡ finite.insert (finite.insert m p extent.Directory) d extent.Directory)
+
+-- nothing and nothing, two directories, or two files of one length
+abbrev pub AreAlike : Option Node → Option Node → Type 0
+AreAlike None None = ⊤
+AreAlike None (Some node) = ⊥
+AreAlike (Some node) None = ⊥
+AreAlike (Some Directory) (Some Directory) = ⊤
+AreAlike (Some Directory) (Some (File octets)) = ⊥
+AreAlike (Some (File octets)) (Some Directory) = ⊥
+AreAlike (Some (File octets)) (Some (File others)) = length octets ≡ length others
+
+-- alike but for what is in the closed directories, and of that the depth
+pub record IsStandIn (closed : List Path) (F G : Filestore) : Type 0 where
+  pub staged : G.staged ≡ F.staged
+  pub alike : (p : Path) → IsFalse (is_inside closed p) → AreAlike (node_at F p) (node_at G p)
+  pub deep : (c : Path) (n : ℕ) → IsTrue (list_any (same_path c) closed) → Reaches F c n ↔ Reaches G c n
+
+-- a directory once each p/r is at q/r
+abbrev pub moved_path : Path → Path → Path → Path
+moved_path p q c = if is_at_or_below c p then rebased p q c else c
+
+abbrev pub moved_closed : Path → Path → List Path → List Path
+moved_closed p q closed = map (moved_path p q) closed
+
+-- the closed directories after a request that is successful
+abbrev pub after_request : Request → List Path → List Path
+after_request (RenameFile p q) closed = moved_closed p q closed
+after_request (CreateFile p) closed = closed
+after_request (DeleteFile p) closed = closed
+after_request (AppendFile p q) closed = closed
+after_request (ReplaceFile p q) closed = closed
+after_request (CreateDirectory p) closed = closed
+after_request (RemoveDirectory p) closed = closed
+after_request (DenyFile p) closed = closed
+after_request (DenyDirectory p) closed = closed
+
+-- a closed directory would have more than 8 names
+abbrev pub is_cramped : Path → Path → Path → Bool
+is_cramped p q c = is_at_or_below c p && nat_lt (8 + length p) (length c + length q)
+
+-- one of the request's paths is in a closed directory; or it is to move to where something is already, or too deep
+abbrev pub looks_inside : List Path → Extents → Request → Bool
+looks_inside closed m (RenameFile p q) =
+    is_inside closed p || is_inside closed q || list_any (λ c. is_at_or_below c q) closed || any_below q (finite.entries m) || list_any (is_cramped p q) closed
+looks_inside closed m (AppendFile p q) = is_inside closed p || is_inside closed q
+looks_inside closed m (ReplaceFile p q) = is_inside closed p || is_inside closed q
+looks_inside closed m (CreateFile p) = is_inside closed p
+looks_inside closed m (DeleteFile p) = is_inside closed p
+looks_inside closed m (CreateDirectory p) = is_inside closed p
+looks_inside closed m (RemoveDirectory p) = is_inside closed p
+looks_inside closed m (DenyFile p) = is_inside closed p
+looks_inside closed m (DenyDirectory p) = is_inside closed p
+
+-- the view tells of a filestore that is one with F but for the closed directories, and that has more or fewer blocks by what is in them
+pub record IsClosedViewOf (v : Sketch) (closed : List Path) (F : Filestore) (start peak taken : ℕ) : Type 0 where
+  pub seen : Filestore
+  pub first : ℕ
+  pub most : ℕ
+  pub tells : IsViewOf v seen first most taken
+  pub one : IsStandIn closed F seen
+  pub gap : blocks F + first ≡ blocks seen + start
+  pub peaks : peak + first ≡ most + start
+
+-- as `Tells` has it of a view
+abbrev pub TellsClosed : Sketch → List Path → Sketch → List Path → Item → Answer → Type 0
+TellsClosed v closed w after item answer =
+    (F : Filestore) (start peak taken : ℕ) → IsClosedViewOf v closed F start peak taken →
+    let G = performed v.prefixes F 0 item in
+    (answer ≡ (row v.prefixes F 0 item).answer) × IsClosedViewOf w after G start (max peak (blocks G)) (taken + (1 + step_bound F item))
+
+-- as `TellsInstall` has it
+abbrev pub TellsClosedInstall : Sketch → Sketch → List Path → Path → ℕ → Bool → Type 0
+TellsClosedInstall v w closed p size done =
+    (F : Filestore) (start peak taken : ℕ) (x : List ℕ) → IsClosedViewOf v closed F start peak taken → length x ≡ size →
+    let H = alone F x in
+    let G = performed v.prefixes H 0 (Install p) in
+    (installed_if done ≡ (row v.prefixes H 0 (Install p)).answer)
+    × (IsTrue done → IsClosedViewOf w closed G start (max peak (max (blocks H) (blocks G))) (taken + (1 + step_bound H (Install p))))
