@@ -1,7 +1,10 @@
--- A list of requests, run one after another on a view.
+-- A list of requests, run one after another on a view. What the view tells of a filestore is a parameter (`Seen`), since
+-- there are views of two kinds; `Next` is what it tells after a request.
+--     Goes            the request is answered as on the filestore, and the view after it tells of the filestore after it
 --     GoesOn          so far each request was successful, and the rest of the list goes from here as the list from its start
+--     Counts          the view has the need and the steps that it tells of
 --     begins, goes, fails, ends      the first place, the next place, a request that is not successful, the last place
-use Rattle.std.proofs.Common.{◌≡◌, refl, sym, ◌∙◌, ap, subst, true, false, cond, ℕ, suc, ◌+◌, ◌-◌, ◌≤◌, min, max, List, [], ◌∷◌, Some, Ok, zero, map, drop, length, get_or, ◌<◌, arith, add-zero, add-one}
+use Rattle.std.proofs.Common.{◌≡◌, refl, sym, ◌∙◌, ap, subst, true, false, cond, ℕ, suc, ◌+◌, ◌-◌, ◌≤◌, min, max, List, [], ◌∷◌, Some, Ok, zero, map, drop, length, get_or, Option, IfSome, ◌<◌, arith, add-zero, add-one}
 use Rattle.std.proofs.Math.Seq.{drop-cons}
 use Rattle.cfdp_status.specs.declared.status.Status.{Status}
 use Rattle.cfdp_status.specs.Codes.{is_successful}
@@ -11,15 +14,25 @@ use Rattle.cfdp_actions.specs.Actions.{Item, Perform, Request, Performed, Answer
 use Rattle.cfdp_leases.specs.Items.{performed, step_bound}
 use Rattle.cfdp_states.specs.Alone.{statuses, steps, peak}
 use Rattle.cfdp_states.specs.Views.{most_need, Sketch, IsViewOf, Tells}
+use Rattle.cfdp_states.specs.Closed.{IsClosedViewOf, TellsClosed}
 use Rattle.cfdp_verifier.specs.Verdict.{capped, first_failure}
 use Rattle.cfdp_verifier.specs.Judging.{EndsSo}
 
+abbrev pub Goes : (Filestore → ℕ → ℕ → ℕ → Type 0) → (Filestore → ℕ → ℕ → ℕ → Type 0) → List Path → Item → Answer → Type 0
+Goes Seen Next prefixes item answer =
+    (G : Filestore) (start most spent : ℕ) → Seen G start most spent →
+    (answer ≡ (row prefixes G 0 item).answer)
+    × Next (performed prefixes G 0 item) start (max most (blocks (performed prefixes G 0 item))) (spent + (1 + step_bound G item))
+
+abbrev pub Counts : (Filestore → ℕ → ℕ → ℕ → Type 0) → Sketch → Type 0
+Counts Seen w = (G : Filestore) (start most spent : ℕ) → Seen G start most spent → (w.need ≡ min (most - start) most_need) × (w.steps ≡ capped spent)
+
 -- from F, where so many blocks were in use at first and at most, and so many steps are taken
-pub record GoesOn (prefixes : List Path) (F : Filestore) (items : List Item) (start high taken : ℕ) (w : Sketch) (number : ℕ) (rest : List Item) : Type 0 where
+pub record GoesOn (prefixes : List Path) (F : Filestore) (items : List Item) (start high taken : ℕ) (Seen : Filestore → ℕ → ℕ → ℕ → Type 0) (number : ℕ) (rest : List Item) : Type 0 where
   pub here : Filestore
   pub most : ℕ
   pub spent : ℕ
-  pub seen : IsViewOf w here start most spent
+  pub seen : Seen here start most spent
   pub within : blocks here ≤ most
   pub failure : first_failure 0 (statuses prefixes F 0 items) ≡ first_failure number (statuses prefixes here 0 rest)
   pub peaks : max high (peak prefixes F 0 items) ≡ max most (peak prefixes here 0 rest)
@@ -38,15 +51,26 @@ raised m b c p before after = omega arith
 added : (t n s : ℕ) → t + (n + s) ≡ (t + n) + s
 added t n s = omega arith
 
+-- what is said of what an answer may be
+pub some_of : {A : Type 0} (P : A → Type 0) (o : Option A) (a : A) → o ≡ Some a → IfSome o P → P a
+some_of P o a is h = subst (λ o. IfSome o P) is h
+
 -- what a view tells of an item, at the list's prefixes
-told_at : (prefixes : List Path) (v w : Sketch) (item : Item) (answer : Answer) → v.prefixes ≡ prefixes → Tells v w item answer →
-    (G : Filestore) (start most spent : ℕ) → IsViewOf v G start most spent →
-    (answer ≡ (row prefixes G 0 item).answer)
-    × IsViewOf w (performed prefixes G 0 item) start (max most (blocks (performed prefixes G 0 item))) (spent + (1 + step_bound G item))
-told_at prefixes v w item answer same tells G start most spent seen =
-    subst (λ (ps : List Path). (answer ≡ (row ps G 0 item).answer)
-    × IsViewOf w (performed ps G 0 item) start (max most (blocks (performed ps G 0 item))) (spent + (1 + step_bound G item)))
-    same (tells G start most spent seen)
+pub told_at : (prefixes : List Path) (v w : Sketch) (item : Item) (answer : Answer) → v.prefixes ≡ prefixes → Tells v w item answer → Goes (IsViewOf v) (IsViewOf w) prefixes item answer
+told_at prefixes v w item answer same tells = subst (λ (ps : List Path). Goes (IsViewOf v) (IsViewOf w) ps item answer) same tells
+
+pub told_at_closed : (prefixes : List Path) (v w : Sketch) (cs ds : List Path) (item : Item) (answer : Answer) → v.prefixes ≡ prefixes → TellsClosed v cs w ds item answer →
+    Goes (IsClosedViewOf v cs) (IsClosedViewOf w ds) prefixes item answer
+told_at_closed prefixes v w cs ds item answer same tells = subst (λ (ps : List Path). Goes (IsClosedViewOf v cs) (IsClosedViewOf w ds) ps item answer) same tells
+
+pub view_counts : (w : Sketch) → Counts (IsViewOf w) w
+view_counts w G start most spent seen = (seen.need, seen.steps)
+
+pub closed_view_counts : (w : Sketch) (cs : List Path) → Counts (IsClosedViewOf w cs) w
+closed_view_counts w cs G start most spent c = (c.tells.need ∙ ap (λ n. min n most_need) (as_far most c.most start c.first c.peaks), c.tells.steps)
+  where
+    as_far : (peak most start first : ℕ) → peak + first ≡ most + start → most - first ≡ peak - start
+    as_far peak most start first e = omega arith
 
 -- the first item's answer, and then the others'
 first_of_them : (prefixes : List Path) (G : Filestore) (number : ℕ) (request : Request) (rest : List Item) (status : Status) →
@@ -72,15 +96,15 @@ drop-past (r ∷ rs) zero le = absurd (omega arith)
 drop-past (r ∷ rs) (suc number) le = drop-past rs number (omega arith)
 
 module _ (prefixes : List Path) (F : Filestore) (items : List Item) (start high taken : ℕ) where
-  pub begins : (v : Sketch) → IsViewOf v F start high taken → blocks F ≤ high → GoesOn prefixes F items start high taken v 0 items
-  begins v seen within = record { here = F; most = high; spent = taken; seen = seen; within = within; failure = refl; peaks = refl; counts = refl }
+  pub begins : (Seen : Filestore → ℕ → ℕ → ℕ → Type 0) → Seen F start high taken → blocks F ≤ high → GoesOn prefixes F items start high taken Seen 0 items
+  begins Seen seen within = record { here = F; most = high; spent = taken; seen = seen; within = within; failure = refl; peaks = refl; counts = refl }
 
-  pub goes : (v w : Sketch) (number : ℕ) (request : Request) (rest : List Item) (status : Status) → v.prefixes ≡ prefixes →
-      Tells v w (Perform request) (Performed status) → is_successful status ≡ true →
-      GoesOn prefixes F items start high taken v number (Perform request ∷ rest) → GoesOn prefixes F items start high taken w (number + 1) rest
+  pub goes : (Seen Next : Filestore → ℕ → ℕ → ℕ → Type 0) (number : ℕ) (request : Request) (rest : List Item) (status : Status) →
+      Goes Seen Next prefixes (Perform request) (Performed status) → is_successful status ≡ true →
+      GoesOn prefixes F items start high taken Seen number (Perform request ∷ rest) → GoesOn prefixes F items start high taken Next (number + 1) rest
   unfolding steps peak
-  goes v w number request rest status same tells done g =
-      let told = told_at prefixes v w (Perform request) (Performed status) same tells g.here start g.most g.spent g.seen in
+  goes Seen Next number request rest status tells done g =
+      let told = tells g.here start g.most g.spent g.seen in
       let next = performed prefixes g.here 0 (Perform request) in
       record {
         here = next;
@@ -94,35 +118,36 @@ module _ (prefixes : List Path) (F : Filestore) (items : List Item) (start high 
         counts = g.counts ∙ added g.spent (1 + step_bound g.here (Perform request)) (steps prefixes next 0 rest);
       }
 
-  pub fails : (v w : Sketch) (number : ℕ) (request : Request) (rest : List Item) (status : Status) → v.prefixes ≡ prefixes →
-      Tells v w (Perform request) (Performed status) → is_successful status ≡ false →
-      GoesOn prefixes F items start high taken v number (Perform request ∷ rest) → first_failure 0 (statuses prefixes F 0 items) ≡ Some (number, status)
-  fails v w number request rest status same tells failed g =
-      let told = told_at prefixes v w (Perform request) (Performed status) same tells g.here start g.most g.spent g.seen in
+  pub fails : (Seen Next : Filestore → ℕ → ℕ → ℕ → Type 0) (number : ℕ) (request : Request) (rest : List Item) (status : Status) →
+      Goes Seen Next prefixes (Perform request) (Performed status) → is_successful status ≡ false →
+      GoesOn prefixes F items start high taken Seen number (Perform request ∷ rest) → first_failure 0 (statuses prefixes F 0 items) ≡ Some (number, status)
+  fails Seen Next number request rest status tells failed g =
+      let told = tells g.here start g.most g.spent g.seen in
       let next = performed prefixes g.here 0 (Perform request) in
       g.failure ∙ first_of_them prefixes g.here number request rest status told.0
       ∙ ap (λ b. cond b (first_failure (number + 1) (statuses prefixes next 0 rest)) (Some (number, status))) failed
 
   -- the next request of a list of requests
-  pub goes_on : (v w : Sketch) (requests : List Request) (number : ℕ) (request : Request) (status : Status) → number < length requests → request ≡ get_or requests number request →
-      v.prefixes ≡ prefixes → Tells v w (Perform request) (Performed status) → is_successful status ≡ true →
-      GoesOn prefixes F items start high taken v number (map Perform (drop number requests)) → GoesOn prefixes F items start high taken w (number + 1) (map Perform (drop (number + 1) requests))
-  goes_on v w requests number request status more is same tells done g =
-      goes v w number request (map Perform (drop (number + 1) requests)) status same tells done
-      (subst (λ (rest : List Item). GoesOn prefixes F items start high taken v number rest) (next_of_them requests number request more is) g)
+  pub goes_on : (Seen Next : Filestore → ℕ → ℕ → ℕ → Type 0) (requests : List Request) (number : ℕ) (request : Request) (status : Status) → number < length requests → request ≡ get_or requests number request →
+      Goes Seen Next prefixes (Perform request) (Performed status) → is_successful status ≡ true →
+      GoesOn prefixes F items start high taken Seen number (map Perform (drop number requests)) → GoesOn prefixes F items start high taken Next (number + 1) (map Perform (drop (number + 1) requests))
+  goes_on Seen Next requests number request status more is tells done g =
+      goes Seen Next number request (map Perform (drop (number + 1) requests)) status tells done
+      (subst (λ (rest : List Item). GoesOn prefixes F items start high taken Seen number rest) (next_of_them requests number request more is) g)
 
-  pub fails_at : (v w : Sketch) (requests : List Request) (number : ℕ) (request : Request) (status : Status) → number < length requests → request ≡ get_or requests number request →
-      v.prefixes ≡ prefixes → Tells v w (Perform request) (Performed status) → is_successful status ≡ false →
-      GoesOn prefixes F items start high taken v number (map Perform (drop number requests)) → first_failure 0 (statuses prefixes F 0 items) ≡ Some (number, status)
-  fails_at v w requests number request status more is same tells failed g =
-      fails v w number request (map Perform (drop (number + 1) requests)) status same tells failed
-      (subst (λ (rest : List Item). GoesOn prefixes F items start high taken v number rest) (next_of_them requests number request more is) g)
+  pub fails_at : (Seen Next : Filestore → ℕ → ℕ → ℕ → Type 0) (requests : List Request) (number : ℕ) (request : Request) (status : Status) → number < length requests → request ≡ get_or requests number request →
+      Goes Seen Next prefixes (Perform request) (Performed status) → is_successful status ≡ false →
+      GoesOn prefixes F items start high taken Seen number (map Perform (drop number requests)) → first_failure 0 (statuses prefixes F 0 items) ≡ Some (number, status)
+  fails_at Seen Next requests number request status more is tells failed g =
+      fails Seen Next number request (map Perform (drop (number + 1) requests)) status tells failed
+      (subst (λ (rest : List Item). GoesOn prefixes F items start high taken Seen number rest) (next_of_them requests number request more is) g)
 
-  pub ends : (w : Sketch) (requests : List Request) (number : ℕ) → length requests ≤ number → GoesOn prefixes F items start high taken w number (map Perform (drop number requests)) →
-      EndsSo {X = ℕ} prefixes F items start high taken w (Ok 0)
+  pub ends : {X : Type 0} (x : X) (Seen : Filestore → ℕ → ℕ → ℕ → Type 0) (w : Sketch) → Counts Seen w → (requests : List Request) (number : ℕ) → length requests ≤ number →
+      GoesOn prefixes F items start high taken Seen number (map Perform (drop number requests)) → EndsSo {X = X} prefixes F items start high taken w (Ok x)
   unfolding statuses steps peak
-  ends w requests number all g =
+  ends x Seen w counts requests number all g =
       let none = ap (map Perform) (drop-past requests number all) in
-      let last = subst (λ (rest : List Item). GoesOn prefixes F items start high taken w number rest) none g in
+      let last = subst (λ (rest : List Item). GoesOn prefixes F items start high taken Seen number rest) none g in
       let highest : last.most ≡ max high (peak prefixes F 0 items) = omega (arith, last.peaks, last.within) in
-      (last.failure, last.seen.need ∙ ap (λ n. min (n - start) most_need) highest, last.seen.steps ∙ ap capped (sym (last.counts ∙ add-zero last.spent)))
+      let told = counts last.here start last.most last.spent last.seen in
+      (last.failure, told.0 ∙ ap (λ n. min (n - start) most_need) highest, told.1 ∙ ap capped (sym (last.counts ∙ add-zero last.spent)))

@@ -4,6 +4,7 @@ ghost use Rattle.std.specs.Prelude.{◌≡◌, ◌≤◌, IfNone, map, replicate
 ghost use Rattle.cfdp_actions.specs.Actions.{Perform};
 ghost use Rattle.cfdp_leases.specs.Footprint.{footprint_of};
 ghost use Rattle.cfdp_leases.specs.Items.{items_of};
+ghost use Rattle.cfdp_verifier.specs.ClosedJudging.{JudgesClosed, TellsClosedRun};
 ghost use Rattle.cfdp_verifier.specs.Judging.{Affords, Judges, JudgesAlone, TellsRun};
 ghost use Rattle.cfdp_verifier.specs.Verdict.{judged_apart};
 
@@ -12,7 +13,8 @@ use crate::parsing::Items;
 use crate::refusal::{NotGranted, Refusal};
 use cfdp_actions::{Filestore, Protected, Request};
 use cfdp_leases::Footprint;
-use cfdp_states::View;
+use cfdp_states::{ClosedView, View};
+use cfdp_status::Action;
 use std::alloc::Global;
 
 /// What a list takes at most when it runs alone; what is told of each stops at the greatest u32.
@@ -66,8 +68,87 @@ fn afford(view: &View<'_>, spare: u32) -> Result<Costs, Refusal>
 }
 
 /// Runs the items alone, with a file of as many octets as the bound: the view after them, which tells what they cost, or
-/// the install or the first request that does not succeed.
+/// the install or the first request that does not succeed. What is below a directory is looked at only where an item
+/// names it.
 fn run_alone<'a, S: Filestore>(
+    alloc: Global,
+    store: &S,
+    protected: &'a Protected,
+    footprint: &Footprint,
+    items: &Items,
+    bound: u64,
+) -> Result<View<'a>, NotGranted>
+    requires footprint { footprint.now ≡ footprint_of (items_of items.now.destination items.now.requests.items) }
+    requires few { vec_len items.now.requests ≤ 64 }
+    requires bound { IfNone items.now.destination (bound ≡ 0) }
+    ensures { JudgesAlone protected.now (S.state store.now).filestore (replicate bound 0)
+        (items_of items.now.destination items.now.requests.items) result }
+{
+    if moves_any(&items.requests) {
+        if let Some(view) = run_closed(alloc, store, protected, footprint, items, bound)? {
+            return Ok(view);
+        }
+    }
+    run_open(alloc, store, protected, footprint, items, bound)
+}
+
+/// Whether one of the requests moves a file or a directory.
+fn moves_any(requests: &[Request]) -> bool {
+    requests
+        .iter()
+        .any(|request| request.action() == Action::RenameFile)
+}
+
+/// Runs the items on a view with closed directories; `None` where that can't tell.
+fn run_closed<'a, S: Filestore>(
+    alloc: Global,
+    store: &S,
+    protected: &'a Protected,
+    footprint: &Footprint,
+    items: &Items,
+    bound: u64,
+) -> Result<Option<View<'a>>, NotGranted>
+    requires footprint { footprint.now ≡ footprint_of (items_of items.now.destination items.now.requests.items) }
+    requires few { vec_len items.now.requests ≤ 64 }
+    requires bound { IfNone items.now.destination (bound ≡ 0) }
+    ensures { JudgesClosed protected.now (S.state store.now).filestore (replicate bound 0)
+        (items_of items.now.destination items.now.requests.items) result }
+{
+    let Some(mut view) = ClosedView::of(alloc, store, protected, footprint)? else {
+        return Ok(None);
+    };
+    if let Some(path) = &items.destination {
+        match view.install(path, bound)? {
+            None => return Ok(None),
+            Some(false) => return Err(NotGranted::Refused(Refusal::DestinationNotAllowed)),
+            Some(true) => {}
+        }
+    }
+    if !run_requests_closed(&mut view, &items.requests)? {
+        return Ok(None);
+    }
+    Ok(Some(view.into_view()))
+}
+
+/// Runs the requests one after another on a view with closed directories, up to the first that is not successful;
+/// `false` where the view can't tell of one.
+fn run_requests_closed(view: &mut ClosedView<'_>, requests: &[Request]) -> Result<bool, NotGranted>
+    requires { length requests.now ≤ 64 }
+    ensures { TellsClosedRun view.old.view view.old.closed.items view.new.view (map Perform requests.now) result }
+{
+    for (number, request) in requests.iter().enumerate() {
+        let Some(status) = view.apply(request)? else {
+            return Ok(false);
+        };
+        if !status.is_successful() {
+            return Err(NotGranted::Refused(Refusal::WouldFail(number as u8, status)));
+        }
+    }
+    Ok(true)
+}
+
+/// Runs the items on a view of all that the footprint covers.
+fn run_open<'a, S: Filestore>(
     alloc: Global,
     store: &S,
     protected: &'a Protected,

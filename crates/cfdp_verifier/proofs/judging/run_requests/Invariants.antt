@@ -10,4 +10,4 @@ abbrev pub invariant-loop-number : goal.invariant-loop-number
 invariant-loop-number l =
     (l.view.prefixes ≡ l.initial.view.prefixes)
     × ((F : Filestore) (start high taken : ℕ) → IsViewOf l.initial.view F start high taken → blocks F ≤ high →
-    GoesOn l.initial.view.prefixes F (map Perform l.requests) start high taken l.view l.number (map Perform (drop l.number l.requests)))
+    GoesOn l.initial.view.prefixes F (map Perform l.requests) start high taken (IsViewOf l.view) l.number (map Perform (drop l.number l.requests)))
