@@ -21,12 +21,12 @@ use std::alloc::Global;
 /// The most blocks that a store has.
 const MOST_BLOCKS: u128 = 65_536;
 
-/// A view in which directories stay closed: what is below a leased directory that has entries is not looked at, so that a
-/// move of it costs what the view has and not what the directory has. Of what is below it the view has one entry alone,
-/// which is as deep as the deepest one there.
+/// A view in which directories stay closed. What is below a leased directory that has entries is not looked at: the view
+/// has one entry instead, which is as deep as the deepest one there. So what a move of the directory costs does not grow
+/// with its entries.
 ///
 /// Such a view tells how a list of items goes when it runs alone (CCSDS 727.0-B-5 §4.9), as a [`View`] does, as long as
-/// no item looks into a closed directory.
+/// no item names what is in a closed directory.
 #[derive(Drop)]
 pub struct ClosedView<'a> {
     alloc: Global,
@@ -37,8 +37,8 @@ pub struct ClosedView<'a> {
 
 impl<'a> ClosedView<'a> {
     /// What is in the store at the leased paths, and below them but for what is in closed directories, before any item.
-    /// `None` where that counts more blocks than a store has: what stands for the entries of a closed directory counts
-    /// one. [`View::of`] is then to be asked.
+    /// `None` if that counts more than 65,536 blocks, which no store has: for each closed directory one block more may be
+    /// counted than is there. A caller asks [`View::of`] then.
     ///
     /// # Errors
     ///
@@ -69,8 +69,9 @@ impl<'a> ClosedView<'a> {
     }
 
     /// Performs the next request on the view, with unlimited room, and returns its status (CCSDS 727.0-B-5 §4.9), as
-    /// [`View::apply`] does. `None` exactly where the view can't tell, and then it is as before: a path of the request is
-    /// below a closed directory, or something is to move to where something is below already, or too deep.
+    /// [`View::apply`] does. `None` exactly if the view can't tell, and then it is as before: a path of the request is
+    /// below a closed directory; or something is to move to a path below which the view has something already, or at or
+    /// below which a directory is closed; or a closed directory would have more than 8 names.
     ///
     /// # Errors
     ///
@@ -94,8 +95,8 @@ impl<'a> ClosedView<'a> {
     }
 
     /// Installs a delivered file of at most `bound` octets at the path (CCSDS 727.0-B-5 §4.6.1), and returns whether that
-    /// is allowed, as [`View::install`] does. `None` exactly where the path is below a closed directory; the view is then
-    /// as before.
+    /// is allowed, as [`View::install`] does. `None` exactly if the path is below a closed directory; the view is then as
+    /// before.
     ///
     /// # Errors
     ///

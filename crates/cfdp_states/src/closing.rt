@@ -85,7 +85,7 @@ fn depth_below<S: Filestore>(store: &S, path: &Path) -> Option<usize>
     }
 }
 
-/// Closes a directory: one that is as deep is put in the place of what is below it.
+/// Closes a directory: a directory of so many names is put below it, instead of what is there.
 fn close(
     alloc: Global,
     extents: &mut Extents,

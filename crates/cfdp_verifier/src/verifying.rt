@@ -27,8 +27,9 @@ use std::alloc::{AllocError, Global};
 ///
 /// # Errors
 ///
-/// Want of memory, which a list of more than 64 requests does not take. Cost: that of reading the names, of `footprint`, `Leases::conflict` and `View::of` on what they name,
-/// and of one `View::install` and a `View::apply` for each request.
+/// Want of memory, which a list of more than 64 requests does not take. Cost: that of reading the names, of `footprint`,
+/// `Leases::conflict` and `View::of` on what they name, and of one `View::install` and a `View::apply` for each request.
+/// A list that moves something takes a `ClosedView` instead, and the `View` only if that can't tell.
 pub fn verify<S: Filestore>(
     alloc: Global,
     store: &S,
