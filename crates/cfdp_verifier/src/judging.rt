@@ -11,7 +11,7 @@ ghost use Rattle.cfdp_verifier.specs.Verdict.{judged_apart};
 use crate::MOST_STEPS;
 use crate::parsing::Items;
 use crate::refusal::{NotGranted, Refusal};
-use cfdp_actions::{Filestore, Protected, Request};
+use cfdp_actions::{Filestore, Kind, Protected, Request};
 use cfdp_leases::Footprint;
 use cfdp_states::{ClosedView, View};
 use cfdp_status::Action;
@@ -84,7 +84,7 @@ fn run_alone<'a, S: Filestore>(
     ensures { JudgesAlone protected.now (S.state store.now).filestore (replicate bound 0)
         (items_of items.now.destination items.now.requests.items) result }
 {
-    if moves_any(&items.requests) {
+    if moves_directory(store, &items.requests) {
         if let Some(view) = run_closed(alloc, store, protected, footprint, items, bound)? {
             return Ok(view);
         }
@@ -92,11 +92,12 @@ fn run_alone<'a, S: Filestore>(
     run_open(alloc, store, protected, footprint, items, bound)
 }
 
-/// Whether one of the requests moves a file or a directory.
-fn moves_any(requests: &[Request]) -> bool {
-    requests
-        .iter()
-        .any(|request| request.action() == Action::RenameFile)
+/// Whether one of the requests moves what is a directory as things are.
+fn moves_directory<S: Filestore>(store: &S, requests: &[Request]) -> bool {
+    requests.iter().any(|request| {
+        request.action() == Action::RenameFile
+            && store.kind(request.first()) == Some(Kind::Directory)
+    })
 }
 
 /// Runs the items on a view with closed directories; `None` where that can't tell.

@@ -29,7 +29,8 @@ use std::alloc::{AllocError, Global};
 ///
 /// Want of memory, which a list of more than 64 requests does not take. Cost: that of reading the names, of `footprint`,
 /// `Leases::conflict` and `View::of` on what they name, and of one `View::install` and a `View::apply` for each request.
-/// A list that moves something takes a `ClosedView` instead, and the `View` only if that can't tell.
+/// A list that moves a directory takes a `ClosedView` instead, and the `View` only if that can't tell; each list takes one
+/// `kind` for each rename.
 pub fn verify<S: Filestore>(
     alloc: Global,
     store: &S,
