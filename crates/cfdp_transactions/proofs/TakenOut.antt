@@ -1,7 +1,7 @@
 -- The responses of an outcome, one after another; and the program's table, leases and quota after a transaction was forgotten.
-use Rattle.std.proofs.Common.{◌≡◌, ℕ, zero, suc, ◌+◌, ◌-◌, ◌≤◌, ◌<◌, List, [], ◌∷◌, ◌++◌, length, drop, refl, ap, sym, subst, ◌∙◌, arith, append_assoc, get_or, add-one}
+use Rattle.std.proofs.Common.{◌≡◌, ℕ, zero, suc, ◌+◌, ◌-◌, ◌≤◌, ◌<◌, List, [], ◌∷◌, ◌++◌, length, drop, refl, ap, sym, subst, ◌∙◌, arith, append_assoc, get_or, add-one, inl, inr}
 use Rattle.std.specs.Prelude.{Some, slice_get, remove, IsTrue, IsFalse}
-use Rattle.std.proofs.lemmas.Bool.{both_ways}
+use Rattle.std.proofs.lemmas.Bool.{both_ways, cases_lt}
 use Rattle.std.proofs.Math.Seq.{drop-cons}
 use Rattle.cfdp_status.specs.declared.status.Status.{Status}
 use Rattle.cfdp_status.specs.declared.status.Status.TheVariants.{Successful, NotPerformed}
@@ -33,27 +33,42 @@ one_response : (left : ℕ) (r : RequestFields) (rs : List RequestFields) → re
 one_response zero r rs = refl
 one_response (suc left) r rs = let e : suc left - 1 ≡ left = omega arith in rw e refl
 
+-- where the next request has its response
+pub next_answer : (r : RequestFields) (rs : List RequestFields) (performed n : ℕ) (done now total : List ResponseFields) (response : ResponseFields)
+    → response ≡ answered r (status_at (performed - n) r) → now ≡ done ++ response ∷ [] → done ++ responses_of (r ∷ rs) (statuses_of (performed - n) (r ∷ rs)) ≡ total
+    → now ++ responses_of rs (statuses_of (performed - (n + 1)) rs) ≡ total
+next_answer r rs performed n done now total response is pushed all =
+    let less : performed - n - 1 ≡ performed - (n + 1) = omega arith in
+    let one : responses_of (r ∷ rs) (statuses_of (performed - n) (r ∷ rs)) ≡ response ∷ responses_of rs (statuses_of (performed - (n + 1)) rs) =
+    one_response (performed - n) r rs ∙ ap (λ (x : ResponseFields). x ∷ responses_of rs (statuses_of (performed - n - 1) rs)) (sym is)
+    ∙ ap (λ (m : ℕ). response ∷ responses_of rs (statuses_of m rs)) less in
+    ap (λ (xs : List ResponseFields). xs ++ responses_of rs (statuses_of (performed - (n + 1)) rs)) pushed
+    ∙ append_assoc done (response ∷ []) (responses_of rs (statuses_of (performed - (n + 1)) rs)) ∙ ap (λ (xs : List ResponseFields). done ++ xs) (sym one) ∙ all
+
 pub next_response : (requests : List RequestFields) (performed place : ℕ) (d : RequestFields) (done now total : List ResponseFields) (response : ResponseFields) → place < length requests
     → response ≡ answered (get_or requests place d) (status_at (performed - place) (get_or requests place d)) → now ≡ done ++ response ∷ []
     → done ++ responses_of (drop place requests) (statuses_of (performed - place) (drop place requests)) ≡ total
     → now ++ responses_of (drop (place + 1) requests) (statuses_of (performed - (place + 1)) (drop (place + 1) requests)) ≡ total
 next_response requests performed place d done now total response there is pushed all =
+    let r = get_or requests place d in
     let rest = drop (suc place) requests in
-    let here : drop place requests ≡ get_or requests place d ∷ rest = drop-cons requests place d there in
-    let less : performed - place - 1 ≡ performed - suc place = omega arith in
-    let one : responses_of (drop place requests) (statuses_of (performed - place) (drop place requests)) ≡ response ∷ responses_of rest (statuses_of (performed - suc place) rest) =
-    ap (λ (rs : List RequestFields). responses_of rs (statuses_of (performed - place) rs)) here ∙ one_response (performed - place) (get_or requests place d) rest
-    ∙ ap (λ (x : ResponseFields). x ∷ responses_of rest (statuses_of (performed - place - 1) rest)) (sym is) ∙ ap (λ (n : ℕ). response ∷ responses_of rest (statuses_of n rest)) less in
-    let more : now ++ responses_of rest (statuses_of (performed - suc place) rest) ≡ total =
-    ap (λ (xs : List ResponseFields). xs ++ responses_of rest (statuses_of (performed - suc place) rest)) pushed ∙ append_assoc done (response ∷ []) (responses_of rest (statuses_of (performed - suc place) rest))
-    ∙ ap (λ (xs : List ResponseFields). done ++ xs) (sym one) ∙ all in
-    rw add-one more
+    let here : drop place requests ≡ r ∷ rest = drop-cons requests place d there in
+    let whole : done ++ responses_of (r ∷ rest) (statuses_of (performed - place) (r ∷ rest)) ≡ total =
+    ap (λ (rs : List RequestFields). done ++ responses_of rs (statuses_of (performed - place) rs)) (sym here) ∙ all in
+    rw add-one (rw add-one at (next_answer r rest performed place done now total response is pushed whole))
 
 pub status_performed : (performed place : ℕ) (r : RequestFields) → place < performed → status_at (performed - place) r ≡ Successful r.action
 status_performed performed place r h = let e : performed - place ≡ suc (performed - place - 1) = omega arith in rw e refl
 
 pub status_left : (performed place : ℕ) (r : RequestFields) → performed ≤ place → status_at (performed - place) r ≡ NotPerformed r.action
 status_left performed place r h = let e : performed - place ≡ 0 = omega arith in rw e refl
+
+pub status_of_number : (performed number : ℕ) (r : RequestFields) (status : Status) → (number < performed → status ≡ Successful r.action)
+    → (performed ≤ number → status ≡ NotPerformed r.action) → status ≡ status_at (performed - number) r
+status_of_number performed number r status done left = elim (cases_lt number performed) [
+  | inl less ↦ done less ∙ sym (status_performed performed number r less)
+  | inr past ↦ left past ∙ sym (status_left performed number r past)
+]
 
 -- the transaction at k is forgotten ---------------------------------------------------------
 

@@ -18,6 +18,7 @@ use cfdp_paths::Path;
 use cfdp_pdus::{Eof, Header, Metadata};
 use cfdp_quota::Meter;
 use cfdp_status::TransactionId;
+use cfdp_tlv::FilestoreRequest;
 use std::marker::Model;
 
 /// A transaction of the table. Contracts see it as a row: what was received lies in the filestore, and the row has its
@@ -163,6 +164,13 @@ impl Entry {
         ensures { result.now ≡ self.now.metadata }
     {
         &self.metadata
+    }
+
+    /// The requests of its Metadata PDU, in order. The rest of it is dropped.
+    pub(crate) fn into_requests(self) -> Vec<FilestoreRequest>
+        ensures { result.items ≡ self.metadata.requests }
+    {
+        self.metadata.requests
     }
 
     /// Whether its file was installed.

@@ -45,7 +45,7 @@ impl Outcome {
 /// An outcome that several holders share. Contracts see it as the outcome.
 #[derive(Drop)]
 pub struct SharedOutcome {
-    shared: Arc<Outcome, Global>,
+    pub(crate) shared: Arc<Outcome, Global>,
 }
 
 impl Model for SharedOutcome {

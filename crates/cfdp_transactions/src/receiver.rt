@@ -313,7 +313,8 @@ impl<S: Filestore> Core<S> {
     /// File data costs its octets and the pieces that they touch, and what the store takes to reach its offset. Where no octet
     /// is missing any more, the EOF PDU or the file data that came last asks the store for the checksum of what is staged:
     /// constant time in a store that keeps it, else one pass. A step costs what its request says, and the rename of a
-    /// directory also a pass over all below it. The outcome costs a copy of the requests' names. All else costs a look-up.
+    /// directory also a pass over all below it. The outcome costs two allocations, and a move of each request. All else
+    /// costs a look-up.
     pub fn apply(&mut self, event: &Event) -> Reply
         ensures follows { Follows self.old.world event.now result self.new.world }
         ensures answered { IsFalse (may_want_memory self.old.takes_no_memory event.now) → IsAnswered result }
@@ -333,7 +334,7 @@ impl<S: Filestore> Core<S> {
             Event::Step(id) => self.step(*id),
             Event::Cancel(id) => self.cancel(*id),
             Event::Check(id) => self.check(*id),
-            Event::Take(id) => self.take(*id).0,
+            Event::Take(id) => self.take_moved(*id),
         }
     }
 
@@ -488,6 +489,19 @@ impl<S: Filestore> Core<S> {
             return (Reply::Unknown, Reply::Unknown);
         };
         taking::take(self.alloc, &self.store, &mut self.books, place)
+    }
+
+    /// The same, with the reply once: no name is copied.
+    fn take_moved(&mut self, id: TransactionId) -> Reply
+        ensures follows { Follows self.old.world (Take id) result self.new.world }
+        ensures lean { IsNone (outcome_in self.old.world id) → IsAnswered result }
+        ensures steady { self.new.takes_no_memory ≡ self.old.takes_no_memory }
+    {
+        laws::follows_is_sound();
+        let Some(place) = self.books.table.find(id) else {
+            return Reply::Unknown;
+        };
+        taking::take_moved(self.alloc, &self.store, &mut self.books, place)
     }
 
     /// A request to cancel a transaction (CCSDS 727.0-B-5 §4.11).

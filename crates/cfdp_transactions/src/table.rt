@@ -195,4 +195,13 @@ impl Table {
     {
         self.entries.shift_remove_index(place);
     }
+
+    /// The transaction at a place, which is forgotten. Costs a move of each one after it.
+    pub(crate) fn take_out(&mut self, place: usize) -> Entry
+        requires { place < length self.old }
+        ensures taken { slice_get self.old place ≡ Some result }
+        ensures rest { self.new ≡ remove self.old place }
+    {
+        self.entries.shift_remove_index(place).unwrap().1
+    }
 }

@@ -1,6 +1,7 @@
 //! The outcome of a transaction, which is taken once it is over (CCSDS 727.0-B-5 §4.6.1 and §5.2.3).
 
-ghost use Rattle.std.specs.Prelude.{◌≡◌, ℕ, ◌<◌, ◌≤◌, IfOk, IsFalse, length, slice_get, Some, None};
+ghost use Rattle.std.specs.Prelude.{◌≡◌, ℕ, ◌<◌, ◌≤◌, [], IfOk, IsFalse, length, slice_get, vec_capacity, vec_len, Some, None};
+ghost use Rattle.cfdp_status.specs.declared.status.Status.TheVariants.{Successful, NotPerformed};
 ghost use Rattle.cfdp_actions.specs.Filestore.{Filestore as Files};
 ghost use Rattle.cfdp_status.specs.Codes.{action_of};
 ghost use Rattle.cfdp_transactions.specs.Books.{AnswersAt, IsAnswered, IsBooked, IsLiveAt, world_of};
@@ -9,7 +10,7 @@ ghost use Rattle.cfdp_transactions.specs.Entry.{Entry as Transaction, has_file, 
 ghost use Rattle.cfdp_transactions.specs.Outcome.{condition_of, outcome_of, responses_of};
 ghost use Rattle.cfdp_transactions.specs.Rows.{entry_in};
 ghost use Rattle.cfdp_transactions.specs.Sound.{Sound};
-ghost use Rattle.cfdp_transactions.specs.Taking.{statuses_of, status_by, fault_by};
+ghost use Rattle.cfdp_transactions.specs.Taking.{answered_by, statuses_of, status_by, fault_by};
 
 use crate::admission::names_file;
 use crate::books::Books;
@@ -20,9 +21,10 @@ use crate::{Phase, Reply};
 use cfdp_actions::Filestore;
 use cfdp_paths::Memory;
 use cfdp_pdus::{Finished, Header};
-use cfdp_status::Status;
+use cfdp_status::{Action, Status};
 use cfdp_tlv::{FilestoreRequest, FilestoreResponse};
 use std::alloc::Global;
+use std::sync::Arc;
 
 /// What became of the file (§5.2.3): it was discarded, rejected by the filestore, retained, or there was none.
 const DISCARDED: u8 = 0;
@@ -58,6 +60,41 @@ pub(crate) fn take<S: Filestore>(
     };
     books.table.forget(place);
     (Reply::Taken(outcome), Reply::Taken(again))
+}
+
+/// The same with the reply once: the names of the requests are moved into the outcome. Where memory is refused nothing has changed.
+/// Cost: two allocations, a move of each request, and the drop of the rest of what the table has.
+pub(crate) fn take_moved<S: Filestore>(
+    alloc: Global,
+    store: &S,
+    books: &mut Books,
+    place: usize,
+) -> Reply
+    requires booked { IsBooked (S.state store.now) books.old }
+    requires within { place < length books.old.table }
+    ensures answer { let W = world_of (S.state store.now) books.old in
+        AnswersAt W (world_of (S.state store.now) books.new) place (taken_out W place) result }
+    ensures lean { IsLiveAt (world_of (S.state store.now) books.old) place → IsAnswered result }
+    ensures booked { IsBooked (S.state store.now) books.new }
+{
+    let entry = books.table.at(place);
+    if entry.phase().is_live() {
+        return Reply::Idle;
+    }
+    let outcome = bare_outcome(alloc, entry);
+    let performed = usize::from(entry.performed());
+    let Ok(room) = Vec::with_capacity(alloc, entry.metadata().requests.len()) else {
+        return Reply::Memory;
+    };
+    let Ok(mut handle) = SharedOutcome::new(alloc, bare_outcome(alloc, entry)) else {
+        return Reply::Memory;
+    };
+    let Some(shared) = Arc::get_mut(&mut handle.shared) else {
+        return Reply::Memory;
+    };
+    let requests = books.table.take_out(place).into_requests();
+    *shared = with_responses(outcome, responses_to(requests, performed, room));
+    Reply::Taken(handle)
 }
 
 /// The same for an outcome that was made before: the transaction at a place is forgotten, and the outcome handed out.
@@ -100,6 +137,15 @@ fn make_handles(alloc: Global, entry: &Entry) -> Result<(SharedOutcome, SharedOu
 pub(crate) fn make_outcome(alloc: Global, entry: &Entry) -> Result<Outcome, Memory>
     ensures { IfOk result (λ outcome. (F : Files) → outcome ≡ outcome_of (entry_in F entry.now)) }
 {
+    let requests = &entry.metadata().requests;
+    let responses = make_responses(alloc, requests, usize::from(entry.performed()))?;
+    Ok(with_responses(bare_outcome(alloc, entry), responses))
+}
+
+/// The outcome of a transaction that is over, without the responses to its requests. Takes no memory.
+fn bare_outcome(alloc: Global, entry: &Entry) -> Outcome
+    ensures { (F : Files) → result ≡ answered_by [] (outcome_of (entry_in F entry.now)) }
+{
     let header = entry.header();
     let metadata = entry.metadata();
     let condition = condition_of(entry.phase());
@@ -107,17 +153,37 @@ pub(crate) fn make_outcome(alloc: Global, entry: &Entry) -> Result<Outcome, Memo
         condition,
         incomplete: !entry.is_complete(),
         file_status: file_status(names_file(metadata), entry.is_installed(), entry.phase()),
-        responses: make_responses(alloc, &metadata.requests, usize::from(entry.performed()))?,
+        responses: Vec::new(alloc),
         fault: find_fault(condition, entry.is_ended_by_eof(), header),
     };
-    Ok(Outcome {
+    Outcome {
         header: Header {
             toward_sender: true,
             ..*header
         },
         finished,
         send: header.acknowledged || metadata.closure,
-    })
+    }
+}
+
+/// The outcome with these responses in place of its own.
+fn with_responses(outcome: Outcome, responses: Vec<FilestoreResponse>) -> Outcome
+    ensures { result ≡ answered_by responses.items outcome }
+{
+    let Outcome {
+        header,
+        finished,
+        send,
+    } = outcome;
+    let finished = Finished {
+        responses,
+        ..finished
+    };
+    Outcome {
+        header,
+        finished,
+        send,
+    }
 }
 
 /// The condition code of the outcome.
@@ -160,7 +226,20 @@ fn find_fault(condition: u8, by_eof: bool, header: &Header) -> Option<u64>
     }
 }
 
-/// One response for each request, in order: the first ones were performed, and each of them was successful.
+/// The status of the request of this number: the first ones were performed, and each of them was successful.
+fn status_of(action: Action, number: usize, performed: usize) -> Status
+    ensures performed { number < performed → result ≡ Successful action }
+    ensures left { performed ≤ number → result ≡ NotPerformed action }
+    ensures action { action_of result ≡ action }
+{
+    if number < performed {
+        Status::successful(action)
+    } else {
+        Status::not_performed(action)
+    }
+}
+
+/// One response for each request, in order, with a copy of its names.
 fn make_responses(
     alloc: Global,
     requests: &[FilestoreRequest],
@@ -170,13 +249,26 @@ fn make_responses(
 {
     let mut responses = Vec::with_capacity(alloc, requests.len())?;
     for (place, request) in requests.iter().enumerate() {
-        let action = request.action();
-        let status = if place < performed {
-            Status::successful(action)
-        } else {
-            Status::not_performed(action)
-        };
+        let status = status_of(request.action(), place, performed);
         responses.push(request.copy(alloc)?.into_response(status))?;
     }
     Ok(responses)
+}
+
+/// One response for each request, in order, with its names. Takes no memory.
+fn responses_to(
+    requests: Vec<FilestoreRequest>,
+    performed: usize,
+    room: Vec<FilestoreResponse>,
+) -> Vec<FilestoreResponse>
+    requires empty { room.items ≡ [] }
+    requires room { vec_len requests ≤ vec_capacity room }
+    ensures { result.items ≡ responses_of requests.items (statuses_of performed requests.items) }
+{
+    let mut responses = room;
+    for request in requests {
+        let status = status_of(request.action(), responses.len(), performed);
+        responses.push_reserved(request.into_response(status));
+    }
+    responses
 }
