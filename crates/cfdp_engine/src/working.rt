@@ -12,10 +12,11 @@ use crate::message::Message;
 use crate::seat::Seat;
 use crate::shared::Shared;
 use crate::stop::Stop;
+use arrayvec::ArrayVec;
 use cfdp_actions::Filestore;
 use cfdp_pdus::PduFault;
 use cfdp_transactions::{Event, read_event};
-use crossbeam_channel::Receiver;
+use crossbeam_channel::{Receiver, RecvError};
 use std::alloc::{AllocError, Global};
 use std::sync::{Arc, Wait};
 
@@ -121,6 +122,43 @@ fn serve<S: Filestore, R: Wait>(
     Ok(false)
 }
 
+/// How many messages a worker takes from its inbox at once.
+const HANDFUL: usize = 16;
+
+/// The messages that come to a worker, in order. All that are in the inbox are taken at once, 17 at most, so that a sender
+/// that waits for room is woken once for all of them.
+#[derive(Drop)]
+struct Incoming<'a> {
+    inbox: &'a Receiver<Message, Global>,
+    /// Those that were taken and are not handed in yet, the last one first.
+    taken: ArrayVec<Option<Message>, HANDFUL>,
+}
+
+impl<'a> Incoming<'a> {
+    /// The next message, for which it waits. Takes no memory.
+    ///
+    /// # Errors
+    ///
+    /// The inbox is closed and empty.
+    fn next<R: Wait>(&mut self, rt: &R) -> Result<Message, RecvError> {
+        if let Some(Some(message)) = self.taken.pop() {
+            return Ok(message);
+        }
+        let first = self.inbox.recv(rt)?;
+        for _ in 0..HANDFUL {
+            if self.taken.is_full() {
+                break;
+            }
+            let Ok(message) = self.inbox.try_recv(rt) else {
+                break;
+            };
+            self.taken.push(Some(message));
+        }
+        self.taken.reverse();
+        Ok(first)
+    }
+}
+
 /// Takes messages until the inbox is closed, and notes in `worked` what becomes of them.
 fn serve_all<S: Filestore, R: Wait, G: Gate>(
     rt: &R,
@@ -138,9 +176,13 @@ fn serve_all<S: Filestore, R: Wait, G: Gate>(
     ensures running { worked.new.stopped ≡ worked.old.stopped }
 {
     let mut turn = 0u64;
+    let mut incoming = Incoming {
+        inbox,
+        taken: ArrayVec::new(),
+    };
     for _ in rt.forever() {
         worked.taken.reserve(1)?;
-        let Ok(message) = inbox.recv(rt) else {
+        let Ok(message) = incoming.next(rt) else {
             break;
         };
         gate.pass(rt, worked.seat.number(), turn);
