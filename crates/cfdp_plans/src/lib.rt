@@ -15,5 +15,5 @@ mod tests;
 
 pub use fault::{RequestFault, ScriptFault};
 pub use lines::{push_config, push_list, push_protect, write_upload};
-pub use names::{read_name, read_path};
+pub use names::{parse_path, read_name, read_path};
 pub use requests::read_request;

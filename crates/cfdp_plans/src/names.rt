@@ -4,7 +4,7 @@ ghost use Rattle.std.specs.Prelude.{◌≡◌, ◌<◌, length, Some, None, IfOk
 ghost use Rattle.std.specs.Option.{option_map};
 ghost use Rattle.hex.specs.Hex.{hex_digit_value};
 ghost use Rattle.cfdp_texts.specs.Replies.{is_plain};
-ghost use Rattle.cfdp_plans.specs.Names.{before, octet_of_pair, name_in, path_in};
+ghost use Rattle.cfdp_plans.specs.Names.{before, octet_of_pair, name_in, path_at, path_in};
 
 use cfdp_paths::{Path, PathFault};
 use std::alloc::{AllocError, Global};
@@ -87,6 +87,24 @@ pub fn read_path(alloc: Global, text: &[u8]) -> Result<Option<Vec<u8>>, AllocErr
     };
     match Path::parse(alloc, &octets) {
         Ok(_) => Ok(Some(octets)),
+        Err(PathFault::Memory) => Err(AllocError),
+        Err(_) => Ok(None),
+    }
+}
+
+/// The path of the filestore that a text spells, as listings print it. `None` exactly if the text spells none.
+///
+/// # Errors
+///
+/// Out of memory. Cost: two passes over the text.
+pub fn parse_path(alloc: Global, text: &[u8]) -> Result<Option<Path>, AllocError>
+    ensures { IfOk result (λ path. path ≡ path_at text.now) }
+{
+    let Some(octets) = read_name(alloc, text)? else {
+        return Ok(None);
+    };
+    match Path::parse(alloc, &octets) {
+        Ok(path) => Ok(Some(path)),
         Err(PathFault::Memory) => Err(AllocError),
         Err(_) => Ok(None),
     }

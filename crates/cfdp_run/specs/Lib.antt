@@ -1,3 +1,5 @@
 pub mod Playing
 pub mod Questions
 pub mod Settings
+pub mod Words
+pub mod Wrongs

@@ -1,6 +1,7 @@
 -- The settings of a management information base, as the lines `mib` of a script have them: a key, and the text of a value.
 --     default_mib               what is set where a script sets nothing
 --     key_of word               the key that a word names
+--     key_text key              the word that names a key
 --     within low high word      the number that a word writes, if it is in this range
 --     interval_of, limit_of     a time in ticks;  a limit of expiries
 --     keep_alive_of, nak_mode_of, yes_of, handler_of      a time or none;  when lost segments are asked for;  yes or no;  what is done at a fault
@@ -51,6 +52,22 @@ key_of word =
     else if bytes_eq word (codes "crc") then Some key.Crc
     else if bytes_eq word (codes "longest") then Some key.Longest
     else None
+
+abbrev pub key_text : Key → List ℕ
+key_text key.AckInterval = codes "ack-interval"
+key_text key.AckLimit = codes "ack-limit"
+key_text key.OnAckLimit = codes "on-ack-limit"
+key_text key.NakInterval = codes "nak-interval"
+key_text key.NakLimit = codes "nak-limit"
+key_text key.OnNakLimit = codes "on-nak-limit"
+key_text key.CheckInterval = codes "check-interval"
+key_text key.OnCheckLimit = codes "on-check-limit"
+key_text key.Inactivity = codes "inactivity"
+key_text key.OnInactivity = codes "on-inactivity"
+key_text key.KeepAlive = codes "keep-alive"
+key_text key.Immediate = codes "immediate"
+key_text key.Crc = codes "crc"
+key_text key.Longest = codes "longest"
 
 abbrev pub within_by : ℕ → ℕ → Option ℕ → Option ℕ
 within_by low high None = None

@@ -1,11 +1,23 @@
-//! Scripts of `cfdp run`: what a script hands to a receiving entity of both modes is played, and the text of what it answers is written.
-//! `specs/Playing.antt` defines it, and `specs/Questions.antt` what is written of what a script asks.
+//! Scripts of `cfdp run`: what a line says is read, what a script hands to a receiving entity of both modes is played, and the text of
+//! what it answers is written.
+//! `specs/Commands.antt` defines what a line says, `specs/Wrongs.antt` what is written of a bad one, `specs/Playing.antt` how it is
+//! played, and `specs/Questions.antt` what is written of what a script asks.
 #![tactic(auto)]
 
+mod commands;
 mod player;
 mod questions;
+mod reading;
 mod settings;
+#[cfg(test)]
+mod tests;
+mod words;
+mod wrong;
 
+pub use commands::{Command, CommandFault, Content, Progress};
 pub use player::Player;
 pub use questions::{push_gaps_line, push_phase_line};
+pub use reading::read_command;
 pub use settings::{Key, default_mib, key_of};
+pub use words::Word;
+pub use wrong::{Wrong, push_wrong};

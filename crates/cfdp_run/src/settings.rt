@@ -1,7 +1,7 @@
 //! The settings of a management information base, as the lines `mib` of a script have them.
 
 ghost use Rattle.std.specs.Prelude.{◌≡◌, ◌≤◌, Some, None, IfSome};
-ghost use Rattle.cfdp_run.specs.Settings.{default_mib, handler_of, interval_of, keep_alive_of, key_of, limit_of, longest_of, nak_mode_of, range_text, with_value, within, yes_of};
+ghost use Rattle.cfdp_run.specs.Settings.{default_mib, handler_of, interval_of, keep_alive_of, key_of, key_text, limit_of, longest_of, nak_mode_of, range_text, with_value, within, yes_of};
 
 use cfdp_lines::number_of;
 use cfdp_receiver::{Handler, Mib, NakMode, Retries, Watch};
@@ -208,6 +208,28 @@ fn handler_of(word: &[u8]) -> Option<Handler>
 }
 
 impl Key {
+    /// How it is spelled.
+    pub fn spelling(self) -> &'static [u8]
+        ensures { result.now ≡ key_text self }
+    {
+        match self {
+            Key::AckInterval => b"ack-interval",
+            Key::AckLimit => b"ack-limit",
+            Key::OnAckLimit => b"on-ack-limit",
+            Key::NakInterval => b"nak-interval",
+            Key::NakLimit => b"nak-limit",
+            Key::OnNakLimit => b"on-nak-limit",
+            Key::CheckInterval => b"check-interval",
+            Key::OnCheckLimit => b"on-check-limit",
+            Key::Inactivity => b"inactivity",
+            Key::OnInactivity => b"on-inactivity",
+            Key::KeepAlive => b"keep-alive",
+            Key::Immediate => b"immediate",
+            Key::Crc => b"crc",
+            Key::Longest => b"longest",
+        }
+    }
+
     /// What a value of it has to be, in words.
     pub fn range(self) -> &'static [u8]
         ensures { result.now ≡ range_text self }
