@@ -1,2 +1,3 @@
 pub mod Follows
+pub mod Lines
 pub mod Loops

@@ -1,3 +1,4 @@
+pub mod Commands
 pub mod Playing
 pub mod Questions
 pub mod Settings

@@ -1,5 +1,15 @@
 //! A line of a script is read.
 
+ghost use Rattle.std.specs.Prelude.{◌≡◌, ◌≢◌, ◌≤◌, ◌<◌, ◌^◌, ◌&&◌, [], length, true, Some, None, Ok, Err, IfOk, IfErr, IfSome, position, is_ok, is_some, option_map};
+ghost use Rattle.std.specs.Option.{option_copied};
+ghost use Rattle.cfdp_transactions.specs.Config.{first_fault};
+ghost use Rattle.cfdp_lines.specs.Hexadecimal.{octets_of_words};
+ghost use Rattle.cfdp_lines.specs.Words.{numbers_of, words_of};
+ghost use Rattle.cfdp_paths.specs.Paths.{path_of};
+ghost use Rattle.cfdp_plans.specs.Names.{name_in};
+ghost use Rattle.cfdp_run.specs.Words.{is_of_head};
+ghost use Rattle.cfdp_run.specs.Commands.{IfWrong, alone, asks_by, asks_memory, at_in, before_slash, command_in, config_in, config_of, content_in, content_of, directory_or_file, in_time, input_in, is_equals, is_fresh, is_playing, line_in, octets_in, only_name, only_path, path_or_wrong, put_alone, put_in, said_of, says, setting, settings_in, takes_memory, texts_say};
+
 use crate::commands::{Command, CommandFault, Content, Progress};
 use crate::settings::key_of;
 use crate::words::{Word, word_of};
@@ -11,13 +21,24 @@ use cfdp_lines::{
 use cfdp_paths::{Path, PathFault};
 use cfdp_plans::{parse_path, read_name};
 use cfdp_receiver::Mib;
+use cfdp_status::TransactionId;
 use cfdp_transactions::Config;
-use memchr::memchr;
-use std::alloc::{AllocError, Global};
+use std::alloc::Global;
 
-/// The settings with one more of them, which a word writes as `KEY=VALUE`.
-fn set_one(mib: &mut Mib, word: &[u8]) -> Result<(), Wrong> {
-    let Some(end) = memchr(b'=', word) else {
+/// The index of the first `=` of a word.
+fn equals_in(word: &[u8]) -> Option<usize>
+    ensures at { result ≡ position is_equals word.now }
+    ensures within { IfSome result (λ at. at < length word.now) }
+{
+    word.iter().position(|octet| *octet == b'=')
+}
+
+/// Sets what a word `KEY=VALUE` writes.
+fn set(mib: &mut Mib, word: &[u8]) -> Result<(), Wrong>
+    ensures ok { IfOk result (λ done. setting mib.old word.now ≡ Ok mib.new) }
+    ensures wrong { IfErr result (λ wrong. setting mib.old word.now ≡ Err wrong) }
+{
+    let Some(end) = equals_in(word) else {
         return Err(Wrong::UnknownKey);
     };
     let Some(key) = key_of(&word[..end]) else {
@@ -29,22 +50,27 @@ fn set_one(mib: &mut Mib, word: &[u8]) -> Result<(), Wrong> {
     }
 }
 
-/// The settings of a line `mib`, by the words after the first.
-fn read_settings(mib: Mib, words: &[u8]) -> Result<Mib, Wrong> {
+/// The settings of a line `mib`, by the words after its first.
+fn read_settings(mib: Mib, words: &[u8]) -> Result<Mib, Wrong>
+    ensures { result ≡ settings_in mib (words_of words.now) }
+{
     let mut rest = words;
     let mut settings = mib;
     let Some(first) = next_word(&mut rest) else {
         return Err(Wrong::Expected(Word::Mib));
     };
-    set_one(&mut settings, first)?;
+    set(&mut settings, first)?;
     'words: while let Some(word) = next_word(&mut rest) {
-        set_one(&mut settings, word)?;
+        set(&mut settings, word)?;
     }
     Ok(settings)
 }
 
-/// A number below 2^32.
-fn count_of(number: u64) -> Result<u32, Wrong> {
+/// A number of a configuration, below 2^32.
+fn count_of(number: u64) -> Result<u32, Wrong>
+    ensures ok { IfOk result (λ count. count ≡ number) }
+    ensures wrong { IfErr result (λ wrong. (wrong ≡ Wrong.ConfigRange) × (2 ^ 32 ≤ number)) }
+{
     match u32::try_from(number) {
         Ok(count) => Ok(count),
         Err(_) => Err(Wrong::ConfigRange),
@@ -52,13 +78,9 @@ fn count_of(number: u64) -> Result<u32, Wrong> {
 }
 
 /// The configuration of these numbers, with nothing protected.
-fn config_of(
-    entity: u64,
-    blocks: u64,
-    cap: u64,
-    checks: u64,
-    journal: u64,
-) -> Result<Config, Wrong> {
+fn config_of(entity: u64, blocks: u64, cap: u64, checks: u64, journal: u64) -> Result<Config, Wrong>
+    ensures { result ≡ config_of entity blocks cap checks journal }
+{
     let blocks = count_of(blocks)?;
     let checks = count_of(checks)?;
     let journal = count_of(journal)?;
@@ -68,22 +90,38 @@ fn config_of(
     }
 }
 
-/// The configuration of a line `config`, by the words after the first.
-fn read_config(progress: Progress, words: &[u8]) -> Result<Config, Wrong> {
+/// Whether a `config` comes in time.
+fn is_fresh(progress: Progress) -> bool
+    ensures { result ≡ is_fresh progress }
+{
+    match progress {
+        Progress::Fresh => true,
+        Progress::Begun | Progress::Playing => false,
+    }
+}
+
+/// The configuration of a line `config`, by the words after its first.
+fn read_config(progress: Progress, words: &[u8]) -> Result<Config, Wrong>
+    ensures { result ≡ config_in progress (numbers_of (words_of words.now)) }
+{
     let Some(numbers) = numbers_of(words) else {
         return Err(Wrong::Expected(Word::Config));
     };
     let [entity, blocks, cap, checks, journal] = numbers.as_slice() else {
         return Err(Wrong::Expected(Word::Config));
     };
-    if progress != Progress::Fresh {
+    if !is_fresh(progress) {
         return Err(Wrong::ConfigTooLate);
     }
     config_of(*entity, *blocks, *cap, *checks, *journal)
 }
 
-/// The path that is the only word after the first.
-fn read_only_path(alloc: Global, word: Word, words: &[u8]) -> Result<Path, CommandFault> {
+/// The path that is the only word of some.
+fn read_only_path(alloc: Global, word: Word, words: &[u8]) -> Result<Path, CommandFault>
+    ensures ok { IfOk result (λ path. only_path word (words_of words.now) ≡ Ok path) }
+    ensures wrong { IfErr result (λ fault. IfWrong fault (λ wrong. only_path word (words_of words.now) ≡ Err wrong)) }
+    ensures memory { result ≡ Err CommandFault.Memory → asks_by (λ path. true) (only_path word (words_of words.now)) ≡ true }
+{
     let mut rest = words;
     let Some(text) = next_word(&mut rest) else {
         return Err(CommandFault::Wrong(Wrong::Expected(word)));
@@ -97,8 +135,12 @@ fn read_only_path(alloc: Global, word: Word, words: &[u8]) -> Result<Path, Comma
     }
 }
 
-/// The octets that one or more words spell.
-fn read_octets(alloc: Global, word: Word, words: &[u8]) -> Result<Vec<u8>, CommandFault> {
+/// The octets that one or more words spell. They are decoded once, and not copied.
+fn read_octets(alloc: Global, word: Word, words: &[u8]) -> Result<Vec<u8>, CommandFault>
+    ensures ok { IfOk result (λ octets. octets_in (words_of words.now) ≡ Some octets.items) }
+    ensures wrong { IfErr result (λ fault. IfWrong fault (λ wrong. (wrong ≡ Wrong.Expected word) × (octets_in (words_of words.now) ≡ None))) }
+    ensures memory { result ≡ Err CommandFault.Memory → is_some (octets_in (words_of words.now)) ≡ true }
+{
     let mut octets = Vec::new(alloc);
     match decode_words(words, &mut octets) {
         Ok(()) if octets.is_empty() => Err(CommandFault::Wrong(Wrong::Expected(word))),
@@ -108,8 +150,12 @@ fn read_octets(alloc: Global, word: Word, words: &[u8]) -> Result<Vec<u8>, Comma
     }
 }
 
-/// What a file of a line `put` holds, by the words after its path, of which there is at least one.
-fn read_content(alloc: Global, words: &[u8]) -> Result<Content<'_>, CommandFault> {
+/// What a file of a line `put` holds, by the words after its path. There is at least one.
+fn read_content(alloc: Global, words: &[u8]) -> Result<Content<'_>, CommandFault>
+    ensures ok { IfOk result (λ content. content_in (words_of words.now) ≡ Some (content_of content)) }
+    ensures wrong { IfErr result (λ fault. IfWrong fault (λ wrong. (wrong ≡ Wrong.Expected Word.Put) × (content_in (words_of words.now) ≡ None))) }
+    ensures memory { result ≡ Err CommandFault.Memory → is_some (content_in (words_of words.now)) ≡ true }
+{
     let mut rest = words;
     if let Some([b'@', name @ ..]) = next_word(&mut rest) {
         return match next_word(&mut rest) {
@@ -122,7 +168,10 @@ fn read_content(alloc: Global, words: &[u8]) -> Result<Content<'_>, CommandFault
 }
 
 /// The path that some octets spell.
-fn path_of(alloc: Global, octets: &[u8]) -> Result<Path, CommandFault> {
+fn path_of(alloc: Global, octets: &[u8]) -> Result<Path, CommandFault>
+    ensures ok { IfOk result (λ path. path_of octets.now ≡ Some path) }
+    ensures wrong { IfErr result (λ fault. IfWrong fault (λ wrong. (wrong ≡ Wrong.NoPath) × (path_of octets.now ≡ None))) }
+{
     match Path::parse(alloc, octets) {
         Ok(path) => Ok(path),
         Err(PathFault::Memory) => Err(CommandFault::Memory),
@@ -130,19 +179,45 @@ fn path_of(alloc: Global, octets: &[u8]) -> Result<Path, CommandFault> {
     }
 }
 
-/// A line `put` with one word after the first: an empty file, or a directory.
-fn read_empty<'a>(alloc: Global, text: &[u8]) -> Result<Command<'a>, CommandFault> {
-    let Some(octets) = read_name(alloc, text)? else {
-        return Err(CommandFault::Wrong(Wrong::NoPath));
-    };
-    match octets.as_slice() {
-        [front @ .., b'/'] => Ok(Command::PutDirectory(path_of(alloc, front)?)),
-        octets => Ok(Command::PutFile(path_of(alloc, octets)?, Content::None)),
+/// The octets without the `/` at their end, if they have one.
+fn before_slash(octets: &[u8]) -> Option<&[u8]>
+    ensures { option_copied result ≡ before_slash octets.now }
+{
+    match octets {
+        [front @ .., b'/'] => Some(front),
+        _ => None,
     }
 }
 
-/// A line `put`, by the words after the first.
-fn read_put<'a>(alloc: Global, words: &'a [u8]) -> Result<Command<'a>, CommandFault> {
+/// A directory, by its path with a `/` at its end, or an empty file, by its path.
+fn read_directory_or_file<'a>(alloc: Global, octets: &[u8]) -> Result<Command<'a>, CommandFault>
+    ensures ok { IfOk result (λ command. directory_or_file octets.now (before_slash octets.now) ≡ Ok (said_of command)) }
+    ensures wrong { IfErr result (λ fault. IfWrong fault (λ wrong. directory_or_file octets.now (before_slash octets.now) ≡ Err wrong)) }
+{
+    match before_slash(octets) {
+        Some(front) => Ok(Command::PutDirectory(path_of(alloc, front)?)),
+        None => Ok(Command::PutFile(path_of(alloc, octets)?, Content::None)),
+    }
+}
+
+/// What a line `put` with one word after its first says: an empty file, or a directory.
+fn read_empty<'a>(alloc: Global, text: &[u8]) -> Result<Command<'a>, CommandFault>
+    ensures ok { IfOk result (λ command. put_alone (name_in text.now) ≡ Ok (said_of command)) }
+    ensures wrong { IfErr result (λ fault. IfWrong fault (λ wrong. put_alone (name_in text.now) ≡ Err wrong)) }
+    ensures memory { result ≡ Err CommandFault.Memory → asks_by takes_memory (put_alone (name_in text.now)) ≡ true }
+{
+    match read_name(alloc, text)? {
+        Some(octets) => read_directory_or_file(alloc, &octets),
+        None => Err(CommandFault::Wrong(Wrong::NoPath)),
+    }
+}
+
+/// What a line `put` says, by the words after its first.
+fn read_put<'a>(alloc: Global, words: &'a [u8]) -> Result<Command<'a>, CommandFault>
+    ensures ok { IfOk result (λ command. put_in (words_of words.entry.now) ≡ Ok (said_of command)) }
+    ensures wrong { IfErr result (λ fault. IfWrong fault (λ wrong. put_in (words_of words.entry.now) ≡ Err wrong)) }
+    ensures memory { result ≡ Err CommandFault.Memory → asks_by takes_memory (put_in (words_of words.entry.now)) ≡ true }
+{
     let mut rest = words;
     let Some(text) = next_word(&mut rest) else {
         return Err(CommandFault::Wrong(Wrong::Expected(Word::Put)));
@@ -158,8 +233,23 @@ fn read_put<'a>(alloc: Global, words: &'a [u8]) -> Result<Command<'a>, CommandFa
     }
 }
 
-/// A line `at`, by the words after the time.
-fn read_input<'a>(alloc: Global, now: u64, words: &[u8]) -> Result<Command<'a>, CommandFault> {
+/// The transaction that is named by the only words of some.
+fn read_only_name(word: Word, words: &[u8]) -> Result<TransactionId, CommandFault>
+    ensures ok { IfOk result (λ id. only_name word (words_of words.now) ≡ Ok id) }
+    ensures wrong { IfErr result (λ fault. (fault ≢ CommandFault.Memory) × IfWrong fault (λ wrong. only_name word (words_of words.now) ≡ Err wrong)) }
+{
+    match id_in(words) {
+        Some(id) => Ok(id),
+        None => Err(CommandFault::Wrong(Wrong::Expected(word))),
+    }
+}
+
+/// What a line `at` says, by the words after its time.
+fn read_input<'a>(alloc: Global, now: u64, words: &[u8]) -> Result<Command<'a>, CommandFault>
+    ensures ok { IfOk result (λ command. input_in now (words_of words.now) ≡ Ok (said_of command)) }
+    ensures wrong { IfErr result (λ fault. IfWrong fault (λ wrong. input_in now (words_of words.now) ≡ Err wrong)) }
+    ensures memory { result ≡ Err CommandFault.Memory → asks_by takes_memory (input_in now (words_of words.now)) ≡ true }
+{
     let mut rest = words;
     let Some(word) = next_word(&mut rest) else {
         return Ok(Command::Pass { now });
@@ -168,17 +258,19 @@ fn read_input<'a>(alloc: Global, now: u64, words: &[u8]) -> Result<Command<'a>, 
         let octets = read_octets(alloc, Word::At, rest)?;
         return Ok(Command::Receive { now, octets });
     }
-    if word != b"cancel".as_slice() {
-        return Err(CommandFault::Wrong(Wrong::Expected(Word::At)));
+    if word == b"cancel".as_slice() {
+        let id = read_only_name(Word::At, rest)?;
+        return Ok(Command::Cancel { now, id });
     }
-    match id_in(rest) {
-        Some(id) => Ok(Command::Cancel { now, id }),
-        None => Err(CommandFault::Wrong(Wrong::Expected(Word::At))),
-    }
+    Err(CommandFault::Wrong(Wrong::Expected(Word::At)))
 }
 
-/// A line `at`, by the words after the first.
-fn read_at<'a>(alloc: Global, words: &[u8]) -> Result<Command<'a>, CommandFault> {
+/// What a line `at` says, by the words after its first.
+fn read_at<'a>(alloc: Global, words: &[u8]) -> Result<Command<'a>, CommandFault>
+    ensures ok { IfOk result (λ command. at_in (words_of words.now) ≡ Ok (said_of command)) }
+    ensures wrong { IfErr result (λ fault. IfWrong fault (λ wrong. at_in (words_of words.now) ≡ Err wrong)) }
+    ensures memory { result ≡ Err CommandFault.Memory → asks_by takes_memory (at_in (words_of words.now)) ≡ true }
+{
     let mut rest = words;
     let Some(time) = next_word(&mut rest) else {
         return Err(CommandFault::Wrong(Wrong::Expected(Word::At)));
@@ -189,14 +281,17 @@ fn read_at<'a>(alloc: Global, words: &[u8]) -> Result<Command<'a>, CommandFault>
     }
 }
 
-/// The words of a line, joined by one space each.
-fn joined(alloc: Global, words: &[u8]) -> Result<Vec<u8>, CommandFault> {
+/// The words of a line `expect` after its first, with one space between them.
+fn read_line(alloc: Global, words: &[u8]) -> Result<Vec<u8>, CommandFault>
+    ensures ok { IfOk result (λ line. line_in (words_of words.now) ≡ Ok line.items) }
+    ensures wrong { IfErr result (λ fault. IfWrong fault (λ wrong. line_in (words_of words.now) ≡ Err wrong)) }
+    ensures memory { result ≡ Err CommandFault.Memory → is_ok (line_in (words_of words.now)) ≡ true }
+{
     let mut rest = words;
     let Some(first) = next_word(&mut rest) else {
         return Err(CommandFault::Wrong(Wrong::Expected(Word::Expect)));
     };
-    let mut line = Vec::with_capacity(alloc, first.len() + rest.len())?;
-    line.extend_from_slice(first)?;
+    let mut line = Vec::from_slice(alloc, first)?;
     'words: while let Some(word) = next_word(&mut rest) {
         line.extend_from_slice(b" ")?;
         line.extend_from_slice(word)?;
@@ -204,8 +299,16 @@ fn joined(alloc: Global, words: &[u8]) -> Result<Vec<u8>, CommandFault> {
     Ok(line)
 }
 
-/// A command that no word follows.
-fn alone<'a>(word: Word, words: &[u8], command: Command<'a>) -> Result<Command<'a>, CommandFault> {
+/// What a line says that has no other word than its first.
+fn read_alone<'a>(
+    word: Word,
+    words: &[u8],
+    command: Command<'a>,
+) -> Result<Command<'a>, CommandFault>
+    ensures ok { IfOk result (λ read. alone word (said_of command.entry) (words_of words.now) ≡ Ok (said_of read)) }
+    ensures wrong { IfErr result (λ fault. (fault ≢ CommandFault.Memory)
+        × IfWrong fault (λ wrong. alone word (said_of command.entry) (words_of words.now) ≡ Err wrong)) }
+{
     let mut rest = words;
     match next_word(&mut rest) {
         None => Ok(command),
@@ -220,7 +323,11 @@ fn read_words<'a>(
     words: &'a [u8],
     mib: Mib,
     progress: Progress,
-) -> Result<Command<'a>, CommandFault> {
+) -> Result<Command<'a>, CommandFault>
+    ensures ok { IfOk result (λ command. says mib progress word (words_of words.entry.now) ≡ Ok (said_of command)) }
+    ensures wrong { IfErr result (λ fault. IfWrong fault (λ wrong. says mib progress word (words_of words.entry.now) ≡ Err wrong)) }
+    ensures memory { result ≡ Err CommandFault.Memory → asks_by takes_memory (says mib progress word (words_of words.entry.now)) ≡ true }
+{
     match word {
         Word::Mib => Ok(Command::Settings(read_settings(mib, words)?)),
         Word::Config => Ok(Command::Configure(read_config(progress, words)?)),
@@ -228,33 +335,53 @@ fn read_words<'a>(
         Word::Put => read_put(alloc, words),
         Word::At => read_at(alloc, words),
         Word::Get => Ok(Command::Get(read_only_path(alloc, word, words)?)),
-        Word::Gaps => match id_in(words) {
-            Some(id) => Ok(Command::Gaps(id)),
-            None => Err(CommandFault::Wrong(Wrong::Expected(word))),
-        },
-        Word::Phase => match id_in(words) {
-            Some(id) => Ok(Command::Phase(id)),
-            None => Err(CommandFault::Wrong(Wrong::Expected(word))),
-        },
-        Word::List => alone(word, words, Command::List),
-        Word::Expect => Ok(Command::Expect(joined(alloc, words)?)),
-        Word::End => alone(word, words, Command::End),
+        Word::Gaps => Ok(Command::Gaps(read_only_name(word, words)?)),
+        Word::Phase => Ok(Command::Phase(read_only_name(word, words)?)),
+        Word::List => read_alone(word, words, Command::List),
+        Word::Expect => Ok(Command::Expect(read_line(alloc, words)?)),
+        Word::End => read_alone(word, words, Command::End),
     }
 }
 
-/// What a line says, without its newline; `None` for a comment and for a line without a word. `mib` are the settings before it.
-pub fn read_command<'a>(
+/// Whether a line that begins with this word comes too late.
+fn is_too_late(word: Word, progress: Progress) -> bool
+    ensures { result ≡ (is_of_head word && is_playing progress) }
+{
+    match progress {
+        Progress::Fresh | Progress::Begun => false,
+        Progress::Playing => word.is_of_head(),
+    }
+}
+
+/// What a line says, by its first word and those after it, if it comes in time.
+fn read_in_time<'a>(
+    alloc: Global,
+    word: Word,
+    words: &'a [u8],
+    mib: Mib,
+    progress: Progress,
+) -> Result<Command<'a>, CommandFault>
+    ensures ok { IfOk result (λ command. in_time mib progress word (words_of words.entry.now) ≡ Ok (said_of command)) }
+    ensures wrong { IfErr result (λ fault. IfWrong fault (λ wrong. in_time mib progress word (words_of words.entry.now) ≡ Err wrong)) }
+    ensures memory { result ≡ Err CommandFault.Memory → asks_by takes_memory (in_time mib progress word (words_of words.entry.now)) ≡ true }
+{
+    if is_too_late(word, progress) {
+        return Err(CommandFault::Wrong(Wrong::TooLate(word)));
+    }
+    read_words(alloc, word, words, mib, progress)
+}
+
+/// What a line says that is not too long and no comment.
+fn read_worded<'a>(
     alloc: Global,
     line: &'a [u8],
     mib: Mib,
     progress: Progress,
-) -> Result<Option<Command<'a>>, CommandFault> {
-    if line.len() > LINE_LIMIT {
-        return Err(CommandFault::Wrong(Wrong::TooLong));
-    }
-    if line.first() == Some(&COMMENT) {
-        return Ok(None);
-    }
+) -> Result<Option<Command<'a>>, CommandFault>
+    ensures ok { IfOk result (λ command. texts_say mib progress (words_of line.entry.now) ≡ Ok (option_map said_of command)) }
+    ensures wrong { IfErr result (λ fault. IfWrong fault (λ wrong. texts_say mib progress (words_of line.entry.now) ≡ Err wrong)) }
+    ensures memory { result ≡ Err CommandFault.Memory → asks_memory (texts_say mib progress (words_of line.entry.now)) ≡ true }
+{
     let mut rest = line;
     let Some(first) = next_word(&mut rest) else {
         return Ok(None);
@@ -262,8 +389,37 @@ pub fn read_command<'a>(
     let Some(word) = word_of(first) else {
         return Err(CommandFault::Wrong(Wrong::UnknownWord));
     };
-    if word.is_of_head() && progress == Progress::Playing {
-        return Err(CommandFault::Wrong(Wrong::TooLate(word)));
+    match read_in_time(alloc, word, rest, mib, progress) {
+        Ok(command) => Ok(Some(command)),
+        Err(fault) => Err(fault),
     }
-    Ok(Some(read_words(alloc, word, rest, mib, progress)?))
+}
+
+/// What a line says, without its newline. `None`: it is a comment, or it has no word. `mib` are the settings before it.
+///
+/// # Errors
+///
+/// The first of these: [`Wrong::TooLong`] (also of a comment), [`Wrong::UnknownWord`], [`Wrong::TooLate`], [`Wrong::Expected`]; then
+/// those of the line's word. A bad line is answered so even where there is no memory, but for [`Wrong::NoPath`]:
+/// [`CommandFault::Memory`] comes only where a path is read, or where the line is good and has octets or a line in it.
+///
+/// Cost: one pass over the line, and one over the octets of a path. The octets of hexadecimal are decoded into a vector of their
+/// own; a file's name is lent.
+pub fn read_command<'a>(
+    alloc: Global,
+    line: &'a [u8],
+    mib: Mib,
+    progress: Progress,
+) -> Result<Option<Command<'a>>, CommandFault>
+    ensures ok { IfOk result (λ command. command_in mib progress line.entry.now ≡ Ok (option_map said_of command)) }
+    ensures wrong { IfErr result (λ fault. IfWrong fault (λ wrong. command_in mib progress line.entry.now ≡ Err wrong)) }
+    ensures memory { result ≡ Err CommandFault.Memory → asks_memory (command_in mib progress line.entry.now) ≡ true }
+{
+    if line.len() > LINE_LIMIT {
+        return Err(CommandFault::Wrong(Wrong::TooLong));
+    }
+    if line.first() == Some(&COMMENT) {
+        return Ok(None);
+    }
+    read_worded(alloc, line, mib, progress)
 }

@@ -32,6 +32,7 @@ pub enum Word {
 
 impl Word {
     /// How it is spelled.
+    #[tactic(auto, unfolding(crate::specs::Words::spelling_of))]
     pub fn spelling(self) -> &'static [u8]
         ensures { result.now ≡ spelling_of self }
     {
@@ -51,6 +52,7 @@ impl Word {
     }
 
     /// How a line is written that begins with it.
+    #[tactic(auto, unfolding(crate::specs::Words::form_of))]
     pub fn form(self) -> &'static [u8]
         ensures { result.now ≡ form_of self }
     {
@@ -87,6 +89,7 @@ impl Word {
 }
 
 /// The word that some octets spell.
+#[tactic(auto, unfolding(crate::specs::Words::word_of))]
 pub(crate) fn word_of(octets: &[u8]) -> Option<Word>
     ensures { result ≡ word_of octets.now }
 {

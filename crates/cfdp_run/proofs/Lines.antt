@@ -1,0 +1,26 @@
+-- The numbers of a line `config`, and the words of a line `expect` one after the other.
+use Rattle.std.proofs.Common.{◌≡◌, ℕ, List, [], ◌∷◌, ◌++◌, Option, Some, None, Err, flat_map, refl, ap, sym, append-nil, arith}
+use Rattle.std.specs.List.{join_with_byte}
+use Rattle.cfdp_lines.proofs.Answering.{NotFew, too_few}
+use Rattle.cfdp_run.specs.declared.commands.Progress.{Progress}
+use Rattle.cfdp_run.specs.declared.words.Word.TheVariants.{Config}
+use Rattle.cfdp_run.specs.declared.wrong.Wrong.TheVariants.{Expected}
+use Rattle.cfdp_run.specs.Commands.{config_in}
+
+pub config_in-none : (how_far : Progress) (numbers : Option (List ℕ)) → NotFew numbers → config_in how_far numbers ≡ Err (Expected Config)
+config_in-none how_far None h = refl
+config_in-none how_far (Some []) h = refl
+config_in-none how_far (Some (a ∷ [])) h = refl
+config_in-none how_far (Some (a ∷ b ∷ [])) h = refl
+config_in-none how_far (Some (a ∷ b ∷ c ∷ [])) h = refl
+config_in-none how_far (Some (a ∷ b ∷ c ∷ d ∷ [])) h = refl
+config_in-none how_far (Some (a ∷ b ∷ c ∷ d ∷ e ∷ [])) h = too_few (a ∷ b ∷ c ∷ d ∷ e ∷ []) (omega arith) h
+config_in-none how_far (Some (a ∷ b ∷ c ∷ d ∷ e ∷ f ∷ numbers)) h = refl
+
+-- a space and a word
+abbrev pub spaced : List ℕ → List ℕ
+spaced text = 32 ∷ text
+
+pub line_first : (text : List ℕ) (texts : List (List ℕ)) → join_with_byte 32 (text ∷ texts) ≡ text ++ flat_map spaced texts
+line_first text [] = sym (append-nil text)
+line_first text (next ∷ texts) = ap (λ (later : List ℕ). text ++ 32 ∷ later) (line_first next texts)
