@@ -13,6 +13,7 @@
 --     command_in mib progress line      what a line says; nothing of a comment and of a line without a word; or the first of its faults:
 --                               longer than 200,000 octets (TooLong); no word that begins a line (UnknownWord); a line of the head
 --                               after the head (TooLate); not of its form (Expected); another one
+--     IfWrong, OnMemory         what holds of what is wrong, if it is that;  what holds where it is out of memory
 --     asks_memory               memory is asked for before what a line says is known
 use Rattle.std.specs.Prelude.{⊤, ℕ, ◌+◌, ◌-◌, ◌==◌, ◌&&◌, Bool, true, false, if◌then◌else◌, List, [], ◌∷◌, length, slice_index, take, drop, position, Option, Some, None, option_map, option_and_then, Result, Ok, Err, codes, bytes_eq}
 use Rattle.std.specs.Option.{ok_or, option_map_or}
@@ -257,10 +258,17 @@ command_in mib how_far line =
 
 -- ---- what the program answers
 
--- what is wrong with a line has a property
-abbrev pub IfWrong : CommandFault → (Wrong → Type 0) → Type 0
-IfWrong (fault.Wrong wrong) P = P wrong
-IfWrong fault.Memory P = ⊤
+-- what is wrong, if it is that, has a property
+abbrev pub IfWrong : {T : Type 0} → Result T CommandFault → (Wrong → Type 0) → Type 0
+IfWrong (Err (fault.Wrong wrong)) P = P wrong
+IfWrong (Err fault.Memory) P = ⊤
+IfWrong (Ok what) P = ⊤
+
+-- where it is out of memory, this holds
+abbrev pub OnMemory : {T : Type 0} → Result T CommandFault → Type 0 → Type 0
+OnMemory (Err fault.Memory) P = P
+OnMemory (Err (fault.Wrong wrong)) P = ⊤
+OnMemory (Ok what) P = ⊤
 
 -- with a path, octets or a line in it
 abbrev pub takes_memory : Said → Bool

@@ -1,4 +1,5 @@
 pub mod Commands
+pub mod Laws
 pub mod Playing
 pub mod Questions
 pub mod Settings

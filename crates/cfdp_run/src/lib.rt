@@ -1,10 +1,13 @@
-//! Scripts of `cfdp run`: what a line says is read, what a script hands to a receiving entity of both modes is played, and the text of
-//! what it answers is written.
-//! `specs/Commands.antt` defines what a line says, `specs/Wrongs.antt` what is written of a bad one, `specs/Playing.antt` how it is
-//! played, and `specs/Questions.antt` what is written of what a script asks.
+//! Scripts of `cfdp run`: what a line says is read, what a script hands to a receiving entity of both modes is played,
+//! and the text of what it answers is written.
+//!
+//! [`read_command`] reads a line: `specs/Commands.antt` defines what it says, and `specs/Wrongs.antt` what
+//! [`push_wrong`] writes of a bad one. [`Player`] plays what is handed to the entity: `specs/Playing.antt` defines how,
+//! and `specs/Questions.antt` what is written of what a script asks.
 #![tactic(auto)]
 
 mod commands;
+pub mod laws;
 mod player;
 mod questions;
 mod reading;

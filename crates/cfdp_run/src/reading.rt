@@ -1,14 +1,12 @@
 //! A line of a script is read.
 
-ghost use Rattle.std.specs.Prelude.{◌≡◌, ◌≢◌, ◌≤◌, ◌<◌, ◌^◌, ◌&&◌, [], length, true, Some, None, Ok, Err, IfOk, IfErr, IfSome, position, is_ok, is_some, option_map};
+ghost use Rattle.std.specs.Prelude.{◌≡◌, ◌≤◌, ◌<◌, ◌^◌, ◌&&◌, length, true, Some, None, Ok, Err, IfOk, IfErr, IfSome, position, is_ok, is_some, option_map};
 ghost use Rattle.std.specs.Option.{option_copied};
-ghost use Rattle.cfdp_transactions.specs.Config.{first_fault};
-ghost use Rattle.cfdp_lines.specs.Hexadecimal.{octets_of_words};
 ghost use Rattle.cfdp_lines.specs.Words.{numbers_of, words_of};
 ghost use Rattle.cfdp_paths.specs.Paths.{path_of};
 ghost use Rattle.cfdp_plans.specs.Names.{name_in};
 ghost use Rattle.cfdp_run.specs.Words.{is_of_head};
-ghost use Rattle.cfdp_run.specs.Commands.{IfWrong, alone, asks_by, asks_memory, at_in, before_slash, command_in, config_in, config_of, content_in, content_of, directory_or_file, in_time, input_in, is_equals, is_fresh, is_playing, line_in, octets_in, only_name, only_path, path_or_wrong, put_alone, put_in, said_of, says, setting, settings_in, takes_memory, texts_say};
+ghost use Rattle.cfdp_run.specs.Commands.{IfWrong, OnMemory, alone, asks_by, asks_memory, at_in, before_slash, command_in, config_in, config_of, content_in, content_of, directory_or_file, in_time, input_in, is_equals, is_fresh, is_playing, line_in, octets_in, only_name, only_path, put_alone, put_in, said_of, says, setting, settings_in, takes_memory, texts_say};
 
 use crate::commands::{Command, CommandFault, Content, Progress};
 use crate::settings::key_of;
@@ -119,8 +117,8 @@ fn read_config(progress: Progress, words: &[u8]) -> Result<Config, Wrong>
 /// The path that is the only word of some.
 fn read_only_path(alloc: Global, word: Word, words: &[u8]) -> Result<Path, CommandFault>
     ensures ok { IfOk result (λ path. only_path word (words_of words.now) ≡ Ok path) }
-    ensures wrong { IfErr result (λ fault. IfWrong fault (λ wrong. only_path word (words_of words.now) ≡ Err wrong)) }
-    ensures memory { result ≡ Err CommandFault.Memory → asks_by (λ path. true) (only_path word (words_of words.now)) ≡ true }
+    ensures wrong { IfWrong result (λ wrong. only_path word (words_of words.now) ≡ Err wrong) }
+    ensures memory { OnMemory result (asks_by (λ path. true) (only_path word (words_of words.now)) ≡ true) }
 {
     let mut rest = words;
     let Some(text) = next_word(&mut rest) else {
@@ -138,8 +136,8 @@ fn read_only_path(alloc: Global, word: Word, words: &[u8]) -> Result<Path, Comma
 /// The octets that one or more words spell. They are decoded once, and not copied.
 fn read_octets(alloc: Global, word: Word, words: &[u8]) -> Result<Vec<u8>, CommandFault>
     ensures ok { IfOk result (λ octets. octets_in (words_of words.now) ≡ Some octets.items) }
-    ensures wrong { IfErr result (λ fault. IfWrong fault (λ wrong. (wrong ≡ Wrong.Expected word) × (octets_in (words_of words.now) ≡ None))) }
-    ensures memory { result ≡ Err CommandFault.Memory → is_some (octets_in (words_of words.now)) ≡ true }
+    ensures wrong { IfWrong result (λ wrong. (wrong ≡ Wrong.Expected word) × (octets_in (words_of words.now) ≡ None)) }
+    ensures memory { OnMemory result (is_some (octets_in (words_of words.now)) ≡ true) }
 {
     let mut octets = Vec::new(alloc);
     match decode_words(words, &mut octets) {
@@ -150,11 +148,12 @@ fn read_octets(alloc: Global, word: Word, words: &[u8]) -> Result<Vec<u8>, Comma
     }
 }
 
-/// What a file of a line `put` holds, by the words after its path. There is at least one.
+/// What a file of a line `put` holds, by the words after its path.
 fn read_content(alloc: Global, words: &[u8]) -> Result<Content<'_>, CommandFault>
     ensures ok { IfOk result (λ content. content_in (words_of words.now) ≡ Some (content_of content)) }
-    ensures wrong { IfErr result (λ fault. IfWrong fault (λ wrong. (wrong ≡ Wrong.Expected Word.Put) × (content_in (words_of words.now) ≡ None))) }
-    ensures memory { result ≡ Err CommandFault.Memory → is_some (content_in (words_of words.now)) ≡ true }
+    ensures wrong { IfWrong result
+        (λ wrong. (wrong ≡ Wrong.Expected Word.Put) × (content_in (words_of words.now) ≡ None)) }
+    ensures memory { OnMemory result (is_some (content_in (words_of words.now)) ≡ true) }
 {
     let mut rest = words;
     if let Some([b'@', name @ ..]) = next_word(&mut rest) {
@@ -170,7 +169,7 @@ fn read_content(alloc: Global, words: &[u8]) -> Result<Content<'_>, CommandFault
 /// The path that some octets spell.
 fn path_of(alloc: Global, octets: &[u8]) -> Result<Path, CommandFault>
     ensures ok { IfOk result (λ path. path_of octets.now ≡ Some path) }
-    ensures wrong { IfErr result (λ fault. IfWrong fault (λ wrong. (wrong ≡ Wrong.NoPath) × (path_of octets.now ≡ None))) }
+    ensures wrong { IfWrong result (λ wrong. (wrong ≡ Wrong.NoPath) × (path_of octets.now ≡ None)) }
 {
     match Path::parse(alloc, octets) {
         Ok(path) => Ok(path),
@@ -191,8 +190,9 @@ fn before_slash(octets: &[u8]) -> Option<&[u8]>
 
 /// A directory, by its path with a `/` at its end, or an empty file, by its path.
 fn read_directory_or_file<'a>(alloc: Global, octets: &[u8]) -> Result<Command<'a>, CommandFault>
-    ensures ok { IfOk result (λ command. directory_or_file octets.now (before_slash octets.now) ≡ Ok (said_of command)) }
-    ensures wrong { IfErr result (λ fault. IfWrong fault (λ wrong. directory_or_file octets.now (before_slash octets.now) ≡ Err wrong)) }
+    ensures ok { IfOk result
+        (λ command. directory_or_file octets.now (before_slash octets.now) ≡ Ok (said_of command)) }
+    ensures wrong { IfWrong result (λ wrong. directory_or_file octets.now (before_slash octets.now) ≡ Err wrong) }
 {
     match before_slash(octets) {
         Some(front) => Ok(Command::PutDirectory(path_of(alloc, front)?)),
@@ -203,8 +203,8 @@ fn read_directory_or_file<'a>(alloc: Global, octets: &[u8]) -> Result<Command<'a
 /// What a line `put` with one word after its first says: an empty file, or a directory.
 fn read_empty<'a>(alloc: Global, text: &[u8]) -> Result<Command<'a>, CommandFault>
     ensures ok { IfOk result (λ command. put_alone (name_in text.now) ≡ Ok (said_of command)) }
-    ensures wrong { IfErr result (λ fault. IfWrong fault (λ wrong. put_alone (name_in text.now) ≡ Err wrong)) }
-    ensures memory { result ≡ Err CommandFault.Memory → asks_by takes_memory (put_alone (name_in text.now)) ≡ true }
+    ensures wrong { IfWrong result (λ wrong. put_alone (name_in text.now) ≡ Err wrong) }
+    ensures memory { OnMemory result (asks_by takes_memory (put_alone (name_in text.now)) ≡ true) }
 {
     match read_name(alloc, text)? {
         Some(octets) => read_directory_or_file(alloc, &octets),
@@ -215,8 +215,8 @@ fn read_empty<'a>(alloc: Global, text: &[u8]) -> Result<Command<'a>, CommandFaul
 /// What a line `put` says, by the words after its first.
 fn read_put<'a>(alloc: Global, words: &'a [u8]) -> Result<Command<'a>, CommandFault>
     ensures ok { IfOk result (λ command. put_in (words_of words.entry.now) ≡ Ok (said_of command)) }
-    ensures wrong { IfErr result (λ fault. IfWrong fault (λ wrong. put_in (words_of words.entry.now) ≡ Err wrong)) }
-    ensures memory { result ≡ Err CommandFault.Memory → asks_by takes_memory (put_in (words_of words.entry.now)) ≡ true }
+    ensures wrong { IfWrong result (λ wrong. put_in (words_of words.entry.now) ≡ Err wrong) }
+    ensures memory { OnMemory result (asks_by takes_memory (put_in (words_of words.entry.now)) ≡ true) }
 {
     let mut rest = words;
     let Some(text) = next_word(&mut rest) else {
@@ -236,7 +236,8 @@ fn read_put<'a>(alloc: Global, words: &'a [u8]) -> Result<Command<'a>, CommandFa
 /// The transaction that is named by the only words of some.
 fn read_only_name(word: Word, words: &[u8]) -> Result<TransactionId, CommandFault>
     ensures ok { IfOk result (λ id. only_name word (words_of words.now) ≡ Ok id) }
-    ensures wrong { IfErr result (λ fault. (fault ≢ CommandFault.Memory) × IfWrong fault (λ wrong. only_name word (words_of words.now) ≡ Err wrong)) }
+    ensures wrong { IfWrong result (λ wrong. only_name word (words_of words.now) ≡ Err wrong) }
+    ensures never { OnMemory result ⊥ }
 {
     match id_in(words) {
         Some(id) => Ok(id),
@@ -247,8 +248,8 @@ fn read_only_name(word: Word, words: &[u8]) -> Result<TransactionId, CommandFaul
 /// What a line `at` says, by the words after its time.
 fn read_input<'a>(alloc: Global, now: u64, words: &[u8]) -> Result<Command<'a>, CommandFault>
     ensures ok { IfOk result (λ command. input_in now (words_of words.now) ≡ Ok (said_of command)) }
-    ensures wrong { IfErr result (λ fault. IfWrong fault (λ wrong. input_in now (words_of words.now) ≡ Err wrong)) }
-    ensures memory { result ≡ Err CommandFault.Memory → asks_by takes_memory (input_in now (words_of words.now)) ≡ true }
+    ensures wrong { IfWrong result (λ wrong. input_in now (words_of words.now) ≡ Err wrong) }
+    ensures memory { OnMemory result (asks_by takes_memory (input_in now (words_of words.now)) ≡ true) }
 {
     let mut rest = words;
     let Some(word) = next_word(&mut rest) else {
@@ -268,8 +269,8 @@ fn read_input<'a>(alloc: Global, now: u64, words: &[u8]) -> Result<Command<'a>, 
 /// What a line `at` says, by the words after its first.
 fn read_at<'a>(alloc: Global, words: &[u8]) -> Result<Command<'a>, CommandFault>
     ensures ok { IfOk result (λ command. at_in (words_of words.now) ≡ Ok (said_of command)) }
-    ensures wrong { IfErr result (λ fault. IfWrong fault (λ wrong. at_in (words_of words.now) ≡ Err wrong)) }
-    ensures memory { result ≡ Err CommandFault.Memory → asks_by takes_memory (at_in (words_of words.now)) ≡ true }
+    ensures wrong { IfWrong result (λ wrong. at_in (words_of words.now) ≡ Err wrong) }
+    ensures memory { OnMemory result (asks_by takes_memory (at_in (words_of words.now)) ≡ true) }
 {
     let mut rest = words;
     let Some(time) = next_word(&mut rest) else {
@@ -284,8 +285,8 @@ fn read_at<'a>(alloc: Global, words: &[u8]) -> Result<Command<'a>, CommandFault>
 /// The words of a line `expect` after its first, with one space between them.
 fn read_line(alloc: Global, words: &[u8]) -> Result<Vec<u8>, CommandFault>
     ensures ok { IfOk result (λ line. line_in (words_of words.now) ≡ Ok line.items) }
-    ensures wrong { IfErr result (λ fault. IfWrong fault (λ wrong. line_in (words_of words.now) ≡ Err wrong)) }
-    ensures memory { result ≡ Err CommandFault.Memory → is_ok (line_in (words_of words.now)) ≡ true }
+    ensures wrong { IfWrong result (λ wrong. line_in (words_of words.now) ≡ Err wrong) }
+    ensures memory { OnMemory result (is_ok (line_in (words_of words.now)) ≡ true) }
 {
     let mut rest = words;
     let Some(first) = next_word(&mut rest) else {
@@ -306,8 +307,8 @@ fn read_alone<'a>(
     command: Command<'a>,
 ) -> Result<Command<'a>, CommandFault>
     ensures ok { IfOk result (λ read. alone word (said_of command.entry) (words_of words.now) ≡ Ok (said_of read)) }
-    ensures wrong { IfErr result (λ fault. (fault ≢ CommandFault.Memory)
-        × IfWrong fault (λ wrong. alone word (said_of command.entry) (words_of words.now) ≡ Err wrong)) }
+    ensures wrong { IfWrong result (λ wrong. alone word (said_of command.entry) (words_of words.now) ≡ Err wrong) }
+    ensures never { OnMemory result ⊥ }
 {
     let mut rest = words;
     match next_word(&mut rest) {
@@ -325,8 +326,8 @@ fn read_words<'a>(
     progress: Progress,
 ) -> Result<Command<'a>, CommandFault>
     ensures ok { IfOk result (λ command. says mib progress word (words_of words.entry.now) ≡ Ok (said_of command)) }
-    ensures wrong { IfErr result (λ fault. IfWrong fault (λ wrong. says mib progress word (words_of words.entry.now) ≡ Err wrong)) }
-    ensures memory { result ≡ Err CommandFault.Memory → asks_by takes_memory (says mib progress word (words_of words.entry.now)) ≡ true }
+    ensures wrong { IfWrong result (λ wrong. says mib progress word (words_of words.entry.now) ≡ Err wrong) }
+    ensures memory { OnMemory result (asks_by takes_memory (says mib progress word (words_of words.entry.now)) ≡ true) }
 {
     match word {
         Word::Mib => Ok(Command::Settings(read_settings(mib, words)?)),
@@ -362,8 +363,9 @@ fn read_in_time<'a>(
     progress: Progress,
 ) -> Result<Command<'a>, CommandFault>
     ensures ok { IfOk result (λ command. in_time mib progress word (words_of words.entry.now) ≡ Ok (said_of command)) }
-    ensures wrong { IfErr result (λ fault. IfWrong fault (λ wrong. in_time mib progress word (words_of words.entry.now) ≡ Err wrong)) }
-    ensures memory { result ≡ Err CommandFault.Memory → asks_by takes_memory (in_time mib progress word (words_of words.entry.now)) ≡ true }
+    ensures wrong { IfWrong result (λ wrong. in_time mib progress word (words_of words.entry.now) ≡ Err wrong) }
+    ensures memory { OnMemory result
+        (asks_by takes_memory (in_time mib progress word (words_of words.entry.now)) ≡ true) }
 {
     if is_too_late(word, progress) {
         return Err(CommandFault::Wrong(Wrong::TooLate(word)));
@@ -378,9 +380,10 @@ fn read_worded<'a>(
     mib: Mib,
     progress: Progress,
 ) -> Result<Option<Command<'a>>, CommandFault>
-    ensures ok { IfOk result (λ command. texts_say mib progress (words_of line.entry.now) ≡ Ok (option_map said_of command)) }
-    ensures wrong { IfErr result (λ fault. IfWrong fault (λ wrong. texts_say mib progress (words_of line.entry.now) ≡ Err wrong)) }
-    ensures memory { result ≡ Err CommandFault.Memory → asks_memory (texts_say mib progress (words_of line.entry.now)) ≡ true }
+    ensures ok { IfOk result
+        (λ command. texts_say mib progress (words_of line.entry.now) ≡ Ok (option_map said_of command)) }
+    ensures wrong { IfWrong result (λ wrong. texts_say mib progress (words_of line.entry.now) ≡ Err wrong) }
+    ensures memory { OnMemory result (asks_memory (texts_say mib progress (words_of line.entry.now)) ≡ true) }
 {
     let mut rest = line;
     let Some(first) = next_word(&mut rest) else {
@@ -399,12 +402,13 @@ fn read_worded<'a>(
 ///
 /// # Errors
 ///
-/// The first of these: [`Wrong::TooLong`] (also of a comment), [`Wrong::UnknownWord`], [`Wrong::TooLate`], [`Wrong::Expected`]; then
-/// those of the line's word. A bad line is answered so even where there is no memory, but for [`Wrong::NoPath`]:
-/// [`CommandFault::Memory`] comes only where a path is read, or where the line is good and has octets or a line in it.
+/// The first of these: [`Wrong::TooLong`] (also of a comment), [`Wrong::UnknownWord`], [`Wrong::TooLate`],
+/// [`Wrong::Expected`]; then those of the line's word. A bad line is answered so even where there is no memory, but for
+/// [`Wrong::NoPath`]: [`CommandFault::Memory`] comes only where a path is read, or where the line is good and has octets
+/// or a line in it.
 ///
-/// Cost: one pass over the line, and one over the octets of a path. The octets of hexadecimal are decoded into a vector of their
-/// own; a file's name is lent.
+/// Cost: a pass over the line, and one more over a path. The octets of hexadecimal are decoded into a vector of their own,
+/// and a file's name is lent.
 pub fn read_command<'a>(
     alloc: Global,
     line: &'a [u8],
@@ -412,8 +416,8 @@ pub fn read_command<'a>(
     progress: Progress,
 ) -> Result<Option<Command<'a>>, CommandFault>
     ensures ok { IfOk result (λ command. command_in mib progress line.entry.now ≡ Ok (option_map said_of command)) }
-    ensures wrong { IfErr result (λ fault. IfWrong fault (λ wrong. command_in mib progress line.entry.now ≡ Err wrong)) }
-    ensures memory { result ≡ Err CommandFault.Memory → asks_memory (command_in mib progress line.entry.now) ≡ true }
+    ensures wrong { IfWrong result (λ wrong. command_in mib progress line.entry.now ≡ Err wrong) }
+    ensures memory { OnMemory result (asks_memory (command_in mib progress line.entry.now) ≡ true) }
 {
     if line.len() > LINE_LIMIT {
         return Err(CommandFault::Wrong(Wrong::TooLong));
