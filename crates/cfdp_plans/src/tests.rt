@@ -1,7 +1,8 @@
 //! The public calls succeed with ample memory, on an upload whose script an independent model wrote (`.ci/compose`).
 
 use crate::{
-    push_config, push_list, push_protect, read_name, read_path, read_request, write_upload,
+    parse_path, push_config, push_list, push_protect, read_name, read_path, read_request,
+    write_upload,
 };
 use cfdp_pdus::{Header, Metadata};
 use cfdp_status::Action;
@@ -92,6 +93,9 @@ fn requests_and_names_are_read(rt: HostRuntime) -> Result<(), Fail> {
     assert!(rt; read_path(alloc, b"%2E%2e/%ff")?.is_none());
     let path = read_path(alloc, b"/a/b")?.ok_or("a path")?;
     assert_eq!(rt; path.as_slice(), b"/a/b".as_slice());
+    let path = parse_path(alloc, b"%2fa/b")?.ok_or("a path")?;
+    assert_eq!(rt; path.name(1), b"b".as_slice());
+    assert!(rt; parse_path(alloc, b"a/b/")?.is_none());
     Ok(())
 }
 

@@ -279,8 +279,8 @@ fn long_lines_are_bad(rt: HostRuntime) -> Result<(), Fail> {
         ("no word", b" ", b"nothing"),
         ("another word", b"lists ", b"unknown word"),
     ] {
-        let mut line = vec![in alloc; b' '; 200_000]?;
-        line.as_mut_slice()[..begin.len()].copy_from_slice(begin);
+        let mut line = Vec::from_slice(alloc, begin)?;
+        line.resize(200_000, b' ')?;
         let most = said(alloc, &line, Progress::Fresh)?;
         assert_eq!(rt; most.as_slice(), says, "{name}");
         line.push(b' ')?;
