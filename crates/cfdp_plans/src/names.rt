@@ -3,7 +3,6 @@
 ghost use Rattle.std.specs.Prelude.{◌≡◌, ◌<◌, length, Some, None, IfOk, IfSome, IfNone};
 ghost use Rattle.std.specs.Option.{option_map};
 ghost use Rattle.hex.specs.Hex.{hex_digit_value};
-ghost use Rattle.cfdp_paths.specs.Paths.{path_of};
 ghost use Rattle.cfdp_texts.specs.Replies.{is_plain};
 ghost use Rattle.cfdp_plans.specs.Names.{before, octet_of_pair, name_in, path_at, path_in};
 
@@ -74,17 +73,6 @@ pub fn read_name(alloc: Global, text: &[u8]) -> Result<Option<Vec<u8>>, AllocErr
     Ok(Some(name))
 }
 
-/// The path of the filestore that some octets spell. `None` exactly if they spell none.
-fn path_of(alloc: Global, octets: &[u8]) -> Result<Option<Path>, AllocError>
-    ensures { IfOk result (λ path. path ≡ path_of octets.now) }
-{
-    match Path::parse(alloc, octets) {
-        Ok(path) => Ok(Some(path)),
-        Err(PathFault::Memory) => Err(AllocError),
-        Err(_) => Ok(None),
-    }
-}
-
 /// The octets that a text spells, if they are a path of the filestore: 1 to 8 names of 1 to 96 octets with `/` between
 /// them. `None` exactly if the text spells none.
 ///
@@ -97,9 +85,10 @@ pub fn read_path(alloc: Global, text: &[u8]) -> Result<Option<Vec<u8>>, AllocErr
     let Some(octets) = read_name(alloc, text)? else {
         return Ok(None);
     };
-    match path_of(alloc, &octets)? {
-        Some(_) => Ok(Some(octets)),
-        None => Ok(None),
+    match Path::parse(alloc, &octets) {
+        Ok(_) => Ok(Some(octets)),
+        Err(PathFault::Memory) => Err(AllocError),
+        Err(_) => Ok(None),
     }
 }
 
@@ -112,8 +101,11 @@ pub fn read_path(alloc: Global, text: &[u8]) -> Result<Option<Vec<u8>>, AllocErr
 pub fn parse_path(alloc: Global, text: &[u8]) -> Result<Option<Path>, AllocError>
     ensures { IfOk result (λ path. path ≡ path_at text.now) }
 {
-    match read_name(alloc, text)? {
-        Some(octets) => path_of(alloc, &octets),
-        None => Ok(None),
+    let Some(octets) = read_name(alloc, text)? else {
+        return Ok(None);
+    };
+    match Path::parse(alloc, &octets) {
+        Err(PathFault::Memory) => Err(AllocError),
+        parsed => Ok(parsed.ok()),
     }
 }
