@@ -1,0 +1,3 @@
+pub mod Words
+pub mod Costs
+pub mod Tables
