@@ -1,5 +1,6 @@
 //! How the program ends when it does not do what it was asked for.
 
+use cfdp_status::TransactionId;
 use std::alloc::{AllocError, AllocFailed};
 use std::fmt;
 
@@ -22,15 +23,25 @@ pub enum End {
     Plan(String),
     /// A file cannot be read: where it is named, and which one.
     File(String),
+    /// A transaction that was admitted was not completed.
+    Incomplete(TransactionId),
+    /// So many transactions are refused, of so many.
+    Refused(usize, usize),
 }
 
 impl End {
     /// The exit status.
     pub fn status(&self) -> u8 {
         match self {
-            End::Read | End::Write | End::Memory | End::Capture | End::File(_) => 1,
+            End::Read
+            | End::Write
+            | End::Memory
+            | End::Capture
+            | End::File(_)
+            | End::Incomplete(_) => 1,
             End::Words(_) => 2,
             End::Line(_) | End::Plan(_) => 3,
+            End::Refused(_, _) => 4,
         }
     }
 }
@@ -49,6 +60,8 @@ impl fmt::Display for End {
                 f,
                 "line {number}: expected the octets of a PDU in hexadecimal, two digits an octet"
             ),
+            End::Incomplete(id) => write!(f, "transaction {id} was not completed"),
+            End::Refused(refused, all) => write!(f, "refused: {refused} of {all} transactions"),
         }
     }
 }

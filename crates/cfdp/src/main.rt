@@ -7,21 +7,28 @@
 //! `cfdp compose PLAN` writes the script of a plan of uploads, which `cfdpsim replay` runs: the PDUs of each
 //! transaction, from the files that the plan names and its requests in words.
 //!
+//! `cfdp judge PLAN [--on DIR]` prints the verdict on each transaction of a plan, on a filestore that has what a folder has:
+//! what it is granted, or why it is refused, and what each of its requests takes.
+//!
 //! What goes wrong is said on standard error, and by the exit status: 1 for a fault of reading, writing or memory, 2
-//! for unknown words, 3 for a line that is not hexadecimal, or for something wrong in a plan.
+//! for unknown words, 3 for a line that is not hexadecimal, or for something wrong in a plan, 4 for a plan of which a
+//! transaction is refused.
 #![tactic(auto)]
 
 mod compose;
 mod end;
+mod folder;
 mod found;
 mod hexadecimal;
 mod input;
+mod judge;
 mod octets;
 mod part;
 mod pcap;
 mod plan;
 mod section;
 mod show;
+mod uploads;
 mod words;
 
 use end::End;
@@ -41,11 +48,12 @@ fn main(rt: HostRuntime) -> ExitCode {
 }
 
 /// Does what the words of the command line ask for.
-fn run<R: AllocGlobal + Env + Files + Input + Print>(rt: &R) -> Result<(), End> {
+fn run<R: AllocGlobal + Clone + Drop + Env + Files + Input + Print>(rt: &R) -> Result<(), End> {
     let words = words::read(rt)?;
     match parse(rt.alloc(), &words)? {
         Asked::Help(text) => show::print(rt, text.as_bytes()),
         Asked::Show(style, path) => show::run(rt, style, path),
         Asked::Compose(path) => compose::run(rt, path),
+        Asked::Judge(path, on) => judge::run(rt, path, on),
     }
 }

@@ -17,6 +17,8 @@ pub enum Asked<'a> {
     Show(Style, Option<&'a str>),
     /// To write the script of the plan in this file.
     Compose(&'a str),
+    /// To judge the plan in this file, on what this folder has, if there is one.
+    Judge(&'a str, Option<&'a str>),
 }
 
 /// The words of the command line.
@@ -28,6 +30,10 @@ pub fn read<R: AllocGlobal + Env>(rt: &R) -> Result<Vec<String>, End> {
     };
     Ok(words.collect(rt.alloc())?)
 }
+
+/// What `judge` does.
+const JUDGE: &str =
+    "Prints the verdict on each transaction of a plan: each is judged on the filestore after those before it";
 
 /// The words that the program knows.
 fn program<'a>(alloc: Global) -> Result<Command<'a>, AllocError> {
@@ -48,12 +54,24 @@ fn program<'a>(alloc: Global) -> Result<Command<'a>, AllocError> {
     let compose = Command::new(alloc, "compose")
         .about("Writes the script of a plan, for cfdpsim replay")
         .arg(plan)?;
+    let judged = Arg::new(alloc, "PLAN")
+        .required(true)
+        .help("A plan of uploads: docs/FORMATS.md, 'Plans'");
+    let on = Arg::new(alloc, "on")
+        .long("on")
+        .value_name("DIR")
+        .help("What the filestore has at first; nothing without it");
+    let judge = Command::new(alloc, "judge")
+        .about(JUDGE)
+        .arg(judged)?
+        .arg(on)?;
     Command::new(alloc, "cfdp")
         .about("File transfers by CFDP (CCSDS 727.0-B-5)")
         .version("0.1.0")
         .subcommand_required(true)
         .subcommand(show)?
-        .subcommand(compose)
+        .subcommand(compose)?
+        .subcommand(judge)
 }
 
 /// What these words ask for, of which the first is the program's own name.
@@ -88,6 +106,11 @@ fn asked_by<'a>(matches: &ArgMatches<'a>) -> Asked<'a> {
         .and_then(|found| found.get_str("PLAN"))
     {
         return Asked::Compose(plan);
+    }
+    if let Some(found) = matches.subcommand_matches("judge") {
+        if let Some(plan) = found.get_str("PLAN") {
+            return Asked::Judge(plan, found.get_str("on"));
+        }
     }
     match matches.subcommand_matches("show") {
         Some(found) if found.get_flag("json") => Asked::Show(Style::Json, found.get_str("FILE")),

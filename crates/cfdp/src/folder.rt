@@ -1,0 +1,194 @@
+//! A folder of this computer, put into a filestore.
+
+use crate::end::End;
+use crate::input;
+use cfdp_actions::Filestore;
+use cfdp_entity::Entity;
+use cfdp_paths::{Path, PathFault};
+use cfdp_transactions::NotPut;
+use std::alloc::Global;
+use std::fs;
+use std::io::{Error, ErrorKind};
+use std::rt::Files;
+
+/// How many octets of a file a block has.
+const BLOCK_OCTETS: u64 = 120;
+
+/// The most directories that a filestore has, and the folder itself.
+const MOST_DIRECTORIES: usize = 65_537;
+
+/// Something in a folder: where it is on this computer, and the octets of its path in the filestore, which are none for the
+/// folder itself.
+#[derive(Drop)]
+struct Found {
+    place: String,
+    path: Vec<u8>,
+}
+
+/// How the program ends for something wrong at a place of a folder.
+fn wrong(alloc: Global, place: &str, what: &str) -> End {
+    format!(in alloc; "{place}: {what}").map_or(End::Memory, End::File)
+}
+
+/// How the program ends where a place of a folder cannot be read.
+fn unread(alloc: Global, place: &str, error: &Error) -> End {
+    match error.kind() {
+        ErrorKind::OutOfMemory => End::Memory,
+        ErrorKind::InvalidFilename => wrong(alloc, place, "a name in it is no UTF-8"),
+        _ => wrong(alloc, place, "cannot be read"),
+    }
+}
+
+/// The names of what a directory has, in the order of their octets.
+fn names_in<R: AllocGlobal + Clone + Drop + Files>(
+    rt: &R,
+    place: &str,
+) -> Result<Vec<String>, End> {
+    let alloc = rt.alloc();
+    let mut names = Vec::new(alloc);
+    let entries = match fs::read_dir(rt, place) {
+        Ok(entries) => entries,
+        Err(error) => return Err(unread(alloc, place, &error)),
+    };
+    for entry in entries {
+        match entry {
+            Ok(entry) => names.push(String::from_str(alloc, entry.file_name())?)?,
+            Err(error) => return Err(unread(alloc, place, &error)),
+        }
+    }
+    names.sort()?;
+    Ok(names)
+}
+
+/// What a directory has by a name.
+fn beside(alloc: Global, directory: &Found, name: &str) -> Result<Found, End> {
+    let mut path = Vec::from_slice(alloc, &directory.path)?;
+    if !path.is_empty() {
+        path.push(b'/')?;
+    }
+    path.extend_from_slice(name.as_bytes())?;
+    let place = directory.place.as_str();
+    Ok(Found {
+        place: format!(in alloc; "{place}/{name}")?,
+        path,
+    })
+}
+
+/// The path of the filestore of something in a folder.
+fn path_of(alloc: Global, found: &Found) -> Result<Path, End> {
+    match Path::parse(alloc, &found.path) {
+        Ok(path) => Ok(path),
+        Err(PathFault::Memory) => Err(End::Memory),
+        Err(fault) => {
+            let what = format!(in alloc; "no path of the filestore: {fault}")?;
+            Err(wrong(alloc, found.place.as_str(), what.as_str()))
+        }
+    }
+}
+
+/// That something that needs so many blocks was put, or how the program ends.
+fn was_put(
+    alloc: Global,
+    found: &Found,
+    blocks: u64,
+    free: u32,
+    answer: Result<(), NotPut>,
+) -> Result<(), End> {
+    match answer {
+        Ok(()) => Ok(()),
+        Err(NotPut::NoRoom) => {
+            let what = format!(in alloc;
+                "no room in the filestore: needs {blocks} blocks, and {free} are free"
+            )?;
+            Err(wrong(alloc, found.place.as_str(), what.as_str()))
+        }
+        Err(_) => Err(wrong(
+            alloc,
+            found.place.as_str(),
+            "cannot be put into the filestore",
+        )),
+    }
+}
+
+/// Puts a file into a filestore. It is not read where there is no room for it.
+fn put_file<R: AllocGlobal + Files + Input>(
+    rt: &R,
+    found: &Found,
+    len: u64,
+    entity: &mut Entity,
+) -> Result<(), End> {
+    let alloc = rt.alloc();
+    let path = path_of(alloc, found)?;
+    let free = entity.core().store().free();
+    let blocks = len.div_ceil(BLOCK_OCTETS).saturating_add(1);
+    if u64::from(free) < blocks {
+        return was_put(alloc, found, blocks, free, Err(NotPut::NoRoom));
+    }
+    let octets = match input::read(rt, Some(found.place.as_str())) {
+        Err(End::Read) => return Err(wrong(alloc, found.place.as_str(), "cannot be read")),
+        read => read?,
+    };
+    was_put(alloc, found, blocks, free, entity.put_file(&path, &octets))
+}
+
+/// Puts what a directory has into a filestore, and returns the directories in it.
+fn put_all<R: AllocGlobal + Clone + Drop + Files + Input>(
+    rt: &R,
+    directory: &Found,
+    entity: &mut Entity,
+) -> Result<Vec<Found>, End> {
+    let alloc = rt.alloc();
+    let mut directories = Vec::new(alloc);
+    for name in &names_in(rt, directory.place.as_str())? {
+        let found = beside(alloc, directory, name.as_str())?;
+        let metadata = match fs::symlink_metadata(rt, found.place.as_str()) {
+            Ok(metadata) => metadata,
+            Err(error) => return Err(unread(alloc, found.place.as_str(), &error)),
+        };
+        if metadata.is_symlink() {
+            return Err(wrong(
+                alloc,
+                found.place.as_str(),
+                "a link, and links are not followed",
+            ));
+        } else if metadata.is_file() {
+            put_file(rt, &found, metadata.len(), entity)?;
+        } else if metadata.is_dir() {
+            let path = path_of(alloc, &found)?;
+            let free = entity.core().store().free();
+            was_put(alloc, &found, 1, free, entity.put_directory(&path))?;
+            directories.push(found)?;
+        } else {
+            return Err(wrong(
+                alloc,
+                found.place.as_str(),
+                "neither a file nor a directory",
+            ));
+        }
+    }
+    Ok(directories)
+}
+
+/// Puts what a folder has into the filestore of an entity: files and directories, at the paths that they have in it. What it has
+/// of another kind is refused by its name.
+pub fn put<R: AllocGlobal + Clone + Drop + Files + Input>(
+    rt: &R,
+    folder: &str,
+    entity: &mut Entity,
+) -> Result<(), End> {
+    let alloc = rt.alloc();
+    let mut open = Vec::new(alloc);
+    open.push(Found {
+        place: String::from_str(alloc, folder)?,
+        path: Vec::new(alloc),
+    })?;
+    for _ in 0..MOST_DIRECTORIES {
+        let Some(directory) = open.pop() else {
+            break;
+        };
+        for found in put_all(rt, &directory, entity)? {
+            open.push(found)?;
+        }
+    }
+    Ok(())
+}
