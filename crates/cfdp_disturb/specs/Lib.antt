@@ -1,0 +1,3 @@
+pub mod Disturbing
+pub mod Holding
+pub mod Laws
