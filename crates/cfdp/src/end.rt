@@ -17,6 +17,8 @@ pub enum End {
     Memory,
     /// This line of the input, counted from 1, is not hexadecimal.
     Line(u64),
+    /// This line of a script, counted from 1, is too long.
+    Long(u64),
     /// The capture has a link type that is not read.
     Capture,
     /// Something is wrong in a plan: where, and what.
@@ -40,7 +42,7 @@ impl End {
             | End::File(_)
             | End::Incomplete(_) => 1,
             End::Words(_) => 2,
-            End::Line(_) | End::Plan(_) => 3,
+            End::Line(_) | End::Long(_) | End::Plan(_) => 3,
             End::Refused(_, _) => 4,
         }
     }
@@ -60,6 +62,7 @@ impl fmt::Display for End {
                 f,
                 "line {number}: expected the octets of a PDU in hexadecimal, two digits an octet"
             ),
+            End::Long(number) => write!(f, "line {number}: longer than 200000 octets"),
             End::Incomplete(id) => write!(f, "transaction {id} was not completed"),
             End::Refused(refused, all) => write!(f, "refused: {refused} of {all} transactions"),
         }

@@ -9,7 +9,7 @@ use std::io::{Error, ErrorKind, Read};
 use std::rt::Files;
 
 /// What a fault of reading is to the program.
-fn end_of(error: &Error) -> End {
+pub fn end_of(error: &Error) -> End {
     match error.kind() {
         ErrorKind::OutOfMemory => End::Memory,
         _ => End::Read,

@@ -10,12 +10,15 @@
 //! `cfdp judge PLAN [--on DIR]` prints the verdict on each transaction of a plan, on a filestore that has what a folder has:
 //! what it is granted, or why it is refused, and what each of its requests takes.
 //!
+//! `cfdp disturb [FILE]` writes a script as if its PDUs came over a bad link: some are lost, written twice, or swapped.
+//!
 //! What goes wrong is said on standard error, and by the exit status: 1 for a fault of reading, writing or memory, 2
 //! for unknown words, 3 for a line that is not hexadecimal, or for something wrong in a plan, 4 for a plan of which a
 //! transaction is refused.
 #![tactic(auto)]
 
 mod compose;
+mod disturb;
 mod end;
 mod folder;
 mod found;
@@ -55,5 +58,6 @@ fn run<R: AllocGlobal + Clone + Drop + Env + Files + Input + Print>(rt: &R) -> R
         Asked::Show(style, path) => show::run(rt, style, path),
         Asked::Compose(path) => compose::run(rt, path),
         Asked::Judge(path, on) => judge::run(rt, path, on),
+        Asked::Disturb(odds, seed, path) => disturb::run(rt, odds, seed, path),
     }
 }

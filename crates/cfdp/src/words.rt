@@ -1,9 +1,10 @@
 //! The words of the command line.
 
+use crate::disturb::Odds;
 use crate::end::End;
 use cfdp_words::Style;
 use clap::error::ErrorKind;
-use clap::{Arg, ArgAction, ArgMatches, Command, Error};
+use clap::{Arg, ArgAction, ArgMatches, Command, Error, value_parser};
 use std::alloc::{AllocError, Global};
 use std::rt::Env;
 use std::{env, io};
@@ -19,6 +20,9 @@ pub enum Asked<'a> {
     Compose(&'a str),
     /// To judge the plan in this file, on what this folder has, if there is one.
     Judge(&'a str, Option<&'a str>),
+    /// To write the script in this file, or of standard input without one, as if its PDUs came over a link with these odds and
+    /// this seed.
+    Disturb(Odds, u64, Option<&'a str>),
 }
 
 /// The words of the command line.
@@ -34,6 +38,46 @@ pub fn read<R: AllocGlobal + Env>(rt: &R) -> Result<Vec<String>, End> {
 /// What `judge` does.
 const JUDGE: &str =
     "Prints the verdict on each transaction of a plan: each is judged on the filestore after those before it";
+
+/// What `disturb` does.
+const DISTURB: &str =
+    "Writes a script as if its PDUs came over a bad link; a PDU line passes no line of another kind";
+
+/// How likely something is.
+fn odds<'a>(alloc: Global, name: &'a str, help: &'a str) -> Arg<'a> {
+    Arg::new(alloc, name)
+        .long(name)
+        .value_name("P")
+        .value_parser(value_parser!(u8).range(0..=100))
+        .help(help)
+}
+
+/// The words of `disturb`.
+fn disturb<'a>(alloc: Global) -> Result<Command<'a>, AllocError> {
+    let seed = Arg::new(alloc, "seed")
+        .long("seed")
+        .value_name("N")
+        .value_parser(value_parser!(u64))
+        .help("What is drawn: the same for the same number; 1 without it");
+    let file = Arg::new(alloc, "FILE").help(
+        "A script of cfdpsim replay or cfdp run; else standard input",
+    );
+    Command::new(alloc, "disturb")
+        .about(DISTURB)
+        .arg(odds(alloc, "loss", "How likely a PDU line is lost, in percent"))?
+        .arg(odds(
+            alloc,
+            "twice",
+            "How likely it is written twice, if it is not lost",
+        ))?
+        .arg(odds(
+            alloc,
+            "swap",
+            "How likely it comes after the next line, if that is a PDU line too",
+        ))?
+        .arg(seed)?
+        .arg(file)
+}
 
 /// The words that the program knows.
 fn program<'a>(alloc: Global) -> Result<Command<'a>, AllocError> {
@@ -71,7 +115,8 @@ fn program<'a>(alloc: Global) -> Result<Command<'a>, AllocError> {
         .subcommand_required(true)
         .subcommand(show)?
         .subcommand(compose)?
-        .subcommand(judge)
+        .subcommand(judge)?
+        .subcommand(disturb(alloc)?)
 }
 
 /// What these words ask for, of which the first is the program's own name.
@@ -106,6 +151,19 @@ fn asked_by<'a>(matches: &ArgMatches<'a>) -> Asked<'a> {
         .and_then(|found| found.get_str("PLAN"))
     {
         return Asked::Compose(plan);
+    }
+    if let Some(found) = matches.subcommand_matches("disturb") {
+        let percent = |name: &str| found.get_one(name).unwrap_or(0);
+        let odds = Odds {
+            loss: percent("loss"),
+            twice: percent("twice"),
+            swap: percent("swap"),
+        };
+        return Asked::Disturb(
+            odds,
+            found.get_one("seed").unwrap_or(1),
+            found.get_str("FILE"),
+        );
     }
     if let Some(found) = matches.subcommand_matches("judge") {
         if let Some(plan) = found.get_str("PLAN") {
