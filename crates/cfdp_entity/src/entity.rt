@@ -131,7 +131,8 @@ impl Entity {
     /// came before, that has more than 64 requests, or that comes while the table is full.
     ///
     /// Cost: a Metadata PDU is judged, and copied once. File data costs its octets and the pieces that they touch. A
-    /// step costs what its request says, and an outcome two allocations and a move of each request. All else costs a look-up.
+    /// step costs what its request says, and an outcome two allocations and a move of each request. All else costs a
+    /// look-up.
     pub fn apply(&mut self, event: &Event) -> Reply
         requires { IsReadable event.now }
         ensures follows { Follows self.old event.now result self.new }
