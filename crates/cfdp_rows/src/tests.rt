@@ -2,6 +2,7 @@
 //! that is handed events; `guide` has the lists of the repository's `docs/GUIDE.md`, octet for octet; `hostile` has what means
 //! harm: PDUs that are cut or changed, and cancels at every moment; `put_back` has what is put into a filestore before the first PDU.
 
+mod closed_views;
 mod crowded;
 mod directories;
 mod engine;

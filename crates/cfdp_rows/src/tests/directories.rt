@@ -62,10 +62,96 @@ const A_DEEP_DIRECTORY_MOVES_NO_DEEPER: &[Row] = &[
     (None, &[b"\x00\x05\x20\x01a\x01z"], Told::Granted(0, 1)),
 ];
 
-static CASES: [Case; 3] = [
+/// A directory with a file of two blocks, and with another one that has an empty file.
+const A_DIRECTORY_WITH_ENTRIES: &[Before] = &[
+    Before::Performed(b"\x00\x03\x50\x01d"),
+    Before::Delivered(b"d/x", 240),
+    Before::Performed(b"\x00\x05\x50\x03d/s"),
+    Before::Performed(b"\x00\x07\x00\x05d/s/y"),
+];
+
+const WHAT_IS_BELOW_IS_AT_THE_NEW_PATH: &[Row] = &[
+    (None, &[b"\x00\x05\x20\x01d\x01e"], Told::Granted(0, 1)),
+    (
+        None,
+        &[b"\x00\x05\x20\x01d\x01e", b"\x00\x05\x10\x03e/x"],
+        Told::Granted(0, 5),
+    ),
+    (
+        None,
+        &[b"\x00\x05\x20\x01d\x01e", b"\x00\x05\x10\x03d/x"],
+        Told::WouldFail(1, 0x11),
+    ),
+    (
+        None,
+        &[
+            b"\x00\x05\x20\x01d\x01e",
+            b"\x00\x05\x20\x01e\x01f",
+            b"\x00\x07\x10\x05f/s/y",
+        ],
+        Told::Granted(0, 4),
+    ),
+    // A new directory in its place has nothing of it.
+    (
+        None,
+        &[
+            b"\x00\x05\x20\x01d\x01e",
+            b"\x00\x03\x50\x01d",
+            b"\x00\x05\x00\x03d/x",
+        ],
+        Told::Granted(2, 5),
+    ),
+    // Where it moves to is not empty, and takes it along.
+    (
+        None,
+        &[
+            b"\x00\x03\x50\x01g",
+            b"\x00\x07\x20\x01d\x03g/d",
+            b"\x00\x03\x60\x01g",
+        ],
+        Told::WouldFail(2, 0x62),
+    ),
+    (
+        None,
+        &[
+            b"\x00\x03\x50\x01g",
+            b"\x00\x07\x20\x01d\x03g/d",
+            b"\x00\x05\x20\x01g\x01h",
+            b"\x00\x07\x10\x05h/d/x",
+        ],
+        Told::Granted(1, 8),
+    ),
+];
+
+/// A file is delivered into it, or beside it.
+const A_DIRECTORY_MOVES_WITH_A_FILE: &[Row] = &[
+    (
+        Some((b"d/n", 120)),
+        &[b"\x00\x05\x20\x01d\x01e", b"\x00\x05\x10\x03e/n"],
+        Told::Granted(2, 6),
+    ),
+    (
+        Some((b"n", 120)),
+        &[b"\x00\x05\x20\x01d\x01e", b"\x00\x07\x30\x03e/x\x01n"],
+        Told::Granted(3, 6),
+    ),
+    (
+        Some((b"d", 120)),
+        &[b"\x00\x05\x20\x01d\x01e"],
+        Told::DestinationNotAllowed,
+    ),
+];
+
+static CASES: [Case; 5] = [
     (64, A_DIRECTORY_WITH_A_FILE, A_DIRECTORY_WITH_ENTRIES_STAYS),
     (64, &[], A_DIRECTORY_MOVES_WITH_WHAT_IS_IN_IT),
     (64, EIGHT_NAMES_DEEP, A_DEEP_DIRECTORY_MOVES_NO_DEEPER),
+    (
+        64,
+        A_DIRECTORY_WITH_ENTRIES,
+        WHAT_IS_BELOW_IS_AT_THE_NEW_PATH,
+    ),
+    (64, A_DIRECTORY_WITH_ENTRIES, A_DIRECTORY_MOVES_WITH_A_FILE),
 ];
 
 #[test]
