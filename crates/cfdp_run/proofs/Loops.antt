@@ -1,5 +1,5 @@
 -- The inputs by which all is settled, and those by which time passes, one after the other.
-use Rattle.std.proofs.Common.{◌≡◌, ◌⊎◌, inl, inr, ℕ, zero, suc, Bool, true, false, if◌then◌else◌, List, [], ◌∷◌, ◌++◌, Option, Some, None, refl, sym, ap, subst, ◌∙◌, append_assoc, is_some}
+use Rattle.std.proofs.Common.{◌≡◌, ◌⊎◌, inl, inr, ℕ, zero, suc, true, false, List, [], ◌∷◌, ◌++◌, Option, Some, None, refl, sym, ap, subst, ◌∙◌, append_assoc, is_some}
 use Rattle.std.proofs.lemmas.List.{append-nil}
 use Rattle.cfdp_transactions.specs.World.{next_runnable}
 use Rattle.cfdp_receiver.specs.Due.{first_over}

@@ -1,7 +1,13 @@
 pub mod Commands
+pub mod Contents
 pub mod Laws
 pub mod Playing
+pub mod Putting
 pub mod Questions
+pub mod Remaking
+pub mod Scripts
 pub mod Settings
+pub mod Stages
+pub mod Stops
 pub mod Words
 pub mod Wrongs

@@ -10,7 +10,7 @@
 use Rattle.std.specs.Prelude.{ℕ, ◌==◌, if◌then◌else◌, List, [], ◌∷◌, ◌++◌, length, Option, Some, None, codes, flat_map}
 use Rattle.cfdp_status.specs.Transaction.{name_of}
 use Rattle.cfdp_status.specs.declared.transaction.TransactionId.{TransactionId}
-use Rattle.cfdp_texts.specs.Replies.{line, word, labelled}
+use Rattle.cfdp_texts.specs.Replies.{line, labelled}
 use Rattle.cfdp_transactions.specs.Entry.{Entry, gaps}
 use Rattle.cfdp_transactions.specs.World.{World, entry_of}
 use Rattle.cfdp_transactions.specs.declared.phase.Phase.{Phase}

@@ -16,7 +16,6 @@ use Rattle.cfdp_receiver.specs.declared.mib.NakMode.{NakMode}
 use Rattle.cfdp_receiver.specs.declared.mib.NakMode.TheVariants.{Deferred, Immediate}
 use Rattle.cfdp_receiver.specs.declared.mib.Mib.{Mib}
 use Rattle.cfdp_receiver.specs.declared.mib.Retries.{Retries}
-use Rattle.cfdp_receiver.specs.declared.mib.Watch.{Watch}
 use Rattle.cfdp_run.specs.declared.settings.Key.{Key}
 use Rattle.cfdp_run.specs.declared.settings.Key.TheVariants as key
 

@@ -4,23 +4,34 @@
 //! [`read_command`] reads a line: `specs/Commands.antt` defines what it says, and `specs/Wrongs.antt` what
 //! [`push_wrong`] writes of a bad one. [`Player`] plays what is handed to the entity: `specs/Playing.antt` defines how,
 //! and `specs/Questions.antt` what is written of what a script asks.
+//! [`Head`] is what the head of a script says so far, and [`Play`] the entity after it: `specs/Scripts.antt` defines what each line does
+//! to them. No call carries out a whole line yet.
 #![tactic(auto)]
 
 mod commands;
+mod contents;
+mod head;
 pub mod laws;
+mod play;
 mod player;
+mod putting;
 mod questions;
 mod reading;
+mod remaking;
 mod settings;
+mod stop;
 #[cfg(test)]
 mod tests;
 mod words;
 mod wrong;
 
 pub use commands::{Command, CommandFault, Content, Progress};
+pub use head::Head;
+pub use play::Play;
 pub use player::Player;
 pub use questions::{push_gaps_line, push_phase_line};
 pub use reading::read_command;
 pub use settings::{Key, default_mib, key_of};
+pub use stop::Stop;
 pub use words::Word;
 pub use wrong::{Wrong, push_wrong};

@@ -1,4 +1,4 @@
-use Rattle.std.proofs.Common.{◌≡◌, ◌+◌, ◌-◌, ℕ, suc, arith, sym, ap, ◌∙◌, Ok}
+use Rattle.std.proofs.Common.{◌≡◌, ◌+◌, ◌-◌, suc, arith, sym, ap, ◌∙◌, Ok}
 use Rattle.cfdp_run.specs.Playing.{most_timers}
 use Rattle.cfdp_run.proofs.Loops.{passes_next, passes_last, passes_end}
 use Rattle.cfdp_run.proofs.player.Player.pass.Goals as goal

@@ -1,4 +1,4 @@
-use Rattle.std.proofs.Common.{◌≡◌, ◌+◌, ◌-◌, ℕ, suc, inl, inr, arith, sym, ◌∙◌}
+use Rattle.std.proofs.Common.{◌≡◌, ◌+◌, ◌-◌, suc, inl, inr, arith, sym, ◌∙◌}
 use Rattle.cfdp_receiver.specs.State.{Work, Finish}
 use Rattle.cfdp_run.specs.Playing.{most_settled}
 use Rattle.cfdp_run.proofs.Loops.{settled_work, settled_finish, settled_none, settles_next, settles_end}

@@ -1,0 +1,226 @@
+-- What each line of a script does, what a whole script writes, and where and why it stops.
+--     Head, Play, Stage         what the head says so far;  a receiving entity to which inputs come;  a script between two lines
+--     at_first                  before the first line
+--     play_of stage             the head is over
+--     changed, written          what a line does: the stage after it, and what it writes
+--     unless wrong later        later, unless something is wrong
+--     protected, put_node, put, octets_of      what `protect` and `put` do;  the octets that a file is to have
+--     in_head word stage change     a line of the head, which is too late after it
+--     moved, heard_at, asked    octets come, or other inputs, at a time;  a question is answered
+--     is_written, expected      a line is among those that were written last;  it has to be
+--     obeyed files stage said   what a command does, where the files have these octets: the stage after it and what it writes, or why the
+--                               script stops
+--     line_step files stage line        the same of a line
+--     answer files stage line           the stage after it and what it writes, unless the script stops there
+--     script_report files script        what a whole script writes, and the line at which it stops, if it does
+--     why_from, script_stop             why several lines stop, if they do;  why a whole script does
+use Rattle.std.specs.Prelude.{ℕ, nat_lt, max, Bool, true, false, if◌then◌else◌, List, [], ◌∷◌, ◌++◌, length, Option, Some, None, Result, Ok, Err, bytes_eq}
+use Rattle.std.specs.List.{list_any}
+use Rattle.cfdp_status.specs.declared.transaction.TransactionId.{TransactionId}
+use Rattle.cfdp_paths.specs.Paths.{Path}
+use Rattle.cfdp_actions.specs.Filestore.{Node, Directory, File, Filestore}
+use Rattle.cfdp_lines.specs.Lines.{lines_of}
+use Rattle.cfdp_lines.specs.Report.{Report, script_report as report_of}
+use Rattle.cfdp_texts.specs.Replies.{listing_text}
+use Rattle.cfdp_transactions.specs.Config.{Config}
+use Rattle.cfdp_transactions.specs.World.{World, start}
+use Rattle.cfdp_receiver.specs.Heard.{heard}
+use Rattle.cfdp_receiver.specs.State.{State, Input, CancelAsked, begin}
+use Rattle.cfdp_receiver.specs.Turning.{after_all}
+use Rattle.cfdp_receiver.specs.declared.mib.Mib.{Mib}
+use Rattle.cfdp_run.specs.Commands.{Content, Nothing, Octets, File as FileNamed, Said, Settings, Configure, Protect, PutDirectory, PutFile, Receive, Cancel, Pass, Get, Gaps, Phase, ListAll, Expect, End, command_in}
+use Rattle.cfdp_run.specs.Contents.{get_line}
+use Rattle.cfdp_run.specs.Playing.{heard_inputs, heard_text, most_timers, passing, played, settled_after}
+use Rattle.cfdp_run.specs.Putting.{place_wrong, room_wrong, with_put}
+use Rattle.cfdp_run.specs.Questions.{gaps_line, phase_line}
+use Rattle.cfdp_run.specs.Settings.{default_mib}
+use Rattle.cfdp_run.specs.Stops.{Stop, Ended, IsWrong, Unmet, Unread}
+use Rattle.cfdp_run.specs.declared.commands.Progress.{Progress}
+use Rattle.cfdp_run.specs.declared.commands.Progress.TheVariants as progress
+use Rattle.cfdp_run.specs.declared.words.Word.{Word}
+use Rattle.cfdp_run.specs.declared.words.Word.TheVariants as word
+use Rattle.cfdp_run.specs.declared.wrong.Wrong.{Wrong}
+use Rattle.cfdp_run.specs.declared.wrong.Wrong.TheVariants.{TooLate, TooManyProtected}
+
+pub record Head : Type 0 where
+  pub mib : Mib
+  pub world : World  -- with what was put, and without a transaction; its configuration has the prefixes that are protected
+  pub has_begun : Bool  -- a `config`, `protect` or `put` came
+
+pub record Play : Type 0 where
+  pub state : State
+  pub latest : ℕ  -- the greatest time so far
+  pub lines : List ℕ  -- what the last line wrote that was neither `expect` nor passed over
+
+pub data Stage : Type 0 where
+  Preparing : Head → Stage
+  Playing : Play → Stage
+
+abbrev pub default_config : Config
+default_config = record { entity = 2; blocks = 64; cap = 2400; checks = 2; journal = 1000; prefixes = [] }
+
+abbrev pub first_head : Head
+first_head = record { mib = default_mib; world = start default_config; has_begun = false }
+
+abbrev pub at_first : Stage
+at_first = Preparing first_head
+
+unfoldable pub begun : Head → Play
+begun head = record { state = begin head.mib head.world; latest = 0; lines = [] }
+
+abbrev pub play_of : Stage → Play
+play_of (Preparing head) = begun head
+play_of (Playing play) = play
+
+abbrev pub filestore_of : Stage → Filestore
+filestore_of (Preparing head) = head.world.filestore
+filestore_of (Playing play) = play.state.world.filestore
+
+abbrev pub mib_of : Stage → Mib
+mib_of (Preparing head) = head.mib
+mib_of (Playing play) = default_mib
+
+abbrev pub progress_by : Bool → Progress
+progress_by true = progress.Begun
+progress_by false = progress.Fresh
+
+abbrev pub progress_of : Stage → Progress
+progress_of (Preparing head) = progress_by head.has_begun
+progress_of (Playing play) = progress.Playing
+
+abbrev pub Step : Type 0
+Step = Result (Stage × List ℕ) Stop
+
+abbrev pub changed : Result Head Stop → Step
+changed (Ok head) = Ok (Preparing head, [])
+changed (Err why) = Err why
+
+abbrev pub written : Play → Step
+written play = Ok (Playing play, play.lines)
+
+abbrev pub unless : {A : Type 0} → Option Wrong → Result A Stop → Result A Stop
+unless None later = later
+unless (Some wrong) later = Err (IsWrong wrong)
+
+-- ---- the head
+
+unfoldable pub with_mib : Head → Mib → Head
+with_mib head mib = record head { mib = mib }
+
+-- it comes before each `protect` and `put`
+unfoldable pub with_config : Head → Config → Head
+with_config head config = record head { world = start (record config { prefixes = head.world.config.prefixes }); has_begun = true }
+
+abbrev pub with_prefix : World → Path → World
+with_prefix W p = record W { config = record W.config { prefixes = W.config.prefixes ++ p ∷ [] } }
+
+-- at most 8
+unfoldable pub protected : Head → Path → Result Head Stop
+protected head p =
+    if nat_lt (length head.world.config.prefixes) 8 then Ok (record head { world = with_prefix head.world p; has_begun = true })
+    else Err (IsWrong TooManyProtected)
+
+unfoldable pub put_node : Head → Path → Node → Result Head Stop
+put_node head p node = unless (room_wrong head.world p node) (Ok (record head { world = with_put head.world p node; has_begun = true }))
+
+unfoldable pub put : Head → Path → Node → Result Head Stop
+put head p node = unless (place_wrong head.world.filestore p) (put_node head p node)
+
+abbrev pub put_read : Head → Path → (name : List ℕ) → Option (List ℕ) → Result Head Stop
+put_read head p name None = Err (Unread name)
+put_read head p name (Some octets) = put_node head p (File octets)
+
+abbrev pub put_content : (List ℕ → Option (List ℕ)) → Head → Path → Content → Result Head Stop
+put_content files head p Nothing = put_node head p (File [])
+put_content files head p (Octets octets) = put_node head p (File octets)
+put_content files head p (FileNamed name) = put_read head p name (files name)
+
+-- a file is read only where something can be put at the path
+abbrev pub put_file : (List ℕ → Option (List ℕ)) → Head → Path → Content → Result Head Stop
+put_file files head p content = unless (place_wrong head.world.filestore p) (put_content files head p content)
+
+abbrev pub in_head : Word → Stage → (Head → Result Head Stop) → Step
+in_head word (Preparing head) change = changed (change head)
+in_head word (Playing play) change = Err (IsWrong (TooLate word))
+
+-- ---- after the head
+
+-- a time below the greatest so far counts as that one
+abbrev pub time_of : Play → ℕ → ℕ
+time_of play now = max play.latest now
+
+abbrev pub moved : Play → (now : ℕ) → List Input → Play
+moved play now inputs = record { state = after_all play.state inputs; latest = now; lines = played play.state inputs }
+
+unfoldable pub heard_at : Play → (now : ℕ) → List ℕ → Play
+heard_at play now octets = record {
+  state = after_all play.state (heard_inputs now play.state (heard now octets));
+  latest = now;
+  lines = heard_text now play.state (heard now octets);
+}
+
+unfoldable pub cancelled_at : Play → (now : ℕ) → TransactionId → Play
+cancelled_at play now id = moved play now (settled_after now play.state (CancelAsked now id))
+
+unfoldable pub passed_at : Play → (now : ℕ) → Play
+passed_at play now = moved play now (passing most_timers now play.state)
+
+unfoldable pub asked : Play → List ℕ → Play
+asked play lines = record play { lines = lines }
+
+unfoldable pub is_written : List ℕ → (line : List ℕ) → Bool
+is_written lines line = list_any (λ one. bytes_eq one line) (lines_of lines)
+
+abbrev pub expected : Play → List ℕ → Step
+expected play line = if is_written play.lines line then Ok (Playing play, []) else Err (Unmet line)
+
+-- ---- lines
+
+abbrev pub obeyed : (List ℕ → Option (List ℕ)) → Stage → Said → Step
+obeyed files stage (Settings mib) = in_head word.Mib stage (λ head. Ok (with_mib head mib))
+obeyed files stage (Configure config) = in_head word.Config stage (λ head. Ok (with_config head config))
+obeyed files stage (Protect p) = in_head word.Protect stage (λ head. protected head p)
+obeyed files stage (PutDirectory p) = in_head word.Put stage (λ head. put head p Directory)
+obeyed files stage (PutFile p content) = in_head word.Put stage (λ head. put_file files head p content)
+obeyed files stage (Receive now octets) = written (heard_at (play_of stage) (time_of (play_of stage) now) octets)
+obeyed files stage (Cancel now id) = written (cancelled_at (play_of stage) (time_of (play_of stage) now) id)
+obeyed files stage (Pass now) = written (passed_at (play_of stage) (time_of (play_of stage) now))
+obeyed files stage (Get p) = written (asked (play_of stage) (get_line (play_of stage).state.world.filestore p))
+obeyed files stage (Gaps id) = written (asked (play_of stage) (gaps_line (play_of stage).state id))
+obeyed files stage (Phase id) = written (asked (play_of stage) (phase_line (play_of stage).state id))
+obeyed files stage ListAll = written (asked (play_of stage) (listing_text (play_of stage).state.world))
+obeyed files stage (Expect line) = expected (play_of stage) line
+obeyed files stage End = Err Ended
+
+-- a comment and a line without a word are passed over
+abbrev pub said_step : (List ℕ → Option (List ℕ)) → Stage → Result (Option Said) Wrong → Step
+said_step files stage (Err wrong) = Err (IsWrong wrong)
+said_step files stage (Ok None) = Ok (stage, [])
+said_step files stage (Ok (Some said)) = obeyed files stage said
+
+abbrev pub line_step : (List ℕ → Option (List ℕ)) → Stage → List ℕ → Step
+line_step files stage line = said_step files stage (command_in (mib_of stage) (progress_of stage) line)
+
+-- ---- whole scripts
+
+abbrev pub ok_in : Step → Option (Stage × List ℕ)
+ok_in (Ok done) = Some done
+ok_in (Err why) = None
+
+abbrev pub answer : (List ℕ → Option (List ℕ)) → Stage → List ℕ → Option (Stage × List ℕ)
+answer files stage line = ok_in (line_step files stage line)
+
+-- its `bad_line` is the line at which the script stops
+abbrev pub script_report : (List ℕ → Option (List ℕ)) → (script : List ℕ) → Report
+script_report files script = report_of (answer files) at_first script
+
+abbrev pub why_by : Step → (Stage → Option Stop) → Option Stop
+why_by (Ok done) later = later done.0
+why_by (Err why) later = Some why
+
+abbrev pub why_from : (List ℕ → Option (List ℕ)) → Stage → List (List ℕ) → Option Stop
+why_from files stage [] = None
+why_from files stage (line ∷ lines) = why_by (line_step files stage line) (λ next. why_from files next lines)
+
+abbrev pub script_stop : (List ℕ → Option (List ℕ)) → (script : List ℕ) → Option Stop
+script_stop files script = why_from files at_first (lines_of script)

@@ -1,0 +1,28 @@
+-- Why a script stops before its end.
+--     Stop            at `end`; at a bad line; at a line that it expects in vain; at a file that cannot be read; out of memory
+--     stop_of         that of a value of the program
+--     stop_by         that of a line that is not read
+use Rattle.std.specs.Prelude.{ℕ, List}
+use Rattle.cfdp_run.specs.declared.commands.CommandFault.{CommandFault}
+use Rattle.cfdp_run.specs.declared.commands.CommandFault.TheVariants as fault
+use Rattle.cfdp_run.specs.declared.stop.Stop.{Stop as StopValue}
+use Rattle.cfdp_run.specs.declared.stop.Stop.TheVariants as stop
+use Rattle.cfdp_run.specs.declared.wrong.Wrong.{Wrong}
+
+pub data Stop : Type 0 where
+  Ended : Stop
+  IsWrong : Wrong → Stop
+  Unmet : (line : List ℕ) → Stop
+  Unread : (name : List ℕ) → Stop
+  NoMemory : Stop
+
+abbrev pub stop_of : StopValue → Stop
+stop_of stop.Ended = Ended
+stop_of (stop.Wrong wrong) = IsWrong wrong
+stop_of (stop.Unmet line) = Unmet line.items
+stop_of (stop.Unread name) = Unread name.items
+stop_of stop.Memory = NoMemory
+
+abbrev pub stop_by : CommandFault → StopValue
+stop_by (fault.Wrong wrong) = stop.Wrong wrong
+stop_by fault.Memory = stop.Memory

@@ -1,0 +1,102 @@
+//! What a script asks for a path of the filestore.
+
+ghost use Rattle.std.specs.Prelude.{◌≡◌, ◌++◌, IsTrue, codes, length, OnOk};
+ghost use Rattle.cfdp_actions.specs.Filestore.{is_file, node_at, octets_at};
+ghost use Rattle.cfdp_texts.specs.Replies.{is_plain, labelled, shown_octet, shown_path};
+ghost use Rattle.cfdp_run.specs.Contents.{get_line, octets_text};
+
+use cfdp_actions::{Filestore, Kind};
+use cfdp_entity::Entity;
+use cfdp_paths::Path;
+use cfdp_texts::{encode, push_labelled};
+use std::alloc::{AllocError, Global};
+
+/// Whether an octet of a path is written as it is.
+fn is_plain(octet: u8) -> bool
+    ensures { result ≡ is_plain octet }
+{
+    octet.is_ascii_graphic() && octet != b'%'
+}
+
+/// Appends an octet of a path: as it is, or `%` and two digits.
+#[tactic(auto, unfolding(cfdp_texts::specs::Replies::two_digits))]
+fn push_octet(octet: u8, text: &mut Vec<u8>) -> Result<(), AllocError>
+    ensures { OnOk result (text.new.items ≡ text.old.items ++ shown_octet octet) }
+{
+    if is_plain(octet) {
+        return Ok(text.push(octet)?);
+    }
+    text.push(b'%')?;
+    encode(&[octet], text)
+}
+
+/// Appends a path.
+fn push_path(alloc: Global, path: &Path, text: &mut Vec<u8>) -> Result<(), AllocError>
+    ensures { OnOk result (text.new.items ≡ text.old.items ++ shown_path path.now) }
+{
+    let octets = path.text(alloc)?;
+    for octet in &octets {
+        push_octet(*octet, text)?;
+    }
+    Ok(())
+}
+
+/// Appends the octets of a file; nothing of none.
+fn push_octets(octets: &[u8], text: &mut Vec<u8>) -> Result<(), AllocError>
+    ensures { OnOk result (text.new.items ≡ text.old.items ++ octets_text octets.now) }
+{
+    if octets.is_empty() {
+        return Ok(());
+    }
+    text.push(b' ')?;
+    encode(octets, text)
+}
+
+/// Appends the size and the octets of a file.
+fn push_content(
+    alloc: Global,
+    entity: &Entity,
+    path: &Path,
+    text: &mut Vec<u8>,
+) -> Result<(), AllocError>
+    requires { IsTrue (is_file (node_at entity.now.filestore path.now)) }
+    ensures { OnOk result (text.new.items ≡ text.old.items
+        ++ (labelled (codes " ") (length (octets_at entity.now.filestore path.now)) ++ octets_text (octets_at entity.now.filestore path.now))) }
+{
+    let store = entity.core().store();
+    let mut octets = vec![in alloc; 0u8; store.size(path) as usize]?;
+    store.read(path, 0, &mut octets);
+    push_labelled(b" ", octets.len() as u64, text)?;
+    push_octets(&octets, text)
+}
+
+/// Appends the line of a question for a path: the octets of a file, that it is a directory, or that nothing is there.
+///
+/// # Errors
+///
+/// [`AllocError`] when out of memory. Cost: three passes over the octets of the file.
+pub(crate) fn push_get_line(
+    alloc: Global,
+    entity: &Entity,
+    path: &Path,
+    text: &mut Vec<u8>,
+) -> Result<(), AllocError>
+    ensures { OnOk result (text.new.items ≡ text.old.items ++ get_line entity.now.filestore path.now) }
+{
+    match entity.core().store().kind(path) {
+        None => {
+            text.extend_from_slice(b"absent ")?;
+            push_path(alloc, path, text)?;
+        }
+        Some(Kind::Directory) => {
+            text.extend_from_slice(b"dir ")?;
+            push_path(alloc, path, text)?;
+        }
+        Some(Kind::File) => {
+            text.extend_from_slice(b"content ")?;
+            push_path(alloc, path, text)?;
+            push_content(alloc, entity, path, text)?;
+        }
+    }
+    Ok(text.push(b'\n')?)
+}

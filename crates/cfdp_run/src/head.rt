@@ -1,0 +1,195 @@
+//! The head of a script: what its lines `mib`, `config`, `protect` and `put` say.
+
+ghost use Rattle.std.specs.Prelude.{◌≡◌, ◌≢◌, [], replicate, None, Some, Err, Ok, IfErr, IfOk, OnErr, OnOk};
+ghost use Rattle.std.specs.Option.{option_map};
+ghost use Rattle.cfdp_actions.specs.Filestore.{Directory, File};
+ghost use Rattle.cfdp_receiver.specs.Machine.{first_fault};
+ghost use Rattle.cfdp_run.specs.Putting.{place_wrong};
+ghost use Rattle.cfdp_run.specs.Scripts.{begun, default_config, first_head, progress_by, protected, put_node, with_config, with_mib};
+ghost use Rattle.cfdp_run.specs.Stops.{IsWrong, NoMemory, stop_of};
+
+use crate::commands::Progress;
+use crate::play::Play;
+use crate::putting::{place_fault, put_directory, put_file};
+use crate::remaking::remade;
+use crate::settings::default_mib;
+use crate::stop::Stop;
+use crate::wrong::Wrong;
+use cfdp_actions::Protected;
+use cfdp_entity::Entity;
+use cfdp_paths::Path;
+use cfdp_receiver::{Mib, NotMade, Receiver};
+use cfdp_transactions::Config;
+use std::alloc::{AllocError, Global};
+use std::mem;
+
+/// The configuration of a script that gives none, with nothing protected.
+fn default_config() -> Config
+    ensures { result ≡ default_config }
+{
+    Config::new(2, 64, 2_400, 2, 1_000, Protected::new()).unwrap()
+}
+
+/// The configuration, with these prefixes protected in place of its own.
+fn with_prefixes(config: &Config, protected: Protected) -> Config
+    ensures { result ≡ record config.now { prefixes = protected } }
+{
+    Config::new(
+        config.entity(),
+        config.blocks(),
+        config.cap(),
+        config.checks(),
+        config.journal(),
+        protected,
+    )
+    .unwrap()
+}
+
+/// What the lines of a head have said so far.
+#[derive(Drop)]
+pub struct Head {
+    mib: Mib,
+    /// The entity whose filestore has what was put. Nothing is protected in it.
+    entity: Entity,
+    protected: Protected,
+    /// Whether a line `config`, `protect` or `put` came.
+    has_begun: bool,
+    ghost fits: { first_fault mib ≡ None },
+    ghost idle: { entity.table ≡ [] },
+    ghost staged: { entity.filestore.staged ≡ replicate 64 [] },
+}
+
+impl Head {
+    ghost use Rattle.cfdp_run.specs.Stages.{head_of, play_from};
+
+    /// Before the first line.
+    pub fn new(alloc: Global) -> Result<Head, AllocError>
+        ensures { IfOk result (λ head. head_of head ≡ first_head) }
+    {
+        Ok(Head {
+            mib: default_mib(),
+            entity: Entity::new(alloc, default_config())?,
+            protected: Protected::new(),
+            has_begun: false,
+        })
+    }
+
+    /// The settings.
+    pub fn mib(&self) -> Mib
+        ensures value { result ≡ (head_of self.now).mib }
+        ensures fits { first_fault result ≡ None }
+    {
+        self.mib
+    }
+
+    /// The entity, for its filestore.
+    pub fn entity(&self) -> &Entity
+        ensures { result.now.filestore ≡ (head_of self.now).world.filestore }
+    {
+        &self.entity
+    }
+
+    /// How far the head is.
+    pub fn progress(&self) -> Progress
+        ensures { result ≡ progress_by (head_of self.now).has_begun }
+    {
+        if self.has_begun {
+            Progress::Begun
+        } else {
+            Progress::Fresh
+        }
+    }
+
+    /// A line `mib`.
+    #[tactic(auto, unfolding(crate::specs::Scripts::with_mib))]
+    pub fn set(&mut self, mib: Mib)
+        requires { first_fault mib ≡ None }
+        ensures { head_of self.new ≡ with_mib (head_of self.old) mib }
+    {
+        self.mib = mib;
+    }
+
+    /// A line `config`.
+    #[tactic(auto, unfolding(crate::specs::Scripts::with_config))]
+    pub fn configure(&mut self, alloc: Global, config: Config) -> Result<(), AllocError>
+        ensures { OnOk result (head_of self.new ≡ with_config (head_of self.old) config) }
+    {
+        self.entity = Entity::new(alloc, config)?;
+        self.has_begun = true;
+        Ok(())
+    }
+
+    /// A line `protect`.
+    #[tactic(auto, unfolding(crate::specs::Scripts::protected))]
+    pub fn protect(&mut self, path: Path) -> Result<(), Stop>
+        ensures ok { OnOk result (protected (head_of self.old) path ≡ Ok (head_of self.new)) }
+        ensures err { IfErr result (λ why. protected (head_of self.old) path ≡ Err (stop_of why)) }
+        ensures same { OnErr result (head_of self.new ≡ head_of self.old) }
+    {
+        let Ok(()) = self.protected.add(path) else {
+            return Err(Stop::Wrong(Wrong::TooManyProtected));
+        };
+        self.has_begun = true;
+        Ok(())
+    }
+
+    /// Whether something can be put at a path.
+    pub fn place(&self, alloc: Global, path: &Path) -> Result<(), Stop>
+        ensures ok { OnOk result (place_wrong (head_of self.now).world.filestore path.now ≡ None) }
+        ensures err { IfErr result (λ why. stop_of why ≢ NoMemory → option_map IsWrong (place_wrong (head_of self.now).world.filestore path.now) ≡ Some (stop_of why)) }
+    {
+        match place_fault(alloc, &self.entity, path)? {
+            None => Ok(()),
+            Some(wrong) => Err(Stop::Wrong(wrong)),
+        }
+    }
+
+    /// Puts a directory at a path, where one can be put.
+    #[tactic(auto, unfolding(crate::specs::Scripts::put_node))]
+    pub fn put_directory(&mut self, alloc: Global, path: &Path) -> Result<(), Stop>
+        requires { place_wrong (head_of self.old).world.filestore path.now ≡ None }
+        ensures ok { OnOk result (put_node (head_of self.old) path.now Directory ≡ Ok (head_of self.new)) }
+        ensures err { IfErr result (λ why. stop_of why ≢ NoMemory → put_node (head_of self.old) path.now Directory ≡ Err (stop_of why)) }
+        ensures same { OnErr result (head_of self.new ≡ head_of self.old) }
+    {
+        if let Some(wrong) = put_directory(alloc, &mut self.entity, path)? {
+            return Err(Stop::Wrong(wrong));
+        }
+        self.has_begun = true;
+        Ok(())
+    }
+
+    /// Puts a file with these octets at a path, where one can be put.
+    #[tactic(auto, unfolding(crate::specs::Scripts::put_node))]
+    pub fn put_file(&mut self, alloc: Global, path: &Path, octets: &[u8]) -> Result<(), Stop>
+        requires { place_wrong (head_of self.old).world.filestore path.now ≡ None }
+        ensures ok { OnOk result (put_node (head_of self.old) path.now (File octets.now) ≡ Ok (head_of self.new)) }
+        ensures err { IfErr result (λ why. stop_of why ≢ NoMemory → put_node (head_of self.old) path.now (File octets.now) ≡ Err (stop_of why)) }
+        ensures same { OnErr result (head_of self.new ≡ head_of self.old) }
+    {
+        if let Some(wrong) = put_file(alloc, &mut self.entity, path, octets)? {
+            return Err(Stop::Wrong(wrong));
+        }
+        self.has_begun = true;
+        Ok(())
+    }
+
+    /// The head is over: the receiving entity that it describes. The prefixes are moved out of it.
+    ///
+    /// # Errors
+    ///
+    /// [`AllocError`] when out of memory. Cost: that of the entity and the receiver, and three passes over what was put.
+    #[tactic(auto, unfolding(crate::specs::Scripts::begun))]
+    pub fn play(&mut self, alloc: Global) -> Result<Play, AllocError>
+        ensures { IfOk result (λ play. play_from play ≡ begun (head_of self.old)) }
+    {
+        let protected = mem::replace(&mut self.protected, Protected::new());
+        let config = with_prefixes(self.entity.core().config(), protected);
+        let entity = remade(alloc, config, &self.entity)?;
+        match Receiver::new(alloc, self.mib, entity) {
+            Ok(receiver) => Play::new(alloc, receiver),
+            Err(NotMade::Memory) => Err(AllocError),
+            Err(NotMade::Mib(_) | NotMade::HasTransactions) => unreachable!(),
+        }
+    }
+}
