@@ -27,7 +27,7 @@ pub enum End {
     File(String),
     /// A transaction that was admitted was not completed.
     Incomplete(TransactionId),
-    /// So many transactions are refused, of so many.
+    /// How many transactions are refused, and how many there are.
     Refused(usize, usize),
 }
 

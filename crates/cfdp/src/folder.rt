@@ -86,7 +86,7 @@ fn path_of(alloc: Global, found: &Found) -> Result<Path, End> {
     }
 }
 
-/// That something that needs so many blocks was put, or how the program ends.
+/// How the program ends where something that needs `blocks` blocks was not put.
 fn was_put(
     alloc: Global,
     found: &Found,

@@ -318,7 +318,7 @@ node_in : Option Extent → Option Node
 node_in None = None
 node_in (Some e) = Some (node_of e)
 
--- a filestore with these directories, and with files of so many zeros
+-- a filestore with these directories, and with files of n zeros
 filestore_of : Extents → Filestore
 filestore_of m = record { nodes = from_entries (map {B = Path × Node} (λ (e : Path × Extent). (e.0, node_of e.1)) (entries m)); staged = [] ∷ [] }
 

@@ -1,4 +1,4 @@
--- A path of so many names below another one.
+-- A path of n names below another one.
 --     prefix_take     the first names of a path are above more of them
 --     is_filler       the rest of a long path, put below a path
 use Rattle.std.proofs.Common.{◌≡◌, ap, true, ◌&&◌, ℕ, zero, suc, ◌<◌, ◌≤◌, [], ◌∷◌, length, take, arith, length-take}

@@ -198,7 +198,7 @@ holds_tree F p x there =
       | false ↦ λ e. absurd (true≢false (sym there ∙ ap is_some e))
     ] (find-tree_at F p x)
 
--- where nothing stands at or below q
+-- where nothing exists at or below q
 module _ (F : Filestore) (p q : Path) (empty : (x : Path) → is_at_or_below x q ≡ true → node_at F x ≡ None) where
   pub nothing_vacated : (x : Path) → is_at_or_below x q ≡ true → node_at (after F (vacated (tree_at F p))) x ≡ None
   nothing_vacated x below =

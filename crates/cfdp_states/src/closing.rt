@@ -85,7 +85,7 @@ fn depth_below<S: Filestore>(store: &S, path: &Path) -> Option<usize>
     }
 }
 
-/// Closes a directory: a directory of so many names is put below it, instead of what is there.
+/// Closes a directory: a directory whose path has `depth` names is put below it, instead of what is there.
 fn close(
     alloc: Global,
     extents: &mut Extents,
@@ -106,7 +106,7 @@ fn close(
     Ok(())
 }
 
-/// A path of so many names below the path, whether it is there or not.
+/// A path of `depth` names below the path, whether it exists or not.
 fn filler(alloc: Global, path: &Path, depth: usize) -> Result<Path, Memory>
     requires below { length path.now < depth }
     requires within { depth ≤ 8 }

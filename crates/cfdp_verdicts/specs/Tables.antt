@@ -4,7 +4,7 @@
 --     paths_words item      the paths that an item changes, and those that it only reads
 --     numbers_text          the steps of an item, and the blocks up to and with it
 --     item_words number item       an item; a request with its number
---     row_text number before item cost      the line of an item, where the list before it takes so many steps
+--     row_text number before item cost      the line of an item, where the list before it takes `before` steps
 --     rows_text             the lines of the items that have a cost
 --     heading               the line above them
 --     table_text items costs       the heading and the lines; nothing where no item has a cost
