@@ -1,20 +1,17 @@
-//! Comparisons of octets, two words of eight at a time.
+//! Comparisons of octets, a word of eight at a time.
 
 ghost use Rattle.std.specs.Prelude.{◌≡◌, ◌≢◌, ◌+◌, ◌<◌, ◌≤◌, drop, length, nat_eq, take};
 ghost use Rattle.std.specs.Cmp.Lexicographic.{pointwise, slice_cmp};
 ghost use Rattle.std.specs.Ordering.{nat_cmp};
-ghost use Rattle.core.specs.Slice.Scan.{HoldsNowhere, Settles, big_endian, differ};
+ghost use Rattle.core.specs.Slice.Scan.{Settles, big_endian};
 
 use std::cmp::Ordering;
 
 /// How many octets a word has.
 const WORD: usize = 8;
 
-/// How many octets two words have.
-const PAIR: usize = 16;
-
-/// How `a` compares to `b`: as the first octets that differ, and else as the lengths. Cost: two words of each are read,
-/// and compared by one test, for each sixteen octets at the front that are equal.
+/// How `a` compares to `b`: as the first octets that differ, and else as the lengths. Cost: two words are read for each
+/// eight octets at the front that are equal.
 pub(crate) fn order(a: &[u8], b: &[u8]) -> Ordering
     ensures { result ≡ slice_cmp nat_cmp a.now b.now }
 {
@@ -58,35 +55,17 @@ fn settle(a: &[u8], b: &[u8], both: usize) -> (u64, u64)
     if both < WORD {
         return settle_few(a, b, both);
     }
-    if both < PAIR {
-        return settle_pair(a, b, 0, both - WORD);
-    }
-    let last = both - PAIR;
+    let last = both - WORD;
     let mut start = 0;
     while start < last {
-        let (x, y) = settle_pair(a, b, start, start + WORD);
+        let (x, y) = (word(a, start), word(b, start));
         if x != y {
             return (x, y);
         }
-        start += PAIR;
+        start += WORD;
     }
-    // The last words may have octets that were compared already: these are equal.
-    settle_pair(a, b, last, last + WORD)
-}
-
-/// Two numbers that compare as the octets up to the end of the words at `first` and at `second`, where those before
-/// `first` are equal, and there are none between the words. One test decides between the words.
-#[inline(always)]
-fn settle_pair(a: &[u8], b: &[u8], first: usize, second: usize) -> (u64, u64)
-    requires meet { (first ≤ second) × (second ≤ first + 8) }
-    requires in_a { second + 8 ≤ length a.now }
-    requires in_b { second + 8 ≤ length b.now }
-    requires front { HoldsNowhere (differ a.now b.now) 0 first }
-    ensures { Settles a.now b.now (second + 8) result.0 result.1 }
-{
-    let (x, y) = (word(a, first), word(b, first));
-    let (z, w) = (word(a, second), word(b, second));
-    if x != y { (x, y) } else { (z, w) }
+    // The last word may have octets that were compared already: these are equal.
+    (word(a, last), word(b, last))
 }
 
 /// The same of fewer octets than a word has.
