@@ -1,4 +1,5 @@
-//! A link that reorders, repeats and lies: pieces of long files in other orders than they were cut, and faulty PDUs between.
+//! A link that reorders, repeats and lies: pieces of long files in other orders than they were cut, and faulty PDUs
+//! between.
 use crate::digest::Digest;
 use crate::fault::Fault;
 use crate::names::spell;
@@ -51,7 +52,7 @@ impl Order {
         }
     }
 
-    /// How many turns send all of so many pieces.
+    /// How many turns send all of this many pieces.
     fn turns(self, count: usize) -> usize {
         match self {
             Order::Twice => count.saturating_mul(2),
@@ -60,7 +61,7 @@ impl Order {
         }
     }
 
-    /// The index of the piece of this turn, of so many; none where none comes.
+    /// The index of the piece of this turn, of this many; none where none comes.
     fn index(self, turn: usize, count: usize) -> Option<usize> {
         let stride = (count / (GAPS + 1)).max(1);
         match self {
@@ -78,7 +79,7 @@ impl Order {
     }
 }
 
-/// The whole workload: so many scripts. `scale` divides the sizes.
+/// The whole workload: this many scripts. `scale` divides the sizes.
 pub fn run(alloc: Global, rounds: u32, scale: u32, seed: u32) -> Result<u64, Fault> {
     let mut random = Random::new(u64::from(seed).wrapping_add(0x40_0000_0000));
     let pool = Pool::new(alloc, &mut random)?;

@@ -15,7 +15,7 @@ const SENDER: u16 = 4;
 /// How many files each script delivers.
 const FILES: u32 = 3;
 
-/// The whole workload: so many scripts. `scale` divides the sizes.
+/// The whole workload: this many scripts. `scale` divides the sizes.
 pub fn run(alloc: Global, rounds: u32, scale: u32, seed: u32) -> Result<u64, Fault> {
     let mut random = Random::new(u64::from(seed).wrapping_add(0x20_0000_0000));
     let pool = Pool::new(alloc, &mut random)?;

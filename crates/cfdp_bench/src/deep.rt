@@ -2,8 +2,8 @@
 use crate::fault::Fault;
 use crate::names::spell;
 
-/// How deep the paths of a chain of directories are, and how long each of their names is. The names of a request have at
-/// most 252 octets.
+/// How deep the paths of a chain of directories are, and how long each of their names is. The names of a request have
+/// at most 252 octets.
 #[derive(Clone, Copy)]
 pub struct Chain {
     /// How many names the path of a file has.

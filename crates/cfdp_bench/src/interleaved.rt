@@ -43,7 +43,7 @@ impl Transfer {
     }
 }
 
-/// The whole workload: so many scripts. `scale` divides the number of transactions.
+/// The whole workload: this many scripts. `scale` divides the number of transactions.
 pub fn run(alloc: Global, rounds: u32, scale: u32, seed: u32) -> Result<u64, Fault> {
     let mut random = Random::new(u64::from(seed).wrapping_add(0x30_0000_0000));
     let pool = Pool::new(alloc, &mut random)?;

@@ -23,7 +23,7 @@ const LINKS: u16 = 4;
 /// How many files each of them delivers.
 const FILES: u32 = 3;
 
-/// The whole workload: so many runs of four scripts. `scale` divides the sizes.
+/// The whole workload: this many runs of four scripts. `scale` divides the sizes.
 pub fn run<R: Threads + Wait + Sync>(
     rt: &R,
     alloc: Global,
@@ -51,7 +51,8 @@ fn write_all(
     scale: u32,
 ) -> Result<Vec<Vec<u8>>, Fault>
     ensures few { IfOk result (λ scripts. length scripts.items ≤ 4) }
-    ensures short { IfOk result (λ scripts. AllByRecursion (λ script. length script.items ≤ input_limit) scripts.items) }
+    ensures short { IfOk result (λ scripts. AllByRecursion
+        (λ script. length script.items ≤ input_limit) scripts.items) }
 {
     let first = write(alloc, pool, random, 0, scale)?;
     let second = write(alloc, pool, random, 1, scale)?;

@@ -106,7 +106,8 @@ static SETTINGS: [Setting; 4] = [
     },
 ];
 
-/// The whole workload: in each setting so many lists, one in eight of which is refused. `scale` divides the number of files.
+/// The whole workload: in each setting this many lists, one in eight of which is refused. `scale` divides the number of
+/// files.
 pub fn run(alloc: Global, rounds: u32, scale: u32, seed: u32) -> Result<u64, Fault> {
     let mut digest = Digest::new();
     for (index, setting) in SETTINGS.iter().enumerate() {

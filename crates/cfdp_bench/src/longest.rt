@@ -1,5 +1,5 @@
-//! The longest single calls: the EOF of a long file, its delete, its cancel, and the admission of a list that renames a large
-//! directory.
+//! The longest single calls: the EOF of a long file, its delete, its cancel, and the admission of a list that renames a
+//! large directory.
 use crate::fault::Fault;
 use crate::names::spell;
 use crate::pdus::{List, Sender};
@@ -66,7 +66,7 @@ impl Longest {
         Ok(())
     }
 
-    /// Spells the directory as it is named after so many renames.
+    /// Spells the directory as it is named after this many renames.
     fn directory(out: &mut Vec<u8>, renames: u32) -> Result<(), Fault> {
         out.clear();
         spell(out, b"products-", renames, 4)

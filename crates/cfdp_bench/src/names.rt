@@ -61,13 +61,13 @@ impl Shape {
     }
 }
 
-/// Appends a word and a number of at least so many decimal digits.
+/// Appends a word and a number of at least this many decimal digits.
 pub fn spell(out: &mut Vec<u8>, word: &[u8], number: u32, digits: u32) -> Result<(), Fault> {
     out.extend_from_slice(word)?;
     push_decimal(out, number, digits)
 }
 
-/// Appends a number of at least so many decimal digits.
+/// Appends a number of at least this many decimal digits.
 pub fn push_decimal(out: &mut Vec<u8>, number: u32, digits: u32) -> Result<(), Fault> {
     let mut weight = 1_000_000_000_u32;
     let mut has_begun = false;

@@ -1,4 +1,5 @@
-//! The PDUs of a sender, octet by octet (CCSDS 727.0-B-5 §5): entity IDs have two octets, transaction sequence numbers four.
+//! The PDUs of a sender, octet by octet (CCSDS 727.0-B-5 §5): entity IDs have two octets, transaction sequence numbers
+//! four.
 use crate::fault::Fault;
 use cfdp_status::{Action, TransactionId};
 use std::alloc::Global;

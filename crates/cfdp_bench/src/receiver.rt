@@ -30,7 +30,7 @@ pub struct Receiver {
 }
 
 impl Receiver {
-    /// An entity over an empty filestore of so many blocks.
+    /// An entity over an empty filestore of this many blocks.
     pub fn new(alloc: Global, blocks: u32) -> Result<Receiver, Fault> {
         let config = Config::new(2, blocks, 7_864_320, 4, 1_000, Protected::new())?;
         let mut finished = Vec::new(alloc);
@@ -69,7 +69,7 @@ impl Receiver {
         self.hear()
     }
 
-    /// The Metadata PDU comes of a transaction that is made to be admitted.
+    /// The Metadata PDU of a transaction that is made to be admitted comes.
     ///
     /// # Errors
     ///

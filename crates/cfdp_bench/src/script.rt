@@ -98,7 +98,7 @@ impl Script {
         self.local(b"take", sender)
     }
 
-    /// Appends the end of a transaction that shares its entity: EOF, so many items of its own, and its outcome.
+    /// Appends the end of a transaction that shares its entity: EOF, this many items of its own, and its outcome.
     pub fn finish_by_steps(
         &mut self,
         sender: Sender,
