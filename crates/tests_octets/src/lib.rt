@@ -1,5 +1,5 @@
-//! Tests of what reads and writes octets, and of what acknowledged mode keeps beside the core: CRCs, TLVs, PDUs, directives,
-//! timers and NAK sequences, sessions. This crate has tests alone.
+//! Tests of what reads and writes octets, and of what acknowledged mode keeps beside the core: CRCs, TLVs, PDUs,
+//! directives, timers and NAK sequences, sessions. This crate has tests alone.
 #![tactic(auto)]
 
 #[cfg(test)]

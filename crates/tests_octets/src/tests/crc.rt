@@ -31,7 +31,8 @@ static ROWS: [Row; 4] = [
     Row {
         name: "NAK",
         plain: b"\x28\x00\x11\x00\x01\x05\x02\x08\x00\x00\x00\x00\x00\x00\x00\x0f\x00\x00\x00\x00\x00\x00\x00\x0f",
-        sealed: b"\x2a\x00\x13\x00\x01\x05\x02\x08\x00\x00\x00\x00\x00\x00\x00\x0f\x00\x00\x00\x00\x00\x00\x00\x0f\x1f\x66",
+        sealed: b"\x2a\x00\x13\x00\x01\x05\x02\x08\x00\x00\x00\x00\x00\x00\x00\x0f\x00\x00\x00\x00\x00\x00\x00\x0f\x1f\
+            \x66",
     },
 ];
 
@@ -49,7 +50,7 @@ fn begins_with(buffer: &[u8], octets: &[u8]) -> bool {
     buffer.starts_with(octets)
 }
 
-/// What `unseal` answers of octets at the beginning of a buffer.
+/// What `unseal` returns of octets at the beginning of a buffer.
 fn unsealed(buffer: &mut [u8; 32], len: usize) -> Result<usize, CrcFault> {
     match buffer.get_mut(..len) {
         Some(octets) => unseal(octets),
@@ -164,7 +165,7 @@ static REFUSED: [Refused; 5] = [
 ];
 
 impl Refused {
-    /// Whether the fault is told, and the buffer is as before.
+    /// Whether the fault is reported, and the buffer is as before.
     fn is_told(&self) -> bool {
         let mut buffer = buffer_with(self.octets);
         sealed(&mut buffer, self.octets.len()) == Err(self.fault)

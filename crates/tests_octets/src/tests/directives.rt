@@ -364,58 +364,11 @@ fn rows_are_read_and_written(rt: HostRuntime) -> Result<(), WriteFault> {
     Ok(())
 }
 
-/// Octets that spell no ACK, Prompt or Keep Alive PDU, and the first fault.
-struct Faulty {
-    name: &'static str,
-    octets: &'static [u8],
-    fault: PduFault,
-}
-
-static FAULTY: [Faulty; 7] = [
-    Faulty {
-        name: "ACK: cut",
-        octets: b"\x24\x00\x03\x00\x01\x05\x02\x06",
-        fault: PduFault::Truncated,
-    },
-    Faulty {
-        name: "ACK: an octet more",
-        octets: b"\x20\x00\x04\x00\x01\x05\x02\x06\x51\x00\x00",
-        fault: PduFault::LengthMismatch,
-    },
-    Faulty {
-        name: "Prompt: an octet more",
-        octets: b"\x20\x00\x03\x00\x01\x05\x02\x09\x00\x00",
-        fault: PduFault::LengthMismatch,
-    },
-    Faulty {
-        name: "Keep Alive: an octet less",
-        octets: b"\x20\x00\x04\x00\x01\x05\x02\x0c\x00\x00\x00",
-        fault: PduFault::LengthMismatch,
-    },
-    Faulty {
-        name: "Keep Alive: an octet more",
-        octets: b"\x20\x00\x06\x00\x01\x05\x02\x0c\x00\x00\x00\x00\x00",
-        fault: PduFault::LengthMismatch,
-    },
-    Faulty {
-        name: "a NAK PDU",
-        octets: b"\x28\x00\x09\x00\x01\x05\x02\x08\x00\x00\x00\x00\x00\x00\x00\x0f",
-        fault: PduFault::BadDirective,
-    },
-    Faulty {
-        name: "no directive code",
-        octets: b"\x20\x00\x02\x00\x01\x05\x02\x0a\x00",
-        fault: PduFault::BadDirective,
-    },
-];
-
+/// A NAK PDU is read by `read_nak` alone. Octets that spell no PDU at all are in `.ci/cases/show.txt`.
 #[test]
-fn faults_are_named(rt: HostRuntime) {
-    for row in &FAULTY {
-        let name = row.name;
-        let read = read_directive(row.octets);
-        assert!(rt; read == Err(row.fault), "{name}");
-    }
+fn a_nak_is_none_of_the_others(rt: HostRuntime) {
+    let octets = b"\x28\x00\x09\x00\x01\x05\x02\x08\x00\x00\x00\x00\x00\x00\x00\x0f";
+    assert!(rt; read_directive(octets) == Err(PduFault::BadDirective));
 }
 
 /// Octets that spell no NAK PDU of one request, and the first fault.

@@ -13,7 +13,7 @@ fn id(source: u64, number: u64) -> TransactionId {
     TransactionId { source, number }
 }
 
-/// The session of a transaction; `alive_at` tells one of a name from another of the same name.
+/// The session of a transaction; `alive_at` distinguishes one of a name from another of the same name.
 fn session(alloc: Global, source: u64, number: u64, alive_at: u64) -> Session {
     Session {
         header: Header {

@@ -1,7 +1,0 @@
-//! What transactions stand on, tried. The filestores: worked rows of the action table, want of memory, and the stores side by
-//! side (CCSDS 727.0-B-5 §4.9). What is read and written octet by octet: status octets, checksums, quotas, paths, TLVs and PDUs
-//! (§5). This crate has tests alone.
-#![tactic(auto)]
-
-#[cfg(test)]
-mod tests;

@@ -1,0 +1,488 @@
+//! A receiving entity that is handed events one after another, what it replies, and what it says of itself in between.
+
+ghost use Rattle.std.specs.Prelude.{◌≡◌};
+ghost use Rattle.cfdp_actions.specs.Store.{empty_store};
+
+use super::scene::path_of;
+use cfdp_actions::{Entry, Filestore, Kind, ListStore, Protected};
+use cfdp_paths::Memory;
+use cfdp_pdus::{FileData, Header, Pdu, read_pdu};
+use cfdp_status::{Action, Status, TransactionId};
+use cfdp_transactions::{Config, Core, Event, Outcome, Phase, Reply, read_event};
+use cfdp_tree::TreeStore;
+use cfdp_verifier::{Place, Refusal};
+use std::alloc::{AllocError, Global};
+use std::process::Abort;
+
+/// What is handed in. PDUs are in hexadecimal, without spaces. Transactions are those of entity 1 with these numbers.
+#[derive(Clone, Copy)]
+pub enum Given {
+    Pdu(&'static str),
+    /// File data: the offset, how many octets, and each of them.
+    Octets(u8, u64, usize, u8),
+    Step(u8),
+    Cancel(u8),
+    Check(u8),
+    Take(u8),
+}
+
+/// What is replied.
+#[derive(Clone, Copy)]
+pub enum Told {
+    Admitted(u32, u32),
+    BadDestination,
+    Conflict(u8),
+    Stored,
+    Dropped,
+    Complete,
+    Waiting,
+    Faulted(u8),
+    /// With the octet of the status.
+    Performed(u8),
+    Installed,
+    Done,
+    Cancelled,
+    /// The outcome is sent as this Finished PDU.
+    Finished(&'static str),
+    Duplicate,
+    Unknown,
+    Idle,
+    NotForUs,
+    TableFull,
+    JournalFull,
+}
+
+/// What is at a path: a file of this many octets with this checksum, or a directory.
+pub type Standing = (&'static [u8], Option<(u64, u32)>);
+
+/// One after another.
+#[derive(Clone, Copy)]
+pub enum Row {
+    /// An event, and the reply.
+    On(Given, Told),
+    /// The blocks that are free, and those of them that nobody was granted.
+    Store(u32, u32),
+    /// All that exists, in path order.
+    Standing(&'static [Standing]),
+    /// What is missing of a transaction's file.
+    Gaps(u8, &'static [(u64, u64)]),
+    /// The blocks and the steps that a transaction spent.
+    Spent(u8, i64, u32),
+    /// How far a transaction is: `None` where it is not known.
+    Phase(u8, Option<Phase>),
+    /// The first transaction that is performed.
+    Runnable(Option<u8>),
+    /// How far a transaction's file has come: the end of the last octet kept, and the offset up to which gaps are
+    /// reported.
+    Reached(u8, u64, u64),
+    /// The size and the destination file name of a transaction's Metadata.
+    Metadata(u8, u64, &'static [u8]),
+    /// All transactions, in order of admission.
+    Order(&'static [u8]),
+    /// The first transaction whose outcome can be taken.
+    Over(Option<u8>),
+}
+
+/// What rows are handed to.
+#[derive(Clone, Copy)]
+struct Trial {
+    /// Whether the store is inside an arena, or else in a list.
+    tree: bool,
+    /// Whether each reply is given twice.
+    twice: bool,
+}
+
+static TRIALS: [Trial; 4] = [
+    Trial {
+        tree: false,
+        twice: false,
+    },
+    Trial {
+        tree: false,
+        twice: true,
+    },
+    Trial {
+        tree: true,
+        twice: false,
+    },
+    Trial {
+        tree: true,
+        twice: true,
+    },
+];
+
+/// The header of a PDU of entity 1 to entity 2, in unacknowledged mode.
+pub fn header(number: u8) -> Header {
+    Header {
+        toward_sender: false,
+        acknowledged: false,
+        large: false,
+        id_len: 1,
+        number_len: 1,
+        source: 1,
+        number: u64::from(number),
+        destination: 2,
+    }
+}
+
+/// The transaction of entity 1 with this number.
+pub fn id(number: u8) -> TransactionId {
+    TransactionId {
+        source: 1,
+        number: u64::from(number),
+    }
+}
+
+/// The octets of a hexadecimal text, which has some: only memory can be refused.
+pub fn octets_of(alloc: Global, text: &str) -> Result<Vec<u8>, Memory> {
+    hex::decode(alloc, text).map_err(|_| AllocError)
+}
+
+/// The PDU of octets, which are one: only memory can be refused.
+fn pdu_in(alloc: Global, octets: &[u8]) -> Result<Pdu, Memory> {
+    match read_pdu(alloc, octets) {
+        Ok(pdu) => Ok(pdu),
+        Err(_) => Err(AllocError),
+    }
+}
+
+/// The event of octets, which bring one.
+pub fn event_in(alloc: Global, octets: &[u8]) -> Result<Event, Memory> {
+    match read_event(alloc, octets) {
+        Ok(Some(event)) => Ok(event),
+        _ => Err(AllocError),
+    }
+}
+
+/// This many equal octets of a file.
+fn file_data(
+    alloc: Global,
+    number: u8,
+    offset: u64,
+    count: usize,
+    octet: u8,
+) -> Result<Event, Memory> {
+    let mut octets = Vec::new(alloc);
+    octets.resize(count, octet)?;
+    Ok(Event::Data(header(number), FileData { offset, octets }))
+}
+
+impl Given {
+    pub fn event(self, alloc: Global) -> Result<Event, Memory> {
+        match self {
+            Given::Pdu(text) => event_in(alloc, &octets_of(alloc, text)?),
+            Given::Octets(number, offset, count, octet) => {
+                file_data(alloc, number, offset, count, octet)
+            }
+            Given::Step(number) => Ok(Event::Step(id(number))),
+            Given::Cancel(number) => Ok(Event::Cancel(id(number))),
+            Given::Check(number) => Ok(Event::Check(id(number))),
+            Given::Take(number) => Ok(Event::Take(id(number))),
+        }
+    }
+}
+
+/// The status of an octet that is in a response.
+fn status_of(rt: &impl Abort, octet: u8) -> Status {
+    let status = Status::of_octet(octet);
+    assert!(rt; status.is_some());
+    status.unwrap_or(Status::NotAllowed(Action::CreateFile))
+}
+
+impl Told {
+    /// The reply. Where it hands out an outcome that is compared by itself: out of memory, which no row says.
+    fn reply(self, rt: &impl Abort) -> Reply {
+        match self {
+            Told::Admitted(blocks, steps) => Reply::Admitted(blocks, steps),
+            Told::BadDestination => Reply::Refused(Refusal::BadPath(Place::Destination)),
+            Told::Conflict(number) => Reply::Refused(Refusal::Conflict(id(number))),
+            Told::Stored => Reply::Stored,
+            Told::Dropped => Reply::Dropped,
+            Told::Complete => Reply::Complete,
+            Told::Waiting => Reply::Waiting,
+            Told::Faulted(condition) => Reply::Faulted(condition),
+            Told::Performed(octet) => Reply::Performed(status_of(rt, octet)),
+            Told::Installed => Reply::Installed,
+            Told::Done => Reply::Done,
+            Told::Cancelled => Reply::Cancelled,
+            Told::Duplicate => Reply::Duplicate,
+            Told::Unknown => Reply::Unknown,
+            Told::Idle => Reply::Idle,
+            Told::NotForUs => Reply::NotForUs,
+            Told::TableFull => Reply::TableFull,
+            Told::JournalFull => Reply::JournalFull,
+            Told::Finished(_) => Reply::Memory,
+        }
+    }
+}
+
+/// Whether the outcome is sent as this Finished PDU.
+fn is_sent_as(alloc: Global, outcome: &Outcome, text: &str) -> Result<bool, Memory> {
+    match pdu_in(alloc, &octets_of(alloc, text)?)? {
+        Pdu::Finished(header, finished) => {
+            Ok(outcome.send && outcome.header == header && outcome.finished == finished)
+        }
+        _ => Ok(false),
+    }
+}
+
+/// Whether the outcome that is handed out, if one is, is sent as this Finished PDU.
+fn is_finished(alloc: Global, reply: &Reply, text: &str) -> Result<bool, Memory> {
+    match reply {
+        Reply::Taken(shared) => is_sent_as(alloc, shared.outcome(), text),
+        _ => Ok(false),
+    }
+}
+
+/// Whether the reply is the one that is reported.
+pub fn is_told(rt: &impl Abort, alloc: Global, reply: &Reply, told: Told) -> Result<bool, Memory> {
+    match told {
+        Told::Finished(text) => is_finished(alloc, reply, text),
+        _ => Ok(reply.same(&told.reply(rt))),
+    }
+}
+
+/// The entity 2 that has just begun, over an empty store of 64 blocks, where a file of unbounded size has 2,400 octets
+/// at most. These limits are good: only memory can be refused.
+fn entity_over<S: Filestore>(alloc: Global, store: S) -> Result<Core<S>, Memory>
+    requires { S.state store ≡ empty_store 64 (S.state store).takes_no_memory }
+{
+    match Config::new(2, 64, 2400, 2, 1000, Protected::new()) {
+        Ok(config) => Core::new(alloc, config, store),
+        Err(_) => Err(AllocError),
+    }
+}
+
+/// The reply, by one call or by the one that gives it twice.
+fn apply<S: Filestore>(rt: &impl Abort, core: &mut Core<S>, event: &Event, twice: bool) -> Reply {
+    if !twice {
+        return core.apply(event);
+    }
+    let (reply, again) = core.apply_both(event);
+    assert!(rt; reply.same(&again));
+    reply
+}
+
+/// What stays the same when memory is refused: how far a transaction is, what it was granted and whether it holds
+/// leases, the free blocks and those to spare, and the first transaction that is performed.
+type Books = (
+    Option<Phase>,
+    Option<(u32, u32)>,
+    bool,
+    (u32, u32),
+    Option<TransactionId>,
+);
+
+fn books<S: Filestore>(core: &Core<S>, id: TransactionId) -> Books {
+    (
+        core.phase(id),
+        core.grant(id),
+        core.leases().holds(id),
+        (core.store().free(), core.spare()),
+        core.next_runnable(),
+    )
+}
+
+/// Whether books, blocks and what exists are as they were.
+fn is_as_before<S: Filestore>(
+    alloc: Global,
+    core: &Core<S>,
+    id: TransactionId,
+    before: &(Books, Vec<Entry>),
+) -> Result<bool, Memory> {
+    let listing = core.store().listing(alloc)?;
+    Ok(books(core, id) == before.0 && listing == before.1)
+}
+
+/// Whether an event may be answered with out of memory: over a store that takes none only Metadata and Take may.
+fn may_want_memory<S: Filestore>(core: &Core<S>, event: &Event) -> bool {
+    !core.store().takes_no_memory() || matches!(event, Event::Metadata(..) | Event::Take(_))
+}
+
+/// The reply; where memory is refused, which may be, nothing has changed, and the same event is handed in again.
+fn hand_in<S: Filestore>(
+    rt: &impl Abort,
+    alloc: Global,
+    core: &mut Core<S>,
+    event: &Event,
+    twice: bool,
+) -> Result<Reply, Memory> {
+    let before = (
+        books(core, event.transaction()),
+        core.store().listing(alloc)?,
+    );
+    let reply = apply(rt, core, event, twice);
+    if let Reply::Memory = reply {
+        let same = is_as_before(alloc, core, event.transaction(), &before)?;
+        assert!(rt; same && may_want_memory(core, event));
+        return Ok(apply(rt, core, event, twice));
+    }
+    Ok(reply)
+}
+
+/// Whether the reply to what is handed in is the one that is reported.
+fn replies<S: Filestore>(
+    rt: &impl Abort,
+    alloc: Global,
+    core: &mut Core<S>,
+    (given, told): (Given, Told),
+    twice: bool,
+) -> Result<bool, Memory> {
+    let event = given.event(alloc)?;
+    let reply = hand_in(rt, alloc, core, &event, twice)?;
+    is_told(rt, alloc, &reply, told)
+}
+
+/// Whether an entry of the listing is what is expected.
+fn is_standing(alloc: Global, entry: &Entry, expected: Standing) -> Result<bool, Memory> {
+    let path = path_of(alloc, expected.0)?;
+    let same = match expected.1 {
+        None => entry.kind == Kind::Directory,
+        Some((size, checksum)) => {
+            entry.kind == Kind::File && entry.size == size && entry.checksum == checksum
+        }
+    };
+    Ok(same && entry.path == path)
+}
+
+/// Whether what exists is what is expected, in path order.
+fn stands<S: Filestore>(
+    alloc: Global,
+    core: &Core<S>,
+    expected: &[Standing],
+) -> Result<bool, Memory> {
+    let listing = core.store().listing(alloc)?;
+    for (entry, row) in listing.iter().zip(expected) {
+        if !is_standing(alloc, entry, *row)? {
+            return Ok(false);
+        }
+    }
+    Ok(listing.len() == expected.len())
+}
+
+/// Whether this many blocks are free, and this many of them were granted to nobody.
+fn has_free<S: Filestore>(core: &Core<S>, free: u32, spare: u32) -> bool {
+    core.store().free() == free && core.spare() == spare
+}
+
+/// Whether this is what is missing of a transaction's file.
+fn has_gaps<S: Filestore>(core: &Core<S>, number: u8, expected: &[(u64, u64)]) -> bool {
+    match core.gaps(id(number)) {
+        None => expected.is_empty(),
+        Some(gaps) => gaps.as_slice() == expected,
+    }
+}
+
+/// Whether a transaction spent this many blocks and steps.
+fn has_spent<S: Filestore>(core: &Core<S>, number: u8, blocks: i64, steps: u32) -> bool {
+    core.blocks_spent(id(number)) == Some(blocks) && core.steps_spent(id(number)) == Some(steps)
+}
+
+/// Whether a transaction's file has come so far.
+fn has_reached<S: Filestore>(core: &Core<S>, number: u8, progress: u64, reach: u64) -> bool {
+    core.progress(id(number)) == Some(progress) && core.reach(id(number)) == Some(reach)
+}
+
+/// Whether a transaction's Metadata has this size and this destination file name.
+fn has_metadata<S: Filestore>(core: &Core<S>, number: u8, size: u64, name: &[u8]) -> bool {
+    match core.metadata(id(number)) {
+        None => false,
+        Some(metadata) => metadata.size == size && metadata.destination_name.as_slice() == name,
+    }
+}
+
+/// Whether these are all transactions, in order of admission.
+fn has_order<S: Filestore>(core: &Core<S>, numbers: &[u8]) -> bool {
+    for (index, number) in numbers.iter().enumerate() {
+        if core.transaction_at(index) != Some(id(*number)) {
+            return false;
+        }
+    }
+    core.transaction_at(numbers.len()) == None
+}
+
+/// Whether this is the first transaction whose outcome can be taken.
+fn is_next_outcome<S: Filestore>(core: &Core<S>, number: Option<u8>) -> bool {
+    match number {
+        None => core.next_outcome() == None,
+        Some(number) => core.next_outcome() == Some(id(number)),
+    }
+}
+
+/// Whether a row holds.
+fn is_met<S: Filestore>(
+    rt: &impl Abort,
+    alloc: Global,
+    core: &mut Core<S>,
+    row: Row,
+    twice: bool,
+) -> Result<bool, Memory> {
+    match row {
+        Row::On(given, told) => replies(rt, alloc, core, (given, told), twice),
+        Row::Standing(expected) => stands(alloc, core, expected),
+        Row::Store(free, spare) => Ok(has_free(core, free, spare)),
+        Row::Gaps(number, expected) => Ok(has_gaps(core, number, expected)),
+        Row::Spent(number, blocks, steps) => Ok(has_spent(core, number, blocks, steps)),
+        Row::Phase(number, phase) => Ok(core.phase(id(number)) == phase),
+        Row::Runnable(None) => Ok(core.next_runnable() == None),
+        Row::Runnable(Some(number)) => Ok(core.next_runnable() == Some(id(number))),
+        Row::Reached(number, progress, reach) => Ok(has_reached(core, number, progress, reach)),
+        Row::Metadata(number, size, name) => Ok(has_metadata(core, number, size, name)),
+        Row::Order(numbers) => Ok(has_order(core, numbers)),
+        Row::Over(number) => Ok(is_next_outcome(core, number)),
+    }
+}
+
+/// Hands rows to an entity.
+fn meet<S: Filestore>(
+    rt: &impl Abort,
+    alloc: Global,
+    core: &mut Core<S>,
+    rows: &[Row],
+    twice: bool,
+) -> Result<(), Memory> {
+    for (place, row) in rows.iter().enumerate() {
+        let met = is_met(rt, alloc, core, *row, twice)?;
+        assert!(rt; met, "at row {place}");
+    }
+    Ok(())
+}
+
+/// Hands rows to an entity that has just begun, over an empty store.
+fn run<S: Filestore>(
+    rt: &impl Abort,
+    alloc: Global,
+    rows: &[Row],
+    twice: bool,
+    store: S,
+) -> Result<(), Memory>
+    requires { S.state store ≡ empty_store 64 (S.state store).takes_no_memory }
+{
+    let mut core = entity_over(alloc, store)?;
+    meet(rt, alloc, &mut core, rows, twice)
+}
+
+fn check_rows(rt: &impl Abort, alloc: Global, rows: &[Row], trial: Trial) -> Result<(), Memory> {
+    if trial.tree {
+        run(rt, alloc, rows, trial.twice, TreeStore::new(alloc, 64)?)
+    } else {
+        run(rt, alloc, rows, trial.twice, ListStore::new(alloc, 64)?)
+    }
+}
+
+/// Hands rows to an entity that has just begun, and to another one whose replies are given twice, over a store of each
+/// kind.
+pub fn check(rt: &impl Abort, alloc: Global, rows: &[Row]) -> Result<(), Memory> {
+    for trial in &TRIALS {
+        check_rows(rt, alloc, rows, *trial)?;
+    }
+    Ok(())
+}
+
+/// The same with the rows of each case.
+pub fn check_all(rt: &impl Abort, alloc: Global, cases: &[&[Row]]) -> Result<(), Memory> {
+    for case in cases {
+        check(rt, alloc, case)?;
+    }
+    Ok(())
+}

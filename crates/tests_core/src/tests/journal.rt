@@ -1,0 +1,253 @@
+//! A journal of sixteen entries that some Metadata PDUs filled in part: worked transactions go on until it is full, and
+//! nothing goes in from then on. An event for which memory was refused is handed in once more.
+
+use super::entity::{Given, Told, id, is_told};
+use cfdp_actions::{Entry, Filestore, Protected};
+use cfdp_engine::Journaled;
+use cfdp_paths::Memory;
+use cfdp_transactions::{Config, Core, Phase, Reply};
+use cfdp_tree::TreeStore;
+use std::alloc::{AllocError, Global};
+use std::process::Abort;
+use std::sync::Arc;
+
+/// Four transactions one after another: a file that is created, neither a file nor requests, a file in two pieces,
+/// denials.
+static FOUR: [(Given, Told); 20] = [
+    (
+        Given::Pdu("24000d0001050207400000000000000003000161"),
+        Told::Admitted(1, 2),
+    ),
+    (
+        Given::Pdu("24000a0001050204000000000000000000"),
+        Told::Complete,
+    ),
+    (Given::Step(5), Told::Performed(0x00)),
+    (
+        Given::Take(5),
+        Told::Finished("2c0008000105020503010400016100"),
+    ),
+    (
+        Given::Pdu("240008000106020740000000000000"),
+        Told::Admitted(0, 0),
+    ),
+    (Given::Pdu("24000a0001060204000000000000000000"), Told::Done),
+    (Given::Step(6), Told::Idle),
+    (Given::Take(6), Told::Finished("2c0002000106020503")),
+    (
+        Given::Pdu("24000a00010a0207400000000f01730166"),
+        Told::Admitted(2, 2),
+    ),
+    (
+        Given::Pdu("34000b00010a020000000808090a0b0c0d0e"),
+        Told::Stored,
+    ),
+    (
+        Given::Pdu("34000e00010a020000000000010203040506070809"),
+        Told::Stored,
+    ),
+    (
+        Given::Pdu("24000a00010a020400181c20150000000f"),
+        Told::Complete,
+    ),
+    (Given::Step(10), Told::Installed),
+    (Given::Take(10), Told::Finished("2c000200010a020502")),
+    (
+        Given::Pdu("24001400010e020740000000000000000370017a00058003792f7a"),
+        Told::Admitted(0, 2),
+    ),
+    (
+        Given::Pdu("24000a00010e0204000000000000000000"),
+        Told::Complete,
+    ),
+    (Given::Step(14), Told::Performed(0x70)),
+    (Given::Step(14), Told::Performed(0x80)),
+    (
+        Given::Take(14),
+        Told::Finished("2c001000010e020503010470017a0001068003792f7a00"),
+    ),
+    // After all of them the journal is full.
+    (Given::Cancel(14), Told::JournalFull),
+];
+
+/// A path in two spellings; and a list that is cancelled after its first request, whose leases another transaction
+/// then gets.
+static TWO_MORE: [(Given, Told); 11] = [
+    (
+        Given::Pdu("240013000108020740000000000000000400022f610003100161"),
+        Told::Admitted(1, 4),
+    ),
+    (
+        Given::Pdu("24000a0001080204000000000000000000"),
+        Told::Complete,
+    ),
+    (Given::Step(8), Told::Performed(0x00)),
+    (Given::Step(8), Told::Performed(0x10)),
+    (
+        Given::Take(8),
+        Told::Finished("2c000f000108020503010500022f6100010410016100"),
+    ),
+    (
+        Given::Pdu("24001700010c020740000000000000000300016100030001620003000163"),
+        Told::Admitted(3, 6),
+    ),
+    (
+        Given::Pdu("24000a00010c0204000000000000000000"),
+        Told::Complete,
+    ),
+    (Given::Step(12), Told::Performed(0x00)),
+    (Given::Cancel(12), Told::Cancelled),
+    (
+        Given::Pdu("24000d00010d0207400000000000000003100161"),
+        Told::Admitted(0, 2),
+    ),
+    (
+        Given::Take(12),
+        Told::Finished("2c001700010c0205f301040001610001040f01620001040f016300060102"),
+    ),
+];
+
+/// Sixteen Metadata PDUs, of neither a file nor requests, of transactions of entity 3.
+static FILLERS: [&str; 16] = [
+    "240008000301020740000000000000",
+    "240008000302020740000000000000",
+    "240008000303020740000000000000",
+    "240008000304020740000000000000",
+    "240008000305020740000000000000",
+    "240008000306020740000000000000",
+    "240008000307020740000000000000",
+    "240008000308020740000000000000",
+    "240008000309020740000000000000",
+    "24000800030a020740000000000000",
+    "24000800030b020740000000000000",
+    "24000800030c020740000000000000",
+    "24000800030d020740000000000000",
+    "24000800030e020740000000000000",
+    "24000800030f020740000000000000",
+    "240008000310020740000000000000",
+];
+
+pub type Engine = Journaled<TreeStore>;
+
+/// The entity 2 that has just begun, with a journal of this many entries, which may be: only memory can be refused.
+pub fn engine(alloc: Global, entries: u32) -> Result<Engine, Memory> {
+    let Ok(config) = Config::new(2, 64, 2400, 2, entries, Protected::new()) else {
+        return Err(AllocError);
+    };
+    let store = TreeStore::new(alloc, 64)?;
+    let core = Core::new(alloc, config, store)?;
+    Journaled::new(alloc, core)
+}
+
+/// What exists, the blocks to spare, the entries, and how far the four transactions are.
+type Seen = (Vec<Entry>, u32, usize, [Option<Phase>; 4]);
+
+fn seen(alloc: Global, engine: &Engine) -> Result<Seen, Memory> {
+    let core = engine.core();
+    let phases = [
+        core.phase(id(5)),
+        core.phase(id(6)),
+        core.phase(id(10)),
+        core.phase(id(14)),
+    ];
+    let listing = core.store().listing(alloc)?;
+    Ok((listing, core.spare(), engine.journal().len(), phases))
+}
+
+/// Whether all is as it was.
+fn is_as_before(alloc: Global, engine: &Engine, before: &Seen) -> Result<bool, Memory> {
+    Ok(seen(alloc, engine)? == *before)
+}
+
+/// The reply to an event. Where memory is refused or the journal is full, nothing has changed.
+fn accept(
+    rt: &impl Abort,
+    alloc: Global,
+    engine: &mut Engine,
+    given: Given,
+) -> Result<Reply, Memory> {
+    let before = seen(alloc, engine)?;
+    let event = Arc::new(alloc, given.event(alloc)?)?;
+    let reply = engine.accept(0, event);
+    if matches!(reply, Reply::Memory | Reply::JournalFull) {
+        let same = is_as_before(alloc, engine, &before)?;
+        assert!(rt; same);
+    }
+    Ok(reply)
+}
+
+/// Whether an event is replied to so. Where memory is refused the same event is handed in again.
+fn replies(
+    rt: &impl Abort,
+    alloc: Global,
+    engine: &mut Engine,
+    given: Given,
+    told: Told,
+) -> Result<bool, Memory> {
+    let reply = match accept(rt, alloc, engine, given)? {
+        Reply::Memory => accept(rt, alloc, engine, given)?,
+        reply => reply,
+    };
+    is_told(rt, alloc, &reply, told)
+}
+
+/// Whether an event of the transactions, before which `count` events were journaled or refused, is replied to as it has
+/// to be: the first sixteen by their own replies, and all others by JournalFull.
+fn goes_on(
+    rt: &impl Abort,
+    alloc: Global,
+    engine: &mut Engine,
+    row: (Given, Told),
+    count: usize,
+) -> Result<bool, Memory> {
+    let told = if count < 16 { row.1 } else { Told::JournalFull };
+    replies(rt, alloc, engine, row.0, told)
+}
+
+/// Fills in this many entries.
+fn fill(rt: &impl Abort, alloc: Global, engine: &mut Engine, count: usize) -> Result<(), Memory> {
+    for text in FILLERS.iter().take(count) {
+        let told = replies(rt, alloc, engine, Given::Pdu(*text), Told::Admitted(0, 0))?;
+        assert!(rt; told);
+    }
+    Ok(())
+}
+
+/// Hands in the events of transactions, after `count` others.
+fn go_on(
+    rt: &impl Abort,
+    alloc: Global,
+    engine: &mut Engine,
+    rows: &[(Given, Told)],
+    count: usize,
+) -> Result<(), Memory> {
+    let mut before = count;
+    for row in rows {
+        let well = goes_on(rt, alloc, engine, *row, before)?;
+        assert!(rt; well, "event {before}, of which {count} are fillers");
+        before = before.saturating_add(1);
+    }
+    Ok(())
+}
+
+fn check_behind(rt: &impl Abort, alloc: Global, count: usize) -> Result<(), Memory> {
+    let mut engine = engine(alloc, 16)?;
+    fill(rt, alloc, &mut engine, count)?;
+    go_on(rt, alloc, &mut engine, &FOUR, count)?;
+    assert!(rt; engine.journal().len() == 16);
+    Ok(())
+}
+
+#[test]
+fn fills_behind_any_number_of_entries(rt: HostRuntime) -> Result<(), Memory> {
+    for count in 0..=16usize {
+        check_behind(&rt, rt.alloc(), count)?;
+    }
+    Ok(())
+}
+
+#[test]
+fn goes_on_where_memory_is_refused(rt: HostRuntime) -> Result<(), Memory> {
+    let mut engine = engine(rt.alloc(), 16)?;
+    go_on(&rt, rt.alloc(), &mut engine, &TWO_MORE, 0)
+}

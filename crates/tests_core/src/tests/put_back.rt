@@ -1,0 +1,188 @@
+//! What is put into a filestore before the first PDU: each reason for which nothing is put, out of memory, and a
+//! filestore that is read out of one entity and put into another.
+
+use super::entity::octets_of;
+use super::scene::path_of;
+use cfdp_actions::{Entry, Filestore, Kind, ListStore, Protected};
+use cfdp_entity::Entity;
+use cfdp_paths::{Memory, Path};
+use cfdp_status::TransactionId;
+use cfdp_transactions::{Config, Core, NotPut};
+use std::alloc::{AllocError, Global};
+use std::process::Abort;
+
+/// A path, and a directory, or a file of this many equal octets.
+type Put = (&'static [u8], Option<(usize, u8)>);
+
+/// What is put, and why it is not.
+type Row = (Put, Option<NotPut>);
+
+const FILES: &[Put] = &[
+    (b"app", None),
+    (b"app/empty", Some((0, 0))),
+    (b"app/prog", Some((400, 7))),
+    (b"boot", None),
+    (b"boot/a", None),
+    (b"boot/a/image", Some((24, 1))),
+];
+
+/// In a filestore of 16 blocks: `app/prog` takes 5 of them, so that a file of 1,080 octets takes all that are left.
+const REASONS: &[Row] = &[
+    ((b"app/prog", Some((1, 1))), Some(NotPut::NoParent)),
+    ((b"app", None), None),
+    ((b"app", None), Some(NotPut::Exists)),
+    ((b"app", Some((0, 0))), Some(NotPut::Exists)),
+    ((b"app/prog", Some((400, 7))), None),
+    ((b"app/prog/x", None), Some(NotPut::NoParent)),
+    ((b"large", Some((1081, 0))), Some(NotPut::NoRoom)),
+    ((b"large", Some((1080, 0))), None),
+    ((b"more", None), Some(NotPut::NoRoom)),
+];
+
+/// An entity with a filestore of 16 blocks. The limits are good: only memory can be refused.
+fn new_entity(alloc: Global) -> Result<Entity, Memory> {
+    match Config::new(2, 16, 2400, 2, 1000, Protected::new()) {
+        Ok(config) => Entity::new(alloc, config),
+        Err(_) => Err(AllocError),
+    }
+}
+
+/// The same over a store that takes memory for each change.
+fn new_core(alloc: Global) -> Result<Core<ListStore>, Memory> {
+    match Config::new(2, 16, 2400, 2, 1000, Protected::new()) {
+        Ok(config) => Core::new(alloc, config, ListStore::new(alloc, 16)?),
+        Err(_) => Err(AllocError),
+    }
+}
+
+/// This many equal octets.
+fn equal(alloc: Global, count: usize, octet: u8) -> Result<Vec<u8>, Memory> {
+    let mut octets = Vec::new(alloc);
+    octets.resize(count, octet)?;
+    Ok(octets)
+}
+
+/// Why it is not put.
+fn put(alloc: Global, entity: &mut Entity, what: Put) -> Result<Option<NotPut>, Memory> {
+    let (path, octets) = what;
+    let path = path_of(alloc, path)?;
+    let done = match octets {
+        None => entity.put_directory(&path),
+        Some((count, octet)) => entity.put_file(&path, &equal(alloc, count, octet)?),
+    };
+    Ok(done.err())
+}
+
+/// The Metadata PDU of transaction 1/1: create directory `app`, create file `app/prog`.
+const METADATA: &str = "24001b00010102074000000000000000055003617070000a00086170702f70726f67";
+
+/// The octets of the file at an entry; none of a directory.
+fn octets_at(alloc: Global, entity: &Entity, entry: &Entry) -> Result<Vec<u8>, Memory> {
+    let mut octets = Vec::new(alloc);
+    if let Kind::File = entry.kind {
+        octets.resize(entry.size as usize, 0)?;
+        let store = entity.core().store();
+        let _count = store.read_at(entry.path.names(), 0, &mut octets);
+    }
+    Ok(octets)
+}
+
+#[test]
+fn each_reason(rt: HostRuntime) -> Result<(), Memory> {
+    let alloc = rt.alloc();
+    let mut entity = new_entity(alloc)?;
+    for (number, (what, why)) in REASONS.iter().enumerate() {
+        assert!(&rt; put(alloc, &mut entity, *what)? == *why, "row {number}");
+    }
+    assert!(&rt; entity.core().spare() == 0);
+    Ok(())
+}
+
+#[test]
+fn beside_transactions(rt: HostRuntime) -> Result<(), Memory> {
+    let alloc = rt.alloc();
+    let mut entity = new_entity(alloc)?;
+    let id = TransactionId {
+        source: 1,
+        number: 1,
+    };
+    let octets = octets_of(alloc, METADATA)?;
+    assert!(&rt; entity.receive(alloc, &octets).is_ok());
+    assert!(&rt; put(alloc, &mut entity, FILES[0])? == Some(NotPut::HasTransactions));
+    entity.cancel(id);
+    assert!(&rt; put(alloc, &mut entity, FILES[0])? == Some(NotPut::HasTransactions));
+    assert!(&rt; entity.take(alloc, id, &mut [0; 64]).is_ok());
+    assert!(&rt; put(alloc, &mut entity, FILES[0])?.is_none());
+    Ok(())
+}
+
+/// Puts it into a store that takes memory.
+fn put_in(core: &mut Core<ListStore>, path: &Path, octets: &Option<Vec<u8>>) -> Result<(), NotPut> {
+    match octets {
+        None => core.put_directory(path),
+        Some(octets) => core.put_file(path, octets),
+    }
+}
+
+/// Where memory is refused, all is as before, and the same call can be made again.
+#[test]
+fn memory(rt: HostRuntime) -> Result<(), Memory> {
+    let alloc = rt.alloc();
+    let mut core = new_core(alloc)?;
+    for (path, file) in FILES {
+        let path = path_of(alloc, path)?;
+        let octets = match *file {
+            None => None,
+            Some((count, octet)) => Some(equal(alloc, count, octet)?),
+        };
+        let before = (core.store().listing(alloc)?, core.spare());
+        let mut done = put_in(&mut core, &path, &octets);
+        if done == Err(NotPut::Memory) {
+            assert!(&rt; before == (core.store().listing(alloc)?, core.spare()));
+            done = put_in(&mut core, &path, &octets);
+        }
+        assert!(&rt; done.is_ok());
+    }
+    Ok(())
+}
+
+/// Puts what an entry of one entity's filestore says into another: whether it was put.
+fn put_entry(alloc: Global, from: &Entity, to: &mut Entity, entry: &Entry) -> Result<bool, Memory> {
+    let octets = octets_at(alloc, from, entry)?;
+    let done = match entry.kind {
+        Kind::Directory => to.put_directory(&entry.path),
+        Kind::File => to.put_file(&entry.path, &octets),
+    };
+    Ok(done.is_ok())
+}
+
+/// Whether both have the same octets at an entry.
+fn is_same(alloc: Global, one: &Entity, other: &Entity, entry: &Entry) -> Result<bool, Memory> {
+    Ok(octets_at(alloc, one, entry)? == octets_at(alloc, other, entry)?)
+}
+
+/// An entity whose filestore has the files.
+fn with_files(rt: &impl Abort, alloc: Global) -> Result<Entity, Memory> {
+    let mut entity = new_entity(alloc)?;
+    for what in FILES {
+        assert!(rt; put(alloc, &mut entity, *what)?.is_none());
+    }
+    Ok(entity)
+}
+
+#[test]
+fn the_same_again(rt: HostRuntime) -> Result<(), Memory> {
+    let alloc = rt.alloc();
+    let before = with_files(&rt, alloc)?;
+    let mut after = new_entity(alloc)?;
+    let listing = before.core().store().listing(alloc)?;
+    for entry in &listing {
+        assert!(&rt; put_entry(alloc, &before, &mut after, entry)?);
+    }
+    for entry in &listing {
+        assert!(&rt; is_same(alloc, &before, &after, entry)?);
+    }
+    assert!(&rt; after.core().store().listing(alloc)? == listing);
+    assert!(&rt; after.core().spare() == before.core().spare());
+    Ok(())
+}

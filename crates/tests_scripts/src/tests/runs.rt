@@ -1,0 +1,152 @@
+//! Runs of `plain` and of `replay` that are made once more where memory is refused (`rt try --test --fail-alloc N`).
+//! With every allocation granted each runs once.
+use super::fakes::{Reader, Stream, Writer};
+use cfdp_sim::{RunFault, ScriptIn, ScriptOut, plain, plain_text, replay, replay_text};
+use std::alloc::Global;
+use std::process::Abort;
+
+/// What runs a script.
+#[derive(Clone, Copy)]
+pub(super) enum Kind {
+    Plain,
+    Replay,
+}
+
+/// How a run ends.
+pub(super) type End = Result<(), RunFault>;
+
+/// How a run ended, and its streams.
+#[derive(Drop)]
+pub(super) struct Ran<'a> {
+    pub(super) end: End,
+    pub(super) reader: Reader<'a>,
+    pub(super) writer: Writer,
+}
+
+impl<'a> Ran<'a> {
+    /// How it ended, and whether its reader and its writer have failed.
+    pub(super) fn told(&self) -> (End, bool, bool) {
+        let writer_failed = self.writer.has_failed();
+        (self.end, self.reader.has_failed(), writer_failed)
+    }
+
+    /// Whether what was written is a beginning of the report.
+    pub(super) fn has_begun(&self, report: &str) -> bool {
+        report.as_bytes().starts_with(&self.writer.text)
+    }
+
+    /// Whether the run was refused memory, or its writer was.
+    fn was_refused(&self) -> bool {
+        self.writer.refused || self.end == Err(RunFault::Memory)
+    }
+
+    /// Whether that is reported and nothing else has failed, and a beginning of the report was written, in whole lines
+    /// unless the writer was refused memory.
+    fn is_told_so(&self, report: &str) -> bool {
+        let refused = self.writer.refused;
+        let text = &self.writer.text;
+        let is_whole = refused || text.is_empty() || text.ends_with(b"\n");
+        let (_, reader_failed, writer_failed) = self.told();
+        is_whole && !reader_failed && writer_failed == refused && self.has_begun(report)
+    }
+}
+
+fn run_plain(alloc: Global, reader: &mut Reader<'_>, writer: &mut Writer) -> End {
+    plain(alloc, reader, writer)
+}
+
+fn run_replay(alloc: Global, reader: &mut Reader<'_>, writer: &mut Writer) -> End {
+    replay(alloc, reader, writer)
+}
+
+/// A script, what it writes where nothing fails, and the streams that it is run over.
+#[derive(Clone, Copy)]
+pub(super) struct Run<'a> {
+    pub(super) kind: Kind,
+    pub(super) script: &'a [u8],
+    pub(super) report: &'a str,
+    pub(super) reads: Stream,
+    pub(super) writes: Stream,
+}
+
+impl<'a> Run<'a> {
+    fn end(&self, alloc: Global, reader: &mut Reader<'_>, writer: &mut Writer) -> End {
+        match self.kind {
+            Kind::Plain => run_plain(alloc, reader, writer),
+            Kind::Replay => run_replay(alloc, reader, writer),
+        }
+    }
+
+    fn once(&self, alloc: Global) -> Ran<'a> {
+        let mut reader = Reader::new(self.script, self.reads);
+        let mut writer = Writer::new(alloc, self.writes);
+        let end = self.end(alloc, &mut reader, &mut writer);
+        Ran {
+            end,
+            reader,
+            writer,
+        }
+    }
+
+    /// Runs the script. Where memory is refused, to it or to the writer, that is reported and it runs once more over
+    /// streams made anew.
+    pub(super) fn run<R: Abort + Print>(&self, rt: &R, alloc: Global) -> Ran<'a> {
+        let ran = self.once(alloc);
+        if !ran.was_refused() {
+            return ran;
+        }
+        let _ = println!(rt; "a run was refused memory, or its writer");
+        assert!(rt; ran.is_told_so(self.report));
+        self.once(alloc)
+    }
+}
+
+fn is_plain(alloc: Global, script: &[u8], report: &[u8]) -> Result<bool, RunFault> {
+    let text = plain_text(alloc, script)?;
+    Ok(text.as_slice() == report)
+}
+
+fn is_replay(alloc: Global, script: &[u8], report: &[u8]) -> Result<bool, RunFault> {
+    let text = replay_text(alloc, script)?;
+    Ok(text.as_slice() == report)
+}
+
+/// Whether the text of a script in memory is the report.
+fn is_text(alloc: Global, kind: Kind, script: &[u8], report: &[u8]) -> Result<bool, RunFault> {
+    match kind {
+        Kind::Plain => is_plain(alloc, script, report),
+        Kind::Replay => is_replay(alloc, script, report),
+    }
+}
+
+/// Whether the text of a script in memory is the report, made once more where memory is refused.
+fn is_text_at_last<R: Print>(
+    rt: &R,
+    alloc: Global,
+    kind: Kind,
+    script: &[u8],
+    report: &[u8],
+) -> Result<bool, RunFault> {
+    match is_text(alloc, kind, script, report) {
+        Err(RunFault::Memory) => {
+            let _ = println!(rt; "a text was refused memory");
+            is_text(alloc, kind, script, report)
+        }
+        answer => answer,
+    }
+}
+
+/// Whether a script in memory has the report for its text, or comes to the fault.
+pub(super) fn has_text<R: Print>(
+    rt: &R,
+    alloc: Global,
+    kind: Kind,
+    script: &[u8],
+    report: &str,
+    end: End,
+) -> bool {
+    match is_text_at_last(rt, alloc, kind, script, report.as_bytes()) {
+        Ok(same) => same && end.is_ok(),
+        Err(fault) => end == Err(fault),
+    }
+}

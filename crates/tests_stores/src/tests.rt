@@ -1,0 +1,17 @@
+//! Worked scripts, with the statuses, the ticks and the free blocks that they come to, on two stores; scripts made at
+//! random on both side by side; the store inside an arena at its limits, by lent names, and gone through entry by
+//! entry; octets of sizes around those of blocks; what a store shows where memory is refused; and the arena under the
+//! store. `octets` has what is read and written octet by octet.
+
+mod arena;
+mod calls;
+mod lent;
+mod limits;
+mod many;
+mod next;
+mod octets;
+mod random;
+mod refused;
+mod sizes;
+mod steps;
+mod worked;

@@ -1,0 +1,93 @@
+//! The store inside an arena, gone through entry by entry.
+
+ghost use Rattle.std.specs.Prelude.{All};
+ghost use Rattle.cfdp_paths.specs.Paths.{IsName};
+
+use super::calls::{Asked, parsed};
+use super::steps::{BLOCKS, Stands, Step, take};
+use cfdp_actions::{Kind, Protected};
+use cfdp_paths::{Memory, Names};
+use cfdp_status::Action;
+use cfdp_tree::TreeStore;
+use std::alloc::Global;
+use std::process::Abort;
+
+/// Makes what is in [`ROWS`], in another order.
+const MAKES: &[Step<'static>] = &[
+    Step::Performs(Action::CreateFile, b"b", b"", 0x00, 1, 63),
+    Step::Performs(Action::CreateDirectory, b"ab", b"", 0x50, 1, 62),
+    Step::Performs(Action::CreateDirectory, b"a", b"", 0x50, 1, 61),
+    Step::Performs(Action::CreateFile, b"a!", b"", 0x00, 1, 60),
+    Step::Performs(Action::CreateDirectory, b"a/b", b"", 0x50, 1, 59),
+    Step::Takes(Asked::Extend(0, 3), 1, 58),
+    Step::Puts(0, 0, b"abc"),
+    Step::Takes(Asked::Install(0, b"a/b/c"), 1, 57),
+];
+
+/// What exists, in path order: names are compared whole, so that what is below `a` is before `a!`. The octets of
+/// `a/b/c` are the word 61 62 63 00.
+const ROWS: &[Stands<'static>] = &[
+    (b"a", Kind::Directory, 0, 0),
+    (b"a/b", Kind::Directory, 0, 0),
+    (b"a/b/c", Kind::File, 3, 0x6162_6300),
+    (b"a!", Kind::File, 0, 0),
+    (b"ab", Kind::Directory, 0, 0),
+    (b"b", Kind::File, 0, 0),
+];
+
+/// Paths, and the row that comes next after each: those that are there, and others.
+const ASKED: &[(&[u8], usize)] = &[
+    (b"a", 1),
+    (b"a/b", 2),
+    (b"a/b/c", 3),
+    (b"a!", 4),
+    (b"ab", 5),
+    (b"b", 6),
+    (b"A", 0),
+    (b"a/a", 1),
+    (b"a/a/c/d", 1),
+    (b"a/b/c/d", 3),
+    (b"a/b/d", 3),
+    (b"a/c", 3),
+    (b"a/b!", 3),
+    (b"a!/a", 4),
+    (b"aa", 4),
+    (b"ab/a/b/c/d/e/f/g", 5),
+    (b"b/a", 6),
+    (b"z", 6),
+];
+
+#[test]
+fn goes_through_in_path_order(rt: HostRuntime) -> Result<(), Memory> {
+    let alloc = rt.alloc();
+    let mut store = TreeStore::new(alloc, BLOCKS)?;
+    assert!(&rt; is_next(&store, Names::none(), None), "an empty store");
+    take(&rt, alloc, &mut store, &Protected::new(), "next", MAKES)?;
+    assert!(&rt;
+        is_next(&store, Names::none(), ROWS.first()),
+        "the first one"
+    );
+    for (number, (path, place)) in ASKED.iter().enumerate() {
+        let path = parsed(alloc, path)?;
+        assert!(&rt;
+            is_next(&store, path.names(), ROWS.get(*place)),
+            "path {number}"
+        );
+    }
+    Ok(())
+}
+
+/// Whether this is next after the path; `None` where nothing is.
+fn is_next(store: &TreeStore, after: Names<'_>, wanted: Option<&Stands<'_>>) -> bool
+    requires { All IsName after }
+{
+    let mut text = [0; 776];
+    match (store.next_entry(after, &mut text), wanted) {
+        (Some(found), Some((path, kind, size, sum))) => {
+            let is_same = found.kind == *kind && found.size == *size && found.checksum == *sum;
+            is_same && &text[found.start..] == *path
+        }
+        (None, None) => true,
+        _ => false,
+    }
+}

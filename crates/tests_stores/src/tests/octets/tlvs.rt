@@ -1,0 +1,367 @@
+//! Worked fields, requests and responses, the faults, and values at their greatest lengths.
+
+mod copies;
+mod limits;
+
+use super::{Row, all_hold};
+use cfdp_status::{Action, Status};
+use cfdp_tlv::*;
+use std::alloc::{AllocError, Global};
+
+// A request TLV, and its action and names.
+type Asked = (&'static [u8], Action, &'static [u8], Option<&'static [u8]>);
+
+static REQUESTS: [Asked; 11] = [
+    (b"\x00\x03\x00\x01a", Action::CreateFile, b"a", None),
+    (b"\x00\x03\x10\x01a", Action::DeleteFile, b"a", None),
+    (b"\x00\x03\x50\x01d", Action::CreateDirectory, b"d", None),
+    (b"\x00\x05\x00\x03d/x", Action::CreateFile, b"d/x", None),
+    (b"\x00\x03\x60\x01d", Action::RemoveDirectory, b"d", None),
+    (
+        b"\x00\x07\x20\x03d/x\x01b",
+        Action::RenameFile,
+        b"d/x",
+        Some(b"b"),
+    ),
+    (
+        b"\x00\x05\x40\x01b\x01c",
+        Action::ReplaceFile,
+        b"b",
+        Some(b"c"),
+    ),
+    (b"\x00\x03\x70\x01z", Action::DenyFile, b"z", None),
+    (b"\x00\x03\x80\x01d", Action::DenyDirectory, b"d", None),
+    (
+        b"\x00\x05\x30\x01b\x01b",
+        Action::AppendFile,
+        b"b",
+        Some(b"b"),
+    ),
+    (b"\x00\x04\x00\x02/a", Action::CreateFile, b"/a", None),
+];
+
+// A response TLV, and its status, names and message.
+type Told = (
+    &'static [u8],
+    Status,
+    &'static [u8],
+    Option<&'static [u8]>,
+    &'static [u8],
+);
+
+static RESPONSES: [Told; 14] = [
+    (
+        b"\x01\x04\x00\x01a\x00",
+        Status::Successful(Action::CreateFile),
+        b"a",
+        None,
+        b"",
+    ),
+    (
+        b"\x01\x04\x01\x01a\x00",
+        Status::NotAllowed(Action::CreateFile),
+        b"a",
+        None,
+        b"",
+    ),
+    (
+        b"\x01\x04\x0f\x01a\x00",
+        Status::NotPerformed(Action::CreateFile),
+        b"a",
+        None,
+        b"",
+    ),
+    (
+        b"\x01\x04\x10\x01a\x00",
+        Status::Successful(Action::DeleteFile),
+        b"a",
+        None,
+        b"",
+    ),
+    (
+        b"\x01\x04\x1f\x01a\x00",
+        Status::NotPerformed(Action::DeleteFile),
+        b"a",
+        None,
+        b"",
+    ),
+    (
+        b"\x01\x04\x50\x01d\x00",
+        Status::Successful(Action::CreateDirectory),
+        b"d",
+        None,
+        b"",
+    ),
+    (
+        b"\x01\x06\x00\x03d/x\x00",
+        Status::Successful(Action::CreateFile),
+        b"d/x",
+        None,
+        b"",
+    ),
+    (
+        b"\x01\x04\x62\x01d\x00",
+        Status::NotAllowed(Action::RemoveDirectory),
+        b"d",
+        None,
+        b"",
+    ),
+    (
+        b"\x01\x08\x20\x03d/x\x01b\x00",
+        Status::Successful(Action::RenameFile),
+        b"d/x",
+        Some(b"b"),
+        b"",
+    ),
+    (
+        b"\x01\x06\x2f\x01a\x01b\x00",
+        Status::NotPerformed(Action::RenameFile),
+        b"a",
+        Some(b"b"),
+        b"",
+    ),
+    (
+        b"\x01\x06\x42\x01b\x01c\x00",
+        Status::ReplaceSecondAbsent,
+        b"b",
+        Some(b"c"),
+        b"",
+    ),
+    (
+        b"\x01\x04\x80\x01d\x00",
+        Status::Successful(Action::DenyDirectory),
+        b"d",
+        None,
+        b"",
+    ),
+    (
+        b"\x01\x07\x30\x01b\x01b\x01m",
+        Status::Successful(Action::AppendFile),
+        b"b",
+        Some(b"b"),
+        b"m",
+    ),
+    (
+        b"\x01\x05\x00\x02/a\x00",
+        Status::Successful(Action::CreateFile),
+        b"/a",
+        None,
+        b"",
+    ),
+];
+
+// The value of a TLV field of this type with nothing after it; empty where it is no such field.
+fn value_in(tlv: &[u8], kind: u8) -> &[u8] {
+    match read_tlv(tlv) {
+        Ok(field) if field.kind == kind && field.rest.is_empty() => field.value,
+        _ => b"",
+    }
+}
+
+// The request of a whole TLV. Only memory can be refused.
+fn request_in(alloc: Global, tlv: &[u8]) -> Result<FilestoreRequest, AllocError> {
+    match read_request(alloc, value_in(tlv, FILESTORE_REQUEST)) {
+        Ok(request) => Ok(request),
+        Err(_) => Err(AllocError),
+    }
+}
+
+// The TLV of a request that is not too long, after these octets.
+fn written_request(
+    alloc: Global,
+    before: &[u8],
+    request: &FilestoreRequest,
+) -> Result<Vec<u8>, AllocError> {
+    let mut out = Vec::from_slice(alloc, before)?;
+    match write_request(request, &mut out) {
+        Ok(()) => Ok(out),
+        Err(_) => Err(AllocError),
+    }
+}
+
+// Whether a request is of this action and has these names.
+fn asks(request: &FilestoreRequest, action: Action, first: &[u8], second: Option<&[u8]>) -> bool {
+    request.action() == action && request.first() == first && request.second() == second
+}
+
+impl Row for Asked {
+    fn holds(&self, alloc: Global) -> Result<bool, AllocError> {
+        let request = request_in(alloc, self.0)?;
+        let out = written_request(alloc, b"x", &request)?;
+        Ok(asks(&request, self.1, self.2, self.3) && out.strip_prefix(b"x") == Some(self.0))
+    }
+}
+
+#[test]
+fn requests(rt: HostRuntime) {
+    all_hold(&rt, rt.alloc(), &REQUESTS);
+}
+
+// The response of a whole TLV. Only memory can be refused.
+fn response_in(alloc: Global, tlv: &[u8]) -> Result<FilestoreResponse, AllocError> {
+    match read_response(alloc, value_in(tlv, FILESTORE_RESPONSE)) {
+        Ok(response) => Ok(response),
+        Err(_) => Err(AllocError),
+    }
+}
+
+// The TLV of a response that is not too long, after these octets.
+fn written_response(
+    alloc: Global,
+    before: &[u8],
+    response: &FilestoreResponse,
+) -> Result<Vec<u8>, AllocError> {
+    let mut out = Vec::from_slice(alloc, before)?;
+    match write_response(response, &mut out) {
+        Ok(()) => Ok(out),
+        Err(_) => Err(AllocError),
+    }
+}
+
+// Whether a response has this status, these names and this message.
+fn tells(
+    response: &FilestoreResponse,
+    status: Status,
+    first: &[u8],
+    second: Option<&[u8]>,
+    message: &[u8],
+) -> bool {
+    response.status() == status
+        && response.first() == first
+        && response.second() == second
+        && response.message() == message
+}
+
+impl Row for Told {
+    fn holds(&self, alloc: Global) -> Result<bool, AllocError> {
+        let response = response_in(alloc, self.0)?;
+        let out = written_response(alloc, b"x", &response)?;
+        Ok(
+            tells(&response, self.1, self.2, self.3, self.4)
+                && out.strip_prefix(b"x") == Some(self.0),
+        )
+    }
+}
+
+#[test]
+fn responses(rt: HostRuntime) {
+    all_hold(&rt, rt.alloc(), &RESPONSES);
+}
+
+// Octets, and the value of the LV field at the front with what is after it, if it is whole.
+type Lv = (&'static [u8], Option<(&'static [u8], &'static [u8])>);
+
+static LVS: [Lv; 5] = [
+    (b"\x02ab\x00", Some((b"ab", b"\x00"))),
+    (b"\x00", Some((b"", b""))),
+    (b"", None),
+    (b"\x01", None),
+    (b"\xffabc", None),
+];
+
+impl Row for Lv {
+    fn holds(&self, _: Global) -> Result<bool, AllocError> {
+        Ok(read_lv(self.0).ok() == self.1)
+    }
+}
+
+#[test]
+fn lv_fields(rt: HostRuntime) {
+    all_hold(&rt, rt.alloc(), &LVS);
+}
+
+// Octets, and the type and the value of the TLV field at the front with what is after it, if it is whole.
+type Tlv = (&'static [u8], Option<(u8, &'static [u8], &'static [u8])>);
+
+static TLVS: [Tlv; 4] = [
+    (b"\x06\x01\x02\x00", Some((6, b"\x02", b"\x00"))),
+    (b"", None),
+    (b"\x00", None),
+    (b"\x00\x03\x00\x01", None),
+];
+
+fn tlv_parts(octets: &[u8]) -> Option<(u8, &[u8], &[u8])> {
+    let field = read_tlv(octets).ok()?;
+    Some((field.kind, field.value, field.rest))
+}
+
+impl Row for Tlv {
+    fn holds(&self, _: Global) -> Result<bool, AllocError> {
+        Ok(tlv_parts(self.0) == self.1)
+    }
+}
+
+#[test]
+fn tlv_fields(rt: HostRuntime) {
+    all_hold(&rt, rt.alloc(), &TLVS);
+}
+
+// What spells no request, and its fault.
+struct NoRequest(&'static [u8], TlvFault);
+
+static REQUEST_FAULTS: [NoRequest; 8] = [
+    NoRequest(b"", TlvFault::Truncated),
+    NoRequest(b"\x90\x01a", TlvFault::BadAction),
+    NoRequest(b"\x90", TlvFault::BadAction),
+    NoRequest(b"\x00", TlvFault::Truncated),
+    NoRequest(b"\x00\x02a", TlvFault::Truncated),
+    NoRequest(b"\x20\x01a", TlvFault::Truncated),
+    NoRequest(b"\x10\x01a\x00", TlvFault::Trailing),
+    NoRequest(b"\x20\x01a\x01b\x00", TlvFault::Trailing),
+];
+
+// What spells no response, and its fault.
+struct NoResponse(&'static [u8], TlvFault);
+
+static RESPONSE_FAULTS: [NoResponse; 7] = [
+    NoResponse(b"", TlvFault::Truncated),
+    NoResponse(b"\x90\x01a\x00", TlvFault::BadAction),
+    NoResponse(b"\x02\x01a\x00", TlvFault::BadStatus),
+    NoResponse(b"\x71", TlvFault::BadStatus),
+    NoResponse(b"\x00\x01a", TlvFault::Truncated),
+    NoResponse(b"\x20\x01a\x01b", TlvFault::Truncated),
+    NoResponse(b"\x00\x01a\x00\x00", TlvFault::Trailing),
+];
+
+impl Row for NoRequest {
+    fn holds(&self, alloc: Global) -> Result<bool, AllocError> {
+        Ok(read_request(alloc, self.0).err() == Some(self.1))
+    }
+}
+
+impl Row for NoResponse {
+    fn holds(&self, alloc: Global) -> Result<bool, AllocError> {
+        Ok(read_response(alloc, self.0).err() == Some(self.1))
+    }
+}
+
+// These are the answers too where each allocation is refused: a fault is found without memory.
+#[test]
+fn faults(rt: HostRuntime) {
+    all_hold(&rt, rt.alloc(), &REQUEST_FAULTS);
+    all_hold(&rt, rt.alloc(), &RESPONSE_FAULTS);
+}
+
+// Whether requests whose values differ in the spare bits say the same.
+fn spare_bits_say_nothing(alloc: Global) -> Result<bool, AllocError> {
+    let spare = request_in(alloc, b"\x00\x03\x1f\x01a")?;
+    Ok(spare == request_in(alloc, b"\x00\x03\x10\x01a")?)
+}
+
+#[test]
+fn spare_bits(rt: HostRuntime) {
+    assert!(rt; spare_bits_say_nothing(rt.alloc()) == Ok(true));
+}
+
+// A field is appended after what is there.
+fn appended(alloc: Global) -> Result<Vec<u8>, AllocError> {
+    let mut out = Vec::with_capacity(alloc, 4)?;
+    out.push_reserved(b'x');
+    push_lv(&mut out, b"ab");
+    Ok(out)
+}
+
+#[test]
+fn appended_field(rt: HostRuntime) {
+    assert!(rt; appended(rt.alloc()).as_deref() == Ok(b"x\x02ab".as_slice()));
+}

@@ -1,0 +1,256 @@
+//! Each call that can run out of memory, for runs in which one allocation is refused (`rt try --test --fail-alloc
+//! N`): a call whose own allocation it is answers `Memory` and leaves the store as before, and made once more it
+//! succeeds; where it is the test's own, the test ends. With every allocation granted each call succeeds at once. Of a
+//! `TreeStore` no change can be refused.
+
+use super::calls::{Asked, read_staged, staged_size};
+use super::steps::{BLOCKS, Script, Shown, Step};
+use cfdp_actions::{Entry, Filestore, Kind, ListStore, Protected};
+use cfdp_paths::Memory;
+use cfdp_status::Action;
+use cfdp_tree::TreeStore;
+use std::alloc::{AllocError, Global};
+use std::process::Abort;
+
+/// What a store shows of its state: all that exists, what is staged in one slot, and the free blocks.
+#[derive(Drop, PartialEq)]
+struct Picture {
+    listing: Vec<Entry>,
+    staged: Option<Vec<u8>>,
+    free: u32,
+}
+
+/// The slot in which the steps stage octets.
+const SLOT: u8 = 63;
+
+fn picture_of<S: Filestore>(alloc: Global, store: &S) -> Result<Picture, Memory> {
+    Ok(Picture {
+        listing: store.listing(alloc)?,
+        staged: read_staged(alloc, store, SLOT, 0, staged_size(store, SLOT))?,
+        free: store.free(),
+    })
+}
+
+/// Whether the step, which was refused memory, may want it, and left the store as it was.
+fn leaves<S: Filestore>(
+    alloc: Global,
+    store: &S,
+    step: &Step<'_>,
+    before: &Picture,
+) -> Result<bool, Memory> {
+    let may_want = !step.is_change() || !store.takes_no_memory();
+    Ok(may_want && picture_of(alloc, store)? == *before)
+}
+
+/// Takes a step: whether all is as it says. Where it is refused memory, that is reported, and it is taken once more.
+fn holds_at_last<S: Filestore, R: Abort + Print>(
+    rt: &R,
+    alloc: Global,
+    store: &mut S,
+    step: &Step<'_>,
+) -> Result<bool, Memory> {
+    let before = picture_of(alloc, store)?;
+    match step.holds(alloc, store, &Protected::new()) {
+        Err(AllocError) => {
+            let _ = println!(rt; "the step was refused memory");
+            Ok(leaves(alloc, store, step, &before)? && step.holds(alloc, store, &Protected::new())?)
+        }
+        answer => answer,
+    }
+}
+
+/// Takes the steps one after another. Of one that does not hold the script and its number are reported, from 0.
+fn take_at_last<S: Filestore, R: Abort + Print>(
+    rt: &R,
+    alloc: Global,
+    store: &mut S,
+    name: &str,
+    steps: &[Step<'_>],
+) -> Result<(), Memory> {
+    for (number, step) in steps.iter().enumerate() {
+        let holds = holds_at_last(rt, alloc, store, step)?;
+        assert!(rt; holds, "{name}: step {number}");
+    }
+    Ok(())
+}
+
+/// Of an empty store.
+const NEW: &[Step<'static>] = &[
+    Step::Shows(Shown::Listing(&[])),
+    Step::Shows(Shown::Staged(SLOT, 0, 0, b"")),
+    Step::Takes(Asked::Unstage(SLOT), 0, BLOCKS),
+];
+
+const CREATES: &[Step<'static>] = &[
+    Step::Performs(Action::CreateDirectory, b"d", b"", 0x50, 1, 63),
+    Step::Performs(Action::CreateFile, b"d/x", b"", 0x00, 1, 62),
+    Step::Performs(Action::CreateFile, b"d/x", b"", 0x01, 0, 62),
+    Step::Performs(Action::CreateFile, b"c", b"", 0x00, 1, 61),
+    Step::Shows(Shown::Listing(&[
+        (b"c", Kind::File, 0, 0),
+        (b"d", Kind::Directory, 0, 0),
+        (b"d/x", Kind::File, 0, 0),
+    ])),
+];
+
+const RENAMES: &[Step<'static>] = &[
+    Step::Performs(Action::CreateDirectory, b"d", b"", 0x50, 1, 63),
+    Step::Performs(Action::CreateFile, b"d/x", b"", 0x00, 1, 62),
+    Step::Performs(Action::RenameFile, b"d", b"e", 0x20, 0, 62),
+    Step::Performs(Action::RenameFile, b"e/x", b"c", 0x20, 0, 62),
+    Step::Shows(Shown::Listing(&[(b"c", Kind::File, 0, 0), (b"e", Kind::Directory, 0, 0)])),
+];
+
+const REMOVES: &[Step<'static>] = &[
+    Step::Performs(Action::CreateFile, b"a", b"", 0x00, 1, 63),
+    Step::Performs(Action::DeleteFile, b"a", b"", 0x10, 1, 64),
+    Step::Performs(Action::CreateFile, b"a", b"", 0x00, 1, 63),
+    Step::Performs(Action::DenyFile, b"a", b"", 0x70, 1, 64),
+    Step::Performs(Action::CreateDirectory, b"a", b"", 0x50, 1, 63),
+    Step::Performs(Action::RemoveDirectory, b"a", b"", 0x60, 1, 64),
+    Step::Performs(Action::CreateDirectory, b"a", b"", 0x50, 1, 63),
+    Step::Performs(Action::DenyDirectory, b"a", b"", 0x80, 1, 64),
+    Step::Shows(Shown::Listing(&[])),
+];
+
+/// A block of ones.
+const ONES: &[u8] = &[1; 120];
+
+/// What is delivered at `a` takes blocks of its own: one where it is staged, and one for the file.
+const APPENDS: &[Step<'static>] = &[
+    Step::Takes(Asked::Extend(SLOT, 120), 1, 63),
+    Step::Puts(SLOT, 0, ONES),
+    Step::Takes(Asked::Install(SLOT, b"a"), 1, 62),
+    Step::Performs(Action::AppendFile, b"a", b"a", 0x30, 2, 61),
+    Step::Shows(Shown::Listing(&[(b"a", Kind::File, 240, 0x3c3c_3c3c)])),
+];
+
+const REPLACES: &[Step<'static>] = &[
+    Step::Takes(Asked::Extend(SLOT, 120), 1, 63),
+    Step::Puts(SLOT, 0, ONES),
+    Step::Takes(Asked::Install(SLOT, b"a"), 1, 62),
+    Step::Performs(Action::CreateFile, b"b", b"", 0x00, 1, 61),
+    Step::Performs(Action::ReplaceFile, b"b", b"a", 0x40, 2, 60),
+    Step::Shows(Shown::Listing(&[
+        (b"a", Kind::File, 120, 0x1e1e_1e1e),
+        (b"b", Kind::File, 120, 0x1e1e_1e1e),
+    ])),
+];
+
+/// What is staged grows, is installed where nothing exists, and then over the file.
+const STAGES_AND_INSTALLS: &[Step<'static>] = &[
+    Step::Takes(Asked::Extend(SLOT, 4), 1, 63),
+    Step::Takes(Asked::Extend(SLOT, 120), 0, 63),
+    Step::Puts(SLOT, 0, ONES),
+    Step::Takes(Asked::Install(SLOT, b"a"), 1, 62),
+    Step::Takes(Asked::Extend(SLOT, 4), 1, 61),
+    Step::Puts(SLOT, 0, &[1; 4]),
+    Step::Takes(Asked::Install(SLOT, b"a"), 1, 62),
+    Step::Shows(Shown::Staged(SLOT, 0, 0, b"")),
+    Step::Shows(Shown::Listing(&[(b"a", Kind::File, 4, 0x0101_0101)])),
+];
+
+const WHAT_STANDS: &[Step<'static>] = &[
+    Step::Performs(Action::CreateDirectory, b"d", b"", 0x50, 1, 63),
+    Step::Performs(Action::CreateFile, b"d/x", b"", 0x00, 1, 62),
+    Step::Shows(Shown::Listing(&[(b"d", Kind::Directory, 0, 0), (b"d/x", Kind::File, 0, 0)])),
+    Step::Shows(Shown::Standing(
+        b"d",
+        &[(b"d", Kind::Directory, 0, 0), (b"d/x", Kind::File, 0, 0)],
+    )),
+];
+
+/// Each is run in stores of its own.
+static SCRIPTS: [Script<'static>; 8] = [
+    Script {
+        name: "new",
+        parts: &[NEW],
+    },
+    Script {
+        name: "creates",
+        parts: &[CREATES],
+    },
+    Script {
+        name: "renames",
+        parts: &[RENAMES],
+    },
+    Script {
+        name: "removes",
+        parts: &[REMOVES],
+    },
+    Script {
+        name: "appends",
+        parts: &[APPENDS],
+    },
+    Script {
+        name: "replaces",
+        parts: &[REPLACES],
+    },
+    Script {
+        name: "stages and installs",
+        parts: &[STAGES_AND_INSTALLS],
+    },
+    Script {
+        name: "what stands",
+        parts: &[WHAT_STANDS],
+    },
+];
+
+/// Runs the script in a new store of each kind.
+fn run_at_last<R: Abort + Print>(rt: &R, alloc: Global, script: &Script<'_>) -> Result<(), Memory> {
+    let (mut lists, mut tree) = (
+        ListStore::new(alloc, BLOCKS)?,
+        TreeStore::new(alloc, BLOCKS)?,
+    );
+    for steps in script.parts {
+        take_at_last(rt, alloc, &mut lists, script.name, steps)?;
+        take_at_last(rt, alloc, &mut tree, script.name, steps)?;
+    }
+    Ok(())
+}
+
+/// A `TreeStore` of more blocks than the other scripts have.
+const MORE_BLOCKS: u32 = 257;
+
+/// Of 60 staged blocks the last one is written first, then the first one, and then the 33rd one.
+const WRITES_OUT_OF_ORDER: &[Step<'static>] = &[
+    Step::Takes(Asked::Extend(SLOT, 7_200), 60, 197),
+    Step::Puts(SLOT, 7_080, ONES),
+    Step::Puts(SLOT, 0, ONES),
+    Step::Puts(SLOT, 3_840, ONES),
+    Step::Shows(Shown::Staged(SLOT, 7_200, 7_080, ONES)),
+    Step::Shows(Shown::Staged(SLOT, 7_200, 0, ONES)),
+    Step::Shows(Shown::Staged(SLOT, 7_200, 3_840, ONES)),
+    Step::Takes(Asked::Unstage(SLOT), 60, MORE_BLOCKS),
+];
+
+/// A store of more blocks. If one of its allocations is refused, the next call makes it.
+fn larger_store<R: Print>(rt: &R, alloc: Global) -> Result<TreeStore, Memory> {
+    match TreeStore::new(alloc, MORE_BLOCKS) {
+        Err(AllocError) => {
+            let _ = println!(rt; "the store was refused memory");
+            TreeStore::new(alloc, MORE_BLOCKS)
+        }
+        answer => answer,
+    }
+}
+
+#[test]
+fn writes_out_of_order_in_a_larger_store(rt: HostRuntime) -> Result<(), Memory> {
+    let mut store = larger_store(&rt, rt.alloc())?;
+    take_at_last(
+        &rt,
+        rt.alloc(),
+        &mut store,
+        "writes out of order",
+        WRITES_OUT_OF_ORDER,
+    )
+}
+
+#[test]
+fn each_call(rt: HostRuntime) -> Result<(), Memory> {
+    for script in &SCRIPTS {
+        run_at_last(&rt, rt.alloc(), script)?;
+    }
+    Ok(())
+}

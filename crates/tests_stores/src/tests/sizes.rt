@@ -1,0 +1,216 @@
+//! Octets of sizes around those of whole blocks: staged in pieces, appended to others and to themselves, and replaced.
+
+use super::calls::Asked;
+use super::steps::{BLOCKS, Script, Shown, Step, run_on_both};
+use cfdp_actions::Protected;
+use cfdp_paths::Memory;
+use cfdp_status::Action;
+use std::alloc::Global;
+
+/// How many octets the files have: none, and around one block and two of them.
+static SIZES: [usize; 6] = [0, 1, 119, 120, 121, 240];
+
+/// The most octets that two of them have.
+const MOST: usize = 480;
+
+/// A slot for what is staged beside the files.
+const SLOT: u8 = 1;
+
+/// Octets that are distinguished by their offsets.
+fn octets() -> [u8; MOST] {
+    let mut octets = [0; MOST];
+    for (place, octet) in octets.iter_mut().enumerate() {
+        *octet = (place * 7 % 251) as u8;
+    }
+    octets
+}
+
+/// How many blocks this many octets take.
+fn blocks(octets: usize) -> u32 {
+    (octets.div_ceil(120) & 0xffff) as u32
+}
+
+/// How many blocks are free after this many.
+fn free(blocks: u32) -> u32 {
+    BLOCKS.wrapping_sub(blocks)
+}
+
+/// The octets from one offset up to another.
+fn part(octets: &[u8], from: usize, to: usize) -> &[u8] {
+    octets.get(from..to).unwrap_or(b"")
+}
+
+/// The file of the name has just these octets.
+fn has<'a>(name: &'a [u8], octets: &'a [u8]) -> Step<'a> {
+    Step::Shows(Shown::Octets(name, octets.len() as u64, 0, octets))
+}
+
+/// Makes a file of these octets in a store of which this many blocks are in use.
+fn push_file<'a>(
+    steps: &mut Vec<Step<'a>>,
+    name: &'a [u8],
+    octets: &'a [u8],
+    used: u32,
+) -> Result<(), Memory> {
+    let taken = blocks(octets.len());
+    let used = used.wrapping_add(taken);
+    steps.extend_from_slice(&[
+        Step::Takes(Asked::Extend(0, octets.len() as u64), taken, free(used)),
+        Step::Puts(0, 0, octets),
+        Step::Takes(Asked::Install(0, name), 1, free(used.wrapping_add(1))),
+    ])?;
+    Ok(())
+}
+
+/// One file is appended to another, which is then put in its place. The first octets of both are the one's.
+fn push_join<'a>(steps: &mut Vec<Step<'a>>, both: &'a [u8], front: usize) -> Result<(), Memory> {
+    let (front, back) = (part(both, 0, front), part(both, front, both.len()));
+    let (of_both, of_front, of_back) = (
+        blocks(both.len()),
+        blocks(front.len()),
+        blocks(back.len()),
+    );
+    push_file(steps, b"f", front, 0)?;
+    push_file(steps, b"g", back, of_front.wrapping_add(1))?;
+    let appended = of_both.wrapping_sub(of_front).wrapping_add(of_back);
+    let beside = free(of_both.wrapping_add(of_back).wrapping_add(2));
+    let replaced = of_back.wrapping_add(of_both.wrapping_mul(2));
+    let twice = free(of_both.wrapping_mul(2).wrapping_add(2));
+    let last = of_both.wrapping_add(1);
+    steps.extend_from_slice(&[
+        Step::Performs(Action::AppendFile, b"f", b"g", 0x30, appended, beside),
+        has(b"f", both),
+        has(b"g", back),
+        Step::Performs(Action::ReplaceFile, b"g", b"f", 0x40, replaced, twice),
+        has(b"g", both),
+        Step::Performs(Action::DeleteFile, b"f", b"", 0x10, last, free(last)),
+        Step::Performs(Action::DeleteFile, b"g", b"", 0x10, last, BLOCKS),
+    ])?;
+    Ok(())
+}
+
+#[test]
+fn files_are_appended(rt: HostRuntime) -> Result<(), Memory> {
+    let octets = octets();
+    let mut steps = Vec::new(rt.alloc());
+    for front in &SIZES {
+        for back in &SIZES {
+            push_join(
+                &mut steps,
+                part(&octets, 0, front.wrapping_add(*back)),
+                *front,
+            )?;
+        }
+    }
+    let script = Script {
+        name: "appends",
+        parts: &[&steps],
+    };
+    run_on_both(&rt, rt.alloc(), &Protected::new(), &script)
+}
+
+/// A file is appended to itself, which is the first half of these octets.
+fn push_double<'a>(steps: &mut Vec<Step<'a>>, twice: &'a [u8]) -> Result<(), Memory> {
+    let taken = blocks(twice.len());
+    let used = taken.wrapping_add(1);
+    push_file(steps, b"f", part(twice, 0, twice.len() / 2), 0)?;
+    steps.extend_from_slice(&[
+        Step::Performs(Action::AppendFile, b"f", b"f", 0x30, taken, free(used)),
+        has(b"f", twice),
+        Step::Performs(Action::DeleteFile, b"f", b"", 0x10, used, BLOCKS),
+    ])?;
+    Ok(())
+}
+
+/// This many octets, twice.
+fn doubled(alloc: Global, octets: &[u8], count: usize) -> Result<Vec<u8>, Memory> {
+    let once = part(octets, 0, count);
+    let mut twice = Vec::from_slice(alloc, once)?;
+    twice.extend_from_slice(once)?;
+    Ok(twice)
+}
+
+/// The octets of each size, twice.
+fn doubles(alloc: Global) -> Result<Vec<Vec<u8>>, Memory> {
+    let octets = octets();
+    let mut doubles = Vec::new(alloc);
+    for size in &SIZES {
+        doubles.push(doubled(alloc, &octets, *size)?)?;
+    }
+    Ok(doubles)
+}
+
+#[test]
+fn files_are_appended_to_themselves(rt: HostRuntime) -> Result<(), Memory> {
+    let doubles = doubles(rt.alloc())?;
+    let mut steps = Vec::new(rt.alloc());
+    for twice in &doubles {
+        push_double(&mut steps, twice)?;
+    }
+    let script = Script {
+        name: "doubles",
+        parts: &[&steps],
+    };
+    run_on_both(&rt, rt.alloc(), &Protected::new(), &script)
+}
+
+/// With how many octets a list begins, how many it has after the first piece, and how many after the second.
+type Growth = (usize, usize, usize);
+
+static GROWTHS: [Growth; 5] = [
+    (0, 1, 2),
+    (1, 119, 120),
+    (119, 120, 121),
+    (120, 240, 240),
+    (100, 300, 480),
+];
+
+/// What an extension adds.
+static ZEROS: [u8; MOST] = [0; MOST];
+
+/// What is staged has just this many octets; these are among them.
+fn is_staged<'a>(size: usize, from: usize, octets: &'a [u8]) -> Step<'a> {
+    Step::Shows(Shown::Staged(SLOT, size as u64, from as u64, octets))
+}
+
+/// What is staged has zeros at its end when it was extended, and then what is put there in two pieces.
+fn push_growth<'a>(
+    steps: &mut Vec<Step<'a>>,
+    octets: &'a [u8],
+    growth: &Growth,
+) -> Result<(), Memory> {
+    let (begun, middle, size) = *growth;
+    let (first, last) = (blocks(begun), blocks(size));
+    let whole = part(octets, 0, size);
+    let beginning = part(whole, 0, begun);
+    steps.extend_from_slice(&[
+        Step::Takes(Asked::Extend(SLOT, begun as u64), first, free(first)),
+        Step::Puts(SLOT, 0, beginning),
+        Step::Takes(
+            Asked::Extend(SLOT, size as u64),
+            last.wrapping_sub(first),
+            free(last),
+        ),
+        is_staged(size, 0, beginning),
+        is_staged(size, begun, part(&ZEROS, begun, size)),
+        Step::Puts(SLOT, begun as u64, part(whole, begun, middle)),
+        Step::Puts(SLOT, middle as u64, part(whole, middle, size)),
+        is_staged(size, 0, whole),
+        Step::Takes(Asked::Unstage(SLOT), last, BLOCKS),
+    ])?;
+    Ok(())
+}
+
+#[test]
+fn what_is_staged_grows(rt: HostRuntime) -> Result<(), Memory> {
+    let octets = octets();
+    let mut steps = Vec::new(rt.alloc());
+    for growth in &GROWTHS {
+        push_growth(&mut steps, &octets, growth)?;
+    }
+    let script = Script {
+        name: "grows",
+        parts: &[&steps],
+    };
+    run_on_both(&rt, rt.alloc(), &Protected::new(), &script)
+}
