@@ -1,73 +1,110 @@
 /* The receiving side of the CCSDS File Delivery Protocol (CFDP, CCSDS 727.0-B-5) as a C library.
  *
- * A receiving entity is fed the octets of PDUs and a few events of its own. To each it has one reply, and it keeps files and
- * directories in a filestore of its own, in memory. Each function has a contract that is proved; docs/C.md says what that covers,
- * what is trusted, and how to link it.
+ * A receiving entity is fed the octets of PDUs and a few events of its own. To each it has one reply, and it keeps
+ * files and directories in a filestore of its own, in memory. Each function has a contract that is proved; docs/C.md
+ * says what that covers, what is trusted, and how to link it. This header has the entity without timers (Class 1,
+ * and what Class 2 does with the same PDUs). `cfdp_receiver.h` adds acknowledged mode: timers, the PDUs to send, and
+ * indications.
  *
  * THE CALLER PROMISES
- *  - A `struct cfdp_engine` begins as CFDP_ENGINE_EMPTY, and is then only passed to these functions: it is not copied, written
- *    or given up while it has an engine (call cfdp_free first, or the engine's memory is lost).
- *  - No pointer is null, also where a length is 0. An `engine` points to a struct as above, another pointer to as many objects
- *    as the length beside it says, which are initialised and, where it is not const, may be written. What may be written
- *    overlaps nothing else that is passed. Lengths are below 2^63.
- *  - One call at a time uses an engine. It may come from any thread, in an order that a lock, a start or a join makes sure of.
- *    No call comes from a signal handler, nor from the forked child of a process with threads.
+ *  - A `struct cfdp_engine` begins as CFDP_ENGINE_EMPTY, and is then only passed to these functions: it is not
+ *    copied, written or given up while it has an engine (call cfdp_free first, or the engine's memory is lost).
+ *  - A pointer may be NULL only where the length beside it is 0. An `engine` points to a struct as above, another
+ *    pointer to as many objects as the length beside it says, which are initialised and, where it is not const, may
+ *    be written. What may be written overlaps nothing else that is passed. Lengths are below 2^63.
+ *  - One call at a time uses an engine. It may come from any thread, in an order that a lock, a start or a join
+ *    makes sure of. No call comes from a signal handler, nor from the forked child of a process with threads. No
+ *    `engine` is const, also where nothing of it changes: the library takes the engine out of the struct for the
+ *    time of the call.
+ *  - Enumerations have 32 bits (no -fshort-enums).
  *
- * MEMORY comes from rattle_alloc, rattle_realloc and rattle_dealloc (docs/C.md). It is asked for by cfdp_new, by cfdp_put, by
- * cfdp_receive for a Metadata PDU alone, by cfdp_take of a transaction that is over, and by cfdp_reply_text, which uses no engine; by
- * nothing else. So no file that arrives, no request that is performed and no look at the filestore takes memory.
- */
+ * MEMORY comes from rattle_alloc, rattle_realloc and rattle_dealloc (below, and docs/C.md). It is asked for by
+ * cfdp_new, by cfdp_put, by cfdp_receive for a Metadata PDU alone, and by cfdp_reply_text, which uses no engine; by
+ * nothing else. So no file that arrives, no request that is performed, no outcome that is taken and no look at the
+ * filestore takes memory. cfdp_new asks for CFDP_NEW_OCTETS octets, and for those of the prefixes. The transactions
+ * that are known keep together at most the sum of this, for each: 2000 octets, 150 for each request, 300 for each
+ * path (those of the requests and of the destination, and each directory above one of them), twice the octets of
+ * these paths, and twice those of the names in the Metadata PDU. That is at most 600000 octets for a transaction.
+ * After the last cfdp_take nothing is kept but what cfdp_new took, and a table that grows once, by 57032 octets,
+ * where many transactions come and go with more than 32 known at once. examples/c/memory.c counts it.
+ *
+ * THE LONGEST CALLS on a full filestore of 65536 blocks take, in millions of instructions: cfdp_step 10.5 (an append
+ * of 3.9 MB), cfdp_put 8.1 (a file of 7.8 MB), cfdp_receive 3.0 (File Data at the end of a file of 7.8 MB of which
+ * nothing came) and 2.5 (Metadata: 64 renames of a directory of 65000 entries), cfdp_read 2.7 (7.8 MB), cfdp_new
+ * 1.6. Each other call takes less than 0.1. docs/C.md has the longest case of each.
+ *
+ * NAMES begin with cfdp_ or CFDP_, and those of an enumeration say which one. Other CFDP packages use some of the
+ * short names that came before, such as CFDP_DONE. They are macros at the end of this header until version 0.2.0;
+ * define CFDP_NO_SHORT_NAMES before it to be without them. */
 #ifndef CFDP_H
 #define CFDP_H
 
+#include <stdbool.h>
 #include <stddef.h>
 #include <stdint.h>
+#include <string.h>
+
+/* The version of this header and of the library. It is said here alone. */
+#define CFDP_VERSION "0.1.0"
 
 #ifdef __cplusplus
 extern "C" {
 #endif
 
-/* A place for one engine. */
+/* Room for one engine. */
 struct cfdp_engine {
     uint32_t mark;
     void *at;
 };
 #define CFDP_ENGINE_EMPTY {0, NULL}
 
-/* What a call answers. After any answer other than CFDP_DONE the engine and all that is passed are as before, but for the
- * lengths that the call's text names. */
+/* The octets that cfdp_new asks for, without those of the prefixes. */
+#define CFDP_NEW_OCTETS(blocks) ((size_t)69240 + (size_t)152 * (blocks))
+
+/* What a call returns. After any answer other than CFDP_ANSWER_DONE the engine and all that is passed are as before,
+ * but for the lengths that the call's text names. */
 enum cfdp_answer {
-    CFDP_DONE = 0,
-    CFDP_NO_ENGINE = 1,             /* there is no engine: it was not made, or was freed */
-    CFDP_HAS_ENGINE = 2,            /* there is an engine already */
-    CFDP_NO_MEMORY = 3,             /* memory was refused; the same call can be made again */
-    CFDP_TOO_SHORT = 4,             /* what was asked for does not fit in the buffer */
-    CFDP_NOTHING = 5,               /* there is no such thing */
-    CFDP_BAD_PATH = 6,              /* the octets of a path spell none */
-    CFDP_HAS_TRANSACTIONS = 7,      /* a transaction is known, so that nothing can be put into the filestore */
-    CFDP_EXISTS = 8,                /* something exists at the path */
-    CFDP_NO_PARENT = 9,             /* the path's parent does not exist, or is a file */
-    CFDP_FILESTORE_FULL = 10,       /* the filestore has too few free blocks */
-    CFDP_BAD_BLOCKS = 16,           /* the filestore has not 16 to 65536 blocks */
-    CFDP_BAD_CAP = 17,              /* the cap is above 7864320 octets */
-    CFDP_BAD_CHECKS = 18,           /* the check limit is not 1 to 1000 */
-    CFDP_TOO_MANY_PREFIXES = 20,    /* more than 8 prefixes are to be protected */
-    CFDP_NOT_OURS = 32,             /* the PDU is not for the receiver of a file */
-    CFDP_TRUNCATED = 33,            /* the octets end before the PDU does */
-    CFDP_BAD_VERSION = 34,          /* the version is not 001 */
-    CFDP_CRC_NOT_SUPPORTED = 35,    /* the PDU says that it has a CRC */
-    CFDP_LENGTH_MISMATCH = 36,      /* octets stand after the data field, or it is shorter than its fixed part */
-    CFDP_BAD_DIRECTIVE = 37,        /* no directive has this code */
-    CFDP_BAD_TLV = 38,              /* a TLV field is cut, or its value is not what its type asks for */
-    CFDP_REQUEST_TOO_LONG = 39      /* a filestore request has a value of 255 octets, which no response can repeat */
+    CFDP_ANSWER_DONE = 0,
+    CFDP_ANSWER_NO_ENGINE = 1,          /* there is no engine, or no receiver: it was not made, or was freed */
+    CFDP_ANSWER_HAS_ENGINE = 2,         /* there is an engine, or a receiver, already */
+    CFDP_ANSWER_NO_MEMORY = 3,          /* memory was refused; the same call can be made again */
+    CFDP_ANSWER_TOO_SHORT = 4,          /* what was asked for does not fit in the buffer */
+    CFDP_ANSWER_NOTHING = 5,            /* there is no such thing */
+    CFDP_ANSWER_BAD_PATH = 6,           /* the octets of a path spell none */
+    CFDP_ANSWER_HAS_TRANSACTIONS = 7,   /* a transaction is known, so that nothing can be put into the filestore */
+    CFDP_ANSWER_EXISTS = 8,             /* something exists at the path */
+    CFDP_ANSWER_NO_PARENT = 9,          /* the path's parent does not exist, or is a file */
+    CFDP_ANSWER_FILESTORE_FULL = 10,    /* the filestore has too few free blocks */
+    CFDP_ANSWER_BAD_BLOCKS = 16,        /* the filestore has not 16 to 65536 blocks */
+    CFDP_ANSWER_BAD_CAP = 17,           /* the cap is above 7864320 octets */
+    CFDP_ANSWER_BAD_CHECKS = 18,        /* the check limit is not 1 to 1000 */
+    CFDP_ANSWER_TOO_MANY_PREFIXES = 20, /* more than 8 prefixes are to be protected */
+    CFDP_ANSWER_BAD_HANDLER = 21,       /* no fault handler has this number */
+    CFDP_ANSWER_BAD_NAK_MODE = 22,      /* no mode of asking for lost segments has this number */
+    CFDP_ANSWER_BAD_INTERVAL = 23,      /* an interval is 0 */
+    CFDP_ANSWER_BAD_LIMIT = 24,         /* a limit is not 1 to 1000 */
+    CFDP_ANSWER_BAD_LONGEST_NAK = 25,   /* the longest NAK PDU has not 72 to 65535 octets */
+    CFDP_ANSWER_NOT_OURS = 32,          /* the PDU is not for the receiver of a file */
+    CFDP_ANSWER_TRUNCATED = 33,         /* the octets end before the PDU does */
+    CFDP_ANSWER_BAD_VERSION = 34,       /* the version is not 001 */
+    CFDP_ANSWER_CRC_NOT_SUPPORTED = 35, /* the PDU says that it has a CRC */
+    CFDP_ANSWER_LENGTH_MISMATCH = 36,   /* octets come after the data field, or it is shorter than its fixed part */
+    CFDP_ANSWER_BAD_DIRECTIVE = 37,     /* no directive has this code */
+    CFDP_ANSWER_BAD_TLV = 38,           /* a TLV field is cut, or its value is not what its type asks for */
+    CFDP_ANSWER_REQUEST_TOO_LONG = 39,  /* a filestore request has a value of 255 octets, which no response can
+                                         * repeat */
+    CFDP_ANSWER_BAD_CRC = 40            /* the CRC of the PDU is wrong; cfdp_receiver_receive alone answers it */
 };
+
+/* The library knows an enumeration as a number of 32 bits. */
+typedef char cfdp_enum_has_32_bits[sizeof(enum cfdp_answer) == sizeof(uint32_t) ? 1 : -1];
 
 /* What the management information base (CCSDS 727.0-B-5 section 8) says of the entity. */
 struct cfdp_config {
     uint64_t entity;    /* its entity ID */
     uint64_t cap;       /* how many octets a file of unbounded size may have: at most 7864320 */
     uint32_t blocks;    /* of 128 octets, in the filestore: 16 to 65536 */
-    uint32_t checks;    /* how often a check timer may expire (4.6.4): 1 to 1000 */
+    uint32_t checks;    /* how often a check timer may expire (timer procedures): 1 to 1000 */
 };
 
 /* The octets that spell a path of the filestore: 1 to 8 names of 1 to 96 octets with '/' between them, and no 0. */
@@ -78,41 +115,47 @@ struct cfdp_path {
 
 /* Which reply it is, and the numbers that it brings beside the transaction. */
 enum cfdp_reply_kind {
-    CFDP_ADMITTED = 1,      /* the transaction begins; blocks, steps: what is granted to it */
-    CFDP_REFUSED = 2,       /* its list of filestore requests is refused; refusal, and what that brings */
-    CFDP_STORED = 3,        /* file data was kept; or there was none */
-    CFDP_DROPPED = 4,       /* file data was passed over: it would lie in more than 32 separate pieces */
-    CFDP_COMPLETE = 5,      /* the file is there with the right checksum, and its items are performed next, by cfdp_step */
-    CFDP_WAITING = 6,       /* octets are missing */
-    CFDP_FAULTED = 7,       /* the transaction ended; condition: its condition code */
-    CFDP_PERFORMED = 8,     /* a filestore request was performed; status */
-    CFDP_INSTALLED = 9,     /* the file was installed at its destination */
-    CFDP_FINISHED = 10,     /* the transaction is done; it had no items */
-    CFDP_CANCELLED = 11,    /* the transaction was cancelled */
-    CFDP_TAKEN = 12,        /* its outcome was handed out, and it is forgotten; condition: its condition code */
-    CFDP_DUPLICATE = 13,    /* the PDU came before */
-    CFDP_UNKNOWN = 14,      /* there is no such transaction */
-    CFDP_IDLE = 15,         /* there is nothing to do for the event in the transaction's phase */
-    CFDP_NOT_FOR_US = 16,   /* the PDU is for another entity */
-    CFDP_TABLE_FULL = 17    /* there are 64 transactions */
+    CFDP_REPLY_NONE = 0,        /* in a report of a receiver: the entity was not asked */
+    CFDP_REPLY_ADMITTED = 1,    /* the transaction begins; blocks, steps: what is granted to it */
+    CFDP_REPLY_REFUSED = 2,     /* its list of filestore requests is refused; refusal, and what that brings */
+    CFDP_REPLY_STORED = 3,      /* file data was kept; or there was none */
+    CFDP_REPLY_DROPPED = 4,     /* file data was passed over: it would lie in more than 32 separate pieces */
+    CFDP_REPLY_COMPLETE = 5,    /* the file is there with the right checksum, and its items are performed next, by
+                                 * cfdp_step */
+    CFDP_REPLY_WAITING = 6,     /* octets are missing */
+    CFDP_REPLY_FAULTED = 7,     /* the transaction ended; condition: its condition code */
+    CFDP_REPLY_PERFORMED = 8,   /* a filestore request was performed; status */
+    CFDP_REPLY_INSTALLED = 9,   /* the file was installed at its destination */
+    CFDP_REPLY_FINISHED = 10,   /* the transaction is done; it had no items */
+    CFDP_REPLY_CANCELLED = 11,  /* the transaction was cancelled */
+    CFDP_REPLY_TAKEN = 12,      /* its outcome was handed out, and it is forgotten; condition: its condition code */
+    CFDP_REPLY_DUPLICATE = 13,  /* the PDU came before */
+    CFDP_REPLY_UNKNOWN = 14,    /* there is no such transaction */
+    CFDP_REPLY_IDLE = 15,       /* there is nothing to do for the event in the transaction's phase */
+    CFDP_REPLY_NOT_FOR_US = 16, /* the PDU is for another entity */
+    CFDP_REPLY_TABLE_FULL = 17  /* there are 64 transactions */
 };
 
 /* Why a list of filestore requests is refused, in the order in which it is judged, and the numbers that it brings. */
 enum cfdp_refusal {
-    CFDP_TOO_MANY_REQUESTS = 1,         /* there are more than 64 */
-    CFDP_BAD_DESTINATION = 2,           /* the file's destination is no path */
-    CFDP_BAD_REQUEST_PATH = 3,          /* a name of a request is no path; request: which */
-    CFDP_CONFLICT = 4,                  /* a transaction's leased paths are in the way; other_source, other_number: whose */
-    CFDP_DESTINATION_NOT_ALLOWED = 5,   /* the file can't be installed at its destination as things stand */
-    CFDP_WOULD_FAIL = 6,                /* the requests before it are successful, and one would fail; request, status */
-    CFDP_TOO_LONG = 7,                  /* the list may take more than 65536 steps; steps: how many */
-    CFDP_NO_ROOM = 8                    /* the list may take more blocks than are to spare; blocks: how many, spare */
+    CFDP_REFUSAL_NONE = 0,                    /* it is not refused */
+    CFDP_REFUSAL_TOO_MANY_REQUESTS = 1,       /* there are more than 64 */
+    CFDP_REFUSAL_BAD_DESTINATION = 2,         /* the file's destination is no path */
+    CFDP_REFUSAL_BAD_REQUEST_PATH = 3,        /* a name of a request is no path; request: which */
+    CFDP_REFUSAL_CONFLICT = 4,                /* a transaction's leased paths are in the way; other_source,
+                                               * other_number: whose */
+    CFDP_REFUSAL_DESTINATION_NOT_ALLOWED = 5, /* the file can't be installed at its destination */
+    CFDP_REFUSAL_WOULD_FAIL = 6,              /* the requests before it are successful, and one would fail; request,
+                                               * status */
+    CFDP_REFUSAL_TOO_LONG = 7,                /* the list may take more than 65536 steps; steps: how many */
+    CFDP_REFUSAL_NO_ROOM = 8                  /* the list may take more blocks than are to spare; blocks: how many,
+                                               * spare */
 };
 
 /* A reply. A number that its kind has no use for is 0. */
 struct cfdp_reply {
-    uint32_t kind;          /* enum cfdp_reply_kind */
-    uint32_t refusal;       /* enum cfdp_refusal */
+    enum cfdp_reply_kind kind;
+    enum cfdp_refusal refusal;
     uint32_t blocks;
     uint32_t steps;
     uint32_t spare;
@@ -125,44 +168,60 @@ struct cfdp_reply {
     uint64_t other_number;
 };
 
-/* Makes an engine in an empty `struct cfdp_engine`: an entity of this configuration over an empty filestore (cfdp_put fills it), in which what
- * stands at or below one of the prefixes is neither changed nor removed by a request. `count` is at most 8.
- * Answers CFDP_DONE, CFDP_HAS_ENGINE, CFDP_NO_MEMORY, or the first fault: a prefix in its order, and then blocks, cap, checks. */
-uint32_t cfdp_new(struct cfdp_engine *engine, const struct cfdp_config *config, const struct cfdp_path *prefixes, size_t count);
+/* A directory or a file of the filestore. */
+enum cfdp_entry_kind {
+    CFDP_ENTRY_FILE = 1,
+    CFDP_ENTRY_DIRECTORY = 2
+};
 
-/* Puts a directory or a file at a path, while no transaction is known: before the first PDU, as it was before launch or before a
- * restart. `kind` is CFDP_DIRECTORY or CFDP_FILE (enum cfdp_entry_kind). A file gets the octets, which are copied; for a directory
- * they are not looked at. A directory takes one block, and a file one more for each 120 octets. Answers CFDP_DONE; CFDP_BAD_PATH;
- * CFDP_NOTHING if the kind is neither; the first that holds of CFDP_HAS_TRANSACTIONS, CFDP_EXISTS, CFDP_NO_PARENT and
- * CFDP_FILESTORE_FULL; CFDP_NO_MEMORY (for the path); or CFDP_NO_ENGINE. What cfdp_next and cfdp_read give of one engine can be put
- * into a new engine of the same configuration in the same order. It has the same filestore then. Cost: a look-up, and two passes over
- * the octets. */
-uint32_t cfdp_put(struct cfdp_engine *engine, const struct cfdp_path *path, uint32_t kind, const uint8_t *octets, size_t length);
+/* Makes an engine in an empty `struct cfdp_engine`: an entity of this configuration over an empty filestore
+ * (cfdp_put fills it), in which what exists at or below one of the prefixes is neither changed nor removed by a
+ * request. `count` is at most 8. Returns CFDP_ANSWER_DONE, CFDP_ANSWER_HAS_ENGINE, CFDP_ANSWER_NO_MEMORY, or the
+ * first fault: a prefix in its order, and then blocks, cap, checks. */
+enum cfdp_answer cfdp_new(struct cfdp_engine *engine, const struct cfdp_config *config,
+                          const struct cfdp_path *prefixes, size_t count);
 
-/* Frees the engine and all its memory; the struct is empty again. Answers CFDP_DONE or CFDP_NO_ENGINE. */
-uint32_t cfdp_free(struct cfdp_engine *engine);
+/* Puts a directory or a file at a path, while no transaction is known: before the first PDU, as it was before launch
+ * or before a restart. `kind` is CFDP_ENTRY_DIRECTORY or CFDP_ENTRY_FILE (enum cfdp_entry_kind). A file gets the
+ * octets, which are copied; for a directory they are not looked at. A directory takes one block, and a file one more
+ * for each 120 octets. Returns CFDP_ANSWER_DONE; CFDP_ANSWER_BAD_PATH; CFDP_ANSWER_NOTHING if the kind is neither;
+ * the first that holds of CFDP_ANSWER_HAS_TRANSACTIONS, CFDP_ANSWER_EXISTS, CFDP_ANSWER_NO_PARENT and
+ * CFDP_ANSWER_FILESTORE_FULL; CFDP_ANSWER_NO_MEMORY (for the path); or CFDP_ANSWER_NO_ENGINE. What cfdp_next and
+ * cfdp_read give of one engine can be put into a new engine of the same configuration in the same order. It has the
+ * same filestore then. Cost: a look-up, and two passes over the octets. */
+enum cfdp_answer cfdp_put(struct cfdp_engine *engine, const struct cfdp_path *path, enum cfdp_entry_kind kind,
+    const uint8_t *octets, size_t length);
 
-/* Takes the octets of one whole PDU (5.1 to 5.3). Answers CFDP_DONE with the reply, CFDP_NO_ENGINE, CFDP_NOT_OURS, or the first
- * fault that the octets have (CFDP_TRUNCATED to CFDP_REQUEST_TOO_LONG); CFDP_NO_MEMORY for a Metadata PDU alone.
- * The octets are not kept. Cost: one pass over them, and that of the event. */
-uint32_t cfdp_receive(struct cfdp_engine *engine, const uint8_t *octets, size_t length, struct cfdp_reply *reply);
+/* Frees the engine and all its memory; the struct is empty again. Returns CFDP_ANSWER_DONE or CFDP_ANSWER_NO_ENGINE. */
+enum cfdp_answer cfdp_free(struct cfdp_engine *engine);
 
-/* The next item of a transaction is performed (4.9): its file is installed, or a request is performed. To be called while
- * cfdp_next_runnable names a transaction. Answers CFDP_DONE with the reply, or CFDP_NO_ENGINE. */
-uint32_t cfdp_step(struct cfdp_engine *engine, uint64_t source, uint64_t number, struct cfdp_reply *reply);
+/* Takes the octets of one whole PDU (5.1 to 5.3). Returns CFDP_ANSWER_DONE with the reply, CFDP_ANSWER_NO_ENGINE,
+ * CFDP_ANSWER_NOT_OURS, or the first fault that the octets have (CFDP_ANSWER_TRUNCATED to
+ * CFDP_ANSWER_REQUEST_TOO_LONG); CFDP_ANSWER_NO_MEMORY for a Metadata PDU alone. The octets are not kept. Cost: one
+ * pass over them, and that of the event. */
+enum cfdp_answer cfdp_receive(struct cfdp_engine *engine, const uint8_t *octets, size_t length,
+                              struct cfdp_reply *reply);
 
-/* A transaction is cancelled (4.11). Answers CFDP_DONE with the reply, or CFDP_NO_ENGINE. */
-uint32_t cfdp_cancel(struct cfdp_engine *engine, uint64_t source, uint64_t number, struct cfdp_reply *reply);
+/* The next item of a transaction is performed (filestore procedures): its file is installed, or a request is
+ * performed. To be called while cfdp_next_runnable names a transaction. Returns CFDP_ANSWER_DONE with the reply, or
+ * CFDP_ANSWER_NO_ENGINE. */
+enum cfdp_answer cfdp_step(struct cfdp_engine *engine, uint64_t source, uint64_t number, struct cfdp_reply *reply);
 
-/* A transaction's check timer expired (4.6.4). Answers CFDP_DONE with the reply, or CFDP_NO_ENGINE. */
-uint32_t cfdp_check(struct cfdp_engine *engine, uint64_t source, uint64_t number, struct cfdp_reply *reply);
+/* A transaction is cancelled (cancel procedures). Returns CFDP_ANSWER_DONE with the reply, or CFDP_ANSWER_NO_ENGINE. */
+enum cfdp_answer cfdp_cancel(struct cfdp_engine *engine, uint64_t source, uint64_t number, struct cfdp_reply *reply);
 
-/* The outcome of a transaction that is over is taken, and the transaction forgotten. Where a Finished PDU (5.2.3) is to be sent, its
- * octets are written to the beginning of `out`, which has room for `room`, and `*count` says how many they are; it is 0 where
- * none is to be sent. Answers CFDP_DONE with the reply (CFDP_TAKEN, CFDP_UNKNOWN, or CFDP_IDLE while the transaction is live);
- * CFDP_TOO_SHORT with the length needed in `*count`, and all else as before; CFDP_NO_MEMORY; or CFDP_NO_ENGINE. Want of memory and
- * room comes only where the transaction is over. A Finished PDU has at most 16488 octets. */
-uint32_t cfdp_take(struct cfdp_engine *engine, uint64_t source, uint64_t number, uint8_t *out, size_t room, size_t *count, struct cfdp_reply *reply);
+/* A transaction's check timer expired (timer procedures). Returns CFDP_ANSWER_DONE with the reply, or
+ * CFDP_ANSWER_NO_ENGINE. */
+enum cfdp_answer cfdp_check(struct cfdp_engine *engine, uint64_t source, uint64_t number, struct cfdp_reply *reply);
+
+/* The outcome of a transaction that is over is taken, and the transaction forgotten. Where a Finished PDU (5.2.3) is
+ * to be sent, its octets are written to the beginning of `out`, which has room for `room`, and `*count` says how
+ * many they are; it is 0 where none is to be sent. Returns CFDP_ANSWER_DONE with the reply (CFDP_REPLY_TAKEN,
+ * CFDP_REPLY_UNKNOWN, or CFDP_REPLY_IDLE while the transaction is live); CFDP_ANSWER_TOO_SHORT with the length
+ * needed in `*count`, and all else as before, only where the transaction is over; or CFDP_ANSWER_NO_ENGINE. It takes
+ * no memory. A Finished PDU has at most 16488 octets. */
+enum cfdp_answer cfdp_take(struct cfdp_engine *engine, uint64_t source, uint64_t number, uint8_t *out, size_t room,
+    size_t *count, struct cfdp_reply *reply);
 
 /* The name of a transaction (5.1): its source entity ID and its transaction sequence number. */
 struct cfdp_transaction {
@@ -179,15 +238,15 @@ struct cfdp_metadata {
 
 /* How far a transaction is. */
 enum cfdp_phase_kind {
-    CFDP_PHASE_RECEIVING = 1,   /* file data is taken, and no EOF PDU has come */
-    CFDP_PHASE_AWAITING = 2,    /* the EOF PDU came and octets are missing; detail: the checks since */
-    CFDP_PHASE_EXECUTING = 3,   /* the file is there; detail: the number of the item that is performed next */
-    CFDP_PHASE_REFUSED = 4,     /* its list of requests was refused */
-    CFDP_PHASE_DONE = 5,        /* all its items were performed */
-    CFDP_PHASE_ENDED = 6        /* it ended before it was done; detail: the condition code */
+    CFDP_PHASE_RECEIVING = 1, /* file data is taken, and no EOF PDU has come */
+    CFDP_PHASE_AWAITING = 2,  /* the EOF PDU came and octets are missing; detail: the checks since */
+    CFDP_PHASE_EXECUTING = 3, /* the file is there; detail: the number of the item that is performed next */
+    CFDP_PHASE_REFUSED = 4,   /* its list of requests was refused */
+    CFDP_PHASE_DONE = 5,      /* all its items were performed */
+    CFDP_PHASE_ENDED = 6      /* it ended before it was done; detail: the condition code */
 };
 struct cfdp_phase {
-    uint32_t phase;
+    enum cfdp_phase_kind phase;
     uint32_t detail;
 };
 
@@ -209,83 +268,234 @@ struct cfdp_gap {
     uint64_t end;
 };
 
-/* What stands at a path of the filestore. A directory's checksum and size are 0. */
-enum cfdp_entry_kind {
-    CFDP_FILE = 1,
-    CFDP_DIRECTORY = 2
-};
+/* What exists at a path of the filestore. A directory's checksum and size are 0. */
 struct cfdp_entry {
-    uint32_t kind;
-    uint32_t checksum;      /* a file's modular checksum (4.2.2) */
+    enum cfdp_entry_kind kind;
+    uint32_t checksum;      /* a file's modular checksum (checksum procedures) */
     uint64_t size;          /* in octets */
 };
 
-/* These tell, and change nothing of the engine: the first transaction, in order of admission, whose items are being performed; the
- * first one whose outcome can be taken; the one with this index in order of admission, from 0 (those that are refused, done or ended
- * count until their outcome is taken); how far a transaction is; what was granted to it; the blocks that it took less those that it gave back; the steps that it
- * spent; the blocks. They answer CFDP_DONE, with what is asked for; CFDP_NOTHING where there is no such transaction; or
- * CFDP_NO_ENGINE. */
-uint32_t cfdp_next_runnable(struct cfdp_engine *engine, struct cfdp_transaction *transaction);
-uint32_t cfdp_next_outcome(struct cfdp_engine *engine, struct cfdp_transaction *transaction);
-uint32_t cfdp_transaction_at(struct cfdp_engine *engine, size_t index, struct cfdp_transaction *transaction);
-uint32_t cfdp_phase(struct cfdp_engine *engine, uint64_t source, uint64_t number, struct cfdp_phase *phase);
-uint32_t cfdp_grant(struct cfdp_engine *engine, uint64_t source, uint64_t number, struct cfdp_grant *grant);
-uint32_t cfdp_blocks_spent(struct cfdp_engine *engine, uint64_t source, uint64_t number, int64_t *blocks);
-uint32_t cfdp_steps_spent(struct cfdp_engine *engine, uint64_t source, uint64_t number, uint32_t *steps);
-uint32_t cfdp_blocks(struct cfdp_engine *engine, struct cfdp_blocks *blocks);
+/* These say, and change nothing of the engine: the first transaction, in order of admission, whose items are being
+ * performed; the first one whose outcome can be taken; the one with this index in order of admission, from 0 (those
+ * that are refused, done or ended count until their outcome is taken); how far a transaction is; what was granted to
+ * it; the blocks that it took less those that it gave back; the steps that it spent; the blocks. They answer
+ * CFDP_ANSWER_DONE, with what is asked for; CFDP_ANSWER_NOTHING where there is no such transaction; or
+ * CFDP_ANSWER_NO_ENGINE. */
+enum cfdp_answer cfdp_next_runnable(struct cfdp_engine *engine, struct cfdp_transaction *transaction);
+enum cfdp_answer cfdp_next_outcome(struct cfdp_engine *engine, struct cfdp_transaction *transaction);
+enum cfdp_answer cfdp_transaction_at(struct cfdp_engine *engine, size_t index, struct cfdp_transaction *transaction);
+enum cfdp_answer cfdp_phase(struct cfdp_engine *engine, uint64_t source, uint64_t number, struct cfdp_phase *phase);
+enum cfdp_answer cfdp_grant(struct cfdp_engine *engine, uint64_t source, uint64_t number, struct cfdp_grant *grant);
+enum cfdp_answer cfdp_blocks_spent(struct cfdp_engine *engine, uint64_t source, uint64_t number, int64_t *blocks);
+enum cfdp_answer cfdp_steps_spent(struct cfdp_engine *engine, uint64_t source, uint64_t number, uint32_t *steps);
+enum cfdp_answer cfdp_blocks(struct cfdp_engine *engine, struct cfdp_blocks *blocks);
 
-/* What is missing of a transaction's file (4.6.4.3): the gap of this place, from 0, in order; there are at most 33. Answers CFDP_DONE,
- * CFDP_NOTHING where there is no such gap or no such transaction, or CFDP_NO_ENGINE. */
-uint32_t cfdp_gap(struct cfdp_engine *engine, uint64_t source, uint64_t number, size_t place, struct cfdp_gap *gap);
+/* What is missing of a transaction's file (lost segment procedures): the gap with this index, from 0, in order;
+ * there are at most 33. Returns CFDP_ANSWER_DONE, CFDP_ANSWER_NOTHING where there is no such gap or no such
+ * transaction, or CFDP_ANSWER_NO_ENGINE. */
+enum cfdp_answer cfdp_gap(struct cfdp_engine *engine, uint64_t source, uint64_t number, size_t index,
+                          struct cfdp_gap *gap);
 
-/* How far a transaction's file has come. cfdp_progress: the end of the last octet that is kept, 0 if none is. cfdp_reach: the offset up to
- * which cfdp_gap tells what is missing, which is the same until the EOF PDU comes, and then the size that it gave; 0 if no file data
- * is taken. Answers CFDP_DONE, CFDP_NOTHING if there is no such transaction, or CFDP_NO_ENGINE. */
-uint32_t cfdp_progress(struct cfdp_engine *engine, uint64_t source, uint64_t number, uint64_t *offset);
-uint32_t cfdp_reach(struct cfdp_engine *engine, uint64_t source, uint64_t number, uint64_t *offset);
+/* How far a transaction's file has come. cfdp_progress: the end of the last octet that is kept, 0 if none is.
+ * cfdp_reach: the offset up to which cfdp_gap says what is missing, which is the same until the EOF PDU comes, and
+ * then the size that it gave; 0 if no file data is taken. Returns CFDP_ANSWER_DONE, CFDP_ANSWER_NOTHING if there is
+ * no such transaction, or CFDP_ANSWER_NO_ENGINE. */
+enum cfdp_answer cfdp_progress(struct cfdp_engine *engine, uint64_t source, uint64_t number, uint64_t *offset);
+enum cfdp_answer cfdp_reach(struct cfdp_engine *engine, uint64_t source, uint64_t number, uint64_t *offset);
 
-/* What the Metadata PDU of a transaction said, as long as its outcome was not taken. Answers CFDP_DONE, CFDP_NOTHING if there is no such
- * transaction, or CFDP_NO_ENGINE. */
-uint32_t cfdp_metadata(struct cfdp_engine *engine, uint64_t source, uint64_t number, struct cfdp_metadata *metadata);
+/* What the Metadata PDU of a transaction said, as long as its outcome was not taken. Returns CFDP_ANSWER_DONE,
+ * CFDP_ANSWER_NOTHING if there is no such transaction, or CFDP_ANSWER_NO_ENGINE. */
+enum cfdp_answer cfdp_metadata(struct cfdp_engine *engine, uint64_t source, uint64_t number,
+                               struct cfdp_metadata *metadata);
 
-/* The source and the destination file name of a transaction's Metadata PDU, as it spells them. The octets are written to the beginning
- * of `out`, with no 0 after them, and `*count` says how many they are: at most 255, and 0 if the PDU names no file. Answers
- * CFDP_DONE; CFDP_TOO_SHORT with the length needed in `*count`; CFDP_NOTHING if there is no such transaction; or CFDP_NO_ENGINE. */
-uint32_t cfdp_source_name(struct cfdp_engine *engine, uint64_t source, uint64_t number, uint8_t *out, size_t room, size_t *count);
-uint32_t cfdp_destination_name(struct cfdp_engine *engine, uint64_t source, uint64_t number, uint8_t *out, size_t room, size_t *count);
+/* The source and the destination file name of a transaction's Metadata PDU, as it spells them. The octets are
+ * written to the beginning of `out`, with a 0 after them where there is room, and `*count` says how many they are
+ * without it: at most 255, and 0 if the PDU names no file. So with 256 octets of room it is a C string. Returns
+ * CFDP_ANSWER_DONE; CFDP_ANSWER_TOO_SHORT with the length needed in `*count`; CFDP_ANSWER_NOTHING if there is no
+ * such transaction; or CFDP_ANSWER_NO_ENGINE. */
+enum cfdp_answer cfdp_source_name(struct cfdp_engine *engine, uint64_t source, uint64_t number, uint8_t *out,
+                                  size_t room, size_t *count);
+enum cfdp_answer cfdp_destination_name(struct cfdp_engine *engine, uint64_t source, uint64_t number, uint8_t *out,
+                                       size_t room, size_t *count);
 
-/* What stands at a path. Answers CFDP_DONE, CFDP_NOTHING, CFDP_BAD_PATH, or CFDP_NO_ENGINE. Cost: a look-up of each name, whatever the
- * size of a file: its checksum is kept with it. */
-uint32_t cfdp_look_up(struct cfdp_engine *engine, const struct cfdp_path *path, struct cfdp_entry *entry);
+/* What exists at a path. Returns CFDP_ANSWER_DONE, CFDP_ANSWER_NOTHING, CFDP_ANSWER_BAD_PATH, or
+ * CFDP_ANSWER_NO_ENGINE. Cost: a look-up of each name, whatever the size of a file: its checksum is kept with it. */
+enum cfdp_answer cfdp_look_up(struct cfdp_engine *engine, const struct cfdp_path *path, struct cfdp_entry *entry);
 
-/* Copies a file's octets from the place `at` on to the beginning of `out`: as many as there are and as fit in `room`; `*count` says how
- * many. Answers CFDP_DONE; CFDP_NOTHING where no file stands at the path; CFDP_BAD_PATH; or CFDP_NO_ENGINE. Cost: at most 48 steps to
- * `at`, whatever its size and the order in which the file came, and one copy of the octets. */
-uint32_t cfdp_read(struct cfdp_engine *engine, const struct cfdp_path *path, uint64_t at, uint8_t *out, size_t room, size_t *count);
+/* Copies a file's octets from the offset `at` on to the beginning of `out`: as many as there are and as fit in
+ * `room`; `*count` says how many. Returns CFDP_ANSWER_DONE; CFDP_ANSWER_NOTHING where no file exists at the path;
+ * CFDP_ANSWER_BAD_PATH; or CFDP_ANSWER_NO_ENGINE. Cost: at most 48 steps to `at`, whatever its size and the order in
+ * which the file came, and one copy of the octets. */
+enum cfdp_answer cfdp_read(struct cfdp_engine *engine, const struct cfdp_path *path, uint64_t at, uint8_t *out,
+                           size_t room, size_t *count);
 
-/* What comes next in the filestore behind a path, in path order (a directory before what is below it). The path need not stand there; one of
- * length 0 is before all. Answers CFDP_DONE with the path of what comes next in `*path`, zeros behind its octets, and what stands
- * there in `*entry`; CFDP_NOTHING behind the last one; CFDP_BAD_PATH; or CFDP_NO_ENGINE. So a loop that begins with length 0 and passes the
- * same struct on goes over all entries. Cost: at most 45 comparisons of names in each directory on
- * the way (the root and at most 8 others), however many entries it has and whatever their names are. */
-uint32_t cfdp_next(struct cfdp_engine *engine, struct cfdp_path *path, struct cfdp_entry *entry);
+/* What comes next in the filestore after a path, in path order (a directory before what is below it). The path need
+ * not exist; one of length 0 is before all. Returns CFDP_ANSWER_DONE with the path of what comes next in `*path`,
+ * zeros after its octets, and what it is in `*entry`; CFDP_ANSWER_NOTHING after the last one; CFDP_ANSWER_BAD_PATH;
+ * or CFDP_ANSWER_NO_ENGINE. So a loop that begins with length 0 and passes the same struct on goes over all entries.
+ * Cost: at most 45 comparisons of names in each directory on the way (the root and at most 8 others), however many
+ * entries it has and whatever their names are. */
+enum cfdp_answer cfdp_next(struct cfdp_engine *engine, struct cfdp_path *path, struct cfdp_entry *entry);
 
-/* The line that `cfdpsim replay` writes of a reply (docs/FORMATS.md), with its line end: "1/24 refused conflict 1/22\n". `octets` is
- * used for CFDP_TAKEN alone: what cfdp_take wrote beside the reply, of which `length` is 0 where there is no Finished PDU. The
- * line is written to the beginning of `out`, with no 0 after it, and `*count` says how long it is: at most 101 octets, or
- * 52 + 2 * `length` where that is more, which is 33028 for the longest Finished PDU. Answers CFDP_DONE; CFDP_TOO_SHORT with the
- * length needed in `*count`; CFDP_NOTHING where no reply has these numbers; or CFDP_NO_MEMORY (for the line). It needs no engine. */
-uint32_t cfdp_reply_text(const struct cfdp_reply *reply, const uint8_t *octets, size_t length, uint8_t *out, size_t room, size_t *count);
+/* The line that `cfdpsim replay` writes of a reply (docs/FORMATS.md), with its line end: "1/24 refused conflict
+ * 1/22\n". `octets` is used for CFDP_REPLY_TAKEN alone: what cfdp_take wrote beside the reply, of which `length` is
+ * 0 where there is no Finished PDU. The line is written to the beginning of `out`, with a 0 after it where there is
+ * room, and `*count` says how long it is without the 0: at most 101 octets, or 52 + 2 * `length` where that is more,
+ * which is 33028 for the longest Finished PDU. Returns CFDP_ANSWER_DONE; CFDP_ANSWER_TOO_SHORT with the length
+ * needed in `*count`; CFDP_ANSWER_NOTHING where no reply has these numbers; or CFDP_ANSWER_NO_MEMORY (for the line).
+ * It needs no engine. */
+enum cfdp_answer cfdp_reply_text(const struct cfdp_reply *reply, const uint8_t *octets, size_t length, uint8_t *out,
+                                 size_t room, size_t *count);
 
-/* The line that `cfdpsim replay` writes of a PDU to which cfdp_receive answered CFDP_NOT_OURS, or CFDP_TRUNCATED to
- * CFDP_REQUEST_TOO_LONG: "pdu dropped truncated\n". At most 29 octets. Answers CFDP_DONE; CFDP_TOO_SHORT with the length needed in
- * `*count`; or CFDP_NOTHING for any other answer. It needs no engine and takes no memory. */
-uint32_t cfdp_answer_text(uint32_t answer, uint8_t *out, size_t room, size_t *count);
+/* The line that `cfdpsim replay` writes of a PDU to which cfdp_receive answered CFDP_ANSWER_NOT_OURS, or
+ * CFDP_ANSWER_TRUNCATED to CFDP_ANSWER_REQUEST_TOO_LONG: "pdu dropped truncated\n". At most 29 octets, and a 0 after
+ * them where there is room. Returns CFDP_ANSWER_DONE; CFDP_ANSWER_TOO_SHORT with the length needed in `*count`; or
+ * CFDP_ANSWER_NOTHING for any other answer. It needs no engine and takes no memory. */
+enum cfdp_answer cfdp_answer_text(enum cfdp_answer answer, uint8_t *out, size_t room, size_t *count);
 
 /* sizeof(struct cfdp_engine), as the library has it: 16. */
 size_t cfdp_engine_octets(void);
 
+/* The three functions that the library takes memory from. The kit's liblibc_c.a defines them with malloc; a program
+ * may define its own (examples/c/pool.c). `align` is a power of two and at most 16. `kept` is how many octets the
+ * block at `block` was made with: they are copied to the new one. Where `is_made` is false, there is no memory,
+ * `octets` is not NULL and not read, and a block that was to grow is as before. A block that is given back is one of
+ * these. */
+struct cfdp_block {
+    bool is_made;
+    void *octets;
+};
+struct cfdp_block rattle_alloc(size_t octets, size_t align);
+struct cfdp_block rattle_realloc(void *block, size_t kept, size_t octets, size_t align);
+void rattle_dealloc(void *block);
+
 #ifdef __cplusplus
 }
+#endif
+
+/* A path from a C string, as "app/prog". Returns CFDP_ANSWER_DONE; or CFDP_ANSWER_BAD_PATH where it has more than
+ * 776 octets, with the path as before. Whether the octets spell a path is answered by the call that it is passed to. */
+static inline enum cfdp_answer cfdp_path_of(struct cfdp_path *path, const char *text) {
+    size_t length = strlen(text);
+    if (length > sizeof path->octets) return CFDP_ANSWER_BAD_PATH;
+    memset(path->octets, 0, sizeof path->octets);
+    memcpy(path->octets, text, length);
+    path->length = (uint32_t)length;
+    return CFDP_ANSWER_DONE;
+}
+
+/* The library takes no NULL. The names of the calls that take a pointer and a length are macros for these, which
+ * pass a pointer of their own for a NULL. */
+static inline const uint8_t *cfdp_in(const uint8_t *octets) {
+    static const uint8_t none[1] = {0};
+    return octets != NULL ? octets : none;
+}
+static inline uint8_t *cfdp_out(uint8_t *octets) {
+    static uint8_t none[1];
+    return octets != NULL ? octets : none;
+}
+static inline const struct cfdp_path *cfdp_paths(const struct cfdp_path *paths) {
+    static const uint32_t none[1] = {0};
+    return paths != NULL ? paths : (const struct cfdp_path *)(const void *)none;
+}
+static inline enum cfdp_answer cfdp_new_null_ok(struct cfdp_engine *engine, const struct cfdp_config *config,
+    const struct cfdp_path *prefixes, size_t count) {
+    return cfdp_new(engine, config, cfdp_paths(prefixes), count);
+}
+#define cfdp_new cfdp_new_null_ok
+static inline enum cfdp_answer cfdp_put_null_ok(struct cfdp_engine *engine, const struct cfdp_path *path,
+    enum cfdp_entry_kind kind, const uint8_t *octets, size_t length) {
+    return cfdp_put(engine, path, kind, cfdp_in(octets), length);
+}
+#define cfdp_put cfdp_put_null_ok
+static inline enum cfdp_answer cfdp_receive_null_ok(struct cfdp_engine *engine, const uint8_t *octets, size_t length,
+    struct cfdp_reply *reply) {
+    return cfdp_receive(engine, cfdp_in(octets), length, reply);
+}
+#define cfdp_receive cfdp_receive_null_ok
+static inline enum cfdp_answer cfdp_take_null_ok(struct cfdp_engine *engine, uint64_t source, uint64_t number,
+                                                 uint8_t *out, size_t room, size_t *count, struct cfdp_reply *reply) {
+    return cfdp_take(engine, source, number, cfdp_out(out), room, count, reply);
+}
+#define cfdp_take cfdp_take_null_ok
+static inline enum cfdp_answer cfdp_source_name_null_ok(struct cfdp_engine *engine, uint64_t source, uint64_t number,
+    uint8_t *out, size_t room, size_t *count) {
+    return cfdp_source_name(engine, source, number, cfdp_out(out), room, count);
+}
+#define cfdp_source_name cfdp_source_name_null_ok
+static inline enum cfdp_answer cfdp_destination_name_null_ok(struct cfdp_engine *engine, uint64_t source,
+                                                             uint64_t number, uint8_t *out, size_t room,
+                                                             size_t *count) {
+    return cfdp_destination_name(engine, source, number, cfdp_out(out), room, count);
+}
+#define cfdp_destination_name cfdp_destination_name_null_ok
+static inline enum cfdp_answer cfdp_read_null_ok(struct cfdp_engine *engine, const struct cfdp_path *path, uint64_t at,
+    uint8_t *out, size_t room, size_t *count) {
+    return cfdp_read(engine, path, at, cfdp_out(out), room, count);
+}
+#define cfdp_read cfdp_read_null_ok
+static inline enum cfdp_answer cfdp_reply_text_null_ok(const struct cfdp_reply *reply, const uint8_t *octets,
+                                                       size_t length, uint8_t *out, size_t room, size_t *count) {
+    return cfdp_reply_text(reply, cfdp_in(octets), length, cfdp_out(out), room, count);
+}
+#define cfdp_reply_text cfdp_reply_text_null_ok
+static inline enum cfdp_answer cfdp_answer_text_null_ok(enum cfdp_answer answer, uint8_t *out, size_t room,
+                                                        size_t *count) {
+    return cfdp_answer_text(answer, cfdp_out(out), room, count);
+}
+#define cfdp_answer_text cfdp_answer_text_null_ok
+
+/* The short names, until version 0.2.0. */
+#ifndef CFDP_NO_SHORT_NAMES
+#define CFDP_DONE CFDP_ANSWER_DONE
+#define CFDP_NO_ENGINE CFDP_ANSWER_NO_ENGINE
+#define CFDP_HAS_ENGINE CFDP_ANSWER_HAS_ENGINE
+#define CFDP_NO_MEMORY CFDP_ANSWER_NO_MEMORY
+#define CFDP_TOO_SHORT CFDP_ANSWER_TOO_SHORT
+#define CFDP_NOTHING CFDP_ANSWER_NOTHING
+#define CFDP_BAD_PATH CFDP_ANSWER_BAD_PATH
+#define CFDP_HAS_TRANSACTIONS CFDP_ANSWER_HAS_TRANSACTIONS
+#define CFDP_EXISTS CFDP_ANSWER_EXISTS
+#define CFDP_NO_PARENT CFDP_ANSWER_NO_PARENT
+#define CFDP_FILESTORE_FULL CFDP_ANSWER_FILESTORE_FULL
+#define CFDP_BAD_BLOCKS CFDP_ANSWER_BAD_BLOCKS
+#define CFDP_BAD_CAP CFDP_ANSWER_BAD_CAP
+#define CFDP_BAD_CHECKS CFDP_ANSWER_BAD_CHECKS
+#define CFDP_TOO_MANY_PREFIXES CFDP_ANSWER_TOO_MANY_PREFIXES
+#define CFDP_NOT_OURS CFDP_ANSWER_NOT_OURS
+#define CFDP_TRUNCATED CFDP_ANSWER_TRUNCATED
+#define CFDP_BAD_VERSION CFDP_ANSWER_BAD_VERSION
+#define CFDP_CRC_NOT_SUPPORTED CFDP_ANSWER_CRC_NOT_SUPPORTED
+#define CFDP_LENGTH_MISMATCH CFDP_ANSWER_LENGTH_MISMATCH
+#define CFDP_BAD_DIRECTIVE CFDP_ANSWER_BAD_DIRECTIVE
+#define CFDP_BAD_TLV CFDP_ANSWER_BAD_TLV
+#define CFDP_REQUEST_TOO_LONG CFDP_ANSWER_REQUEST_TOO_LONG
+#define CFDP_ADMITTED CFDP_REPLY_ADMITTED
+#define CFDP_REFUSED CFDP_REPLY_REFUSED
+#define CFDP_STORED CFDP_REPLY_STORED
+#define CFDP_DROPPED CFDP_REPLY_DROPPED
+#define CFDP_COMPLETE CFDP_REPLY_COMPLETE
+#define CFDP_WAITING CFDP_REPLY_WAITING
+#define CFDP_FAULTED CFDP_REPLY_FAULTED
+#define CFDP_PERFORMED CFDP_REPLY_PERFORMED
+#define CFDP_INSTALLED CFDP_REPLY_INSTALLED
+#define CFDP_FINISHED CFDP_REPLY_FINISHED
+#define CFDP_CANCELLED CFDP_REPLY_CANCELLED
+#define CFDP_TAKEN CFDP_REPLY_TAKEN
+#define CFDP_DUPLICATE CFDP_REPLY_DUPLICATE
+#define CFDP_UNKNOWN CFDP_REPLY_UNKNOWN
+#define CFDP_IDLE CFDP_REPLY_IDLE
+#define CFDP_NOT_FOR_US CFDP_REPLY_NOT_FOR_US
+#define CFDP_TABLE_FULL CFDP_REPLY_TABLE_FULL
+#define CFDP_TOO_MANY_REQUESTS CFDP_REFUSAL_TOO_MANY_REQUESTS
+#define CFDP_BAD_DESTINATION CFDP_REFUSAL_BAD_DESTINATION
+#define CFDP_BAD_REQUEST_PATH CFDP_REFUSAL_BAD_REQUEST_PATH
+#define CFDP_CONFLICT CFDP_REFUSAL_CONFLICT
+#define CFDP_DESTINATION_NOT_ALLOWED CFDP_REFUSAL_DESTINATION_NOT_ALLOWED
+#define CFDP_WOULD_FAIL CFDP_REFUSAL_WOULD_FAIL
+#define CFDP_TOO_LONG CFDP_REFUSAL_TOO_LONG
+#define CFDP_NO_ROOM CFDP_REFUSAL_NO_ROOM
+#define CFDP_FILE CFDP_ENTRY_FILE
+#define CFDP_DIRECTORY CFDP_ENTRY_DIRECTORY
 #endif
 #endif

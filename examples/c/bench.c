@@ -26,6 +26,9 @@ enum {
     PAYLOAD = 120,      /* octets of a file in a block */
     PIECE = 1000,       /* octets of a file in a PDU, and in one reading */
     MOST_PIECES = 7800,
+    MOST_COPIED = 3900, /* pieces of a file that fits in the filestore twice */
+    DEPTH = 8,          /* names of the longest paths */
+    LONG_NAME = 30,     /* octets of such a name */
     SMALL_PIECE = 10,   /* octets of a file in a small PDU */
     SMALL_PIECES = PAYLOAD / SMALL_PIECE,
     HEADER = 7,         /* octets of the header of a PDU */
@@ -39,7 +42,7 @@ enum {
 /* The sequence numbers of transactions: of the file, of a list, and of the first of the others. */
 enum { FILE_NUMBER = 1, LIST_NUMBER = 2, FIRST_OTHER = 3 };
 
-enum action { CREATE_FILE = 0x00, DELETE_FILE = 0x10, RENAME = 0x20, CREATE_DIRECTORY = 0x50 };
+enum action { CREATE_FILE = 0x00, DELETE_FILE = 0x10, RENAME = 0x20, APPEND = 0x30, REPLACE = 0x40, CREATE_DIRECTORY = 0x50, DENY_FILE = 0x70 };
 
 /* In which order pieces are sent or read, and entries are made. */
 enum arrangement { RISING, FALLING, SWAPPED, RANDOM };
@@ -62,7 +65,7 @@ static const char *running;
 static enum arrangement arrangement;
 static bool scattered;
 static uint64_t digest, random_state;
-static uint8_t pdu[4096];
+static uint8_t pdu[20000];
 static size_t length;
 static struct piece pieces[MOST_PIECES];
 static uint8_t copy[MOST_PIECES * PIECE];
@@ -146,7 +149,7 @@ static void make_metadata(uint32_t number, uint32_t size, const char *name) {
     end();
 }
 
-/* Adds a filestore request. Only a rename has a second name. */
+/* Adds a filestore request. Only a rename, an append and a replacement have a second name. */
 static void add_request(enum action action, const char *first, const char *second) {
     put_octet(0x00);
     size_t at = length;
@@ -242,7 +245,7 @@ static void make_engine(uint32_t blocks) {
 
 /* ---- a file, whose size is in pieces */
 
-/* The modular checksum of the file's octets (4.2.2). */
+/* The modular checksum of the file's octets (checksum procedures). */
 static uint32_t checksum_of(uint32_t octets) {
     uint32_t sum = 0;
     for (uint32_t at = 0; at < octets; at++) sum += (uint32_t)octet_of(at) << (8 * (3 - at % 4));
@@ -558,6 +561,17 @@ static void prepare_move_step(uint32_t count) {
     receive(CFDP_COMPLETE);
 }
 
+/* A directory, and a complete list that renames it into another one: its new path has one name more. */
+static void prepare_deeper(uint32_t count) {
+    make_directory(count);
+    fill('e', 0, 0);
+    make_metadata(LIST_NUMBER, 0, "");
+    add_request(RENAME, "d", "e/d");
+    receive(CFDP_ADMITTED);
+    make_eof(LIST_NUMBER, 0, 0);
+    receive(CFDP_COMPLETE);
+}
+
 /* The list that was made arrives, and is admitted. */
 static uint32_t admit(uint32_t size) {
     (void)size;
@@ -614,6 +628,15 @@ static void check_moved(uint32_t count) {
     check_entries('d', 0, count, CFDP_NOTHING);
     check_entries('e', 0, count, CFDP_DONE);
     check_blocks(count + 1);
+}
+
+static void check_deeper(uint32_t count) {
+    static const struct cfdp_path inside = {.length = 3, .octets = "e/d"};
+    struct cfdp_entry entry = {0};
+    take(LIST_NUMBER, 0);
+    if (cfdp_look_up(&engine, &inside, &entry) != CFDP_DONE || entry.kind != CFDP_DIRECTORY) fail("no directory");
+    check_entries('d', 0, count, CFDP_NOTHING);
+    check_blocks(count + 2);
 }
 
 static void check_move(uint32_t count) {
@@ -694,6 +717,126 @@ static uint32_t run_lists(uint32_t count) {
 
 static void check_nothing(uint32_t size) { (void)size; }
 
+/* ---- the longest calls */
+
+static uint32_t make(uint32_t blocks) {
+    make_engine(blocks);
+    return 1;
+}
+
+static uint32_t free_engine(uint32_t size) {
+    (void)size;
+    if (cfdp_free(&engine) != CFDP_DONE) fail("not freed");
+    return 1;
+}
+
+/* The engine is gone, and another one can be made. */
+static void check_freed(uint32_t blocks) { make_engine(blocks); }
+
+static void put_file(const struct cfdp_path *path, const uint8_t *octets, size_t count) {
+    if (cfdp_put(&engine, path, CFDP_FILE, octets, count) != CFDP_DONE) fail("not put");
+}
+
+/* The octets of the file are in `copy`. */
+static void fill_copy(uint32_t count) {
+    make_engine(BLOCKS);
+    for (uint32_t at = 0; at < count * PIECE; at++) copy[at] = octet_of(at);
+}
+
+static uint32_t put_image(uint32_t count) {
+    put_file(&image, copy, (size_t)count * PIECE);
+    return 1;
+}
+
+/* The file was put there, and is the one that was sent. */
+static void check_image(uint32_t count) {
+    look_up(count);
+    check_entry(count);
+}
+
+/* The file is there, and another one of one octet. A list is complete whose request names that one and the file. */
+static void prepare_copy(enum action action, uint32_t count) {
+    static const struct cfdp_path small = {.length = 4, .octets = "note"};
+    fill_copy(count);
+    put_image(count);
+    put_file(&small, copy, 1);
+    make_metadata(LIST_NUMBER, 0, "");
+    add_request(action, "note", "image");
+    receive(CFDP_ADMITTED);
+    make_eof(LIST_NUMBER, 0, 0);
+    receive(CFDP_COMPLETE);
+}
+
+static void prepare_append(uint32_t count) { prepare_copy(APPEND, count); }
+
+static void prepare_replace(uint32_t count) { prepare_copy(REPLACE, count); }
+
+/* The file is as before, and the other one has its octets after `before` others. */
+static void check_copy(uint32_t count, uint32_t before) {
+    static const struct cfdp_path note_path = {.length = 4, .octets = "note"};
+    struct cfdp_entry entry = {0};
+    take(LIST_NUMBER, 0);
+    check_image(count);
+    if (cfdp_look_up(&engine, &note_path, &entry) != CFDP_DONE || entry.size != (uint64_t)count * PIECE + before) fail("another size");
+    note(entry.checksum);
+}
+
+static void check_appended(uint32_t count) { check_copy(count, 1); }
+
+static void check_replaced(uint32_t count) { check_copy(count, 0); }
+
+static uint32_t read_whole(uint32_t count) {
+    read_file(0, (size_t)count * PIECE);
+    return 1;
+}
+
+/* A list of this many requests is performed, and its outcome can be taken. */
+static void prepare_take(uint32_t requests) {
+    make_directory(0);
+    arrange(requests);
+    make_list(CREATE_FILE, 'd', 0, requests);
+    receive(CFDP_ADMITTED);
+    make_eof(LIST_NUMBER, 0, 0);
+    receive(CFDP_COMPLETE);
+    while (requests-- > 0) step(LIST_NUMBER, CFDP_PERFORMED);
+}
+
+static uint32_t take_list(uint32_t requests) {
+    (void)requests;
+    take(LIST_NUMBER, 0);
+    return 1;
+}
+
+static void check_taken(uint32_t requests) {
+    check_entries('d', 0, requests, CFDP_DONE);
+    check_blocks(requests + 1);
+}
+
+/* The Metadata PDU of a list that denies 64 files, whose paths have eight names of 30 octets that no other path has. */
+static void make_long_list(uint32_t number) {
+    make_metadata(number, 0, "");
+    for (uint32_t request = 0; request < LIST; request++) {
+        char path[DEPTH * (LONG_NAME + 1) + 1], *at = path;
+        for (int level = 0; level < DEPTH; level++) {
+            at += sprintf(at, "%s%02u%02u", level ? "/" : "", (unsigned)number, (unsigned)request);
+            memset(at, 'x', LONG_NAME - 4);
+            at += LONG_NAME - 4;
+        }
+        *at = 0;
+        add_request(DENY_FILE, path, NULL);
+    }
+}
+
+/* Such lists of other transactions, and one more. */
+static void prepare_long(uint32_t others) {
+    make_engine(BLOCKS);
+    for (uint32_t i = 0; i < others; i++) {
+        make_long_list(FIRST_OTHER + i);
+        receive(CFDP_ADMITTED);
+    }
+    make_long_list(LIST_NUMBER);
+}
+
 /* ---- the workloads */
 
 struct workload {
@@ -737,10 +880,23 @@ static const struct workload workloads[] = {
     {"move-admitted", 70, 30000, 65000, RANDOM, prepare_move, admit, check_move},
     {"moves-admitted", 70, 30000, 65000, RANDOM, prepare_moves, admit, check_moves},
     {"move-step", 70, 30000, 65000, RANDOM, prepare_move_step, step_list, check_moved},
+    {"move-deeper", 70, 30000, 65000, RANDOM, prepare_deeper, step_list, check_deeper},
     /* the size: blocks of the filestore */
     {"look-ups", 256, 65536, 65536, RANDOM, make_store, look_up_many, check_nothing},
     /* the size: requests of 63 other transactions together */
     {"admitted-beside", LIVE, LIVE * LIST, LIVE * LIST, RISING, prepare_beside, admit, check_nothing},
+    /* the size: blocks of the filestore */
+    {"new", 16, 65536, 65536, RISING, check_nothing, make, check_nothing},
+    {"free", 16, 65536, 65536, RISING, make_engine, free_engine, check_freed},
+    /* the size: pieces of a file */
+    {"put", 30, 7800, MOST_PIECES, RISING, fill_copy, put_image, check_image},
+    {"append", 30, 3900, MOST_COPIED, RISING, prepare_append, step_list, check_appended},
+    {"replace", 30, 3900, MOST_COPIED, RISING, prepare_replace, step_list, check_replaced},
+    {"read-whole", 30, 7800, MOST_PIECES, RISING, deliver, read_whole, check_all},
+    /* the size: requests of a list */
+    {"take", 1, LIST, LIST, RISING, prepare_take, take_list, check_taken},
+    /* the size: other transactions with a list as long as the one that is admitted */
+    {"long-list", 1, LIVE, LIVE, RISING, prepare_long, admit, check_nothing},
     /* the size: lists */
     {"lists", 20, 2000, 100000, RISING, prepare_lists, run_lists, check_nothing},
 };

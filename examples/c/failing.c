@@ -1,30 +1,24 @@
 /* Each allocation fails in turn. A call answers that there is no memory, and the same call made again goes on; at the end nothing is
  * lost. This file has the three allocation functions of its own, over malloc. */
-#include "../../include/cfdp.h"
+#include "../../include/cfdp_receiver.h"
 #include <stdbool.h>
 #include <stdio.h>
 #include <stdlib.h>
 
-struct tried { bool ok; void *block; };
-
 static unsigned calls, fails_at, out;
 static char nothing;
 
-struct tried rattle_alloc(size_t octets, size_t align);
-struct tried rattle_realloc(void *block, size_t kept, size_t octets, size_t align);
-void rattle_dealloc(void *block);
-
-struct tried rattle_alloc(size_t octets, size_t align) {
+struct cfdp_block rattle_alloc(size_t octets, size_t align) {
     (void)align;
     void *block = ++calls == fails_at ? NULL : malloc(octets ? octets : 1);
     if (block) out++;
-    return block ? (struct tried){true, block} : (struct tried){false, &nothing};
+    return block ? (struct cfdp_block){true, block} : (struct cfdp_block){false, &nothing};
 }
 
-struct tried rattle_realloc(void *block, size_t kept, size_t octets, size_t align) {
+struct cfdp_block rattle_realloc(void *block, size_t kept, size_t octets, size_t align) {
     (void)kept, (void)align;
     void *moved = ++calls == fails_at ? NULL : realloc(block, octets ? octets : 1);
-    return moved ? (struct tried){true, moved} : (struct tried){false, block};
+    return moved ? (struct cfdp_block){true, moved} : (struct cfdp_block){false, block};
 }
 
 void rattle_dealloc(void *block) {
@@ -66,23 +60,66 @@ static int run(void) {
     wrong |= cfdp_receive(&engine, eof, sizeof eof, &reply) != CFDP_DONE || reply.kind != CFDP_COMPLETE;
     wrong |= cfdp_step(&engine, 1, 1, &reply) != CFDP_DONE || reply.kind != CFDP_PERFORMED;
     wrong |= cfdp_step(&engine, 1, 1, &reply) != CFDP_DONE || reply.kind != CFDP_PERFORMED;
+    wrong |= cfdp_take(&engine, 1, 1, pdu, sizeof pdu, &count, &reply) != CFDP_DONE || reply.kind != CFDP_TAKEN || count != 30;
     wrong |= calls != before; /* no memory was asked for */
-    while (again(cfdp_take(&engine, 1, 1, pdu, sizeof pdu, &count, &reply))) {}
-    wrong |= reply.kind != CFDP_TAKEN || count != 30;
     while (again(cfdp_receive(&engine, live, sizeof live, &reply))) {}
     wrong |= reply.kind != CFDP_ADMITTED;
     wrong |= cfdp_free(&engine) != CFDP_DONE;
     return wrong | (out != 0); /* all memory was given back */
 }
 
-int main(void) {
+/* The same list in acknowledged mode, its EOF PDU, and the acknowledgement of its Finished PDU. */
+static uint8_t list_pdu[sizeof metadata], eof_pdu[sizeof eof];
+static uint8_t ack_pdu[] = {0x20, 0x00, 0x03, 0x00, 0x01, 0x01, 0x02, 0x06, 0x51, 0x02};
+
+/* A receiver over a new engine. Where its memory is refused the engine is freed, and both are made again. */
+static void open_receiver(struct cfdp_receiver *receiver) {
+    static const struct cfdp_config config = {.entity = 2, .cap = 2400, .blocks = 64, .checks = 2};
+    static const struct cfdp_mib mib = {.ack_interval = 50, .ack_limit = 2, .ack_handler = CFDP_HANDLER_CANCEL, .nak_interval = 40,
+        .nak_limit = 3, .nak_handler = CFDP_HANDLER_CANCEL, .check_interval = 30, .check_handler = CFDP_HANDLER_CANCEL,
+        .inactivity_interval = 600, .inactivity_handler = CFDP_HANDLER_CANCEL, .nak_mode = CFDP_NAK_DEFERRED, .longest_nak = 100};
+    struct cfdp_engine engine = CFDP_ENGINE_EMPTY;
+    do {
+        while (again(cfdp_new(&engine, &config, NULL, 0))) {}
+    } while (again(cfdp_receiver_new(receiver, &engine, &mib)));
+}
+
+static int run_receiver(void) {
+    struct cfdp_receiver receiver = CFDP_RECEIVER_EMPTY;
+    struct cfdp_report report = {0};
+    uint8_t pdu[64];
+    size_t count = 0;
+    memcpy(list_pdu, metadata, sizeof metadata);
+    memcpy(eof_pdu, eof, sizeof eof);
+    list_pdu[0] = eof_pdu[0] = 0x20;
+    open_receiver(&receiver);
+    while (again(cfdp_receiver_receive(&receiver, 0, list_pdu, sizeof list_pdu, &report))) {}
+    int wrong = report.reply.kind != CFDP_REPLY_ADMITTED;
+    unsigned before = calls;
+    wrong |= cfdp_receiver_receive(&receiver, 1, eof_pdu, sizeof eof_pdu, &report) != CFDP_ANSWER_DONE || report.pdus != 1;
+    wrong |= cfdp_receiver_work(&receiver, 2, &report) != CFDP_ANSWER_DONE || report.reply.kind != CFDP_REPLY_PERFORMED;
+    wrong |= cfdp_receiver_work(&receiver, 2, &report) != CFDP_ANSWER_DONE || report.reply.kind != CFDP_REPLY_PERFORMED;
+    wrong |= calls != before; /* no memory was asked for */
+    while (again(cfdp_receiver_finish(&receiver, 3, &report))) {}
+    wrong |= report.became != CFDP_BECAME_FINISHED || report.pdus != 1;
+    wrong |= cfdp_receiver_write(&receiver, 0, pdu, sizeof pdu, &count) != CFDP_ANSWER_DONE || count != 30;
+    wrong |= cfdp_receiver_receive(&receiver, 4, ack_pdu, sizeof ack_pdu, &report) != CFDP_ANSWER_DONE;
+    wrong |= report.became != CFDP_BECAME_ACKNOWLEDGED || cfdp_receiver_free(&receiver) != CFDP_ANSWER_DONE;
+    return wrong | (out != 0);
+}
+
+/* Refuses each allocation of a run in turn, until none is refused any more. */
+static int refuse_each(int (*one_run)(void), const char *what) {
     int wrong = 0;
     for (fails_at = 1; !wrong; fails_at++) {
         calls = refused = 0;
-        wrong = run();
-        if (calls < fails_at) break; /* nothing was refused any more */
+        wrong = one_run();
+        if (calls < fails_at) break;
         wrong |= refused != 1;
     }
-    printf(wrong ? "wrong at %u\n" : "each allocation was refused once, and nothing was lost\n", fails_at);
+    if (wrong) printf("%s: wrong at %u\n", what, fails_at);
+    else printf("%s: each allocation was refused once, and nothing was lost\n", what);
     return wrong;
 }
+
+int main(void) { return refuse_each(run, "engine") | refuse_each(run_receiver, "receiver"); }

@@ -7,16 +7,10 @@
 #include <stdio.h>
 #include <string.h>
 
-struct tried { bool ok; void *block; };
-
 enum { REGION = 128 * 1024 };
 
 static union { unsigned char octets[REGION]; long double aligned; } region;
 static size_t used, calls, blocks_out;
-
-struct tried rattle_alloc(size_t octets, size_t align);
-struct tried rattle_realloc(void *block, size_t kept, size_t octets, size_t align);
-void rattle_dealloc(void *block);
 
 static size_t room_of(void *block) {
     size_t room;
@@ -24,16 +18,16 @@ static size_t room_of(void *block) {
     return room;
 }
 
-struct tried rattle_alloc(size_t octets, size_t align) {
+struct cfdp_block rattle_alloc(size_t octets, size_t align) {
     (void)align; /* it divides 16 */
     calls++;
     size_t room = (octets + 15) & ~(size_t)15;
-    if (octets > REGION || room + 16 > REGION - used) return (struct tried){false, region.octets};
+    if (octets > REGION || room + 16 > REGION - used) return (struct cfdp_block){false, region.octets};
     unsigned char *block = region.octets + used + 16;
     memcpy(block - 16, &room, sizeof room);
     used += room + 16;
     blocks_out++;
-    return (struct tried){true, block};
+    return (struct cfdp_block){true, block};
 }
 
 void rattle_dealloc(void *block) {
@@ -42,11 +36,11 @@ void rattle_dealloc(void *block) {
     if (--blocks_out == 0) used = 0;
 }
 
-struct tried rattle_realloc(void *block, size_t kept, size_t octets, size_t align) {
-    if (octets <= room_of(block)) return (struct tried){true, block};
-    struct tried to = rattle_alloc(octets, align);
-    if (!to.ok) return (struct tried){false, block};
-    memcpy(to.block, block, kept);
+struct cfdp_block rattle_realloc(void *block, size_t kept, size_t octets, size_t align) {
+    if (octets <= room_of(block)) return (struct cfdp_block){true, block};
+    struct cfdp_block to = rattle_alloc(octets, align);
+    if (!to.is_made) return (struct cfdp_block){false, block};
+    memcpy(to.octets, block, kept);
     rattle_dealloc(block);
     return to;
 }

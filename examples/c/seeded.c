@@ -55,7 +55,7 @@ static void put_name(const char *name) {
     put(name, strlen(name));
 }
 
-/* The octets of a file, and their modular checksum (4.2.2). */
+/* The octets of a file, and their modular checksum (checksum procedures). */
 static uint8_t octet_of(const struct announced *file, uint32_t at) { return (uint8_t)(file->first + 7 * at); }
 
 static uint32_t checksum_of(const struct announced *file) {

@@ -129,13 +129,13 @@ static void show_file(const struct cfdp_path *path) {
     printf("\n");
 }
 
-/* All that stands in the filestore, in path order. */
+/* All that is in the filestore, in path order. */
 static void show_all(void) {
     struct cfdp_path path = {0};
     struct cfdp_entry entry;
     while (cfdp_next(&engine, &path, &entry) == CFDP_DONE)
         printf("%s %.*s %" PRIu64 "\n", entry.kind == CFDP_FILE ? "file" : "dir", (int)path.length, (const char *)path.octets, entry.size);
-    /* Behind the last one the struct is as before; what spells no path is told. */
+    /* After the last one the struct is as before; what spells no path is reported. */
     expect(cfdp_next(&engine, &path, &entry), CFDP_NOTHING);
     expect(path.length, 8);
     expect(cfdp_next(&engine, &(struct cfdp_path){.length = 4, .octets = "app/"}, &entry), CFDP_BAD_PATH);

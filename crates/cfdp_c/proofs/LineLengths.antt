@@ -26,7 +26,8 @@ mapped : {A B : Type 0} (P : A → Type 0) (Q : B → Type 0) (f : A → B) (o :
 mapped P Q f None each all = tt
 mapped P Q f (Some x) each all = each x all
 
-chained : {A B : Type 0} (P : A → Type 0) (Q : B → Type 0) (f : A → Option B) (o : Option A) → ((x : A) → P x → IfSome (f x) Q) → IfSome o P → IfSome (option_and_then f o) Q
+chained : {A B : Type 0} (P : A → Type 0) (Q : B → Type 0) (f : A → Option B) (o : Option A) → ((x : A) → P x → IfSome (f x) Q) → IfSome o P →
+    IfSome (option_and_then f o) Q
 chained P Q f None each all = tt
 chained P Q f (Some x) each all = each x all
 
@@ -49,12 +50,15 @@ any (Some x) = tt
 module _ (fields : ReplyFields) (w : HasWidths fields) where
   failure_holds : IfSome (failure_in fields) IsNarrowRefusal
   failure_holds =
-      chained (λ octet. octet < 256) IsNarrowRefusal (λ request. option_map (λ status. refusal.WouldFail request status) (status_in fields.status)) (small fields.request)
-      (λ request narrow. mapped (λ _. Unit {0}) IsNarrowRefusal (λ status. refusal.WouldFail request status) (status_in fields.status) (λ _ _. narrow) (any (status_in fields.status))) (small_holds fields.request)
+      chained (λ octet. octet < 256) IsNarrowRefusal (λ request. option_map (λ status. refusal.WouldFail request status) (status_in fields.status))
+      (small fields.request)
+      (λ request narrow. mapped (λ _. Unit {0}) IsNarrowRefusal (λ status. refusal.WouldFail request status) (status_in fields.status) (λ _ _. narrow)
+      (any (status_in fields.status))) (small_holds fields.request)
 
   refusal_holds : IfSome (refusal_in fields) IsNarrowRefusal
   refusal_holds =
-      let request = mapped (λ octet. octet < 256) IsNarrowRefusal (λ request. refusal.BadPath (place.Request request)) (small fields.request) (λ _ narrow. narrow) (small_holds fields.request) in
+      let request = mapped (λ octet. octet < 256) IsNarrowRefusal (λ request. refusal.BadPath (place.Request request)) (small fields.request)
+      (λ _ narrow. narrow) (small_holds fields.request) in
       flattened IsNarrowRefusal (beside (refusals fields) fields.refusal)
       (told_beside (λ (o : Option Refusal). IfSome o IsNarrowRefusal) (refusals fields) fields.refusal
       (tt, (tt, (request, ((w.other_source, w.other_number), (tt, (failure_holds, (w.steps, ((w.blocks, w.spare), tt)))))))))
@@ -62,8 +66,10 @@ module _ (fields : ReplyFields) (w : HasWidths fields) where
   reply_holds : IfSome (reply_in fields) IsNarrow
   reply_holds =
       let refused = mapped IsNarrowRefusal IsNarrow (λ why. reply.Refused why) (refusal_in fields) (λ _ narrow. narrow) refusal_holds in
-      let faulted = mapped (λ octet. octet < 256) IsNarrow (λ condition. reply.Faulted condition) (small fields.condition) (λ _ narrow. narrow) (small_holds fields.condition) in
-      let performed = mapped (λ _. Unit {0}) IsNarrow (λ status. reply.Performed status) (status_in fields.status) (λ _ _. tt) (any (status_in fields.status)) in
+      let faulted = mapped (λ octet. octet < 256) IsNarrow (λ condition. reply.Faulted condition) (small fields.condition) (λ _ narrow. narrow)
+      (small_holds fields.condition) in
+      let performed = mapped (λ _. Unit {0}) IsNarrow (λ status. reply.Performed status) (status_in fields.status) (λ _ _. tt)
+      (any (status_in fields.status)) in
       flattened IsNarrow (beside (replies fields) fields.kind)
       (told_beside (λ (o : Option Reply). IfSome o IsNarrow) (replies fields) fields.kind
       ((w.blocks, w.steps), (refused, (tt, (tt, (tt, (tt, (faulted, (performed, (tt, (tt, (tt, (tt, (tt, (tt, (tt, (tt, tt)))))))))))))))))

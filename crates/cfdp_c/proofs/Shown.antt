@@ -1,4 +1,4 @@
--- A reply that is told as numbers is shown as `replay` writes it.
+-- A reply that is reported as numbers is shown as `replay` writes it.
 use Rattle.std.proofs.Common.{◌≡◌, ℕ, ◌<◌, Some, refl}
 use Rattle.std.proofs.lemmas.Bool.{lt-ltb}
 use Rattle.cfdp_status.specs.Codes.{octet_of}

@@ -1,4 +1,4 @@
--- What the calls from C tell of the filestore.
+-- What the calls from C say of the filestore.
 --     directory_told             a directory as a struct
 --     copied, not_copied         octets of a file were copied;  there is no file
 use Rattle.std.proofs.Common.{◌≡◌, ℕ, List, Option, Some, None, refl, ap, ◌∙◌, sym}
@@ -14,16 +14,22 @@ use Rattle.cfdp_c.specs.Answers.{code_of}
 use Rattle.cfdp_c.specs.declared.answer.Answer.TheVariants.{Done, Nothing}
 use Rattle.cfdp_c.specs.Stored.{CopiesFile, node_fields}
 
-pub directory_told : (node : Option Node) (found : Found) → Some found ≡ option_map found_of node → found.kind ≡ kind.Directory → Some (record { kind = 2; checksum = found.checksum; size = found.size }) ≡ option_map node_fields node
+pub directory_told : (node : Option Node) (found : Found) → Some found ≡ option_map found_of node → found.kind ≡ kind.Directory →
+    Some (record { kind = 2; checksum = found.checksum; size = found.size }) ≡ option_map node_fields node
 unfolding weighed_from
 directory_told None found told is = absurd (none-some found (sym told))
-directory_told (Some Directory) found told is = (λ k. Some (record { kind = 2; checksum = (same_Some _ _ told k).checksum; size = (same_Some _ _ told k).size }))
+directory_told (Some Directory) found told is = (λ k. Some (record {
+  kind = 2;
+  checksum = (same_Some _ _ told k).checksum;
+  size = (same_Some _ _ told k).size;
+}))
 directory_told (Some (File octets)) found told is = absurd (no_file (sym is ∙ ap (λ (f : Found). f.kind) (same_Some _ _ told)))
   where
     no_file : kind.Directory ≡ kind.File → ⊥
     no_file e = cc
 
-pub copied : (node : Option Node) (at count before : ℕ) (out written : List ℕ) → Some count ≡ octets_read node at out → written ≡ with_octets (octets_in node) at out
+pub copied : (node : Option Node) (at count before : ℕ) (out written : List ℕ) → Some count ≡ octets_read node at out → written
+    ≡ with_octets (octets_in node) at out
     → CopiesFile node at out written before count (code_of Done)
 copied None at count before out written counted octets = absurd (none-some count (sym counted))
 copied (Some Directory) at count before out written counted octets = absurd (none-some count (sym counted))

@@ -1,5 +1,5 @@
--- What is told of the entry that stands next.
---     next_told      it is told, where its path and its numbers are
+-- What is said of the entry that is next.
+--     next_told      it is reported, where its path and its numbers are
 use Rattle.std.proofs.Common.{◌≡◌, ℕ, List, Some, length, refl, ap, ◌∙◌}
 use Rattle.cfdp_paths.specs.Paths.{Path}
 use Rattle.cfdp_actions.specs.Filestore.{Filestore, Node, Directory, File, octets_in}

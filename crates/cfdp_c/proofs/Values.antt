@@ -1,7 +1,6 @@
 -- The machine value of a slot: its pointer alone. Assumes `Logic`.
 use Rattle.std.proofs.Common.{◌≡◌, List, [], ◌∷◌, ◌++◌, refl, ◌∙◌, subst, lit<}
 use Rattle.std.specs.Prelude.{Option, Some, None, IsSome, Bool, not, T}
-use Rattle.cfdp_transactions.specs.World.{World}
 use seplogic.Ra.Ura.{Ura}
 use mir.Syntax.{ty_ptr, ty_struct, tcons, tnil}
 use mir.Val.{Val, vstruct, vcons, vnil, of_list}
@@ -34,12 +33,12 @@ pub slot_typed : (p : Ptr) → Good (ty_struct [] (tcons ty_ptr tnil)) (slot_val
 slot_typed (block_ptr b o) = (tt, (tt, tt))
 slot_typed null_ptr = (tt, (record { fits = lit< tt }, tt))
 
--- the engine of a slot that has one
-pub engine_of : (e : Option World) → IsSome e → World
-engine_of (Some t) s = t
-engine_of None s = absurd (subst (λ (b : Bool). T (not b)) s tt)
+-- what a slot has that is not empty
+pub content_of : {X : Type 0} (e : Option X) → IsSome e → X
+content_of (Some t) s = t
+content_of None s = absurd (subst (λ (b : Bool). T (not b)) s tt)
 
-pub engine_is : (e : Option World) (s : IsSome e) → e ≡ Some (engine_of e s)
-unfolding engine_of
-engine_is (Some t) s = refl
-engine_is None s = absurd (subst (λ (b : Bool). T (not b)) s tt)
+pub content_is : {X : Type 0} (e : Option X) (s : IsSome e) → e ≡ Some (content_of e s)
+unfolding content_of
+content_is (Some t) s = refl
+content_is None s = absurd (subst (λ (b : Bool). T (not b)) s tt)

@@ -1,7 +1,8 @@
 -- What C reads of the Metadata PDU of a transaction.
 --   metadata_of W id          the Metadata PDU of a transaction, if the engine has the transaction
 --   metadata_numbers m        its numbers, as a struct
---   WritesName f handle out written before count answer    the name that f reads in an engine's world is written to the start of a
+--   WritesName f handle out written before count answer    the name that f reads in an engine's world is written to the
+--                                                          start of a
 --                             buffer, and its length to count; or it does not fit; or there is none
 use Rattle.std.specs.Prelude.{◌≡◌, ℕ, if◌then◌else◌, List, Option, Some, None}
 use Rattle.cfdp_status.specs.declared.transaction.TransactionId.{TransactionId}

@@ -1,8 +1,8 @@
--- What calls from C answer.
+-- What calls from C return.
 --   code_of answer      the number of an answer
---   config_answer       what is answered of a number of the configuration outside its limits
---   put_answer          what is answered of a reason for which nothing is put into the filestore
---   fault_answer        what is answered of octets that are no PDU;  unheard_answer: of any that got no reply
+--   config_answer       what is returned for a number of the configuration outside its limits
+--   put_answer          what is returned for a reason for which nothing is put into the filestore
+--   fault_answer        what is returned for octets that are no PDU;  unheard_answer: of any that got no reply
 use Rattle.std.specs.Prelude.{ℕ}
 use Rattle.cfdp_pdus.specs.declared.fault.PduFault.{PduFault}
 use Rattle.cfdp_pdus.specs.declared.fault.PduFault.TheVariants as pdu
@@ -31,6 +31,11 @@ code_of answer.Exists = 8
 code_of answer.NoParent = 9
 code_of answer.FilestoreFull = 10
 code_of answer.TooManyPrefixes = 20
+code_of answer.BadHandler = 21
+code_of answer.BadNakMode = 22
+code_of answer.BadInterval = 23
+code_of answer.BadLimit = 24
+code_of answer.BadLongestNak = 25
 code_of answer.NotOurs = 32
 code_of answer.Truncated = 33
 code_of answer.BadVersion = 34
@@ -39,6 +44,7 @@ code_of answer.LengthMismatch = 36
 code_of answer.BadDirective = 37
 code_of answer.BadTlv = 38
 code_of answer.RequestTooLong = 39
+code_of answer.BadCrc = 40
 
 -- a journal is no part of the engine
 abbrev pub config_answer : ConfigFault → Answer

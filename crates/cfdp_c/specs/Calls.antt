@@ -1,4 +1,5 @@
--- What the calls from C do to the engine of a handle, which is None where it has none, and to the reply, and what they answer.
+-- What the calls from C do to the engine of a handle, which is None where it has none, and to the reply, and what they
+-- answer.
 --   named source number        the transaction of these numbers
 --   Does event                 an event of the entity's own: the reply is that of the table of events
 --   Receives octets            octets that came: likewise, or why there is no reply, with all as before
@@ -43,25 +44,32 @@ Hears (Err why) W after old new answer = Stays W after old new × (answer ≡ co
 abbrev pub Receives : List ℕ → Option World → Option World → ReplyFields → ReplyFields → ℕ → Type 0
 Receives octets None after old new answer = (after ≡ None) × (new ≡ old) × (answer ≡ code_of NoEngine)
 Receives octets (Some W) after old new answer =
-    Hears (heard octets) W after old new answer ⊎ (MayWantMemory octets × Stays W after old new × (answer ≡ code_of Memory))
+    Hears (heard octets) W after old new answer ⊎ (MayWantMemory octets × Stays W after old new
+    × (answer ≡ code_of Memory))
 
 abbrev pub Frees : Option World → ℕ → Type 0
 Frees None answer = answer ≡ code_of NoEngine
 Frees (Some W) answer = answer ≡ code_of Done
 
--- the outcome of a transaction is taken: the Finished PDU is written, or does not fit, or there is an outcome and no memory for it
+-- the outcome of a transaction is taken: the Finished PDU is written, or does not fit, or there is an outcome and no
+-- memory for it
 abbrev pub Hands : World → TransactionId → Option World → List ℕ → List ℕ → ℕ → ReplyFields → ℕ → Type 0
 Hands W id after out written count reply answer =
-    Follows W (Take id) after reply answer × (written ≡ sent (next W (Take id)).1 ++ drop (length (sent (next W (Take id)).1)) out)
+    Follows W (Take id) after reply answer × (written ≡ sent (next W (Take id)).1
+    ++ drop (length (sent (next W (Take id)).1)) out)
     × (count ≡ length (sent (next W (Take id)).1))
 
-abbrev pub FallsShort : World → TransactionId → Option World → List ℕ → List ℕ → ℕ → ReplyFields → ReplyFields → ℕ → Type 0
+abbrev pub FallsShort : World → TransactionId → Option World → List ℕ → List ℕ → ℕ → ReplyFields → ReplyFields → ℕ →
+    Type 0
 FallsShort W id after out written count old new answer =
-    (length out < count) × (count ≡ length (sent (next W (Take id)).1)) × Stays W after old new × (written ≡ out) × (answer ≡ code_of TooShort)
+    (length out < count) × (count ≡ length (sent (next W (Take id)).1)) × Stays W after old new × (written ≡ out)
+    × (answer ≡ code_of TooShort)
 
-abbrev pub Takes : TransactionId → Option World → Option World → List ℕ → List ℕ → ℕ → ℕ → ReplyFields → ReplyFields → ℕ → Type 0
+abbrev pub Takes : TransactionId → Option World → Option World → List ℕ → List ℕ → ℕ → ℕ → ReplyFields → ReplyFields →
+    ℕ → Type 0
 Takes id None after out written before count old new answer =
     (after ≡ None) × (written ≡ out) × (count ≡ before) × (new ≡ old) × (answer ≡ code_of NoEngine)
 Takes id (Some W) after out written before count old new answer =
     Hands W id after out written count new answer ⊎ FallsShort W id after out written count old new answer
-    ⊎ (IsSome (outcome_in W id) × Stays W after old new × (written ≡ out) × (count ≡ before) × (answer ≡ code_of Memory))
+    ⊎ (IsSome (outcome_in W id) × Stays W after old new × (written ≡ out) × (count ≡ before)
+    × (answer ≡ code_of Memory))

@@ -9,3 +9,7 @@ pub mod Shown
 pub mod Announced
 pub mod Next
 pub mod Puts
+pub mod Mibs
+pub mod Reports
+pub mod Receiving
+pub mod ReceiverOwnership

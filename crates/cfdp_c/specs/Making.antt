@@ -1,6 +1,7 @@
 -- The configuration that C gives.
---   path_in fields            the path that the octets of a struct spell, where there are so many
---   protected_by prefixes protected    the protected paths, after more prefixes, or what is wrong with the first bad one
+--   path_in fields            the path that the octets of a struct spell, where there are this many
+--   protected_by prefixes protected    the protected paths, after more prefixes, or what is wrong with the first bad
+--                                      one
 --   config_by fields protected         the configuration of these numbers, or what is wrong with the first bad one
 --   configured fields prefixes         the whole configuration
 --   Opens fields prefixes     what making an engine does to a handle
@@ -32,14 +33,22 @@ protected_by (prefix ∷ prefixes) protected = and_then (with_path protected (pa
 
 abbrev pub numbers_in : ConfigFields → List Path → Config
 numbers_in fields protected =
-    record { entity = fields.entity; blocks = fields.blocks; cap = fields.cap; checks = fields.checks; journal = 16; prefixes = protected }
+    record {
+      entity = fields.entity;
+      blocks = fields.blocks;
+      cap = fields.cap;
+      checks = fields.checks;
+      journal = 16;
+      prefixes = protected;
+    }
 
 abbrev pub config_by : ConfigFields → List Path → Option ConfigFault → Result Config Answer
 config_by fields protected None = Ok (numbers_in fields protected)
 config_by fields protected (Some fault) = Err (config_answer fault)
 
 abbrev pub with_protected : ConfigFields → Result (List Path) Answer → Result Config Answer
-with_protected fields (Ok protected) = config_by fields protected (first_fault fields.blocks fields.cap fields.checks 16)
+with_protected fields (Ok protected) = config_by fields protected
+    (first_fault fields.blocks fields.cap fields.checks 16)
 with_protected fields (Err answer) = Err answer
 
 abbrev pub configured : ConfigFields → List PathFields → Result Config Answer
@@ -51,4 +60,5 @@ Makes (Ok config) after answer = (after ≡ Some (start config)) × (answer ≡ 
 
 abbrev pub Opens : ConfigFields → List PathFields → Option World → Option World → ℕ → Type 0
 Opens fields prefixes (Some W) after answer = (after ≡ Some W) × (answer ≡ code_of HasEngine)
-Opens fields prefixes None after answer = Makes (configured fields prefixes) after answer ⊎ ((after ≡ None) × (answer ≡ code_of Memory))
+Opens fields prefixes None after answer = Makes (configured fields prefixes) after answer
+    ⊎ ((after ≡ None) × (answer ≡ code_of Memory))

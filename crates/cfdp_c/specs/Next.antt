@@ -1,8 +1,8 @@
--- What stands next in the filestore behind a path, as C gets it.
---   spelled_fields octets     octets that spell a path as a struct: zeros stand behind them;  path_fields: of a path
+-- What is next in the filestore after a path, as C gets it.
+--   spelled_fields octets     octets that spell a path as a struct: zeros are after them;  path_fields: of a path
 --   kind_number               the number of a kind
 --   cursor_in fields          the path that a struct spells, and the root where it has no octets
---   StandsNext F p path entry the path that is next, and what stands there, are told
+--   StandsNext F p path entry the path that is next, and what is there, are reported
 --   GoesOn F p old new answer likewise;  or nothing comes next, and both structs are as before
 --   GoesOnFrom cursor         likewise of the path that is spelled;  or none is
 --   TellsNext handle          likewise of an engine's filestore;  or there is no engine

@@ -1,7 +1,8 @@
 -- What C puts into an engine's filestore.
 --   node_in kind octets       what a kind asks for: a file with the octets, or a directory;  no other kind is one
---   Puts path what            it is put there;  or why not, with all as before: a path that is none, a kind that is none, a reason
---                             of the entity's, or out of memory;  PutsPath, PutsNode, PutsBy: by the first of these that is known
+--   Puts path what            it is put there;  or why not, with all as before: a path that is none, a kind that is
+--                             none, a reason of the entity's, or out of memory;  PutsPath, PutsNode, PutsBy: by the
+--                             first of these that is known
 use Rattle.std.specs.Prelude.{◌≡◌, ◌⊎◌, ℕ, ◌==◌, if◌then◌else◌, List, Option, Some, None}
 use Rattle.cfdp_paths.specs.Paths.{Path}
 use Rattle.cfdp_actions.specs.Filestore.{Node, Directory, File}
@@ -30,7 +31,8 @@ PutsPath (Some p) what W after code = PutsNode what W p after code
 
 abbrev pub PutsIn : PathFields → Option Node → World → Option World → ℕ → Type 0
 PutsIn path what W None code = ⊥
-PutsIn path what W (Some after) code = PutsPath (path_in path) what W after code ⊎ ((after ≡ W) × (code ≡ code_of answer.Memory))
+PutsIn path what W (Some after) code = PutsPath (path_in path) what W after code
+    ⊎ ((after ≡ W) × (code ≡ code_of answer.Memory))
 
 abbrev pub Puts : PathFields → Option Node → Option World → Option World → ℕ → Type 0
 Puts path what None after code = (after ≡ None) × (code ≡ code_of answer.NoEngine)

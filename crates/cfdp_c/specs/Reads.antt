@@ -1,6 +1,7 @@
--- What the calls from C that change nothing write, and what they answer.
---   Reads f handle old new answer    what f says of the world of an engine: there is something, which is written, or there is nothing
---   name_fields, phase_fields, grant_fields, gap_fields    what is told, as structs
+-- What the calls from C that change nothing write, and what they return.
+--   Reads f handle old new answer    what f says of the world of an engine: there is something, which is written, or
+--                                    there is nothing
+--   name_fields, phase_fields, grant_fields, gap_fields    what is reported, as structs
 --   blocks_fields W           free blocks, and those of them that nobody was granted
 use Rattle.std.specs.Prelude.{◌≡◌, ℕ, List, slice_get, Option, Some, None}
 use Rattle.cfdp_status.specs.declared.transaction.TransactionId.{TransactionId}

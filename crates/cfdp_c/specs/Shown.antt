@@ -1,11 +1,14 @@
 -- The text of a reply that C has as numbers: the line that `replay` writes of it.
 --   small n                   a number that is an octet
---   status_in, refusal_in, reply_in    the status, the refusal and the reply of these numbers, where there is one; an outcome is none of them
---   shown fields octets       the line of a reply, where there is such a reply; that of an outcome with the octets of its Finished PDU
+--   status_in, refusal_in, reply_in    the status, the refusal and the reply of these numbers, where there is one; an
+--                                      outcome is none of them
+--   shown fields octets       the line of a reply, where there is such a reply; that of an outcome with the octets of
+--                             its Finished PDU
 --   HasWidths fields          the numbers fit the struct's fields, as those that C passes do
 --   longest_line octets       how many octets the line of a reply has at most, by those of the Finished PDU
 --   answer_line answer        the line of octets that brought no event, by what was answered of them
---   Puts text                 a text is written to the beginning of a buffer, and its length told; or it does not fit
+--   ended text out            a buffer with a text at its beginning, and a 0 after it where there is room
+--   Puts text                 a text is written so, and its length returned; or it does not fit
 --   Writes text               likewise, where there is a text, or there is no memory for it
 --   IsTold reply              a reply that goes to C, and whose numbers are octets where they are to be
 --   ShownAsReplayed           each such reply is shown as `replay` writes it
@@ -36,7 +39,8 @@ abbrev pub status_in : ℕ → Option Status
 status_in n = option_and_then (beside statuses) (small n)
 
 abbrev pub failure_in : ReplyFields → Option Refusal
-failure_in fields = option_and_then (λ request. option_map (λ status. refusal.WouldFail request status) (status_in fields.status)) (small fields.request)
+failure_in fields = option_and_then (λ request. option_map (λ status. refusal.WouldFail request status)
+    (status_in fields.status)) (small fields.request)
 
 abbrev pub refusals : ReplyFields → List (ℕ × Option Refusal)
 refusals fields =
@@ -78,7 +82,8 @@ reply_in fields = option_flatten (beside (replies fields) fields.kind)
 
 abbrev pub shown : ReplyFields → List ℕ → Option (List ℕ)
 shown fields octets =
-    if fields.kind == 12 then Some (line (name_of (named fields.source fields.number) ++ word (taken_text octets fields.condition)))
+    if fields.kind == 12 then Some (line (name_of (named fields.source fields.number)
+    ++ word (taken_text octets fields.condition)))
     else option_map (reply_line (named fields.source fields.number)) (reply_in fields)
 
 -- two digits for each; or a refusal for a conflict, with the names of two transactions
@@ -111,9 +116,16 @@ answer_lines =
 abbrev pub answer_line : ℕ → Option (List ℕ)
 answer_line answer = beside answer_lines answer
 
+abbrev pub with_end : List ℕ → List ℕ
+with_end [] = []
+with_end (octet ∷ rest) = 0 ∷ rest
+
+abbrev pub ended : List ℕ → List ℕ → List ℕ
+ended text out = text ++ with_end (drop (length text) out)
+
 abbrev pub Puts : List ℕ → List ℕ → List ℕ → ℕ → ℕ → Type 0
 Puts text out written count answer =
-    ((length text ≤ length out) × (written ≡ text ++ drop (length text) out) × (count ≡ length text) × (answer ≡ code_of Done))
+    ((length text ≤ length out) × (written ≡ ended text out) × (count ≡ length text) × (answer ≡ code_of Done))
     ⊎ ((length out < length text) × (written ≡ out) × (count ≡ length text) × (answer ≡ code_of TooShort))
 
 abbrev pub PutsAny : Option (List ℕ) → List ℕ → List ℕ → ℕ → ℕ → ℕ → Type 0
@@ -134,4 +146,5 @@ IsTold reply.JournalFull = ⊥
 IsTold told = ⊤
 
 abbrev pub ShownAsReplayed : Type 0
-ShownAsReplayed = (id : TransactionId) (reply : Reply) → IsTold reply → shown (told id reply) (sent reply) ≡ Some (reply_line id reply)
+ShownAsReplayed = (id : TransactionId) (reply : Reply) → IsTold reply → shown (told id reply) (sent reply)
+    ≡ Some (reply_line id reply)

@@ -1,7 +1,7 @@
--- What the calls from C tell of the filestore.
---   node_fields node          a directory or a file as a struct;  looked F p: what stands at a path
---   LooksUp path handle old new answer    it is told; or the octets spell no path, or nothing stands there
---   Copies at octets out written count    a file's octets from a place on, as many as there are and as fit
+-- What the calls from C say of the filestore.
+--   node_fields node          a directory or a file as a struct;  looked F p: what is at a path
+--   LooksUp path handle old new answer    it is reported; or the octets spell no path, or nothing is there
+--   Copies at octets out written count    a file's octets from an offset on, as many as there are and as fit
 --   CopiesFile, ReadsFile     these are copied where the path is a file's
 use Rattle.std.specs.Prelude.{◌≡◌, ℕ, List, length, Option, Some, None}
 use Rattle.std.specs.Option.{option_map}
@@ -36,13 +36,17 @@ abbrev pub Copies : ℕ → List ℕ → List ℕ → List ℕ → ℕ → Type 
 Copies at octets out written count = (count ≡ fitting octets at out) × (written ≡ with_octets octets at out)
 
 abbrev pub CopiesFile : Option Node → ℕ → List ℕ → List ℕ → ℕ → ℕ → ℕ → Type 0
-CopiesFile (Some (File octets)) at out written before count answer = Copies at octets out written count × (answer ≡ code_of Done)
+CopiesFile (Some (File octets)) at out written before count answer = Copies at octets out written count
+    × (answer ≡ code_of Done)
 CopiesFile there at out written before count answer = (written ≡ out) × (count ≡ before) × (answer ≡ code_of Nothing)
 
 abbrev pub CopiesPath : Option Path → World → ℕ → List ℕ → List ℕ → ℕ → ℕ → ℕ → Type 0
 CopiesPath None W at out written before count answer = (written ≡ out) × (count ≡ before) × (answer ≡ code_of BadPath)
-CopiesPath (Some path) W at out written before count answer = CopiesFile (node_at W.filestore path) at out written before count answer
+CopiesPath (Some path) W at out written before count answer =
+    CopiesFile (node_at W.filestore path) at out written before count answer
 
 abbrev pub ReadsFile : PathFields → Option World → ℕ → List ℕ → List ℕ → ℕ → ℕ → ℕ → Type 0
-ReadsFile path None at out written before count answer = (written ≡ out) × (count ≡ before) × (answer ≡ code_of NoEngine)
-ReadsFile path (Some W) at out written before count answer = CopiesPath (path_in path) W at out written before count answer
+ReadsFile path None at out written before count answer = (written ≡ out) × (count ≡ before)
+    × (answer ≡ code_of NoEngine)
+ReadsFile path (Some W) at out written before count answer =
+    CopiesPath (path_in path) W at out written before count answer

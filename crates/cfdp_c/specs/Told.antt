@@ -1,7 +1,8 @@
 -- A reply as the numbers that C sees.
 --   bare id kind        one that brings no numbers but its kind and its transaction
 --   refused id refusal  the refusal of a list of filestore requests
---   told id reply       a reply about a transaction. A reply of want of memory, or of a full journal, does not go to C: kind 0
+--   told id reply       a reply about a transaction. A reply that says out of memory, or of a full journal, does not go
+--                       to C: kind 0
 use Rattle.std.specs.Prelude.{ℕ}
 use Rattle.cfdp_status.specs.Codes.{octet_of}
 use Rattle.cfdp_status.specs.declared.transaction.TransactionId.{TransactionId}
@@ -32,9 +33,17 @@ abbrev pub refused : TransactionId → Refusal → ReplyFields
 refused id refusal.TooManyRequests = record (bare id 2) { refusal = 1 }
 refused id (refusal.BadPath place.Destination) = record (bare id 2) { refusal = 2 }
 refused id (refusal.BadPath (place.Request request)) = record (bare id 2) { refusal = 3; request = request }
-refused id (refusal.Conflict other) = record (bare id 2) { refusal = 4; other_source = other.source; other_number = other.number }
+refused id (refusal.Conflict other) = record (bare id 2) {
+  refusal = 4;
+  other_source = other.source;
+  other_number = other.number;
+}
 refused id refusal.DestinationNotAllowed = record (bare id 2) { refusal = 5 }
-refused id (refusal.WouldFail request status) = record (bare id 2) { refusal = 6; request = request; status = octet_of status }
+refused id (refusal.WouldFail request status) = record (bare id 2) {
+  refusal = 6;
+  request = request;
+  status = octet_of status;
+}
 refused id (refusal.TooLong steps) = record (bare id 2) { refusal = 7; steps = steps }
 refused id (refusal.NoRoom blocks spare) = record (bare id 2) { refusal = 8; blocks = blocks; spare = spare }
 

@@ -33,7 +33,8 @@ pub extern "C" fn cfdp_metadata(
     number: u64,
     metadata: &mut MetadataNumbers,
 ) -> u32
-    ensures read { Reads (λ W. option_map metadata_numbers (metadata_of W (named source number))) engine.old.slot.engine metadata.old metadata.new result }
+    ensures read { Reads (λ W. option_map metadata_numbers (metadata_of W (named source number))) engine.old.slot.engine
+        metadata.old metadata.new result }
     ensures kept { engine.new.slot.engine ≡ engine.old.slot.engine }
 {
     let Some(entity) = engine.take(alloc) else {
@@ -60,7 +61,8 @@ pub extern "C" fn cfdp_source_name(
     out: &mut [u8],
     count: &mut usize,
 ) -> u32
-    ensures name { WritesName (λ W. option_map (λ m. m.source_name) (metadata_of W (named source number))) engine.old.slot.engine out.old out.new count.old count.new result }
+    ensures name { WritesName (λ W. option_map (λ m. m.source_name) (metadata_of W (named source number)))
+        engine.old.slot.engine out.old out.new count.old count.new result }
     ensures kept { engine.new.slot.engine ≡ engine.old.slot.engine }
 {
     let Some(entity) = engine.take(alloc) else {
@@ -84,7 +86,8 @@ pub extern "C" fn cfdp_destination_name(
     out: &mut [u8],
     count: &mut usize,
 ) -> u32
-    ensures name { WritesName (λ W. option_map (λ m. m.destination_name) (metadata_of W (named source number))) engine.old.slot.engine out.old out.new count.old count.new result }
+    ensures name { WritesName (λ W. option_map (λ m. m.destination_name) (metadata_of W (named source number)))
+        engine.old.slot.engine out.old out.new count.old count.new result }
     ensures kept { engine.new.slot.engine ≡ engine.old.slot.engine }
 {
     let Some(entity) = engine.take(alloc) else {

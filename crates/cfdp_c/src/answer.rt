@@ -1,4 +1,4 @@
-//! What a call from C answers.
+//! What a call from C returns.
 ghost use Rattle.std.specs.Prelude.{◌≡◌};
 ghost use Rattle.cfdp_c.specs.Answers.{code_of, config_answer, fault_answer, put_answer, unheard_answer};
 
@@ -6,14 +6,14 @@ use cfdp_entity::NotHeard;
 use cfdp_pdus::PduFault;
 use cfdp_transactions::{ConfigFault, NotPut};
 
-/// What a call answers. After any other than `Done` nothing has changed, but for what the call's own text says.
+/// What a call returns. After any other than `Done` nothing has changed, but for what the call's own text says.
 #[derive(Clone, Copy, Debug, PartialEq, Eq)]
 pub(crate) enum Answer {
     /// The call was done.
     Done,
-    /// There is no engine: it was not yet made, or was freed.
+    /// There is no engine, or no receiver: it was not yet made, or was freed.
     NoEngine,
-    /// There is an engine already.
+    /// There is an engine, or a receiver, already.
     HasEngine,
     /// There was no memory.
     Memory,
@@ -39,6 +39,16 @@ pub(crate) enum Answer {
     FilestoreFull,
     /// More than eight prefixes are to be protected.
     TooManyPrefixes,
+    /// No fault handler has this number.
+    BadHandler,
+    /// No mode of asking for lost segments has this number.
+    BadNakMode,
+    /// An interval is 0.
+    BadInterval,
+    /// A limit is not 1 to 1,000.
+    BadLimit,
+    /// The longest NAK PDU has not 72 to 65,535 octets.
+    BadLongestNak,
     /// The PDU is not for the receiver of a file.
     NotOurs,
     /// The octets end before the PDU does.
@@ -47,7 +57,7 @@ pub(crate) enum Answer {
     BadVersion,
     /// The PDU says that it has a CRC.
     CrcNotSupported,
-    /// Octets stand after the data field, or it is shorter than its fixed part.
+    /// Octets are after the data field, or it is shorter than its fixed part.
     LengthMismatch,
     /// No directive has this code.
     BadDirective,
@@ -55,6 +65,8 @@ pub(crate) enum Answer {
     BadTlv,
     /// A filestore request has a value of 255 octets, which no response can repeat.
     RequestTooLong,
+    /// The CRC of the PDU is wrong.
+    BadCrc,
 }
 
 impl Answer {
@@ -78,6 +90,11 @@ impl Answer {
             Answer::NoParent => 9,
             Answer::FilestoreFull => 10,
             Answer::TooManyPrefixes => 20,
+            Answer::BadHandler => 21,
+            Answer::BadNakMode => 22,
+            Answer::BadInterval => 23,
+            Answer::BadLimit => 24,
+            Answer::BadLongestNak => 25,
             Answer::NotOurs => 32,
             Answer::Truncated => 33,
             Answer::BadVersion => 34,
@@ -86,11 +103,12 @@ impl Answer {
             Answer::BadDirective => 37,
             Answer::BadTlv => 38,
             Answer::RequestTooLong => 39,
+            Answer::BadCrc => 40,
         }
     }
 
-    /// What is answered of a number outside its limits. There is no journal behind the calls from C, so its length is always
-    /// within its limits.
+    /// What is returned for a number outside its limits. The calls from C have no journal, so its length is
+    /// always within its limits.
     pub(crate) fn of_config(fault: ConfigFault) -> Answer
         ensures { result ≡ config_answer fault }
     {
@@ -101,7 +119,7 @@ impl Answer {
         }
     }
 
-    /// What is answered where nothing was put into the filestore.
+    /// What is returned if nothing was put into the filestore.
     pub(crate) fn of_not_put(why: NotPut) -> Answer
         ensures { result ≡ put_answer why }
     {
@@ -114,8 +132,8 @@ impl Answer {
         }
     }
 
-    /// What is answered of a fault of reading.
-    fn of_fault(fault: PduFault) -> Answer
+    /// What is returned for a fault of reading.
+    pub(crate) fn of_fault(fault: PduFault) -> Answer
         ensures { result ≡ fault_answer fault }
     {
         match fault {
@@ -130,7 +148,7 @@ impl Answer {
         }
     }
 
-    /// What is answered of octets that got no reply.
+    /// What is returned for octets that got no reply.
     pub(crate) fn of_unheard(why: NotHeard) -> Answer
         ensures { result ≡ unheard_answer why }
     {

@@ -1,16 +1,18 @@
 //! The events of an engine: PDUs that came, and events of its own.
-ghost use Rattle.std.specs.Prelude.{◌≡◌, ◌≤◌, IfSome, length};
+ghost use Rattle.std.specs.Prelude.{◌≢◌, ◌≤◌, IfSome, length};
 ghost use Rattle.cfdp_transactions.specs.declared.event.Event.TheVariants.{Cancel, Check, Step, Take};
 ghost use Rattle.cfdp_transactions.specs.Next.{next};
 ghost use Rattle.cfdp_transactions.specs.Writable.{longest_finished};
 ghost use Rattle.cfdp_entity.specs.Sending.{sent};
+ghost use Rattle.cfdp_c.specs.Answers.{code_of};
+ghost use Rattle.cfdp_c.specs.declared.answer.Answer.TheVariants.{Memory as OutOfMemory};
 ghost use Rattle.cfdp_c.specs.Calls.{Does, Receives, Takes, named};
 
 use crate::answer::Answer;
 use crate::handle::Handle;
 use crate::reply::ReplyFields;
-use cfdp_entity::NotTaken;
 use cfdp_status::TransactionId;
+use cfdp_transactions::Event;
 use std::alloc::Global;
 
 /// Takes the octets of a PDU.
@@ -46,7 +48,8 @@ pub extern "C" fn cfdp_step(
     number: u64,
     reply: &mut ReplyFields,
 ) -> u32
-    ensures { Does (Step (named source number)) engine.old.slot.engine engine.new.slot.engine reply.old reply.new result }
+    ensures { Does (Step (named source number)) engine.old.slot.engine engine.new.slot.engine reply.old reply.new
+        result }
 {
     let Some(mut entity) = engine.take(alloc) else {
         return Answer::NoEngine.code();
@@ -66,7 +69,8 @@ pub extern "C" fn cfdp_cancel(
     number: u64,
     reply: &mut ReplyFields,
 ) -> u32
-    ensures { Does (Cancel (named source number)) engine.old.slot.engine engine.new.slot.engine reply.old reply.new result }
+    ensures { Does (Cancel (named source number)) engine.old.slot.engine engine.new.slot.engine reply.old reply.new
+        result }
 {
     let Some(mut entity) = engine.take(alloc) else {
         return Answer::NoEngine.code();
@@ -86,7 +90,8 @@ pub extern "C" fn cfdp_check(
     number: u64,
     reply: &mut ReplyFields,
 ) -> u32
-    ensures { Does (Check (named source number)) engine.old.slot.engine engine.new.slot.engine reply.old reply.new result }
+    ensures { Does (Check (named source number)) engine.old.slot.engine engine.new.slot.engine reply.old reply.new
+        result }
 {
     let Some(mut entity) = engine.take(alloc) else {
         return Answer::NoEngine.code();
@@ -97,7 +102,8 @@ pub extern "C" fn cfdp_check(
     Answer::Done.code()
 }
 
-/// The outcome of a transaction is taken, and its Finished PDU written into `out`, where it is to be sent.
+/// The outcome of a transaction is taken, and its Finished PDU written into `out`, where it is to be sent. Takes no
+/// memory.
 #[unsafe(no_mangle)]
 pub extern "C" fn cfdp_take(
     alloc: Global,
@@ -108,24 +114,31 @@ pub extern "C" fn cfdp_take(
     count: &mut usize,
     reply: &mut ReplyFields,
 ) -> u32
-    ensures takes { Takes (named source number) engine.old.slot.engine engine.new.slot.engine out.old out.new count.old count.new reply.old reply.new result }
-    ensures most { IfSome engine.old.slot.engine (λ W. length (sent (next W (Take (named source number))).1) ≤ longest_finished) }
+    ensures takes { Takes (named source number) engine.old.slot.engine engine.new.slot.engine out.old out.new count.old
+        count.new reply.old reply.new result }
+    ensures lean { result ≢ code_of OutOfMemory }
+    ensures most { IfSome engine.old.slot.engine (λ W. length
+        (sent (next W (Take (named source number))).1) ≤ longest_finished) }
 {
     let Some(mut entity) = engine.take(alloc) else {
         return Answer::NoEngine.code();
     };
     let id = TransactionId { source, number };
-    let answer = match entity.take(alloc, id, out) {
-        Ok((told, written)) => {
-            *reply = ReplyFields::of(id, &told);
-            *count = written;
+    let answer = match entity.take_finished(id, out) {
+        Ok(Some(taken)) => {
+            *reply = ReplyFields::taken(id, taken.condition);
+            *count = taken.len;
             Answer::Done
         }
-        Err(NotTaken::TooShort(needed)) => {
-            *count = needed;
+        Ok(None) => {
+            *reply = ReplyFields::of(id, &entity.apply(&Event::Take(id)));
+            *count = 0;
+            Answer::Done
+        }
+        Err(short) => {
+            *count = short.needed;
             Answer::TooShort
         }
-        Err(NotTaken::Memory) => Answer::Memory,
     };
     engine.put(entity);
     answer.code()

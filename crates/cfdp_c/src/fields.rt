@@ -10,11 +10,11 @@ pub struct ConfigFields {
     pub cap: u64,
     /// The blocks of the filestore, 16 to 65,536.
     pub blocks: u32,
-    /// How often a check timer may expire (CCSDS 727.0-B-5 §4.6.4), 1 to 1,000 times.
+    /// How often a check timer may expire (CCSDS 727.0-B-5, timer procedures), 1 to 1,000 times.
     pub checks: u32,
 }
 
-/// How many octets a C `struct cfdp_path` has room for: those of the longest path, and a 0 behind them.
+/// How many octets a C `struct cfdp_path` has room for: those of the longest path, and a 0 after them.
 pub(crate) const PATH_OCTETS: usize = 776;
 
 /// A C `struct cfdp_path`: the octets that spell a path.
@@ -37,8 +37,8 @@ pub struct NameFields {
     pub number: u64,
 }
 
-/// A C `struct cfdp_metadata`: what the Metadata PDU of a transaction said (CCSDS 727.0-B-5 §5.2.5), but for its names and
-/// its filestore requests.
+/// A C `struct cfdp_metadata`: what the Metadata PDU of a transaction said (CCSDS 727.0-B-5 §5.2.5), but for its names
+/// and its filestore requests.
 #[derive(Clone, Copy, Debug, PartialEq, Eq)]
 #[repr(C)]
 pub struct MetadataNumbers {
@@ -76,7 +76,7 @@ pub struct GrantFields {
 pub struct GapFields {
     /// The first octet that is missing.
     pub start: u64,
-    /// The first one behind it that is not.
+    /// The first one after it that is not.
     pub end: u64,
 }
 
@@ -84,19 +84,19 @@ pub struct GapFields {
 #[derive(Clone, Copy, Debug, PartialEq, Eq)]
 #[repr(C)]
 pub struct BlocksFields {
-    /// All of them.
+    /// The free blocks.
     pub free: u32,
-    /// Those that nobody was granted.
+    /// The free blocks that no transaction was granted.
     pub spare: u32,
 }
 
-/// A C `struct cfdp_entry`: what stands at a path of the filestore.
+/// A C `struct cfdp_entry`: what is at a path of the filestore.
 #[derive(Clone, Copy, Debug, PartialEq, Eq)]
 #[repr(C)]
 pub struct EntryFields {
     /// Whether it is a file or a directory.
     pub kind: u32,
-    /// A file's modular checksum (CCSDS 727.0-B-5 §4.2.2); 0 for a directory.
+    /// A file's modular checksum (CCSDS 727.0-B-5, checksum procedures); 0 for a directory.
     pub checksum: u32,
     /// How many octets a file has; 0 for a directory.
     pub size: u64,

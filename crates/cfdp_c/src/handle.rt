@@ -1,4 +1,4 @@
-//! What C passes: a slot, and a mark that tells whether an engine is in it.
+//! What C passes: a slot, and a mark that says whether an engine is in it.
 ghost use Rattle.std.specs.Prelude.{◌≡◌, ◌==◌, Some, None, IsTrue, IsNone, MatchOption, is_some};
 
 use crate::slot::Slot;

@@ -63,7 +63,8 @@ fn make(
     fields: &ConfigFields,
     prefixes: &[PathFields],
 ) -> Result<Box<Entity>, Answer>
-    ensures ok { IfOk result (λ engine. (config : ConfigOf) × (configured fields.now prefixes.now ≡ Ok config) × (engine.value ≡ start config)) }
+    ensures ok { IfOk result (λ engine. (config : ConfigOf) × (configured fields.now prefixes.now ≡ Ok config)
+        × (engine.value ≡ start config)) }
     ensures err { IfErr result (λ answer. answer ≢ Memory → configured fields.now prefixes.now ≡ Err answer) }
 {
     let config = config_of(alloc, fields, prefixes)?;

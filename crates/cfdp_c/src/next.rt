@@ -1,4 +1,4 @@
-//! What stands in an engine's filestore, entry by entry. Nothing here changes it, or takes memory.
+//! What is in an engine's filestore, entry by entry. Nothing here changes it, or takes memory.
 ghost use Rattle.std.specs.Prelude.{◌≡◌, ◌≤◌, All, IfOk, IfErr, None, Some, length};
 ghost use Rattle.cfdp_paths.specs.Paths.{IsName};
 ghost use Rattle.cfdp_c.specs.Answers.{code_of};
@@ -15,7 +15,8 @@ use cfdp_transactions::Core;
 use cfdp_tree::TreeStore;
 use std::alloc::Global;
 
-/// The names of the path that is given as a struct, lent out of its octets; none where there are no octets. Takes no memory.
+/// The names of the path that is given as a struct, lent out of its octets; none where there are no octets. Takes no
+/// memory.
 fn cursor_of(fields: &mut PathFields) -> Result<Names<'_>, Answer>
     ensures ok { IfOk result (λ names. cursor_in fields.old ≡ Some names) }
     ensures names { IfOk result (All IsName) }
@@ -50,7 +51,7 @@ fn path_fields(spelled: &[u8]) -> PathFields
     }
 }
 
-/// Goes on from a path to what stands next.
+/// Goes on from a path to what is next.
 fn go_on(
     core: &Core<TreeStore>,
     after: Names<'_>,
@@ -75,8 +76,13 @@ fn go_on(
 }
 
 /// Goes on from the path of a struct, where its octets spell one.
-fn go_on_from(core: &Core<TreeStore>, path: &mut PathFields, entry: &mut EntryFields) -> Answer
-    ensures { GoesOnFrom (cursor_in path.old) core.now.world.filestore path.old path.new entry.old entry.new (code_of result) }
+pub(crate) fn go_on_from(
+    core: &Core<TreeStore>,
+    path: &mut PathFields,
+    entry: &mut EntryFields,
+) -> Answer
+    ensures { GoesOnFrom (cursor_in path.old) core.now.world.filestore path.old path.new entry.old entry.new
+        (code_of result) }
 {
     let mut cursor = *path;
     match cursor_of(&mut cursor) {
@@ -85,7 +91,7 @@ fn go_on_from(core: &Core<TreeStore>, path: &mut PathFields, entry: &mut EntryFi
     }
 }
 
-/// The entry of the filestore that comes next behind a path, in path order.
+/// The entry of the filestore that comes next after a path, in path order.
 #[unsafe(no_mangle)]
 pub extern "C" fn cfdp_next(
     alloc: Global,

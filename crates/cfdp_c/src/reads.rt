@@ -1,4 +1,4 @@
-//! What an engine tells of its transactions and its blocks. Nothing here takes memory or changes anything.
+//! What an engine says of its transactions and its blocks. Nothing here takes memory or changes anything.
 ghost use Rattle.std.specs.Prelude.{◌≡◌, ◌≤◌, IfSome, length, map, slice_get};
 ghost use Rattle.std.specs.Option.{option_map};
 ghost use Rattle.cfdp_transactions.specs.Engine.{read_of};
@@ -31,7 +31,7 @@ fn phase_fields(phase: Phase) -> PhaseFields
     PhaseFields { phase, detail }
 }
 
-/// The gap of this place in a transaction's file.
+/// The gap with this index in a transaction's file.
 fn gap_at(core: &Core<TreeStore>, id: TransactionId, place: usize) -> Option<GapFields>
     ensures gap { result ≡ option_map gap_fields (gap_of (read_of gaps core.now.world id) place) }
     ensures few { IfSome (read_of gaps core.now.world id) (λ all. length all ≤ 33) }
@@ -48,7 +48,8 @@ pub extern "C" fn cfdp_next_runnable(
     engine: &mut Handle,
     transaction: &mut NameFields,
 ) -> u32
-    ensures read { Reads (λ W. option_map name_fields (next_runnable W.table)) engine.old.slot.engine transaction.old transaction.new result }
+    ensures read { Reads (λ W. option_map name_fields (next_runnable W.table)) engine.old.slot.engine transaction.old
+        transaction.new result }
     ensures kept { engine.new.slot.engine ≡ engine.old.slot.engine }
 {
     let Some(entity) = engine.take(alloc) else {
@@ -75,7 +76,8 @@ pub extern "C" fn cfdp_next_outcome(
     engine: &mut Handle,
     transaction: &mut NameFields,
 ) -> u32
-    ensures read { Reads (λ W. option_map name_fields (next_outcome W.table)) engine.old.slot.engine transaction.old transaction.new result }
+    ensures read { Reads (λ W. option_map name_fields (next_outcome W.table)) engine.old.slot.engine transaction.old
+        transaction.new result }
     ensures kept { engine.new.slot.engine ≡ engine.old.slot.engine }
 {
     let Some(entity) = engine.take(alloc) else {
@@ -103,7 +105,8 @@ pub extern "C" fn cfdp_transaction_at(
     index: usize,
     transaction: &mut NameFields,
 ) -> u32
-    ensures read { Reads (λ W. option_map name_fields (slice_get (map name_of W.table) index)) engine.old.slot.engine transaction.old transaction.new result }
+    ensures read { Reads (λ W. option_map name_fields (slice_get (map name_of W.table) index)) engine.old.slot.engine
+        transaction.old transaction.new result }
     ensures kept { engine.new.slot.engine ≡ engine.old.slot.engine }
 {
     let Some(entity) = engine.take(alloc) else {
@@ -132,7 +135,8 @@ pub extern "C" fn cfdp_phase(
     number: u64,
     phase: &mut PhaseFields,
 ) -> u32
-    ensures read { Reads (λ W. option_map phase_fields (read_of (λ e. e.phase) W (named source number))) engine.old.slot.engine phase.old phase.new result }
+    ensures read { Reads (λ W. option_map phase_fields (read_of (λ e. e.phase) W (named source number)))
+        engine.old.slot.engine phase.old phase.new result }
     ensures kept { engine.new.slot.engine ≡ engine.old.slot.engine }
 {
     let Some(entity) = engine.take(alloc) else {
@@ -158,7 +162,8 @@ pub extern "C" fn cfdp_grant(
     number: u64,
     grant: &mut GrantFields,
 ) -> u32
-    ensures read { Reads (λ W. option_map grant_fields (read_of (λ e. (e.blocks_granted, e.steps_granted)) W (named source number))) engine.old.slot.engine grant.old grant.new result }
+    ensures read { Reads (λ W. option_map grant_fields (read_of (λ e. (e.blocks_granted, e.steps_granted)) W
+        (named source number))) engine.old.slot.engine grant.old grant.new result }
     ensures kept { engine.new.slot.engine ≡ engine.old.slot.engine }
 {
     let Some(entity) = engine.take(alloc) else {
@@ -184,7 +189,8 @@ pub extern "C" fn cfdp_blocks_spent(
     number: u64,
     blocks: &mut i64,
 ) -> u32
-    ensures read { Reads (λ W. read_of (λ e. e.blocks_spent) W (named source number)) engine.old.slot.engine blocks.old blocks.new result }
+    ensures read { Reads (λ W. read_of (λ e. e.blocks_spent) W (named source number)) engine.old.slot.engine blocks.old
+        blocks.new result }
     ensures kept { engine.new.slot.engine ≡ engine.old.slot.engine }
 {
     let Some(entity) = engine.take(alloc) else {
@@ -210,7 +216,8 @@ pub extern "C" fn cfdp_steps_spent(
     number: u64,
     steps: &mut u32,
 ) -> u32
-    ensures read { Reads (λ W. read_of (λ e. e.steps_spent) W (named source number)) engine.old.slot.engine steps.old steps.new result }
+    ensures read { Reads (λ W. read_of (λ e. e.steps_spent) W (named source number)) engine.old.slot.engine steps.old
+        steps.new result }
     ensures kept { engine.new.slot.engine ≡ engine.old.slot.engine }
 {
     let Some(entity) = engine.take(alloc) else {
@@ -245,7 +252,7 @@ pub extern "C" fn cfdp_blocks(alloc: Global, engine: &mut Handle, blocks: &mut B
     Answer::Done.code()
 }
 
-/// What is missing of a transaction's file: the gap of this place, from 0.
+/// What is missing of a transaction's file: the gap with this index, from 0.
 #[unsafe(no_mangle)]
 pub extern "C" fn cfdp_gap(
     alloc: Global,
@@ -255,8 +262,10 @@ pub extern "C" fn cfdp_gap(
     place: usize,
     gap: &mut GapFields,
 ) -> u32
-    ensures read { Reads (λ W. option_map gap_fields (gap_of (read_of gaps W (named source number)) place)) engine.old.slot.engine gap.old gap.new result }
-    ensures few { IfSome engine.old.slot.engine (λ W. IfSome (read_of gaps W (named source number)) (λ all. length all ≤ 33)) }
+    ensures read { Reads (λ W. option_map gap_fields (gap_of (read_of gaps W (named source number)) place))
+        engine.old.slot.engine gap.old gap.new result }
+    ensures few { IfSome engine.old.slot.engine (λ W. IfSome (read_of gaps W (named source number))
+        (λ all. length all ≤ 33)) }
     ensures kept { engine.new.slot.engine ≡ engine.old.slot.engine }
 {
     let Some(entity) = engine.take(alloc) else {
@@ -282,7 +291,8 @@ pub extern "C" fn cfdp_progress(
     number: u64,
     offset: &mut u64,
 ) -> u32
-    ensures read { Reads (λ W. read_of progress W (named source number)) engine.old.slot.engine offset.old offset.new result }
+    ensures read { Reads (λ W. read_of progress W (named source number)) engine.old.slot.engine offset.old offset.new
+        result }
     ensures kept { engine.new.slot.engine ≡ engine.old.slot.engine }
 {
     let Some(entity) = engine.take(alloc) else {
@@ -299,7 +309,7 @@ pub extern "C" fn cfdp_progress(
     answer.code()
 }
 
-/// The offset up to which the gaps tell what is missing of a transaction's file.
+/// The offset up to which the gaps say what is missing of a transaction's file.
 #[unsafe(no_mangle)]
 pub extern "C" fn cfdp_reach(
     alloc: Global,
@@ -308,7 +318,8 @@ pub extern "C" fn cfdp_reach(
     number: u64,
     offset: &mut u64,
 ) -> u32
-    ensures read { Reads (λ W. read_of reach W (named source number)) engine.old.slot.engine offset.old offset.new result }
+    ensures read { Reads (λ W. read_of reach W (named source number)) engine.old.slot.engine offset.old offset.new
+        result }
     ensures kept { engine.new.slot.engine ≡ engine.old.slot.engine }
 {
     let Some(entity) = engine.take(alloc) else {

@@ -6,8 +6,8 @@ use cfdp_status::TransactionId;
 use cfdp_transactions::Reply;
 use cfdp_verifier::{Place, Refusal};
 
-/// A C `struct cfdp_reply`: the kind of a reply, the transaction that it is about, and the numbers that it brings. A number
-/// that a kind has no use for is 0.
+/// A C `struct cfdp_reply`: the kind of a reply, the transaction that it is about, and the numbers that it brings. A
+/// number that a kind has no use for is 0.
 #[derive(Clone, Copy, Debug, PartialEq, Eq)]
 #[repr(C)]
 pub struct ReplyFields {
@@ -58,6 +58,13 @@ impl ReplyFields {
         }
     }
 
+    /// No reply, about a transaction.
+    pub(crate) fn none(id: TransactionId) -> ReplyFields
+        ensures { result ≡ bare id 0 }
+    {
+        ReplyFields::bare(id, 0)
+    }
+
     /// A refusal for a reason that brings no numbers.
     fn refused(id: TransactionId, refusal: u32) -> ReplyFields
         ensures { result ≡ record (bare id 2) { refusal = refusal } }
@@ -102,6 +109,16 @@ impl ReplyFields {
         }
     }
 
+    /// That an outcome with this condition code was taken.
+    pub(crate) fn taken(id: TransactionId, condition: u8) -> ReplyFields
+        ensures { result ≡ record (bare id 12) { condition = condition } }
+    {
+        ReplyFields {
+            condition: u32::from(condition),
+            ..ReplyFields::bare(id, 12)
+        }
+    }
+
     /// A reply about a transaction.
     pub(crate) fn of(id: TransactionId, reply: &Reply) -> ReplyFields
         ensures { result ≡ told id reply.now }
@@ -128,10 +145,7 @@ impl ReplyFields {
             Reply::Installed => ReplyFields::bare(id, 9),
             Reply::Done => ReplyFields::bare(id, 10),
             Reply::Cancelled => ReplyFields::bare(id, 11),
-            Reply::Taken(outcome) => ReplyFields {
-                condition: u32::from(outcome.outcome().finished.condition),
-                ..ReplyFields::bare(id, 12)
-            },
+            Reply::Taken(outcome) => ReplyFields::taken(id, outcome.outcome().finished.condition),
             Reply::Duplicate => ReplyFields::bare(id, 13),
             Reply::Unknown => ReplyFields::bare(id, 14),
             Reply::Idle => ReplyFields::bare(id, 15),

@@ -1,17 +1,17 @@
-//! A place for one engine, in C's memory.
+//! Room for one engine, in C's memory.
 ghost use Rattle.std.specs.Prelude.{◌≡◌, Option, Some, None, IsSome, IsNone};
 ghost use Rattle.std.specs.Coded.{coded_option};
 ghost use Rattle.cfdp_transactions.specs.World.{World};
 ghost use Rattle.cfdp_entity.specs.contracts.entity.Entity as entity;
 ghost use Rattle.cfdp_c.specs.Ownership.{slot_owns};
 
+use crate::raw_box::RawBox;
 use cfdp_entity::Entity;
-use cfdp_raw_box::RawBox;
 use std::alloc::Global;
 use std::marker::{Model, Send};
 
-/// A pointer to an engine on the heap, or to nothing. C keeps it, and never looks behind it. It has no `Drop`, so that
-/// a slot whose engine is forgotten is refused.
+/// A pointer to an engine on the heap, or to nothing. C keeps it, and never reads what it points to. It has no `Drop`,
+/// so that a slot whose engine is forgotten is refused.
 #[repr(C)]
 pub struct Slot {
     at: *mut u8,

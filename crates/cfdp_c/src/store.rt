@@ -1,9 +1,10 @@
-//! What an engine tells of its filestore. Nothing here changes anything, or takes memory.
+//! What an engine says of its filestore. Nothing here changes anything, or takes memory.
 ghost use Rattle.std.specs.Prelude.{◌≡◌, All};
 ghost use Rattle.cfdp_actions.specs.Filestore.{node_at};
 ghost use Rattle.cfdp_paths.specs.Paths.{IsName};
 ghost use Rattle.cfdp_c.specs.Answers.{code_of};
-ghost use Rattle.cfdp_c.specs.Stored.{CopiesFile, LooksUp, ReadsFile, looked};
+ghost use Rattle.cfdp_c.specs.Making.{path_in};
+ghost use Rattle.cfdp_c.specs.Stored.{CopiesFile, CopiesPath, Looks, LooksUp, ReadsFile, looked};
 
 use crate::answer::Answer;
 use crate::fields::{EntryFields, PathFields};
@@ -15,7 +16,7 @@ use cfdp_transactions::Core;
 use cfdp_tree::TreeStore;
 use std::alloc::Global;
 
-/// What stands at the path of these names.
+/// What is at the path of these names.
 fn look_up(core: &Core<TreeStore>, names: Names<'_>) -> Option<EntryFields>
     requires { All IsName names }
     ensures { result ≡ looked core.now.world.filestore names.entry }
@@ -32,7 +33,7 @@ fn look_up(core: &Core<TreeStore>, names: Names<'_>) -> Option<EntryFields>
     })
 }
 
-/// Copies a file's octets from a place on, as many as there are and as fit.
+/// Copies a file's octets from an offset on, as many as there are and as fit.
 fn copy_file(
     core: &Core<TreeStore>,
     names: Names<'_>,
@@ -41,7 +42,8 @@ fn copy_file(
     count: &mut usize,
 ) -> Answer
     requires { All IsName names }
-    ensures { CopiesFile (node_at core.now.world.filestore names.entry) at out.old out.new count.old count.new (code_of result) }
+    ensures { CopiesFile (node_at core.now.world.filestore names.entry) at out.old out.new count.old count.new
+        (code_of result) }
 {
     match core.store().read_at(names, at, out) {
         None => Answer::Nothing,
@@ -52,7 +54,46 @@ fn copy_file(
     }
 }
 
-/// What stands at a path.
+/// Looks up the path of a struct: what exists there, or why its octets spell no path.
+pub(crate) fn tell_entry(
+    core: &Core<TreeStore>,
+    path: &PathFields,
+    entry: &mut EntryFields,
+) -> Answer
+    ensures { Looks (path_in path.now) core.now.world entry.old entry.new (code_of result) }
+{
+    let mut path = *path;
+    let names = match names_of(&mut path) {
+        Err(answer) => return answer,
+        Ok(names) => names,
+    };
+    match look_up(core, names) {
+        None => Answer::Nothing,
+        Some(found) => {
+            *entry = found;
+            Answer::Done
+        }
+    }
+}
+
+/// Copies the octets of the file at the path of a struct, where its octets spell one.
+pub(crate) fn copy_path(
+    core: &Core<TreeStore>,
+    path: &PathFields,
+    at: u64,
+    out: &mut [u8],
+    count: &mut usize,
+) -> Answer
+    ensures { CopiesPath (path_in path.now) core.now.world at out.old out.new count.old count.new (code_of result) }
+{
+    let mut path = *path;
+    match names_of(&mut path) {
+        Err(answer) => answer,
+        Ok(names) => copy_file(core, names, at, out, count),
+    }
+}
+
+/// What is at a path.
 #[unsafe(no_mangle)]
 pub extern "C" fn cfdp_look_up(
     alloc: Global,
@@ -66,22 +107,12 @@ pub extern "C" fn cfdp_look_up(
     let Some(entity) = engine.take(alloc) else {
         return Answer::NoEngine.code();
     };
-    let mut path = *path;
-    let answer = match names_of(&mut path) {
-        Err(answer) => answer,
-        Ok(names) => match look_up(entity.core(), names) {
-            None => Answer::Nothing,
-            Some(found) => {
-                *entry = found;
-                Answer::Done
-            }
-        },
-    };
+    let answer = tell_entry(entity.core(), path, entry);
     engine.put(entity);
     answer.code()
 }
 
-/// A file's octets from a place on.
+/// A file's octets from an offset on.
 #[unsafe(no_mangle)]
 pub extern "C" fn cfdp_read(
     alloc: Global,
@@ -97,11 +128,7 @@ pub extern "C" fn cfdp_read(
     let Some(entity) = engine.take(alloc) else {
         return Answer::NoEngine.code();
     };
-    let mut path = *path;
-    let answer = match names_of(&mut path) {
-        Err(answer) => answer,
-        Ok(names) => copy_file(entity.core(), names, at, out, count),
-    };
+    let answer = copy_path(entity.core(), path, at, out, count);
     engine.put(entity);
     answer.code()
 }

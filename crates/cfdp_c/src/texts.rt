@@ -3,7 +3,7 @@ ghost use Rattle.std.specs.Prelude.{◌≡◌, ◌≤◌, Some, IfOk, IfSome, Is
 ghost use Rattle.std.specs.Option.{option_copied, option_map};
 ghost use Rattle.cfdp_status.specs.Codes.{beside, statuses};
 ghost use Rattle.cfdp_c.specs.Answers.{code_of};
-ghost use Rattle.cfdp_c.specs.Shown.{HasWidths, Puts, PutsAny, ShownAsReplayed, Writes, answer_line, failure_in, longest_line, refusal_in, reply_in, shown, small, status_in};
+ghost use Rattle.cfdp_c.specs.Shown.{HasWidths, Puts, PutsAny, ShownAsReplayed, Writes, answer_line, failure_in, longest_line, refusal_in, reply_in, shown, small, status_in, with_end};
 
 use crate::answer::Answer;
 use crate::reply::ReplyFields;
@@ -110,7 +110,17 @@ fn line_of(
     Ok(Some(line))
 }
 
-/// Writes a text to the beginning of a buffer, and tells its length; or tells only that, where it does not fit.
+/// Writes a 0 over the first octet, if there is one.
+fn end(out: &mut [u8])
+    ensures { out.new ≡ with_end out.old }
+{
+    if let [first, ..] = out {
+        *first = 0;
+    }
+}
+
+/// Writes a text to the beginning of a buffer, and a 0 after it where there is room, and returns its length; or returns
+/// only that, where it does not fit.
 pub(crate) fn put(text: &[u8], out: &mut [u8], count: &mut usize) -> Answer
     ensures { Puts text.now out.old out.new count.new (code_of result) }
 {
@@ -119,6 +129,7 @@ pub(crate) fn put(text: &[u8], out: &mut [u8], count: &mut usize) -> Answer
         return Answer::TooShort;
     }
     out[..text.len()].copy_from_slice(text);
+    end(&mut out[text.len()..]);
     Answer::Done
 }
 
@@ -133,7 +144,8 @@ pub extern "C" fn cfdp_reply_text(
     count: &mut usize,
 ) -> u32
     ensures text { Writes (shown reply.now octets.now) out.old out.new count.old count.new result }
-    ensures most { HasWidths reply.now → IfSome (shown reply.now octets.now) (λ line. length line ≤ longest_line (length octets.now)) }
+    ensures most { HasWidths reply.now → IfSome (shown reply.now octets.now)
+        (λ line. length line ≤ longest_line (length octets.now)) }
     ensures as_replay { ShownAsReplayed }
 {
     match line_of(alloc, reply, octets) {

@@ -26,10 +26,13 @@ pub discard_spec : {M : Type 1} → statement M
 discard_spec 𝓤 𝓛 𝓜 𝓡 wired =
     let c = f.clauses 𝓛 𝓜.mem 𝓡.returns in let 𝓣 = tables 𝓤 𝓛.H 𝓜 𝓡 𝓡.env in
     let hs : Stays f.ended.signature.params f.ended.kept = (stay_dropped (plain (λ _. slot.the_row)) f.ended.kept.0, tt) in
-    proved_at 𝓛 f.ended hs c 𝓜 𝓡 (Goes-blank 𝓛 0 (plain (λ _. slot.the_row)) f.ended.kept.0 (λ κs x w. tt), tt) f.Key.name code.function (code.unfolded 𝓤 𝓛.H 𝓜 𝓡 wired) (λ z are.
-    let s = z.0.3.0 in let Post : Val → SProp 𝓤 = (walk_of 𝓛 f.ended hs c).post z in let Run : List Val → SProp 𝓤 = λ ws. WpFn 𝓤 𝓛.H 𝓣.C 𝓣.Λ code.function ws Post in
+    proved_at 𝓛 f.ended hs c 𝓜 𝓡 (Goes-blank 𝓛 0 (plain (λ _. slot.the_row)) f.ended.kept.0 (λ κs x w. tt), tt) f.Key.name code.function
+    (code.unfolded 𝓤 𝓛.H 𝓜 𝓡 wired) (λ z are.
+    let s = z.0.3.0 in let Post : Val → SProp 𝓤 = (walk_of 𝓛 f.ended hs c).post z in let Run : List Val → SProp 𝓤 =
+    λ ws. WpFn 𝓤 𝓛.H 𝓣.C 𝓣.Λ code.function ws Post in
     let told = slot_told s.at z.0.4.0 are.0.0 in
-    qed 𝓛 ((raw (alive 𝓛 f.ended.signature z.0.0 z.0.1) ⊛ ‵ (owns (types_at f.ended.signature.params z.0.0) z.0.3 z.0.4)) ∷ raw (fact 𝓤 (IsNone s.engine)) ∷ []) ∵
+    qed 𝓛 ((raw (alive 𝓛 f.ended.signature z.0.0 z.0.1) ⊛ ‵ (owns (types_at f.ended.signature.params z.0.0) z.0.3 z.0.4)) ∷ raw (fact 𝓤 (IsNone s.engine)) ∷ [])
+    ∵
     split ! $ keep ! (0 ∷ []) $
     suffices ! (Run (slot_val s.at ∷ [])) (subst (λ (us : List Val). ent 𝓤 (Run (slot_val s.at ∷ [])) (Run us)) (sym (λ i. told i ++ [])) (id⊢ 𝓤 _)) $
     enter ! 𝓣.C 𝓣.Λ code.function (slot_val s.at ∷ []) Post $

@@ -23,7 +23,7 @@ use Rattle.std.proofs.raw_atomic.Walks.{proved_at, leaves}
 use Rattle.std_heap.specs.contracts.Global as G
 use Rattle.std_heap.specs.contracts.GlobalAllocator.TheImpl.{ghosts}
 use Rattle.std_heap.proofs.Global.TheLaws as GL
-use Rattle.cfdp_raw_box.proofs.Values.{both, RawBox, raw_box_good, raw_box_out}
+use Rattle.cfdp_c.proofs.Boxes.{both, RawBox, raw_box_good, raw_box_out}
 use Rattle.cfdp_entity.specs.contracts.entity.Entity as T
 use Rattle.cfdp_c.proofs.Values.{slot_val, field_own, slot_made, slot_typed}
 use Rattle.cfdp_c.specs.contracts.slot.Slot as slot
@@ -36,12 +36,15 @@ of_raw_box_spec 𝓤 𝓛 𝓜 𝓡 wired =
     let c = f.clauses 𝓛 𝓜.mem 𝓡.returns in let 𝓣 = tables 𝓤 𝓛.H 𝓜 𝓡 𝓡.env in
     let L : RattleType = RawBox T.the_row G.the_row GL.the_row_laws ghosts in
     let hs : Stays f.ended.signature.params f.ended.kept = (stay_dropped (plain (λ _. L)) f.ended.kept.0, tt) in
-    proved_at 𝓛 f.ended hs c 𝓜 𝓡 (Goes-blank 𝓛 0 (plain (λ _. L)) f.ended.kept.0 (λ κs x w. tt), tt) f.Key.name code.function (code.unfolded 𝓤 𝓛.H 𝓜 𝓡 wired) (λ z are.
-    let v = z.0.3.0 in let Post : Val → SProp 𝓤 = (walk_of 𝓛 f.ended hs c).post z in let Run : List Val → SProp 𝓤 = λ ws. WpFn 𝓤 𝓛.H 𝓣.C 𝓣.Λ code.function ws Post in
+    proved_at 𝓛 f.ended hs c 𝓜 𝓡 (Goes-blank 𝓛 0 (plain (λ _. L)) f.ended.kept.0 (λ κs x w. tt), tt) f.Key.name code.function (code.unfolded 𝓤 𝓛.H 𝓜 𝓡 wired)
+    (λ z are.
+    let v = z.0.3.0 in let Post : Val → SProp 𝓤 = (walk_of 𝓛 f.ended hs c).post z in let Run : List Val → SProp 𝓤 =
+    λ ws. WpFn 𝓤 𝓛.H 𝓣.C 𝓣.Λ code.function ws Post in
     qed 𝓛 ((raw (alive 𝓛 f.ended.signature z.0.0 z.0.1) ⊛ ‵ (owns (types_at f.ended.signature.params z.0.0) z.0.3 z.0.4)) ∷ ‵ ftrue ∷ []) ∵
     split ! $ move ! (1 ∷ []) $ fsplit ! $ raw_box_out T.the_row G.the_row GL.the_row_laws ghosts ! v z.0.4.0 (λ b o h e ws fits.
     -- [the block; the handle; nothing; the tokens; nothing]
-    let w : Val = both (vptr b o) h in let p = block_ptr b o in let one : Option World = Some v.value in let x : (slot.the_row).Denot = record { at = p; engine = one } in
+    let w : Val = both (vptr b o) h in let p = block_ptr b o in let one : Option World = Some v.value in let x : (slot.the_row).Denot =
+    record { at = p; engine = one } in
     suffices ! (Run (w ∷ [])) (subst (λ (us : List Val). ent 𝓤 (Run (w ∷ [])) (Run us)) (sym (λ i. ws i ++ [])) (id⊢ 𝓤 (Run (w ∷ [])))) $
     enter ! 𝓣.C 𝓣.Λ code.function (w ∷ []) Post $
     alloc_all ! (λ l. pass_all ! refl (raw_box_good T.the_row G.the_row GL.the_row_laws ghosts b o h fits, tt) $

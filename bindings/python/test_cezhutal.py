@@ -1,0 +1,181 @@
+#!/usr/bin/env python3
+"""Tests of the Python package: `python3 bindings/python/test_cezhutal.py`, after bindings/python/link. The PDUs and what is answered to them
+are those of the C examples and of examples/update.replay. `.ci/clients` runs it."""
+
+from __future__ import annotations
+
+import pathlib
+import sys
+import unittest
+
+HERE = pathlib.Path(__file__).resolve().parent
+sys.dont_write_bytecode = True
+sys.path.insert(0, str(HERE))
+import cezhutal  # noqa: E402
+from cezhutal import Became, Config, Engine, EntryKind, Handler, IndicationKind, Mib, NakMode, Receiver, ReplyKind  # noqa: E402
+from cezhutal import Retries, Transaction  # noqa: E402
+
+EXAMPLES = HERE.parent.parent / "examples"
+
+#: Transaction 1/5: a file of 15 octets, its Metadata, its octets, its EOF PDU, and the acknowledgement of its Finished PDU.
+METADATA = bytes.fromhex("20000a0001050207400000000f01730166")
+DATA = bytes.fromhex("3000130001050200000000000102030405060708090a0b0c0d0e")
+EOF = bytes.fromhex("20000a000105020400181c20150000000f")
+ACK_FINISHED = bytes.fromhex("20000300010502065102")
+
+
+class EngineTest(unittest.TestCase):
+    """The entity without timers."""
+
+    def test_the_update_is_replayed(self) -> None:
+        """examples/update.replay, line by line: the text of each reply is that of examples/update.out."""
+        said = []
+        with Engine(Config(entity=2, blocks=64, cap=2400, checks=2)) as engine:
+            for line in (EXAMPLES / "update.replay").read_text().splitlines():
+                said += self._play(engine, line.split())
+            entries = list(engine.filestore.entries())
+        wanted = (EXAMPLES / "update.out").read_text()
+        self.assertEqual("".join(said), wanted[: wanted.index("store used")])
+        wanted_entries = [("app", EntryKind.DIRECTORY, 0), ("app/prog", EntryKind.FILE, 24)]
+        self.assertEqual([(it.path, it.kind, it.size) for it in entries], wanted_entries)
+        self.assertEqual(entries[1].checksum, 0xDA38405C)
+
+    @staticmethod
+    def _play(engine: Engine, words: list[str]) -> list[str]:
+        if not words or words[0] in ("#", "config", "list"):
+            return []
+        if words[0] == "pdu":
+            return [engine.receive(bytes.fromhex(words[1])).text]
+        if words[0] == "run":
+            said = []
+            while (name := engine.next_runnable()) is not None:
+                said.append(engine.step(name).text)
+            return said
+        calls = {"step": engine.step, "check": engine.check, "cancel": engine.cancel, "take": engine.take}
+        return [calls[words[0]](Transaction(int(words[1]), int(words[2]))).text]
+
+    def test_files_are_put_and_read(self) -> None:
+        """What is put is there, and each reason for which it can't be put has its exception."""
+        with Engine(Config(entity=2, blocks=16, cap=2400, checks=2)) as engine:
+            engine.put_directory("app")
+            engine.put_file("app/prog", b"the old image")
+            engine.put_file("empty", b"")
+            self.assertEqual(engine.filestore.read("app/prog"), b"the old image")
+            self.assertEqual(engine.filestore.read("empty"), b"")
+            self.assertIsNone(engine.filestore.look_up("app/new"))
+            for path, wanted in (
+                ("app", cezhutal.Exists),
+                ("no/where", cezhutal.NoParent),
+                ("a//b", cezhutal.BadPath),
+                ("x" * 800, cezhutal.BadPath),
+            ):
+                with self.subTest(path=path[:10]), self.assertRaises(wanted):
+                    engine.put_directory(path)
+            with self.assertRaises(cezhutal.FilestoreFull):
+                engine.put_file("large", bytes(10000))
+            with self.assertRaises(cezhutal.Nothing):
+                engine.filestore.read("app")
+            engine.receive(METADATA)
+            with self.assertRaises(cezhutal.HasTransactions):
+                engine.put_directory("late")
+            self.assertEqual(engine.filestore.destination_name(Transaction(1, 5)), "f")
+
+    def test_bad_configurations_are_refused(self) -> None:
+        """Each has its exception."""
+        for config, wanted in (
+            (Config(2, blocks=15), cezhutal.BadBlocks),
+            (Config(2, cap=7864321), cezhutal.BadCap),
+            (Config(2, checks=0), cezhutal.BadChecks),
+            (Config(2, protected=[".."]), cezhutal.BadPath),
+            (Config(2, protected=[f"p{number}" for number in range(9)]), cezhutal.TooManyPrefixes),
+        ):
+            with self.subTest(wanted=wanted), self.assertRaises(wanted):
+                Engine(config)
+
+    def test_octets_that_are_no_pdu(self) -> None:
+        """Each fault has its exception."""
+        with Engine(Config(entity=2, blocks=64)) as engine:
+            for octets, wanted in (
+                (b"", cezhutal.Truncated),
+                (EOF[:-1], cezhutal.Truncated),
+                (b"\x44", cezhutal.BadVersion),
+                (b"\x26", cezhutal.CrcNotSupported),
+                (EOF + b"\0", cezhutal.LengthMismatch),
+                (bytes.fromhex("200001000105020f"), cezhutal.BadDirective),
+            ):
+                with self.subTest(wanted=wanted), self.assertRaises(wanted):
+                    engine.receive(octets)
+
+    def test_a_freed_engine(self) -> None:
+        """It answers so."""
+        engine = Engine(Config(entity=2))
+        engine.free()
+        with self.assertRaises(cezhutal.NoEngine):
+            engine.receive(EOF)
+        with self.assertRaises(cezhutal.NoEngine):
+            engine.free()
+
+
+class ReceiverTest(unittest.TestCase):
+    """Acknowledged mode."""
+
+    MIB = Mib(ack=Retries(50, 2, Handler.ABANDON), nak=Retries(40, 3), longest_nak=100)
+
+    def test_a_file_is_asked_for_and_acknowledged(self) -> None:
+        """The Metadata PDU and the file are lost at first."""
+        engine = Engine(Config(entity=2, blocks=64, cap=2400, checks=2))
+        with Receiver(engine, self.MIB) as receiver:
+            with self.assertRaises(cezhutal.NoEngine):
+                engine.free()
+            self.assertIsNone(receiver.deadline())
+            report = receiver.receive(100, EOF)
+            nak = "2800190001050208000000000000000f0000000000000000000000000000000f"
+            self.assertEqual([it.hex() for it in report.pdus], ["28000300010502064001", nak])
+            self.assertEqual(report.became, Became.HELD)
+            assert report.indication is not None
+            self.assertEqual(report.indication.kind, IndicationKind.EOF_RECV)
+            self.assertEqual(receiver.deadline(), 140)
+            self.assertEqual([it.hex() for it in receiver.expire(140).pdus], [nak])
+            report = receiver.receive(150, METADATA)
+            assert report.reply is not None and report.indication is not None
+            self.assertEqual(report.reply.text, "1/5 admitted blocks 2 steps 2\n")
+            self.assertEqual(report.indication.length, 15)
+            self.assertEqual(receiver.filestore.destination_name(Transaction(1, 5)), "f")
+            report = receiver.receive(160, DATA)
+            assert report.reply is not None
+            self.assertEqual(report.reply.kind, ReplyKind.COMPLETE)
+            reports = list(receiver.work_off(160))
+            self.assertEqual([it.became for it in reports], [Became.REPLIED, Became.FINISHED])
+            self.assertEqual([it.hex() for it in reports[1].pdus], ["280002000105020502"])
+            assert reports[1].indication is not None
+            end = reports[1].indication
+            self.assertEqual((end.condition, end.incomplete, end.file_status), (0, False, 2))
+            self.assertEqual(receiver.receive(170, ACK_FINISHED).became, Became.ACKNOWLEDGED)
+            self.assertEqual(receiver.receive(180, METADATA).became, Became.DUPLICATE)
+            self.assertEqual(receiver.filestore.read("f"), bytes(range(15)))
+
+    def test_a_pdu_with_a_crc(self) -> None:
+        """One that is wrong has its exception."""
+        with Receiver(Engine(Config(entity=2, blocks=64)), Mib(has_crc=True, nak_mode=NakMode.IMMEDIATE)) as receiver:
+            with self.assertRaises(cezhutal.BadCrc):
+                receiver.receive(0, bytes.fromhex("22000c000105020400181c20150000000f1234"))
+
+    def test_bad_numbers_are_refused_and_the_engine_stays(self) -> None:
+        """Each has its exception."""
+        with Engine(Config(entity=2, blocks=64)) as engine:
+            for mib, wanted in (
+                (Mib(ack=Retries(0, 1)), cezhutal.BadInterval),
+                (Mib(nak=Retries(1, 0)), cezhutal.BadLimit),
+                (Mib(longest_nak=71), cezhutal.BadLongestNak),
+                (Mib(ack=Retries(1, 1, 9)), cezhutal.BadHandler),  # type: ignore[arg-type]
+                (Mib(nak_mode=9), cezhutal.BadNakMode),  # type: ignore[arg-type]
+            ):
+                with self.subTest(wanted=wanted), self.assertRaises(wanted):
+                    Receiver(engine, mib)
+            engine.receive(METADATA)
+            with self.assertRaises(cezhutal.HasTransactions):
+                Receiver(engine, Mib())
+
+
+if __name__ == "__main__":
+    unittest.main()

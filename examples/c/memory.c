@@ -1,0 +1,197 @@
+/* How much memory an engine takes: of cfdp_new, of one Metadata PDU, and of 64 of them, in lists that take much. It has the three allocation
+ * functions of its own, over malloc, and counts the octets that are asked for; what malloc adds for itself is not counted.
+ *
+ * It fails if cfdp_new takes another number of octets than CFDP_NEW_OCTETS says, if a Metadata PDU takes more than docs/C.md says, or if
+ * anything is kept after the last outcome was taken. */
+#include "../../include/cfdp.h"
+#include <inttypes.h>
+#include <stdbool.h>
+#include <stdio.h>
+#include <stdlib.h>
+#include <string.h>
+
+static size_t in_use, most, blocks_in_use;
+static char nothing;
+
+/* A block has 16 octets before it for its size. */
+static size_t *size_of(void *block) { return (size_t *)((unsigned char *)block - 16); }
+
+static void count(size_t octets) {
+    in_use += octets;
+    if (in_use > most) most = in_use;
+}
+
+struct cfdp_block rattle_alloc(size_t octets, size_t align) {
+    (void)align; /* it divides 16 */
+    unsigned char *block = malloc(octets + 16);
+    if (!block) return (struct cfdp_block){false, &nothing};
+    *size_of(block + 16) = octets;
+    blocks_in_use++;
+    count(octets);
+    return (struct cfdp_block){true, block + 16};
+}
+
+struct cfdp_block rattle_realloc(void *block, size_t kept, size_t octets, size_t align) {
+    (void)kept, (void)align;
+    size_t before = *size_of(block);
+    unsigned char *moved = realloc(size_of(block), octets + 16);
+    if (!moved) return (struct cfdp_block){false, block};
+    *size_of(moved + 16) = octets;
+    in_use -= before;
+    count(octets);
+    return (struct cfdp_block){true, moved + 16};
+}
+
+void rattle_dealloc(void *block) {
+    in_use -= *size_of(block);
+    blocks_in_use--;
+    free(size_of(block));
+}
+
+enum { LIST = 64, TRANSACTIONS = 64, DEEPEST = 8 };
+
+/* What a list of 64 requests asks for. No path of a request is at, above or below a path of another one, here or in another list: the first
+ * name says whose it is. */
+struct shape {
+    const char *name;
+    uint8_t action;          /* the action code, 4 bits */
+    unsigned paths;          /* of a request: 1 or 2 */
+    unsigned depth;          /* names of a path */
+    unsigned octets[DEEPEST]; /* of each name, at least 5 of the first */
+};
+
+static const struct shape shapes[] = {
+    {"denials of one short name", 0x70, 1, 1, {5}},
+    {"denials of eight short names", 0x70, 1, 8, {5, 1, 1, 1, 1, 1, 1, 1}},
+    {"denials of the longest paths, long names first", 0x70, 1, 8, {96, 96, 47, 1, 1, 1, 1, 1}},
+    {"renames of one short name", 0x20, 2, 1, {5}},
+    {"renames of eight short names", 0x20, 2, 8, {5, 1, 1, 1, 1, 1, 1, 1}},
+    {"renames of the longest paths, long names first", 0x20, 2, 8, {96, 16, 1, 1, 1, 1, 1, 1}},
+};
+
+static uint8_t pdu[70000];
+static size_t length;
+
+static void put(const void *octets, size_t more) {
+    memcpy(pdu + length, octets, more);
+    length += more;
+}
+
+/* The first `depth` names of a path of a request. */
+static struct cfdp_path path_of(const struct shape *shape, unsigned transaction, unsigned request, char which, unsigned depth) {
+    struct cfdp_path path = {0};
+    char *octets = (char *)path.octets;
+    for (unsigned level = 0; level < depth; level++) {
+        unsigned written = 0;
+        if (level > 0) octets[path.length++] = '/';
+        if (level == 0) written = (unsigned)sprintf(octets, "%c%02u%02u", which, transaction, request);
+        memset(octets + path.length + written, 'x', shape->octets[level] - written);
+        path.length += shape->octets[level];
+    }
+    return path;
+}
+
+static void put_path(const struct shape *shape, unsigned transaction, unsigned request, char which) {
+    struct cfdp_path path = path_of(shape, transaction, request, which, shape->depth);
+    uint8_t lv = (uint8_t)path.length;
+    put(&lv, 1);
+    put(path.octets, path.length);
+}
+
+/* The Metadata PDU of transaction 1/N, in unacknowledged mode, without a file. */
+static void compose(const struct shape *shape, unsigned transaction) {
+    uint8_t head[] = {0x24, 0, 0, 0x00, 0x01, (uint8_t)transaction, 0x02, 0x07, 0x40, 0, 0, 0, 0, 0, 0};
+    length = 0;
+    put(head, sizeof head);
+    for (unsigned request = 0; request < LIST; request++) {
+        size_t start = length;
+        uint8_t tlv[] = {0x00, 0, shape->action};
+        put(tlv, sizeof tlv);
+        put_path(shape, transaction, request, 'a');
+        if (shape->paths == 2) put_path(shape, transaction, request, 'b');
+        pdu[start + 1] = (uint8_t)(length - start - 2);
+    }
+    pdu[1] = (uint8_t)((length - 7) >> 8);
+    pdu[2] = (uint8_t)(length - 7);
+}
+
+/* The directories above a path exist, and a file at it where it is the first one of a rename. */
+static bool prepare(struct cfdp_engine *engine, const struct shape *shape, unsigned transaction, unsigned request, char which) {
+    bool right = true;
+    for (unsigned depth = 1; depth < shape->depth; depth++) {
+        struct cfdp_path path = path_of(shape, transaction, request, which, depth);
+        right &= cfdp_put(engine, &path, CFDP_ENTRY_DIRECTORY, pdu, 0) == CFDP_ANSWER_DONE;
+    }
+    struct cfdp_path file = path_of(shape, transaction, request, which, shape->depth);
+    if (which == 'a') right &= cfdp_put(engine, &file, CFDP_ENTRY_FILE, pdu, 0) == CFDP_ANSWER_DONE;
+    return right;
+}
+
+/* Cancels a transaction and takes its outcome. */
+static bool end(struct cfdp_engine *engine, unsigned transaction) {
+    static uint8_t out[16488];
+    struct cfdp_reply reply = {0};
+    size_t octets;
+    cfdp_cancel(engine, 1, transaction, &reply);
+    return cfdp_take(engine, 1, transaction, out, sizeof out, &octets, &reply) == CFDP_ANSWER_DONE && reply.kind == CFDP_REPLY_TAKEN;
+}
+
+static struct cfdp_engine engine = CFDP_ENGINE_EMPTY;
+
+static bool make_engine(uint32_t blocks, size_t prefixes) {
+    static const struct cfdp_path protected[] = {{.length = 4, .octets = "boot"}, {.length = 9, .octets = "keys/root"}};
+    const struct cfdp_config config = {.entity = 2, .cap = 2400, .blocks = blocks, .checks = 2};
+    return cfdp_new(&engine, &config, protected, prefixes) == CFDP_ANSWER_DONE;
+}
+
+/* The most that a Metadata PDU of this shape takes beside no others, as docs/C.md says: by its requests, by the paths that they name and the directories
+ * above these, and by the octets of both. */
+static size_t most_of(const struct shape *shape) {
+    size_t requests = LIST, paths = LIST * shape->paths, above = 0, path = 0;
+    for (unsigned level = 0; level < shape->depth; level++) {
+        path += shape->octets[level] + (level > 0);
+        above += path;
+    }
+    return 2000 + 150 * requests + 300 * paths * shape->depth + 2 * paths * above + 2 * paths * path;
+}
+
+/* Lists of a shape come until 64 transactions are live. Then each is cancelled and taken. */
+static bool run(const struct shape *shape) {
+    struct cfdp_reply reply = {0};
+    bool right = make_engine(65536, 0);
+    for (unsigned transaction = 0; transaction < TRANSACTIONS && shape->paths == 2; transaction++)
+        for (unsigned request = 0; request < LIST; request++)
+            right &= prepare(&engine, shape, transaction, request, 'a') && prepare(&engine, shape, transaction, request, 'b');
+    size_t before = in_use, blocks_before = blocks_in_use, one = 0, all = 0;
+    for (unsigned transaction = 0; transaction < TRANSACTIONS; transaction++) {
+        compose(shape, transaction);
+        most = in_use;
+        right &= cfdp_receive(&engine, pdu, length, &reply) == CFDP_ANSWER_DONE && reply.kind == CFDP_REPLY_ADMITTED;
+        right &= most - before <= (transaction + 1) * most_of(shape);
+        if (transaction == 0) one = most - before;
+        if (most - before > all) all = most - before;
+    }
+    printf("64 %s, in a PDU of %zu octets: it takes %zu octets (at most %zu), and 64 take %zu\n", shape->name, length, one, most_of(shape), all);
+    for (unsigned transaction = 0; transaction < TRANSACTIONS; transaction++) right &= end(&engine, transaction);
+    right &= in_use == before && blocks_in_use == blocks_before; /* after the last take nothing is kept */
+    return cfdp_free(&engine) == CFDP_ANSWER_DONE && in_use == 0 && blocks_in_use == 0 && right;
+}
+
+/* What cfdp_new takes, without and with two prefixes of 13 octets together. */
+static bool measure(uint32_t blocks) {
+    bool right = make_engine(blocks, 0) && in_use == CFDP_NEW_OCTETS(blocks);
+    printf("cfdp_new with %" PRIu32 " blocks takes %zu octets", blocks, in_use);
+    right &= cfdp_free(&engine) == CFDP_ANSWER_DONE && in_use == 0 && blocks_in_use == 0;
+    right &= make_engine(blocks, 2) && in_use == CFDP_NEW_OCTETS(blocks) + 13;
+    printf(", and with two prefixes %zu\n", in_use);
+    return cfdp_free(&engine) == CFDP_ANSWER_DONE && in_use == 0 && blocks_in_use == 0 && right;
+}
+
+int main(void) {
+    static const uint32_t filestores[] = {16, 64, 257, 4096, 65536};
+    bool right = true;
+    for (size_t i = 0; i < sizeof filestores / sizeof *filestores; i++) right &= measure(filestores[i]);
+    for (size_t i = 0; i < sizeof shapes / sizeof *shapes; i++) right &= run(&shapes[i]);
+    puts(right ? "nothing is kept after the last take" : "wrong");
+    return !right;
+}
