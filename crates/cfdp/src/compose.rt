@@ -3,15 +3,46 @@
 use crate::end::End;
 use crate::plan::{Entity, Plan};
 use crate::show::print;
+use crate::shown::push_path;
 use crate::uploads::{plan_in, read_files, uploads_of};
 use cfdp_plans::{ScriptFault, push_config, push_list, push_protect, write_upload};
 use cfdp_streams::ToWrite;
+use cfdp_texts::{encode, push_labelled};
 use cfdp_uploads::Upload;
+use std::alloc::Global;
 use std::io;
 use std::rt::Files;
 
+/// The command that a script is written for.
+#[derive(Clone, Copy)]
+pub enum Player {
+    /// `cfdpsim replay`.
+    Replay,
+    /// `cfdp run`: PDUs come one second after the other.
+    Run,
+}
+
+/// Appends the line of a protected path.
+fn push_protected(
+    alloc: Global,
+    player: Player,
+    path: &[u8],
+    text: &mut Vec<u8>,
+) -> Result<(), End> {
+    match player {
+        Player::Replay => push_protect(path, text)?,
+        Player::Run => {
+            let mut line = String::from_str(alloc, "protect ")?;
+            push_path(alloc, path, &mut line)?;
+            line.push('\n')?;
+            text.extend_from_slice(line.as_bytes())?;
+        }
+    }
+    Ok(())
+}
+
 /// Writes the first lines of a script.
-fn write_head<R: AllocGlobal + Print>(rt: &R, entity: &Entity) -> Result<(), End> {
+fn write_head<R: AllocGlobal + Print>(rt: &R, player: Player, entity: &Entity) -> Result<(), End> {
     let mut text = Vec::new(rt.alloc());
     push_config(
         entity.id,
@@ -22,18 +53,55 @@ fn write_head<R: AllocGlobal + Print>(rt: &R, entity: &Entity) -> Result<(), End
         &mut text,
     )?;
     for path in &entity.protected {
-        push_protect(path, &mut text)?;
+        push_protected(rt.alloc(), player, path, &mut text)?;
     }
     print(rt, &text)
 }
 
-/// Writes the script of a plan.
-fn write<R: AllocGlobal + Print>(
-    rt: &R,
-    entity: &Entity,
-    uploads: &[Upload<'_>],
-) -> Result<(), End> {
-    write_head(rt, entity)?;
+/// Writes the name and the size of an upload as a comment.
+fn write_title<R: AllocGlobal + Print>(rt: &R, upload: &Upload<'_>) -> Result<(), End> {
+    let header = upload.header();
+    let mut text = Vec::new(rt.alloc());
+    push_labelled(b"# ", header.source, &mut text)?;
+    push_labelled(b"/", header.number, &mut text)?;
+    push_labelled(b": ", upload.metadata().size, &mut text)?;
+    text.extend_from_slice(b" octets\n")?;
+    print(rt, &text)
+}
+
+/// Writes the PDUs of an upload, which come from a time on. Returns the time after the last one.
+fn write_pdus<R: AllocGlobal + Print>(rt: &R, upload: &Upload<'_>, from: u64) -> Result<u64, End> {
+    let mut octets = Vec::new(rt.alloc());
+    let mut text = Vec::new(rt.alloc());
+    let mut now = from;
+    for number in 0..upload.pdu_count() {
+        octets.clear();
+        text.clear();
+        if upload.write(number, &mut octets).is_err() {
+            return Err(End::Memory);
+        }
+        push_labelled(b"at ", now, &mut text)?;
+        text.extend_from_slice(b" pdu ")?;
+        encode(&octets, &mut text)?;
+        text.push(b'\n')?;
+        print(rt, &text)?;
+        now = now.saturating_add(1);
+    }
+    Ok(now)
+}
+
+/// Writes the uploads for `cfdp run`.
+fn write_timed<R: AllocGlobal + Print>(rt: &R, uploads: &[Upload<'_>]) -> Result<(), End> {
+    let mut now = 0;
+    for upload in uploads {
+        write_title(rt, upload)?;
+        now = write_pdus(rt, upload, now)?;
+    }
+    Ok(())
+}
+
+/// Writes the uploads for `cfdpsim replay`.
+fn write_untimed<R: AllocGlobal + Print>(rt: &R, uploads: &[Upload<'_>]) -> Result<(), End> {
     let mut writer = ToWrite::new(io::writer(rt));
     for upload in uploads {
         match write_upload(rt.alloc(), upload, &mut writer) {
@@ -42,6 +110,21 @@ fn write<R: AllocGlobal + Print>(
             Err(ScriptFault::Memory) => return Err(End::Memory),
         }
     }
+    Ok(())
+}
+
+/// Writes the script of a plan.
+fn write<R: AllocGlobal + Print>(
+    rt: &R,
+    player: Player,
+    entity: &Entity,
+    uploads: &[Upload<'_>],
+) -> Result<(), End> {
+    write_head(rt, player, entity)?;
+    match player {
+        Player::Replay => write_untimed(rt, uploads)?,
+        Player::Run => write_timed(rt, uploads)?,
+    }
     let mut last = Vec::new(rt.alloc());
     push_list(&mut last)?;
     print(rt, &last)
@@ -49,7 +132,11 @@ fn write<R: AllocGlobal + Print>(
 
 /// Writes the script of the plan in a file to standard output. Nothing is written where something is wrong in the plan,
 /// or a file of it cannot be read.
-pub fn run<R: AllocGlobal + Files + Input + Print>(rt: &R, path: &str) -> Result<(), End> {
+pub fn run<R: AllocGlobal + Files + Input + Print>(
+    rt: &R,
+    player: Player,
+    path: &str,
+) -> Result<(), End> {
     let alloc = rt.alloc();
     let (text, plan) = plan_in(rt, path)?;
     let Plan {
@@ -58,5 +145,5 @@ pub fn run<R: AllocGlobal + Files + Input + Print>(rt: &R, path: &str) -> Result
     } = plan;
     let files = read_files(rt, path, &text, &transactions)?;
     let uploads = uploads_of(alloc, path, &text, entity.id, transactions, &files)?;
-    write(rt, &entity, &uploads)
+    write(rt, player, &entity, &uploads)
 }

@@ -37,8 +37,8 @@ fn percent(random: &mut Pcg32) -> u8 {
     (u64::from(word) * 100 >> 32) as u8
 }
 
-/// What is drawn for a line: three numbers for a PDU line, in this order for its loss, for whether it comes twice, and for a
-/// swap.
+/// What is drawn for a line: three numbers for a PDU line, in this order for its loss, for whether it comes twice, and
+/// for a swap.
 fn draw(random: &mut Pcg32, odds: Odds, line: &[u8]) -> Draw {
     if !is_pdu_line(line) {
         return Draw {
@@ -122,7 +122,7 @@ impl Script {
         Ok(())
     }
 
-    /// The script ends here. What came of a last line without a newline is a line.
+    /// The script ends here. A last line without a newline is a line, too.
     fn finish<R: AllocGlobal + Print>(&mut self, rt: &R) -> Result<(), End> {
         if !self.line.is_empty() {
             self.end_line(rt)?;
@@ -158,7 +158,7 @@ fn take_all<R: AllocGlobal + Print, I: Read + Drop>(
     Ok(())
 }
 
-/// Writes what comes of a script over a link.
+/// Writes what results from a script over a link.
 fn disturb<R: AllocGlobal + Print, I: Read + Drop>(
     rt: &R,
     input: I,
@@ -175,8 +175,8 @@ fn disturb<R: AllocGlobal + Print, I: Read + Drop>(
     }
 }
 
-/// Writes what comes of the script in a file, or of standard input without one, over a link with these odds. The same comes for
-/// the same seed.
+/// Writes what results from the script in a file, or of standard input without one, over a link with these odds. The
+/// same comes for the same seed.
 pub fn run<R: AllocGlobal + Files + Input + Print>(
     rt: &R,
     odds: Odds,

@@ -1,8 +1,9 @@
 //! How the program ends when it does not do what it was asked for.
 
 use cfdp_status::TransactionId;
-use std::alloc::{AllocError, AllocFailed};
-use std::fmt;
+use std::alloc::{AllocError, AllocFailed, Global};
+use std::io::Write;
+use std::{fmt, io};
 
 /// Why the program ends early.
 #[derive(Debug, Drop)]
@@ -29,9 +30,31 @@ pub enum End {
     Incomplete(TransactionId),
     /// How many transactions are refused, and how many there are.
     Refused(usize, usize),
+    /// The text of a script cannot be written.
+    Unwritten,
+    /// A script, or a file beside it, cannot be read or written: which one.
+    Failed(Vec<u8>),
+    /// A line of a script is bad: where, and why.
+    Script(Vec<u8>),
+    /// A script expects a line in vain: where, and which one.
+    Unmet(Vec<u8>),
 }
 
 impl End {
+    /// The fault of a script, or of a file beside it, that cannot be read.
+    pub fn unread(alloc: Global, name: &str) -> End {
+        format!(in alloc; "{name}: read failed").map_or(End::Memory, |said| {
+            End::Failed(said.into_bytes())
+        })
+    }
+
+    /// The fault of a file or a folder that cannot be written.
+    pub fn unwritten(alloc: Global, name: &str) -> End {
+        format!(in alloc; "{name}: write failed").map_or(End::Memory, |said| {
+            End::Failed(said.into_bytes())
+        })
+    }
+
     /// The exit status.
     pub fn status(&self) -> u8 {
         match self {
@@ -40,10 +63,24 @@ impl End {
             | End::Memory
             | End::Capture
             | End::File(_)
-            | End::Incomplete(_) => 1,
+            | End::Incomplete(_)
+            | End::Unwritten
+            | End::Failed(_) => 1,
             End::Words(_) => 2,
-            End::Line(_) | End::Long(_) | End::Plan(_) => 3,
-            End::Refused(_, _) => 4,
+            End::Line(_) | End::Long(_) | End::Plan(_) | End::Script(_) => 3,
+            End::Refused(_, _) | End::Unmet(_) => 4,
+        }
+    }
+
+    /// Writes the line that says why. What a script has of it may be no text.
+    pub fn write<W: Write>(&self, out: &mut W) -> io::Result<()> {
+        match self {
+            End::Failed(said) | End::Script(said) | End::Unmet(said) => {
+                out.write_all(b"cfdp: ")?;
+                out.write_all(said)?;
+                out.write_all(b"\n")
+            }
+            end => writeln!(out, "cfdp: {end}"),
         }
     }
 }
@@ -56,7 +93,8 @@ impl fmt::Display for End {
             End::Write => f.write_str("the output cannot be written"),
             End::Memory => f.write_str("out of memory"),
             End::Capture => f.write_str(
-                "the capture's link type is not read: expected Ethernet (1), IPv4 (101, 228) or a user's own (147 to 162)",
+                "the capture's link type is not read: expected Ethernet (1), IPv4 (101, 228) \
+                 or a user's own (147 to 162)",
             ),
             End::Line(number) => write!(
                 f,
@@ -65,6 +103,10 @@ impl fmt::Display for End {
             End::Long(number) => write!(f, "line {number}: longer than 200000 octets"),
             End::Incomplete(id) => write!(f, "transaction {id} was not completed"),
             End::Refused(refused, all) => write!(f, "refused: {refused} of {all} transactions"),
+            End::Unwritten => f.write_str("write failed"),
+            End::Failed(said) | End::Script(said) | End::Unmet(said) => {
+                f.write_str(str::from_utf8(said).unwrap_or("what a script says is no text"))
+            }
         }
     }
 }

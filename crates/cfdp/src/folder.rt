@@ -17,20 +17,20 @@ const BLOCK_OCTETS: u64 = 120;
 /// The most directories that a filestore has, and the folder itself.
 const MOST_DIRECTORIES: usize = 65_537;
 
-/// Something in a folder: where it is on this computer, and the octets of its path in the filestore, which are none for the
-/// folder itself.
+/// Something in a folder: where it is on this computer, and the octets of its path in the filestore, which are none for
+/// the folder itself.
 #[derive(Drop)]
 struct Found {
     place: String,
     path: Vec<u8>,
 }
 
-/// How the program ends for something wrong at a place of a folder.
+/// How the program ends for something wrong in a folder.
 fn wrong(alloc: Global, place: &str, what: &str) -> End {
     format!(in alloc; "{place}: {what}").map_or(End::Memory, End::File)
 }
 
-/// How the program ends where a place of a folder cannot be read.
+/// How the program ends where something in a folder cannot be read.
 fn unread(alloc: Global, place: &str, error: &Error) -> End {
     match error.kind() {
         ErrorKind::OutOfMemory => End::Memory,
@@ -169,8 +169,8 @@ fn put_all<R: AllocGlobal + Clone + Drop + Files + Input>(
     Ok(directories)
 }
 
-/// Puts what a folder has into the filestore of an entity: files and directories, at the paths that they have in it. What it has
-/// of another kind is refused by its name.
+/// Puts what a folder has into the filestore of an entity: files and directories, at the paths that they have in it.
+/// What it has of another kind is refused by its name.
 pub fn put<R: AllocGlobal + Clone + Drop + Files + Input>(
     rt: &R,
     folder: &str,

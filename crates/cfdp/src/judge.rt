@@ -190,8 +190,8 @@ fn copy_of(alloc: Global, metadata: &Metadata) -> Result<Metadata, End> {
     })
 }
 
-/// The same upload with its pieces in order, so that it is complete if it is admitted: no more than one piece is kept at any
-/// time.
+/// The same upload with its pieces in order, so that it is complete if it is admitted: no more than one piece is kept
+/// at any time.
 fn in_turn<'a>(alloc: Global, upload: &Upload<'_>, file: &'a [u8]) -> Result<Upload<'a>, End> {
     let order = in_order(alloc, piece_count(file.len(), SEGMENT))?;
     let metadata = copy_of(alloc, upload.metadata())?;
@@ -201,8 +201,8 @@ fn in_turn<'a>(alloc: Global, upload: &Upload<'_>, file: &'a [u8]) -> Result<Upl
     }
 }
 
-/// Judges an upload on the filestore of an entity, prints the verdict, and completes the upload if it is admitted: whether it
-/// is.
+/// Judges an upload on the filestore of an entity, prints the verdict, and completes the upload if it is admitted:
+/// whether it is.
 fn judge<R: AllocGlobal + Print>(
     rt: &R,
     entity: &mut Entity,
@@ -237,8 +237,8 @@ fn judge<R: AllocGlobal + Print>(
     Ok(admitted)
 }
 
-/// Judges the uploads of the plan in a file, each on the filestore after those before it, which has what a folder has at
-/// first, or nothing without one.
+/// Judges the uploads of the plan in a file, each on the filestore after those before it, which has what a folder has
+/// at first, or nothing without one.
 pub fn run<R: AllocGlobal + Clone + Drop + Files + Input + Print>(
     rt: &R,
     path: &str,

@@ -1,22 +1,26 @@
 //! `cfdp`: tools for people who plan, run and look at file transfers by CFDP (CCSDS 727.0-B-5).
 //!
-//! `cfdp show [--json] [FILE]` prints what PDUs say, a block of lines or a JSON value for each. It reads a file, or standard
-//! input without one: PDUs in hexadecimal, one a line; PDUs one after the other, as octets; or a capture in the pcap
-//! format, with PDUs in UDP datagrams or of their own link type.
+//! `cfdp show [--json] [FILE]` prints what PDUs say, a block of lines or a JSON value for each. It reads a file, or
+//! standard input without one: PDUs in hexadecimal, one a line; PDUs one after the other, as octets; or a capture in
+//! the pcap format, with PDUs in UDP datagrams or of their own link type.
 //!
-//! `cfdp compose PLAN` writes the script of a plan of uploads, which `cfdpsim replay` runs: the PDUs of each
-//! transaction, from the files that the plan names and its requests in words.
+//! `cfdp compose [--timed] PLAN` writes the script of a plan of uploads, which `cfdpsim replay` runs, or with `--timed`
+//! `cfdp run`: the PDUs of each transaction, from the files that the plan names and its requests in words.
 //!
-//! `cfdp judge PLAN [--on DIR]` prints the verdict on each transaction of a plan, on a filestore that has what a folder has:
-//! what it is granted, or why it is refused, and what each of its requests takes.
+//! `cfdp judge PLAN [--on DIR]` prints the verdict on each transaction of a plan, on a filestore that has what a folder
+//! has: what it is granted, or why it is refused, and what each of its requests takes.
+//!
+//! `cfdp run [FILE]` plays a script against a receiving entity of both modes, with a filestore and a clock that the
+//! script moves, and prints what the entity answers to each line.
 //!
 //! `cfdp disturb [FILE]` writes a script as if its PDUs came over a bad link: some are lost, written twice, or swapped.
 //!
 //! What goes wrong is said on standard error, and by the exit status: 1 for a fault of reading, writing or memory, 2
-//! for unknown words, 3 for a line that is not hexadecimal, or for something wrong in a plan, 4 for a plan of which a
-//! transaction is refused.
+//! for unknown words, 3 for a line that is not hexadecimal, for something wrong in a plan, or for a bad line of a
+//! script, 4 for a plan of which a transaction is refused, or for a line that a script expects in vain.
 #![tactic(auto)]
 
+mod capture;
 mod compose;
 mod disturb;
 mod end;
@@ -24,40 +28,50 @@ mod folder;
 mod found;
 mod hexadecimal;
 mod input;
+mod into;
 mod judge;
+mod named;
 mod octets;
 mod part;
 mod pcap;
 mod plan;
+mod playing;
+mod run;
 mod section;
 mod show;
+mod shown;
+mod spent;
 mod uploads;
+mod watch;
 mod words;
 
 use end::End;
 use std::process::ExitCode;
-use std::rt::{Env, Files};
+use std::rt::{Clock, Env, Files};
 use words::{Asked, parse};
 
 fn main(rt: HostRuntime) -> ExitCode {
-    match run(&rt) {
+    match obey(&rt) {
         Ok(()) => ExitCode::SUCCESS,
         Err(end) => {
             // Where standard error cannot be written either, the status has to do.
-            let _ = eprintln!(rt; "cfdp: {end}");
+            let _ = end.write(&mut rt.stderr());
             ExitCode::from(end.status())
         }
     }
 }
 
 /// Does what the words of the command line ask for.
-fn run<R: AllocGlobal + Clone + Drop + Env + Files + Input + Print>(rt: &R) -> Result<(), End> {
+fn obey<R: AllocGlobal + Clock + Clone + Drop + Env + Eprint + Files + Input + Print>(
+    rt: &R,
+) -> Result<(), End> {
     let words = words::read(rt)?;
     match parse(rt.alloc(), &words)? {
         Asked::Help(text) => show::print(rt, text.as_bytes()),
         Asked::Show(style, path) => show::run(rt, style, path),
-        Asked::Compose(path) => compose::run(rt, path),
+        Asked::Compose(player, path) => compose::run(rt, player, path),
         Asked::Judge(path, on) => judge::run(rt, path, on),
+        Asked::Run(path, options) => run::run(rt, path, options),
         Asked::Disturb(odds, seed, path) => disturb::run(rt, odds, seed, path),
     }
 }

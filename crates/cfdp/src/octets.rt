@@ -4,7 +4,8 @@ use crate::end::End;
 use crate::found::{Found, Place};
 use std::alloc::Global;
 
-/// How many octets the PDU at the front of octets has, by its header (CCSDS 727.0-B-5 §5.1); `None` where the header is cut.
+/// How many octets the PDU at the front of octets has, by its header (CCSDS 727.0-B-5 §5.1); `None` where the header is
+/// cut.
 fn pdu_len(octets: &[u8]) -> Option<usize> {
     let [_, high, low, lengths, ..] = octets else {
         return None;

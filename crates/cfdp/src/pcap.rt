@@ -95,7 +95,8 @@ fn payload(link: Link, frame: &[u8]) -> Option<&[u8]> {
     }
 }
 
-/// The PDUs of a capture. Frames without a UDP datagram over IPv4 are passed over. A frame that is cut ends the capture.
+/// The PDUs of a capture. Frames without a UDP datagram over IPv4 are passed over. A frame that is cut ends the
+/// capture.
 pub fn read(alloc: Global, octets: &[u8]) -> Result<Vec<Found>, End> {
     let mut all = Vec::new(alloc);
     let Some(order) = order_of(octets) else {

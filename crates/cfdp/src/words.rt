@@ -1,7 +1,9 @@
 //! The words of the command line.
 
+use crate::compose::Player;
 use crate::disturb::Odds;
 use crate::end::End;
+use crate::run::Options;
 use cfdp_words::Style;
 use clap::error::ErrorKind;
 use clap::{Arg, ArgAction, ArgMatches, Command, Error, value_parser};
@@ -16,12 +18,14 @@ pub enum Asked<'a> {
     Help(String),
     /// To show the PDUs of this file, or of standard input without one.
     Show(Style, Option<&'a str>),
-    /// To write the script of the plan in this file.
-    Compose(&'a str),
+    /// To write the script of the plan in this file, for this command.
+    Compose(Player, &'a str),
     /// To judge the plan in this file, on what this folder has, if there is one.
     Judge(&'a str, Option<&'a str>),
-    /// To write the script in this file, or of standard input without one, as if its PDUs came over a link with these odds and
-    /// this seed.
+    /// To play the script in this file, or of standard input without one.
+    Run(Option<&'a str>, Options<'a>),
+    /// To write the script in this file, or of standard input without one, as if its PDUs came over a link with these
+    /// odds and this seed.
     Disturb(Odds, u64, Option<&'a str>),
 }
 
@@ -79,6 +83,31 @@ fn disturb<'a>(alloc: Global) -> Result<Command<'a>, AllocError> {
         .arg(file)
 }
 
+/// The words of `run`.
+fn run<'a>(alloc: Global) -> Result<Command<'a>, AllocError> {
+    let tell = Arg::new(alloc, "tell")
+        .long("tell")
+        .action(ArgAction::SetTrue)
+        .help("Tells what each PDU says, in lines that begin with #");
+    let into = Arg::new(alloc, "into")
+        .long("into")
+        .value_name("DIR")
+        .help("Writes the filestore into this new folder at the end");
+    let pcap = Arg::new(alloc, "pcap")
+        .long("pcap")
+        .value_name("CAPTURE")
+        .help("Captures all PDUs in this file, as UDP datagrams in the pcap format");
+    let file = Arg::new(alloc, "FILE").help(
+        "A script: docs/FORMATS.md, 'Scripts of cfdp run'; else standard input",
+    );
+    Command::new(alloc, "run")
+        .about("Plays a script against a receiving entity, and prints what it answers")
+        .arg(tell)?
+        .arg(into)?
+        .arg(pcap)?
+        .arg(file)
+}
+
 /// The words that the program knows.
 fn program<'a>(alloc: Global) -> Result<Command<'a>, AllocError> {
     let json = Arg::new(alloc, "json")
@@ -95,8 +124,13 @@ fn program<'a>(alloc: Global) -> Result<Command<'a>, AllocError> {
     let plan = Arg::new(alloc, "PLAN")
         .required(true)
         .help("A plan of uploads: docs/FORMATS.md, 'Plans'");
+    let timed = Arg::new(alloc, "timed")
+        .long("timed")
+        .action(ArgAction::SetTrue)
+        .help("For cfdp run, a PDU each second; else for cfdpsim replay");
     let compose = Command::new(alloc, "compose")
-        .about("Writes the script of a plan, for cfdpsim replay")
+        .about("Writes the script of a plan, for cfdpsim replay or cfdp run")
+        .arg(timed)?
         .arg(plan)?;
     let judged = Arg::new(alloc, "PLAN")
         .required(true)
@@ -116,6 +150,7 @@ fn program<'a>(alloc: Global) -> Result<Command<'a>, AllocError> {
         .subcommand(show)?
         .subcommand(compose)?
         .subcommand(judge)?
+        .subcommand(run(alloc)?)?
         .subcommand(disturb(alloc)?)
 }
 
@@ -146,11 +181,15 @@ fn refused<'a>(alloc: Global, error: &Error) -> Result<Asked<'a>, End> {
 
 /// What the words ask for in which these matches were found.
 fn asked_by<'a>(matches: &ArgMatches<'a>) -> Asked<'a> {
-    if let Some(plan) = matches
-        .subcommand_matches("compose")
-        .and_then(|found| found.get_str("PLAN"))
-    {
-        return Asked::Compose(plan);
+    if let Some(found) = matches.subcommand_matches("compose") {
+        if let Some(plan) = found.get_str("PLAN") {
+            let player = if found.get_flag("timed") {
+                Player::Run
+            } else {
+                Player::Replay
+            };
+            return Asked::Compose(player, plan);
+        }
     }
     if let Some(found) = matches.subcommand_matches("disturb") {
         let percent = |name: &str| found.get_one(name).unwrap_or(0);
@@ -164,6 +203,14 @@ fn asked_by<'a>(matches: &ArgMatches<'a>) -> Asked<'a> {
             found.get_one("seed").unwrap_or(1),
             found.get_str("FILE"),
         );
+    }
+    if let Some(found) = matches.subcommand_matches("run") {
+        let options = Options {
+            tells: found.get_flag("tell"),
+            into: found.get_str("into"),
+            capture: found.get_str("pcap"),
+        };
+        return Asked::Run(found.get_str("FILE"), options);
     }
     if let Some(found) = matches.subcommand_matches("judge") {
         if let Some(plan) = found.get_str("PLAN") {

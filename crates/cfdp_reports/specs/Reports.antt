@@ -46,11 +46,13 @@ delivery_text true = codes " incomplete"
 delivery_text false = codes " complete"
 
 unfoldable pub ended_text : Conclusion → List ℕ
-ended_text end = labelled (codes " ") end.condition ++ delivery_text end.incomplete ++ labelled (codes " ") end.file_status
+ended_text end = labelled (codes " ") end.condition ++ delivery_text end.incomplete
+    ++ labelled (codes " ") end.file_status
 
 abbrev pub told_text : Indication → List ℕ
 told_text (MetadataRecv id described) = told (codes "metadata ") id
-told_text (FileSegmentRecv id offset len) = told (codes "segment ") id ++ labelled (codes " ") offset ++ labelled (codes " ") len
+told_text (FileSegmentRecv id offset len) = told (codes "segment ") id ++ labelled (codes " ") offset
+    ++ labelled (codes " ") len
 told_text (EofRecv id) = told (codes "eof ") id
 told_text (TransactionFinished id end) = told (codes "finished ") id ++ ended_text end
 told_text (Fault id condition) = told (codes "fault ") id ++ labelled (codes " ") condition

@@ -48,8 +48,10 @@ fn push_pdus(
     room: &mut [u8],
     text: &mut Vec<u8>,
 ) -> Result<(), NotReported>
-    ensures sent { OnOk result (text.new.items ≡ text.old.items ++ send_lines receiver.now.state.mib (pdus_of receiver.now answer.now)) }
-    ensures enough { max longest_sealed receiver.now.state.mib.longest_nak ≤ length room.old → IfErr result (λ why. why ≡ Memory) }
+    ensures sent { OnOk result (text.new.items ≡ text.old.items
+        ++ send_lines receiver.now.state.mib (pdus_of receiver.now answer.now)) }
+    ensures enough { max longest_sealed receiver.now.state.mib.longest_nak ≤ length room.old →
+        IfErr result (λ why. why ≡ Memory) }
 {
     for number in 0..answer.pdu_count() {
         match receiver.write(answer, number, room) {
@@ -60,8 +62,12 @@ fn push_pdus(
     Ok(())
 }
 
-/// Appends the line of an indication, if there is one.
-fn push_told(answer: &Answer, text: &mut Vec<u8>) -> Result<(), AllocError>
+/// Appends the line of the indication of an answer, if there is one.
+///
+/// # Errors
+///
+/// [`AllocError`] when out of memory. A part of the line may have been appended.
+pub fn push_told(answer: &Answer, text: &mut Vec<u8>) -> Result<(), AllocError>
     ensures { OnOk result (text.new.items ≡ text.old.items ++ told_lines answer.now.indications) }
 {
     match answer.indication() {
@@ -70,13 +76,13 @@ fn push_told(answer: &Answer, text: &mut Vec<u8>) -> Result<(), AllocError>
     }
 }
 
-/// Appends what a receiver answered to its last input: a line for each PDU that is sent, one for an indication, and one for what
-/// became of the input. `room` is scratch, for a PDU.
+/// Appends what a receiver answered to its last input: a line for each PDU that is sent, one for an indication, and one
+/// for what became of the input. `room` is scratch, for a PDU.
 ///
 /// # Errors
 ///
-/// [`NotReported::Memory`] when out of memory, and [`NotReported::TooShort`] where `room` has no room for a PDU, which it has if it
-/// has [`Receiver::longest`] octets. Cost: the octets that are written.
+/// [`NotReported::Memory`] when out of memory, and [`NotReported::TooShort`] where `room` has no room for a PDU, which
+/// it has if it has [`Receiver::longest`] octets. Cost: the octets that are written.
 pub fn push_answer(
     alloc: Global,
     receiver: &Receiver,
@@ -84,8 +90,10 @@ pub fn push_answer(
     room: &mut [u8],
     text: &mut Vec<u8>,
 ) -> Result<(), NotReported>
-    ensures ok { OnOk result (text.new.items ≡ text.old.items ++ answer_text receiver.now.state.mib (answer_in receiver.now answer.now)) }
-    ensures enough { max longest_sealed receiver.now.state.mib.longest_nak ≤ length room.old → IfErr result (λ why. why ≡ Memory) }
+    ensures ok { OnOk result (text.new.items ≡ text.old.items
+        ++ answer_text receiver.now.state.mib (answer_in receiver.now answer.now)) }
+    ensures enough { max longest_sealed receiver.now.state.mib.longest_nak ≤ length room.old →
+        IfErr result (λ why. why ≡ Memory) }
 {
     push_pdus(receiver, answer, room, text)?;
     push_told(answer, text)?;

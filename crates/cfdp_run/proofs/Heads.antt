@@ -19,7 +19,8 @@ pub with_put-staged : (W : World) (p : Path) (node : Node) → (with_put W p nod
 with_put-staged W p node = put_all-staged W (map as_directory (missing W.filestore p))
 
 -- the prefixes of the head are not in the entity in which something is put
-pub put_in_head : (mib : Mib) (W V : World) (prefixes : List Path) (begun : Bool) (p : Path) (node : Node) → V ≡ with_put W p node → room_wrong W p node ≡ None →
+pub put_in_head : (mib : Mib) (W V : World) (prefixes : List Path) (begun : Bool) (p : Path) (node : Node) → V ≡ with_put W p node → room_wrong W p node
+    ≡ None →
     put_node (record { mib = mib; world = record W { config = record W.config { prefixes = prefixes } }; has_begun = begun }) p node
     ≡ Ok (record { mib = mib; world = record V { config = record V.config { prefixes = prefixes } }; has_begun = true })
 unfolding put_node

@@ -37,11 +37,13 @@ pub put_all-staged : (W : World) (es : List (Path × Node)) → (put_all W es).f
 put_all-staged W [] = refl
 put_all-staged W (e ∷ es) = put_all-staged (with_node W e.0 e.1) es
 
-put_fault-config : (W : World) (c : Config) (p : Path) (node : Node) → c.blocks ≡ W.config.blocks → put_fault (record W { config = c }) p node ≡ put_fault W p node
+put_fault-config : (W : World) (c : Config) (p : Path) (node : Node) → c.blocks ≡ W.config.blocks → put_fault (record W { config = c }) p node
+    ≡ put_fault W p node
 put_fault-config W c p node e =
     ap (λ (b : ℕ). if not (length W.table == 0) then Some HasTransactions else filestore_fault W.filestore (b - blocks W.filestore) p node) e
 
-pub can_put_all-config : (W : World) (c : Config) (es : List (Path × Node)) → c.blocks ≡ W.config.blocks → CanPutAll W es → CanPutAll (record W { config = c }) es
+pub can_put_all-config : (W : World) (c : Config) (es : List (Path × Node)) → c.blocks ≡ W.config.blocks → CanPutAll W es →
+    CanPutAll (record W { config = c }) es
 can_put_all-config W c [] e can = can
 can_put_all-config W c (f ∷ es) e can = (put_fault-config W c f.0 f.1 e ∙ can.0, can_put_all-config (with_node W f.0 f.1) c es e can.1)
 
@@ -112,15 +114,22 @@ module _ (F : Filestore) (p : Path) (node : Node) (absent : node_at F p ≡ None
   abbrev IsBegun : World → Path → Type 0
   IsBegun W q = (x : Path) → length q < length x → node_at W.filestore x ≡ node_at F x
 
-  puts_by : (o : Option Node) (W : World) (q a : Path) (ps : List Path) → node_at F a ≡ o → is_file o ≡ false → W.table ≡ [] → is_good W.filestore q ≡ true → IsBegun W q →
+  puts_by : (o : Option Node) (W : World) (q a : Path) (ps : List Path) → node_at F a ≡ o → is_file o ≡ false → W.table ≡ [] → is_good W.filestore q ≡ true →
+      IsBegun W q →
       IsNext q a → length (filter is_missing (a ∷ ps)) + weight (Some node) ≤ free W →
-      ((V : World) → V.table ≡ [] → is_good V.filestore a ≡ true → IsBegun V a → length (filter is_missing ps) + weight (Some node) ≤ free V → Puts V (filter is_missing ps) p node) →
+      ((V : World) → V.table ≡ [] → is_good V.filestore a ≡ true → IsBegun V a → length (filter is_missing ps) + weight (Some node) ≤ free V →
+      Puts V (filter is_missing ps) p node) →
       Puts W (filter is_missing (a ∷ ps)) p node
   puts_by None W q a ps at no_file idle good begun next room later =
       let listed : filter is_missing (a ∷ ps) ≡ a ∷ filter is_missing ps = rw at refl in
       let absent_now : node_at W.filestore a ≡ None = begun a (omega (arith, next.longer)) ∙ at in
       let roomy : suc (length (filter is_missing ps)) + weight (Some node) ≤ free W = omega (arith, ap length listed, room) in
-      let first : put_fault W a Directory ≡ None = no_fault W a Directory (record { idle = idle; absent = absent_now; parent = good_parent W.filestore q a next good; room = omega (arith, roomy) }) in
+      let first : put_fault W a Directory ≡ None = no_fault W a Directory (record {
+        idle = idle;
+        absent = absent_now;
+        parent = good_parent W.filestore q a next good;
+        room = omega (arith, roomy);
+      }) in
       let V = with_node W a Directory in
       let rest : Puts V (filter is_missing ps) p node =
       later V idle (good_directory V.filestore a (there W.filestore a))
@@ -134,12 +143,18 @@ module _ (F : Filestore) (p : Path) (node : Node) (absent : node_at F p ≡ None
       (later W idle (good_directory W.filestore a there_now) (λ x longer. begun x (omega (arith, longer, next.longer))) (omega (arith, ap length listed, room)))
   puts_by (Some (File octets)) W q a ps at no_file idle good begun next room later = absurd (let none : true ≡ false = no_file in cc)
 
-  puts_from : (ps : List Path) (W : World) (q : Path) → Chain q ps p → list_any (λ x. is_file (node_at F x)) ps ≡ false → W.table ≡ [] → is_good W.filestore q ≡ true → IsBegun W q →
+  puts_from : (ps : List Path) (W : World) (q : Path) → Chain q ps p → list_any (λ x. is_file (node_at F x)) ps ≡ false → W.table ≡ [] → is_good W.filestore q
+      ≡ true → IsBegun W q →
       length (filter is_missing ps) + weight (Some node) ≤ free W → Puts W (filter is_missing ps) p node
   unfolding Chain
   puts_from [] W q chain none idle good begun room = record {
     can = tt;
-    last = no_fault W p node (record { idle = idle; absent = begun p (omega (arith, chain.longer)) ∙ absent; parent = good_parent W.filestore q p chain good; room = omega (arith, room) });
+    last = no_fault W p node (record {
+      idle = idle;
+      absent = begun p (omega (arith, chain.longer)) ∙ absent;
+      parent = good_parent W.filestore q p chain good;
+      room = omega (arith, room);
+    });
   }
   puts_from (a ∷ ps) W q chain none idle good begun room =
       let parts = or_false (is_file (node_at F a)) (list_any (λ x. is_file (node_at F x)) ps) none in

@@ -1,5 +1,7 @@
--- What a line of a script says, by its octets, the settings before it, and how far the head of the script is. Its texts are its words.
---     Content, Said             what a file holds that the filestore begins with;  what a line says: a command, with octets as lists
+-- What a line of a script says, by its octets, the settings before it, and how far the head of the script is. Its texts
+-- are its words.
+--     Content, Said             what a file holds that the filestore begins with;  what a line says: a command, with
+--                               octets as lists
 --     content_of, said_of       the same of a value of the program
 --     first_then                something, and then more by it, or what is wrong first
 --     setting mib text          the settings with the one that a word `KEY=VALUE` writes
@@ -8,11 +10,13 @@
 --     only_path word texts      the path that is the only text
 --     only_name word texts      the transaction that the two texts name
 --     octets_in texts           the octets that one or more texts of hexadecimal spell, at least one, if each does
---     put_in, at_in, line_in, alone     what the texts after `put` say;  after `at`;  after `expect`;  that there is none
+--     put_in, at_in, line_in, alone     what the texts after `put` say;  after `at`;  after `expect`;
+--                                       that there is none
 --     says mib progress word texts      what the texts after a word say, or what is wrong with them
---     command_in mib progress line      what a line says; nothing of a comment and of a line without a word; or the first of its faults:
---                               longer than 200,000 octets (TooLong); no word that begins a line (UnknownWord); a line of the head
---                               after the head (TooLate); not of its form (Expected); another one
+--     command_in mib progress line      what a line says; nothing of a comment and of a line without a word; or the
+--                                       first of its faults:
+--                               longer than 200,000 octets (TooLong); no word that begins a line (UnknownWord); a line
+--                               of the head after the head (TooLate); not of its form (Expected); another one
 --     IfWrong, OnMemory         what holds of what is wrong, if it is that;  what holds where it is out of memory
 --     asks_memory               memory is asked for before what a line says is known
 use Rattle.std.specs.Prelude.{⊤, ℕ, ◌+◌, ◌-◌, ◌==◌, ◌&&◌, Bool, true, false, if◌then◌else◌, List, [], ◌∷◌, length, slice_index, take, drop, position, Option, Some, None, option_map, option_and_then, Result, Ok, Err, codes, bytes_eq}
@@ -185,11 +189,13 @@ hexadecimal_in texts = option_map Octets (octets_in texts)
 abbrev pub content_in : List (List ℕ) → Option Content
 content_in [] = None
 content_in ([] ∷ texts) = hexadecimal_in ([] ∷ texts)
-content_in ((octet ∷ name) ∷ texts) = if octet == 64 then only_file name texts else hexadecimal_in ((octet ∷ name) ∷ texts)
+content_in ((octet ∷ name) ∷ texts) = if octet == 64 then only_file name texts
+    else hexadecimal_in ((octet ∷ name) ∷ texts)
 
 abbrev pub put_with : List ℕ → Option Content → Result Said Wrong
 put_with text content =
-    first_then (ok_or content (wrong.Expected word.Put)) (λ holds. saying (λ path. PutFile path holds) (path_or_wrong (path_at text)))
+    first_then (ok_or content (wrong.Expected word.Put))
+    (λ holds. saying (λ path. PutFile path holds) (path_or_wrong (path_at text)))
 
 abbrev pub put_in : List (List ℕ) → Result Said Wrong
 put_in [] = Err (wrong.Expected word.Put)
@@ -201,7 +207,8 @@ put_in (text ∷ next ∷ texts) = put_with text (content_in (next ∷ texts))
 abbrev pub input_in : ℕ → List (List ℕ) → Result Said Wrong
 input_in now [] = Ok (Pass now)
 input_in now (text ∷ texts) =
-    if bytes_eq text (codes "pdu") then saying (λ octets. Receive now octets) (ok_or (octets_in texts) (wrong.Expected word.At))
+    if bytes_eq text (codes "pdu") then saying (λ octets. Receive now octets)
+    (ok_or (octets_in texts) (wrong.Expected word.At))
     else if bytes_eq text (codes "cancel") then saying (λ id. Cancel now id) (only_name word.At texts)
     else Err (wrong.Expected word.At)
 
@@ -241,7 +248,8 @@ is_playing progress.Begun = false
 is_playing progress.Playing = true
 
 abbrev pub in_time : Mib → Progress → Word → List (List ℕ) → Result Said Wrong
-in_time mib how_far word texts = if is_of_head word && is_playing how_far then Err (wrong.TooLate word) else says mib how_far word texts
+in_time mib how_far word texts = if is_of_head word && is_playing how_far then Err (wrong.TooLate word)
+    else says mib how_far word texts
 
 abbrev pub begun_by : Mib → Progress → Option Word → List (List ℕ) → Result Said Wrong
 begun_by mib how_far word texts = first_then (ok_or word wrong.UnknownWord) (λ known. in_time mib how_far known texts)

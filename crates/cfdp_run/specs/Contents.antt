@@ -15,7 +15,8 @@ octets_text (octet ∷ octets) = word (encode_lower (octet ∷ octets))
 abbrev pub node_line : Path → Option Node → List ℕ
 node_line p None = line (codes "absent " ++ shown_path p)
 node_line p (Some Directory) = line (codes "dir " ++ shown_path p)
-node_line p (Some (File octets)) = line (codes "content " ++ shown_path p ++ labelled (codes " ") (length octets) ++ octets_text octets)
+node_line p (Some (File octets)) = line (codes "content " ++ shown_path p ++ labelled (codes " ") (length octets)
+    ++ octets_text octets)
 
 abbrev pub get_line : Filestore → Path → List ℕ
 get_line F p = node_line p (node_at F p)

@@ -1,5 +1,5 @@
--- How `cfdp run` plays what a script hands to a receiving entity: after a PDU, after a cancel and after each timer that is served, all work is
--- done and each outcome is taken.
+-- How `cfdp run` plays what a script hands to a receiving entity: after a PDU, after a cancel and after each timer that
+-- is served, all work is done and each outcome is taken.
 --     played R inputs           the text of some inputs, one after the other
 --     most_settled              how many items and outcomes are settled at most after an input
 --     next_settled now R        the input that settles most at once: an item is performed, or else an outcome is taken
@@ -7,7 +7,8 @@
 --     settled_after R i         an input, and those by which all is settled after it
 --     most_timers               how many timers are served at most at one moment
 --     is_nothing became         no timer was due
---     passing left now R        the inputs by which time passes: a timer that is due is served, and all is settled, until none is due
+--     passing left now R        the inputs by which time passes: a timer that is due is served, and all is settled,
+--                               until none is due
 --     heard_inputs, heard_text  the inputs of octets that came, and their text: it is one line where they were dropped
 --     Plays R inputs N before after     the inputs lead from R to N, and their text comes after another one
 use Rattle.std.specs.Prelude.{◌≡◌, ℕ, zero, suc, Bool, true, false, if◌then◌else◌, List, [], ◌∷◌, ◌++◌, Option, Some, None, is_some, Result, Ok, Err}

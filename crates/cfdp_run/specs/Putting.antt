@@ -3,7 +3,8 @@
 --     with_parents W p        they are made directories
 --     with_put W p node       they are, and then the directory or file is put at the path
 --     is_below_file F p       one of the parents is a file
---     needed F p node         the blocks that are taken: one for each directory that is made, and those of the directory or file
+--     needed F p node         the blocks that are taken: one for each directory that is made, and those of the
+--                             directory or file
 --     place_wrong F p         why nothing can be put at a path, whatever it is
 --     room_wrong W p node     why this directory or file can't be put there
 use Rattle.std.specs.Prelude.{ℕ, ◌+◌, nat_lt, Bool, if◌then◌else◌, is_some, is_none, List, map, length, Option, Some, None}

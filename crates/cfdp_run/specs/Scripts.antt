@@ -1,5 +1,6 @@
 -- What each line of a script does, what a whole script writes, and where and why it stops.
---     Head, Play, Stage         what the head says so far;  a receiving entity to which inputs come;  a script between two lines
+--     Head, Play, Stage         what the head says so far;  a receiving entity to which inputs come;  a script between
+--                               two lines
 --     at_first                  before the first line
 --     play_of stage             the head is over
 --     changed, written          what a line does: the stage after it, and what it writes
@@ -8,8 +9,8 @@
 --     in_head word stage change     a line of the head, which is too late after it
 --     moved, heard_at, asked    octets come, or other inputs, at a time;  a question is answered
 --     is_written, expected      a line is among those that were written last;  it has to be
---     obeyed files stage said   what a command does, where the files have these octets: the stage after it and what it writes, or why the
---                               script stops
+--     obeyed files stage said   what a command does, where the files have these octets: the stage after it and what it
+--                               writes, or why the script stops
 --     line_step files stage line        the same of a line
 --     answer files stage line           the stage after it and what it writes, unless the script stops there
 --     script_report files script        what a whole script writes, and the line at which it stops, if it does
@@ -44,7 +45,8 @@ use Rattle.cfdp_run.specs.declared.wrong.Wrong.TheVariants.{TooLate, TooManyProt
 
 pub record Head : Type 0 where
   pub mib : Mib
-  pub world : World  -- with what was put, and without a transaction; its configuration has the prefixes that are protected
+  -- with what was put, and without a transaction; its configuration has the prefixes that are protected
+  pub world : World
   pub has_begun : Bool  -- a `config`, `protect` or `put` came
 
 pub record Play : Type 0 where
@@ -109,7 +111,10 @@ with_mib head mib = record head { mib = mib }
 
 -- it comes before each `protect` and `put`
 unfoldable pub with_config : Head → Config → Head
-with_config head config = record head { world = start (record config { prefixes = head.world.config.prefixes }); has_begun = true }
+with_config head config = record head {
+  world = start (record config { prefixes = head.world.config.prefixes });
+  has_begun = true;
+}
 
 abbrev pub with_prefix : World → Path → World
 with_prefix W p = record W { config = record W.config { prefixes = W.config.prefixes ++ p ∷ [] } }
@@ -117,11 +122,13 @@ with_prefix W p = record W { config = record W.config { prefixes = W.config.pref
 -- at most 8
 unfoldable pub protected : Head → Path → Result Head Stop
 protected head p =
-    if nat_lt (length head.world.config.prefixes) 8 then Ok (record head { world = with_prefix head.world p; has_begun = true })
+    if nat_lt (length head.world.config.prefixes) 8 then Ok
+    (record head { world = with_prefix head.world p; has_begun = true })
     else Err (IsWrong TooManyProtected)
 
 unfoldable pub put_node : Head → Path → Node → Result Head Stop
-put_node head p node = unless (room_wrong head.world p node) (Ok (record head { world = with_put head.world p node; has_begun = true }))
+put_node head p node = unless (room_wrong head.world p node)
+    (Ok (record head { world = with_put head.world p node; has_begun = true }))
 
 unfoldable pub put : Head → Path → Node → Result Head Stop
 put head p node = unless (place_wrong head.world.filestore p) (put_node head p node)

@@ -1,10 +1,12 @@
--- The settings of a management information base, as the lines `mib` of a script have them: a key, and the text of a value.
+-- The settings of a management information base, as the lines `mib` of a script have them: a key, and the text of a
+-- value.
 --     default_mib               what is set where a script sets nothing
 --     key_of word               the key that a word names
 --     key_text key              the word that names a key
 --     within low high word      the number that a word writes, if it is in this range
 --     interval_of, limit_of     a time in ticks;  a limit of expiries
---     keep_alive_of, nak_mode_of, yes_of, handler_of      a time or none;  when lost segments are asked for;  yes or no;  what is done at a fault
+--     keep_alive_of, nak_mode_of, yes_of, handler_of      a time or none;  when lost segments are asked for;  yes or
+--                                                         no;  what is done at a fault
 --     range_text key            what a value of a key has to be
 --     with_value mib key word   the base with the value, if the word is one
 use Rattle.std.specs.Prelude.{ℕ, Bool, true, false, ◌&&◌, nat_le, if◌then◌else◌, List, Option, Some, None, codes, bytes_eq}
@@ -121,16 +123,26 @@ range_text key.Crc = codes "yes or no"
 range_text key.Longest = codes "72 to 65535"
 
 abbrev pub with_value : Mib → Key → List ℕ → Option Mib
-with_value mib key.AckInterval word = option_map (λ (n : ℕ). record mib { ack = record mib.ack { interval = n } }) (interval_of word)
-with_value mib key.AckLimit word = option_map (λ (n : ℕ). record mib { ack = record mib.ack { limit = n } }) (limit_of word)
-with_value mib key.OnAckLimit word = option_map (λ (h : Handler). record mib { ack = record mib.ack { at_limit = h } }) (handler_of word)
-with_value mib key.NakInterval word = option_map (λ (n : ℕ). record mib { nak = record mib.nak { interval = n } }) (interval_of word)
-with_value mib key.NakLimit word = option_map (λ (n : ℕ). record mib { nak = record mib.nak { limit = n } }) (limit_of word)
-with_value mib key.OnNakLimit word = option_map (λ (h : Handler). record mib { nak = record mib.nak { at_limit = h } }) (handler_of word)
-with_value mib key.CheckInterval word = option_map (λ (n : ℕ). record mib { check = record mib.check { interval = n } }) (interval_of word)
-with_value mib key.OnCheckLimit word = option_map (λ (h : Handler). record mib { check = record mib.check { at_limit = h } }) (handler_of word)
-with_value mib key.Inactivity word = option_map (λ (n : ℕ). record mib { inactivity = record mib.inactivity { interval = n } }) (interval_of word)
-with_value mib key.OnInactivity word = option_map (λ (h : Handler). record mib { inactivity = record mib.inactivity { at_limit = h } }) (handler_of word)
+with_value mib key.AckInterval word = option_map (λ (n : ℕ). record mib { ack = record mib.ack { interval = n } })
+    (interval_of word)
+with_value mib key.AckLimit word = option_map (λ (n : ℕ). record mib { ack = record mib.ack { limit = n } })
+    (limit_of word)
+with_value mib key.OnAckLimit word = option_map (λ (h : Handler). record mib { ack = record mib.ack { at_limit = h } })
+    (handler_of word)
+with_value mib key.NakInterval word = option_map (λ (n : ℕ). record mib { nak = record mib.nak { interval = n } })
+    (interval_of word)
+with_value mib key.NakLimit word = option_map (λ (n : ℕ). record mib { nak = record mib.nak { limit = n } })
+    (limit_of word)
+with_value mib key.OnNakLimit word = option_map (λ (h : Handler). record mib { nak = record mib.nak { at_limit = h } })
+    (handler_of word)
+with_value mib key.CheckInterval word = option_map (λ (n : ℕ). record mib { check = record mib.check { interval = n } })
+    (interval_of word)
+with_value mib key.OnCheckLimit word = option_map (λ (h : Handler). record mib
+    { check = record mib.check { at_limit = h } }) (handler_of word)
+with_value mib key.Inactivity word = option_map (λ (n : ℕ).
+    record mib { inactivity = record mib.inactivity { interval = n } }) (interval_of word)
+with_value mib key.OnInactivity word = option_map (λ (h : Handler). record mib
+    { inactivity = record mib.inactivity { at_limit = h } }) (handler_of word)
 with_value mib key.KeepAlive word = option_map (λ (n : Option ℕ). record mib { keep_alive = n }) (keep_alive_of word)
 with_value mib key.Immediate word = option_map (λ (m : NakMode). record mib { nak_mode = m }) (nak_mode_of word)
 with_value mib key.Crc word = option_map (λ (b : Bool). record mib { has_crc = b }) (yes_of word)

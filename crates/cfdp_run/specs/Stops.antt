@@ -1,5 +1,6 @@
 -- Why a script stops before its end.
---     Stop            at `end`; at a bad line; at a line that it expects in vain; at a file that cannot be read; out of memory
+--     Stop            at `end`; at a bad line; at a line that it expects in vain; at a file that cannot be read; out of
+--                     memory
 --     stop_of         that of a value of the program
 --     stop_by         that of a line that is not read
 use Rattle.std.specs.Prelude.{ℕ, List}

@@ -61,7 +61,8 @@ fn push_content(
 ) -> Result<(), AllocError>
     requires { IsTrue (is_file (node_at entity.now.filestore path.now)) }
     ensures { OnOk result (text.new.items ≡ text.old.items
-        ++ (labelled (codes " ") (length (octets_at entity.now.filestore path.now)) ++ octets_text (octets_at entity.now.filestore path.now))) }
+        ++ (labelled (codes " ") (length (octets_at entity.now.filestore path.now))
+        ++ octets_text (octets_at entity.now.filestore path.now))) }
 {
     let store = entity.core().store();
     let mut octets = vec![in alloc; 0u8; store.size(path) as usize]?;

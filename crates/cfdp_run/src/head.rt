@@ -136,7 +136,8 @@ impl Head {
     /// Whether something can be put at a path.
     pub fn place(&self, alloc: Global, path: &Path) -> Result<(), Stop>
         ensures ok { OnOk result (place_wrong (head_of self.now).world.filestore path.now ≡ None) }
-        ensures err { IfErr result (λ why. stop_of why ≢ NoMemory → option_map IsWrong (place_wrong (head_of self.now).world.filestore path.now) ≡ Some (stop_of why)) }
+        ensures err { IfErr result (λ why. stop_of why ≢ NoMemory →
+            option_map IsWrong (place_wrong (head_of self.now).world.filestore path.now) ≡ Some (stop_of why)) }
     {
         match place_fault(alloc, &self.entity, path)? {
             None => Ok(()),
@@ -149,7 +150,8 @@ impl Head {
     pub fn put_directory(&mut self, alloc: Global, path: &Path) -> Result<(), Stop>
         requires { place_wrong (head_of self.old).world.filestore path.now ≡ None }
         ensures ok { OnOk result (put_node (head_of self.old) path.now Directory ≡ Ok (head_of self.new)) }
-        ensures err { IfErr result (λ why. stop_of why ≢ NoMemory → put_node (head_of self.old) path.now Directory ≡ Err (stop_of why)) }
+        ensures err { IfErr result (λ why. stop_of why ≢ NoMemory → put_node (head_of self.old) path.now Directory
+            ≡ Err (stop_of why)) }
         ensures same { OnErr result (head_of self.new ≡ head_of self.old) }
     {
         if let Some(wrong) = put_directory(alloc, &mut self.entity, path)? {
@@ -164,7 +166,8 @@ impl Head {
     pub fn put_file(&mut self, alloc: Global, path: &Path, octets: &[u8]) -> Result<(), Stop>
         requires { place_wrong (head_of self.old).world.filestore path.now ≡ None }
         ensures ok { OnOk result (put_node (head_of self.old) path.now (File octets.now) ≡ Ok (head_of self.new)) }
-        ensures err { IfErr result (λ why. stop_of why ≢ NoMemory → put_node (head_of self.old) path.now (File octets.now) ≡ Err (stop_of why)) }
+        ensures err { IfErr result (λ why. stop_of why ≢ NoMemory →
+            put_node (head_of self.old) path.now (File octets.now) ≡ Err (stop_of why)) }
         ensures same { OnErr result (head_of self.new ≡ head_of self.old) }
     {
         if let Some(wrong) = put_file(alloc, &mut self.entity, path, octets)? {
@@ -178,7 +181,8 @@ impl Head {
     ///
     /// # Errors
     ///
-    /// [`AllocError`] when out of memory. Cost: that of the entity and the receiver, and three passes over what was put.
+    /// [`AllocError`] when out of memory. Cost: that of the entity and the receiver, and three passes over what was
+    /// put.
     #[tactic(auto, unfolding(crate::specs::Scripts::begun))]
     pub fn play(&mut self, alloc: Global) -> Result<Play, AllocError>
         ensures { IfOk result (λ play. play_from play ≡ begun (head_of self.old)) }

@@ -3,9 +3,9 @@
 //!
 //! [`read_command`] reads a line: `specs/Commands.antt` defines what it says, and `specs/Wrongs.antt` what
 //! [`push_wrong`] writes of a bad one. [`Player`] plays what is handed to the entity: `specs/Playing.antt` defines how,
-//! and `specs/Questions.antt` what is written of what a script asks.
-//! [`Head`] is what the head of a script says so far, and [`Play`] the entity after it: `specs/Scripts.antt` defines what each line does
-//! to them. No call carries out a whole line yet.
+//! and `specs/Questions.antt` what is written of what a script asks. [`Head`] is what the head of a script says so far,
+//! and [`Play`] the entity after it: `specs/Scripts.antt` defines what each line does to them. `cfdp_run_script`
+//! carries out whole lines.
 #![tactic(auto)]
 
 mod commands;

@@ -73,6 +73,13 @@ impl Play {
         self.player.receiver().entity()
     }
 
+    /// The receiving entity.
+    pub fn receiver(&self) -> &Receiver
+        ensures { result.now.state ≡ (play_from self.now).state }
+    {
+        self.player.receiver()
+    }
+
     /// It is this time, or the greatest so far. The line writes anew.
     fn pass_to(&mut self, now: u64)
         ensures player { self.new.player ≡ self.old.player }
@@ -86,7 +93,8 @@ impl Play {
     /// Octets come.
     #[tactic(auto, unfolding(crate::specs::Scripts::heard_at))]
     pub fn receive(&mut self, alloc: Global, now: u64, octets: &mut [u8]) -> Result<(), AllocError>
-        ensures { OnOk result (play_from self.new ≡ heard_at (play_from self.old) (time_of (play_from self.old) now) octets.old) }
+        ensures { OnOk result (play_from self.new ≡ heard_at (play_from self.old)
+            (time_of (play_from self.old) now) octets.old) }
     {
         self.pass_to(now);
         self.player
@@ -96,7 +104,8 @@ impl Play {
     /// The user cancels a transaction.
     #[tactic(auto, unfolding(crate::specs::Scripts::cancelled_at))]
     pub fn cancel(&mut self, alloc: Global, now: u64, id: TransactionId) -> Result<(), AllocError>
-        ensures { OnOk result (play_from self.new ≡ cancelled_at (play_from self.old) (time_of (play_from self.old) now) id) }
+        ensures { OnOk result (play_from self.new ≡ cancelled_at (play_from self.old)
+            (time_of (play_from self.old) now) id) }
     {
         self.pass_to(now);
         self.player.cancel(alloc, self.latest, id, &mut self.lines)
@@ -114,7 +123,8 @@ impl Play {
     /// What there is at a path is asked for.
     #[tactic(auto, unfolding(crate::specs::Scripts::asked))]
     pub fn get(&mut self, alloc: Global, path: &Path) -> Result<(), AllocError>
-        ensures { OnOk result (play_from self.new ≡ asked (play_from self.old) (get_line (play_from self.old).state.world.filestore path.now)) }
+        ensures { OnOk result (play_from self.new ≡ asked (play_from self.old)
+            (get_line (play_from self.old).state.world.filestore path.now)) }
     {
         self.lines.clear();
         push_get_line(
@@ -128,7 +138,8 @@ impl Play {
     /// What is missing of a transaction is asked for.
     #[tactic(auto, unfolding(crate::specs::Scripts::asked))]
     pub fn gaps(&mut self, id: TransactionId) -> Result<(), AllocError>
-        ensures { OnOk result (play_from self.new ≡ asked (play_from self.old) (gaps_line (play_from self.old).state id)) }
+        ensures { OnOk result (play_from self.new ≡ asked (play_from self.old)
+            (gaps_line (play_from self.old).state id)) }
     {
         self.lines.clear();
         push_gaps_line(self.player.receiver(), id, &mut self.lines)
@@ -137,7 +148,8 @@ impl Play {
     /// How far a transaction is, is asked for.
     #[tactic(auto, unfolding(crate::specs::Scripts::asked))]
     pub fn phase(&mut self, id: TransactionId) -> Result<(), AllocError>
-        ensures { OnOk result (play_from self.new ≡ asked (play_from self.old) (phase_line (play_from self.old).state id)) }
+        ensures { OnOk result (play_from self.new ≡ asked (play_from self.old)
+            (phase_line (play_from self.old).state id)) }
     {
         self.lines.clear();
         push_phase_line(self.player.receiver(), id, &mut self.lines)
@@ -146,7 +158,8 @@ impl Play {
     /// All of the filestore is asked for.
     #[tactic(auto, unfolding(crate::specs::Scripts::asked))]
     pub fn list(&mut self, alloc: Global) -> Result<(), AllocError>
-        ensures { OnOk result (play_from self.new ≡ asked (play_from self.old) (listing_text (play_from self.old).state.world)) }
+        ensures { OnOk result (play_from self.new ≡ asked (play_from self.old)
+            (listing_text (play_from self.old).state.world)) }
     {
         self.lines.clear();
         write_listing(

@@ -1,5 +1,5 @@
-//! A receiving entity to which inputs come. After a PDU, after a cancel and after each timer that is served, all work is done and each
-//! outcome is taken.
+//! A receiving entity to which inputs come. After a PDU, after a cancel and after each timer that is served, all work
+//! is done and each outcome is taken.
 
 ghost use Rattle.std.specs.Prelude.{◌≡◌, ◌≤◌, ◌++◌, ◌∷◌, [], ℕ, List, Ok, true, false, length, max, IfOk, OnOk};
 ghost use Rattle.cfdp_receiver.specs.Heard.{heard};
@@ -59,7 +59,8 @@ impl Player {
         text: &mut Vec<u8>,
     ) -> Result<(), AllocError>
         ensures same { self.new.receiver ≡ self.old.receiver }
-        ensures ok { OnOk result (text.new.items ≡ text.old.items ++ answer_text self.old.receiver.state.mib (answer_in self.old.receiver answer.now)) }
+        ensures ok { OnOk result (text.new.items ≡ text.old.items
+            ++ answer_text self.old.receiver.state.mib (answer_in self.old.receiver answer.now)) }
     {
         match push_answer(alloc, &self.receiver, answer, &mut self.room, text) {
             Ok(()) => Ok(()),
@@ -70,7 +71,8 @@ impl Player {
 
     /// The next item is performed.
     fn work(&mut self, alloc: Global, now: u64, text: &mut Vec<u8>) -> Result<(), AllocError>
-        ensures { OnOk result (Plays self.old.receiver.state (Work now ∷ []) self.new.receiver.state text.old.items text.new.items) }
+        ensures { OnOk result (Plays self.old.receiver.state
+            (Work now ∷ []) self.new.receiver.state text.old.items text.new.items) }
     {
         let answer = self.receiver.work(now);
         self.write(alloc, &answer, text)
@@ -78,7 +80,8 @@ impl Player {
 
     /// The next outcome is taken.
     fn finish(&mut self, alloc: Global, now: u64, text: &mut Vec<u8>) -> Result<(), AllocError>
-        ensures { OnOk result (Plays self.old.receiver.state (Finish now ∷ []) self.new.receiver.state text.old.items text.new.items) }
+        ensures { OnOk result (Plays self.old.receiver.state
+            (Finish now ∷ []) self.new.receiver.state text.old.items text.new.items) }
     {
         let answer = self.receiver.finish(alloc, now)?;
         self.write(alloc, &answer, text)
@@ -86,7 +89,8 @@ impl Player {
 
     /// All items are performed and all outcomes taken.
     fn settle(&mut self, alloc: Global, now: u64, text: &mut Vec<u8>) -> Result<(), AllocError>
-        ensures { OnOk result (Plays self.old.receiver.state (settling most_settled now self.old.receiver.state) self.new.receiver.state text.old.items text.new.items) }
+        ensures { OnOk result (Plays self.old.receiver.state
+            (settling most_settled now self.old.receiver.state) self.new.receiver.state text.old.items text.new.items) }
     {
         'inputs: for _ in 0..MOST_SETTLED {
             if self.receiver.has_work() {
@@ -108,8 +112,10 @@ impl Player {
         answer: &Answer,
         text: &mut Vec<u8>,
     ) -> Result<(), AllocError>
-        ensures { OnOk result ((lines : List ℕ) × (lines ≡ answer_text self.old.receiver.state.mib (answer_in self.old.receiver answer.now))
-            × Plays self.old.receiver.state (settling most_settled now self.old.receiver.state) self.new.receiver.state (text.old.items ++ lines) text.new.items) }
+        ensures { OnOk result ((lines : List ℕ) × (lines ≡ answer_text self.old.receiver.state.mib
+            (answer_in self.old.receiver answer.now))
+            × Plays self.old.receiver.state (settling most_settled now self.old.receiver.state) self.new.receiver.state
+            (text.old.items ++ lines) text.new.items) }
     {
         self.write(alloc, answer, text)?;
         self.settle(alloc, now, text)
@@ -127,7 +133,9 @@ impl Player {
         id: TransactionId,
         text: &mut Vec<u8>,
     ) -> Result<(), AllocError>
-        ensures { OnOk result (Plays self.old.receiver.state (settled_after now self.old.receiver.state (CancelAsked now id)) self.new.receiver.state text.old.items text.new.items) }
+        ensures { OnOk result (Plays self.old.receiver.state
+            (settled_after now self.old.receiver.state (CancelAsked now id)) self.new.receiver.state text.old.items
+            text.new.items) }
     {
         let answer = self.receiver.cancel(now, id);
         self.follow(alloc, now, &answer, text)
@@ -135,9 +143,13 @@ impl Player {
 
     /// A timer that is due is served, and all is settled. Returns whether none was due.
     fn expire(&mut self, alloc: Global, now: u64, text: &mut Vec<u8>) -> Result<bool, AllocError>
-        ensures idle { IfOk result (λ idle. idle ≡ is_nothing (parts self.old.receiver.state (Expire now)).answer.became) }
-        ensures none { result ≡ Ok true → Plays self.old.receiver.state (Expire now ∷ []) self.new.receiver.state text.old.items text.new.items }
-        ensures some { result ≡ Ok false → Plays self.old.receiver.state (settled_after now self.old.receiver.state (Expire now)) self.new.receiver.state text.old.items text.new.items }
+        ensures idle { IfOk result (λ idle. idle ≡ is_nothing
+            (parts self.old.receiver.state (Expire now)).answer.became) }
+        ensures none { result ≡ Ok true → Plays self.old.receiver.state
+            (Expire now ∷ []) self.new.receiver.state text.old.items text.new.items }
+        ensures some { result ≡ Ok false → Plays self.old.receiver.state
+            (settled_after now self.old.receiver.state (Expire now)) self.new.receiver.state text.old.items
+            text.new.items }
     {
         let answer = self.receiver.expire(now);
         if let Became::Nothing = answer.became() {
@@ -154,7 +166,8 @@ impl Player {
     ///
     /// [`AllocError`] when out of memory.
     pub fn pass(&mut self, alloc: Global, now: u64, text: &mut Vec<u8>) -> Result<(), AllocError>
-        ensures { OnOk result (Plays self.old.receiver.state (passing most_timers now self.old.receiver.state) self.new.receiver.state text.old.items text.new.items) }
+        ensures { OnOk result (Plays self.old.receiver.state
+            (passing most_timers now self.old.receiver.state) self.new.receiver.state text.old.items text.new.items) }
     {
         'timers: for _ in 0..MOST_TIMERS {
             if self.expire(alloc, now, text)? {
@@ -164,7 +177,8 @@ impl Player {
         Ok(())
     }
 
-    /// Octets come, and all is settled; or they are dropped, which has a line, and nothing else is done. They are scratch afterwards.
+    /// Octets come, and all is settled; or they are dropped, which has a line, and nothing else is done. They are
+    /// scratch afterwards.
     ///
     /// # Errors
     ///
@@ -176,8 +190,10 @@ impl Player {
         octets: &mut [u8],
         text: &mut Vec<u8>,
     ) -> Result<(), AllocError>
-        ensures state { OnOk result (self.new.receiver.state ≡ after_all self.old.receiver.state (heard_inputs now self.old.receiver.state (heard now octets.old))) }
-        ensures text { OnOk result (text.new.items ≡ text.old.items ++ heard_text now self.old.receiver.state (heard now octets.old)) }
+        ensures state { OnOk result (self.new.receiver.state
+            ≡ after_all self.old.receiver.state (heard_inputs now self.old.receiver.state (heard now octets.old))) }
+        ensures text { OnOk result (text.new.items ≡ text.old.items
+            ++ heard_text now self.old.receiver.state (heard now octets.old)) }
     {
         match self.receiver.receive(alloc, now, octets) {
             Ok(answer) => self.follow(alloc, now, &answer, text),

@@ -56,7 +56,8 @@ fn push_whole(size: u64, text: &mut Vec<u8>) -> Result<(), AllocError>
 
 /// Appends what is missing of a transaction that the core knows.
 fn push_gaps(receiver: &Receiver, id: TransactionId, text: &mut Vec<u8>) -> Result<(), AllocError>
-    ensures { OnOk result (text.new.items ≡ text.old.items ++ ranges_text (gaps_of (entry_of receiver.now.state.world id))) }
+    ensures { OnOk result (text.new.items ≡ text.old.items
+        ++ ranges_text (gaps_of (entry_of receiver.now.state.world id))) }
 {
     match receiver.entity().core().gaps(id) {
         None => text.extend_from_slice(b" none"),
@@ -70,7 +71,8 @@ fn push_missing(
     id: TransactionId,
     text: &mut Vec<u8>,
 ) -> Result<(), AllocError>
-    ensures { OnOk result (text.new.items ≡ text.old.items ++ gaps_text receiver.now.state.world id (session_of receiver.now.state id)) }
+    ensures { OnOk result (text.new.items ≡ text.old.items
+        ++ gaps_text receiver.now.state.world id (session_of receiver.now.state id)) }
 {
     let Some(session) = receiver.session(id) else {
         return text.extend_from_slice(b" unknown");

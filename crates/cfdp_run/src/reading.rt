@@ -403,12 +403,12 @@ fn read_worded<'a>(
 /// # Errors
 ///
 /// The first of these: [`Wrong::TooLong`] (also of a comment), [`Wrong::UnknownWord`], [`Wrong::TooLate`],
-/// [`Wrong::Expected`]; then those of the line's word. A bad line is answered so even where there is no memory, but for
-/// [`Wrong::NoPath`]: [`CommandFault::Memory`] comes only where a path is read, or where the line is good and has octets
-/// or a line in it.
+/// [`Wrong::Expected`]; then those of the line's word. A bad line is reported even where there is no memory, but for
+/// [`Wrong::NoPath`]: [`CommandFault::Memory`] comes only where a path is read, or where the line is good and has
+/// octets or a line in it.
 ///
-/// Cost: a pass over the line, and one more over a path. The octets of hexadecimal are decoded into a vector of their own,
-/// and a file's name is lent.
+/// Cost: a pass over the line, and one more over a path. The octets of hexadecimal are decoded into a vector of their
+/// own, and a file's name is lent.
 pub fn read_command<'a>(
     alloc: Global,
     line: &'a [u8],

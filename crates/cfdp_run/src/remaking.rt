@@ -14,7 +14,8 @@ use std::alloc::{AllocError, Global};
 fn copy_file(alloc: Global, from: &Entity, entry: &Entry, to: &mut Entity) -> Result<(), AllocError>
     requires file { entry.now.kind ≡ Kind.File }
     requires can { CanCopy from.now.filestore entry.now to.old }
-    ensures { OnOk result ((node : Node) → node_at from.now.filestore entry.now.path ≡ Some node → to.new ≡ with_node to.old entry.now.path node) }
+    ensures { OnOk result ((node : Node) → node_at from.now.filestore entry.now.path ≡ Some node → to.new
+        ≡ with_node to.old entry.now.path node) }
 {
     let mut octets = vec![in alloc; 0u8; entry.size as usize]?;
     from.core().store().read(&entry.path, 0, &mut octets);
@@ -32,7 +33,8 @@ fn copy_entry(
     to: &mut Entity,
 ) -> Result<(), AllocError>
     requires { CanCopy from.now.filestore entry.now to.old }
-    ensures { OnOk result ((node : Node) → node_at from.now.filestore entry.now.path ≡ Some node → to.new ≡ with_node to.old entry.now.path node) }
+    ensures { OnOk result ((node : Node) → node_at from.now.filestore entry.now.path ≡ Some node → to.new
+        ≡ with_node to.old entry.now.path node) }
 {
     match entry.kind {
         Kind::File => copy_file(alloc, from, entry, to),

@@ -252,7 +252,8 @@ impl Key {
         }
     }
 
-    /// Sets it to the value that a word writes. Returns whether the word writes one that is in its range; else nothing is set.
+    /// Sets it to the value that a word writes. Returns whether the word writes one that is in its range; else nothing
+    /// is set.
     pub fn set(self, mib: &mut Mib, word: &[u8]) -> Option<()>
         ensures some { IfSome result (λ done. with_value mib.old self word.now ≡ Some mib.new) }
         ensures none { result ≡ None → with_value mib.old self word.now ≡ None }

@@ -1,4 +1,4 @@
--- An upload: what a file's sender sends in one transaction (CCSDS 727.0-B-5 §4.6.1 and §5.2 to §5.3).
+-- An upload: what a file's sender sends in one transaction (CCSDS 727.0-B-5 §5.2 to §5.3, copy file procedures).
 --   UploadFields          the header of its PDUs, its Metadata, the octets of the file, how many octets a piece has,
 --                         and the indices of the pieces in the order in which they are sent
 --   piece_count           how many pieces a file of some size has; the last one may be shorter

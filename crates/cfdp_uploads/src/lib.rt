@@ -1,5 +1,5 @@
-//! What a file's sender sends in one transaction of CFDP (CCSDS 727.0-B-5 §4.6.1): the Metadata PDU, the File Data PDUs
-//! and the EOF PDU of a file and a list of filestore requests.
+//! What a file's sender sends in one transaction of CFDP (CCSDS 727.0-B-5, copy file procedures): the Metadata PDU, the
+//! File Data PDUs and the EOF PDU of a file and a list of filestore requests.
 //!
 //! An [`Upload`] is made from its parts, or refused by the first [`UploadFault`]. [`Upload::write`] writes its PDUs,
 //! one by one. `specs/Uploads.antt` says which PDUs these are, and [`laws`] that a reader of PDUs gives exactly those

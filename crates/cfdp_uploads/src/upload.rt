@@ -27,7 +27,7 @@ pub fn piece_count(size: usize, segment: usize) -> usize
     size / segment + usize::from(size % segment != 0)
 }
 
-/// What a file's sender sends in one transaction (CCSDS 727.0-B-5 §4.6.1). A contract sees its parts.
+/// What a file's sender sends in one transaction (CCSDS 727.0-B-5, copy file procedures). A contract sees its parts.
 #[derive(Debug, Drop)]
 pub struct Upload<'a> {
     header: Header,

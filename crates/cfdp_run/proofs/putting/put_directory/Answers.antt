@@ -10,14 +10,16 @@ use Rattle.cfdp_run.proofs.putting.put_directory.Goals as goal
 pub returns-then-from-len-clause-room : goal.returns-then-from-len-clause-room
 returns-then-from-len-clause-room c =
     let W = c.args.entity.now in
-    let there : c.free.result ≡ free W = free_in _ W c.store.result.now _ c.core.ensures c.store.ensures.filestore c.store.ensures.capacity c.free.ensures.value in
+    let there : c.free.result ≡ free W = free_in _ W c.store.result.now _ c.core.ensures c.store.ensures.filestore c.store.ensures.capacity
+    c.free.ensures.value in
     let few : length c.in_ok-parents.parents.items ≡ length (missing W.filestore c.args.path.now) = ap length c.in_ok-parents.ensures.paths in
     sym (no_room W c.args.path.now Directory (omega (arith, there, few, c.if-from-len.true)))
 
 pub make_directories-requires : goal.make_directories-requires
 make_directories-requires c =
     let W = c.args.entity.now in
-    let there : c.free.result ≡ free W = free_in _ W c.store.result.now _ c.core.ensures c.store.ensures.filestore c.store.ensures.capacity c.free.ensures.value in
+    let there : c.free.result ≡ free W = free_in _ W c.store.result.now _ c.core.ensures c.store.ensures.filestore c.store.ensures.capacity
+    c.free.ensures.value in
     let few : length c.in_ok-parents.parents.items ≡ length (missing W.filestore c.args.path.now) = ap length c.in_ok-parents.ensures.paths in
     let enough : needed W.filestore c.args.path.now Directory ≤ free W = omega (arith, there, few, c.if-from-len.false) in
     let listed : c.deref.result.now ≡ missing W.filestore c.args.path.now = c.deref.ensures.value ∙ c.in_ok-parents.ensures.paths in
@@ -27,7 +29,8 @@ make_directories-requires c =
 pub unreachable-requires : goal.unreachable-requires
 unreachable-requires c =
     let W = c.args.entity.now in
-    let there : c.free.result ≡ free W = free_in _ W c.store.result.now _ c.core.ensures c.store.ensures.filestore c.store.ensures.capacity c.free.ensures.value in
+    let there : c.free.result ≡ free W = free_in _ W c.store.result.now _ c.core.ensures c.store.ensures.filestore c.store.ensures.capacity
+    c.free.ensures.value in
     let few : length c.in_ok-parents.parents.items ≡ length (missing W.filestore c.args.path.now) = ap length c.in_ok-parents.ensures.paths in
     let enough : needed W.filestore c.args.path.now Directory ≤ free W = omega (arith, there, few, c.if-from-len.false) in
     let listed : c.deref.result.now ≡ missing W.filestore c.args.path.now = c.deref.ensures.value ∙ c.in_ok-parents.ensures.paths in
@@ -41,6 +44,7 @@ unreachable-requires c =
 pub returns-clause-room : goal.returns-clause-room
 returns-clause-room c =
     let W = c.args.entity.now in
-    let there : c.free.result ≡ free W = free_in _ W c.store.result.now _ c.core.ensures c.store.ensures.filestore c.store.ensures.capacity c.free.ensures.value in
+    let there : c.free.result ≡ free W = free_in _ W c.store.result.now _ c.core.ensures c.store.ensures.filestore c.store.ensures.capacity
+    c.free.ensures.value in
     let few : length c.in_ok-parents.parents.items ≡ length (missing W.filestore c.args.path.now) = ap length c.in_ok-parents.ensures.paths in
     sym (has_room W c.args.path.now Directory (omega (arith, there, few, c.if-from-len.false)))

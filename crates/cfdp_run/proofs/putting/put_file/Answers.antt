@@ -11,7 +11,8 @@ use Rattle.cfdp_run.proofs.putting.put_file.Goals as goal
 pub returns-then-from-len-clause-room : goal.returns-then-from-len-clause-room
 returns-then-from-len-clause-room c =
     let W = c.args.entity.now in
-    let there : c.free.result ≡ free W = free_in _ W c.store.result.now _ c.core.ensures c.store.ensures.filestore c.store.ensures.capacity c.free.ensures.value in
+    let there : c.free.result ≡ free W = free_in _ W c.store.result.now _ c.core.ensures c.store.ensures.filestore c.store.ensures.capacity
+    c.free.ensures.value in
     let weighs : weight (Some (File c.args.octets.now)) ≡ 1 + c.div_ceil-blocks.result = file_weight c.args.octets.now _ c.div_ceil-blocks.ensures in
     let few : length c.in_ok-parents.parents.items ≡ length (missing W.filestore c.args.path.now) = ap length c.in_ok-parents.ensures.paths in
     sym (no_room W c.args.path.now (File c.args.octets.now) (omega (arith, there, few, weighs, c.if-from-len.true)))
@@ -19,7 +20,8 @@ returns-then-from-len-clause-room c =
 pub make_directories-requires : goal.make_directories-requires
 make_directories-requires c =
     let W = c.args.entity.now in
-    let there : c.free.result ≡ free W = free_in _ W c.store.result.now _ c.core.ensures c.store.ensures.filestore c.store.ensures.capacity c.free.ensures.value in
+    let there : c.free.result ≡ free W = free_in _ W c.store.result.now _ c.core.ensures c.store.ensures.filestore c.store.ensures.capacity
+    c.free.ensures.value in
     let weighs : weight (Some (File c.args.octets.now)) ≡ 1 + c.div_ceil-blocks.result = file_weight c.args.octets.now _ c.div_ceil-blocks.ensures in
     let few : length c.in_ok-parents.parents.items ≡ length (missing W.filestore c.args.path.now) = ap length c.in_ok-parents.ensures.paths in
     let enough : needed W.filestore c.args.path.now (File c.args.octets.now) ≤ free W = omega (arith, there, few, weighs, c.if-from-len.false) in
@@ -30,7 +32,8 @@ make_directories-requires c =
 pub unreachable-requires : goal.unreachable-requires
 unreachable-requires c =
     let W = c.args.entity.now in
-    let there : c.free.result ≡ free W = free_in _ W c.store.result.now _ c.core.ensures c.store.ensures.filestore c.store.ensures.capacity c.free.ensures.value in
+    let there : c.free.result ≡ free W = free_in _ W c.store.result.now _ c.core.ensures c.store.ensures.filestore c.store.ensures.capacity
+    c.free.ensures.value in
     let weighs : weight (Some (File c.args.octets.now)) ≡ 1 + c.div_ceil-blocks.result = file_weight c.args.octets.now _ c.div_ceil-blocks.ensures in
     let few : length c.in_ok-parents.parents.items ≡ length (missing W.filestore c.args.path.now) = ap length c.in_ok-parents.ensures.paths in
     let enough : needed W.filestore c.args.path.now (File c.args.octets.now) ≤ free W = omega (arith, there, few, weighs, c.if-from-len.false) in
@@ -38,14 +41,16 @@ unreachable-requires c =
     let last = (puts_at W c.args.path.now (File c.args.octets.now) c.in_ok-parents.ensures.within c.requires.idle c.requires.place enough).last in
     let made : c.make_directories.new.entity ≡ put_all W (map as_directory (missing W.filestore c.args.path.now)) =
     c.make_directories.ensures ∙ ap (λ (paths : _). put_all W (map as_directory paths)) listed in
-    let none : put_fault c.make_directories.new.entity c.args.path.now (File c.args.octets.now) ≡ None = ap (λ (V : _). put_fault V c.args.path.now (File c.args.octets.now)) made ∙ last in
+    let none : put_fault c.make_directories.new.entity c.args.path.now (File c.args.octets.now) ≡ None =
+    ap (λ (V : _). put_fault V c.args.path.now (File c.args.octets.now)) made ∙ last in
     let some = c.in_default.ensures.err in
     absurd cc
 
 pub returns-clause-room : goal.returns-clause-room
 returns-clause-room c =
     let W = c.args.entity.now in
-    let there : c.free.result ≡ free W = free_in _ W c.store.result.now _ c.core.ensures c.store.ensures.filestore c.store.ensures.capacity c.free.ensures.value in
+    let there : c.free.result ≡ free W = free_in _ W c.store.result.now _ c.core.ensures c.store.ensures.filestore c.store.ensures.capacity
+    c.free.ensures.value in
     let weighs : weight (Some (File c.args.octets.now)) ≡ 1 + c.div_ceil-blocks.result = file_weight c.args.octets.now _ c.div_ceil-blocks.ensures in
     let few : length c.in_ok-parents.parents.items ≡ length (missing W.filestore c.args.path.now) = ap length c.in_ok-parents.ensures.paths in
     sym (has_room W c.args.path.now (File c.args.octets.now) (omega (arith, there, few, weighs, c.if-from-len.false)))

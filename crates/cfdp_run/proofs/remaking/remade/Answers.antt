@@ -15,7 +15,8 @@ copy_entry-requires c =
     let listed : c.deref-entry-items.result.now ≡ listing_of F =
     c.deref-entry-items.ensures.value ∙ c.in_ok-entries.ensures ∙ ap listing_of (c.store.ensures.filestore ∙ ap (λ (W : World). W.filestore) c.core.ensures) in
     copies F c.loop-entry.entry-index c.entry-item.result c.loop-entry.to _
-    (listed_in F c.deref-entry-items.result.now c.loop-entry.entry-index c.entry-item.result listed c.entry-item.is c.loop-entry-test.true) c.loop-entry.invariant
+    (listed_in F c.deref-entry-items.result.now c.loop-entry.entry-index c.entry-item.result listed c.entry-item.is c.loop-entry-test.true)
+    c.loop-entry.invariant
 
 pub loop-entry-preserved : goal.loop-entry-preserved
 loop-entry-preserved c =
@@ -23,7 +24,8 @@ loop-entry-preserved c =
     let listed : c.deref-entry-items.result.now ≡ listing_of F =
     c.deref-entry-items.ensures.value ∙ c.in_ok-entries.ensures ∙ ap listing_of (c.store.ensures.filestore ∙ ap (λ (W : World). W.filestore) c.core.ensures) in
     copied F c.loop-entry.entry-index c.entry-item.result c.loop-entry.to c.copy_entry.new.to _
-    (listed_in F c.deref-entry-items.result.now c.loop-entry.entry-index c.entry-item.result listed c.entry-item.is c.loop-entry-test.true) c.loop-entry.invariant
+    (listed_in F c.deref-entry-items.result.now c.loop-entry.entry-index c.entry-item.result listed c.entry-item.is c.loop-entry-test.true)
+    c.loop-entry.invariant
     c.in_ok-copy_entry.ensures
 
 pub returns : goal.returns

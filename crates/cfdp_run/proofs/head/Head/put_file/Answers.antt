@@ -8,7 +8,8 @@ use Rattle.cfdp_run.proofs.head.Head.put_file.Goals as goal
 pub invariant_of-self-2 : goal.invariant_of-self-2
 invariant_of-self-2 c =
     let W = c.args.self.now.entity in
-    let put : c.put_file.new.entity ≡ with_put W c.args.path.now (File c.args.octets.now) = c.put_file.ensures.put (c.in_ok-wrong.was ∙ ap Ok c.in_default.is) in
+    let put : c.put_file.new.entity ≡ with_put W c.args.path.now (File c.args.octets.now) =
+    c.put_file.ensures.put (c.in_ok-wrong.was ∙ ap Ok c.in_default.is) in
     record {
       fits = c.args.self.now.fits;
       idle = ap (λ (V : World). V.table) put ∙ with_put-table W c.args.path.now (File c.args.octets.now) ∙ c.args.self.now.idle;
@@ -18,6 +19,8 @@ invariant_of-self-2 c =
 pub returns-clause-ok : goal.returns-clause-ok
 returns-clause-ok c =
     let W = c.args.self.now.entity in
-    let put : c.put_file.new.entity ≡ with_put W c.args.path.now (File c.args.octets.now) = c.put_file.ensures.put (c.in_ok-wrong.was ∙ ap Ok c.in_default.is) in
+    let put : c.put_file.new.entity ≡ with_put W c.args.path.now (File c.args.octets.now) =
+    c.put_file.ensures.put (c.in_ok-wrong.was ∙ ap Ok c.in_default.is) in
     let room : room_wrong W c.args.path.now (File c.args.octets.now) ≡ None = sym c.in_ok-wrong.ensures.room ∙ c.in_default.is in
-    put_in_head c.args.self.now.mib W c.put_file.new.entity c.args.self.now.protected c.args.self.now.has_begun c.args.path.now (File c.args.octets.now) put room
+    put_in_head c.args.self.now.mib W c.put_file.new.entity c.args.self.now.protected c.args.self.now.has_begun c.args.path.now
+    (File c.args.octets.now) put room

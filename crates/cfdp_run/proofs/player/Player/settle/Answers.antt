@@ -23,7 +23,8 @@ inputs-preserved c =
       | else-has_work+then-has_outcome+in_ok-finish w ↦
           rw (w.self-is, w.text-is)
           (settles_next (most_settled - c.inputs.counter) (most_settled - (c.inputs.counter + 1)) c.args.now R (Finish c.args.now) _ _ _ c.inputs.text.items _ _
-          one (settled_finish c.args.now R (sym c.has_work.ensures ∙ w.if-has_work.false) (sym w.has_outcome.ensures ∙ w.if-has_outcome.true)) c.inputs.invariant
+          one (settled_finish c.args.now R (sym c.has_work.ensures ∙ w.if-has_work.false) (sym w.has_outcome.ensures ∙ w.if-has_outcome.true))
+          c.inputs.invariant
           w.in_ok-finish.ensures)
     ]
 

@@ -1,0 +1,38 @@
+//! How long a work takes, so that one that takes long can say how far it is.
+
+use std::rt::Clock;
+use std::time::{Duration, Instant};
+
+/// How many seconds a work may take before it says how far it is, and between two times that it does.
+const PATIENCE: u64 = 1;
+
+/// How long a work took so far.
+#[derive(Clone, Copy)]
+pub struct Spent {
+    total: Duration,
+    /// When it says next how far it is.
+    due: Duration,
+}
+
+impl Spent {
+    /// No time.
+    pub fn new() -> Spent {
+        Spent {
+            total: Duration::ZERO,
+            due: Duration::from_secs(PATIENCE),
+        }
+    }
+
+    /// Adds the time since a moment. Returns how many seconds the work took so far, if it is time to say how far it is:
+    /// more than one second, and a second or more after it was said last. A clock that fails counts as no time.
+    pub fn add<R: Clock>(&mut self, rt: &R, since: Instant) -> Option<u64> {
+        let taken = since.elapsed(rt).unwrap_or(Duration::ZERO);
+        self.total = self.total.checked_add(taken).unwrap_or(self.total);
+        if self.total < self.due {
+            return None;
+        }
+        let patience = Duration::from_secs(PATIENCE);
+        self.due = self.total.checked_add(patience).unwrap_or(Duration::MAX);
+        Some(self.total.as_secs())
+    }
+}

@@ -1,0 +1,4 @@
+pub mod Carrying
+pub mod Fit
+pub mod Steps
+pub mod Telling

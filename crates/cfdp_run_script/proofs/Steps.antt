@@ -1,0 +1,157 @@
+-- What calls of a head, and of the entity after it, come to for a script.
+use Rattle.std.proofs.Common.{◌≡◌, ◌≢◌, ℕ, List, [], ◌++◌, refl, ap, sym, ◌∙◌}
+use Rattle.std.proofs.lemmas.List.{append-nil}
+use Rattle.std.specs.Prelude.{Option, Some, None, Result, Ok, Err, IfSome, option_map}
+use Rattle.cfdp_paths.specs.Paths.{Path}
+use Rattle.cfdp_actions.specs.Filestore.{Node, File}
+use Rattle.cfdp_run.specs.Commands.{Content, Nothing, Octets, File as Named}
+use Rattle.cfdp_run.specs.Putting.{place_wrong}
+use Rattle.cfdp_run.specs.Scripts.{Head, Play, Stage, Playing, Step, changed, in_head, put, put_content, put_file, put_node, put_read, unless, written}
+use Rattle.cfdp_run.specs.Stages.{head_of, play_from}
+use Rattle.cfdp_run.specs.Stops.{Stop, IsWrong, NoMemory, Unread, stop_of}
+use Rattle.cfdp_run.specs.declared.head.Head.{Head as HeadValue}
+use Rattle.cfdp_run.specs.declared.play.Play.{Play as PlayValue}
+use Rattle.cfdp_run.specs.declared.stop.Stop.{Stop as StopValue}
+use Rattle.cfdp_run.specs.declared.words.Word.{Word}
+use Rattle.cfdp_run.specs.declared.words.Word.TheVariants as word
+use Rattle.cfdp_run.specs.declared.wrong.Wrong.{Wrong}
+use Rattle.cfdp_run_script.specs.Steps.{Does, Stops, held, held_in, stage_by}
+
+-- ---- the head
+
+pub head_step : (h g : HeadValue) (p q : Option PlayValue) (w : Word) (change : Head → Result Head Stop) → p ≡ None → q ≡ p → change (head_of h)
+    ≡ Ok (head_of g) →
+    in_head w (stage_by h p) change ≡ Ok (stage_by g q, [])
+unfolding stage_by
+head_step h g p q w change none same e = rw (same, none) (ap changed e)
+
+pub head_stop : (h : HeadValue) (p : Option PlayValue) (w : Word) (change : Head → Result Head Stop) (why : Stop) → p ≡ None → change (head_of h) ≡ Err why →
+    in_head w (stage_by h p) change ≡ Err why
+unfolding stage_by
+head_stop h p w change why none e = rw none (ap changed e)
+
+pub placed : (o : Option Wrong) (later : Result Head Stop) → o ≡ None → unless o later ≡ later
+placed o later none = rw none refl
+
+pub misplaced : (o : Option Wrong) (later : Result Head Stop) (why : Stop) → option_map IsWrong o ≡ Some why → unless o later ≡ Err why
+misplaced None later why e = absurd cc
+misplaced (Some wrong) later why e = let same : IsWrong wrong ≡ why = cc in ap Err same
+
+-- something is put at a path
+
+pub put_placed : (h : Head) (path : Path) (node : Node) → place_wrong h.world.filestore path ≡ None → put h path node ≡ put_node h path node
+unfolding put
+put_placed h path node none = placed (place_wrong h.world.filestore path) (put_node h path node) none
+
+pub put_misplaced : (h : Head) (path : Path) (node : Node) (why : Stop) → option_map IsWrong (place_wrong h.world.filestore path) ≡ Some why → put h path node
+    ≡ Err why
+unfolding put
+put_misplaced h path node why e = misplaced (place_wrong h.world.filestore path) (put_node h path node) why e
+
+-- what a file is to hold was found, or not
+
+put_held : (files : List ℕ → Option (List ℕ)) (h : Head) (path : Path) (content : Content) (octets : List ℕ) → held files content ≡ Ok octets →
+    put_content files h path content ≡ put_node h path (File octets)
+put_held files h path Nothing octets e = let same : [] ≡ octets = cc in ap (λ (o : List ℕ). put_node h path (File o)) same
+put_held files h path (Octets some) octets e = let same : some ≡ octets = cc in ap (λ (o : List ℕ). put_node h path (File o)) same
+put_held files h path (Named name) octets e =
+    elim (files name) as (λ o. held_in name o ≡ Ok octets → put_read h path name o ≡ put_node h path (File octets)) [
+      | None ↦ λ bad. absurd cc
+      | Some some ↦ λ is. let same : some ≡ octets = cc in ap (λ (o : List ℕ). put_node h path (File o)) same
+    ]
+    e
+
+put_unheld : (files : List ℕ → Option (List ℕ)) (h : Head) (path : Path) (content : Content) (why : Stop) → held files content ≡ Err why →
+    put_content files h path content ≡ Err why
+put_unheld files h path Nothing why e = absurd cc
+put_unheld files h path (Octets some) why e = absurd cc
+put_unheld files h path (Named name) why e =
+    elim (files name) as (λ o. held_in name o ≡ Err why → put_read h path name o ≡ Err why) [
+      | None ↦ λ is. let same : Unread name ≡ why = cc in ap Err same
+      | Some some ↦ λ bad. absurd cc
+    ]
+    e
+
+pub put_file_held : (files : List ℕ → Option (List ℕ)) (h : Head) (path : Path) (content : Content) (octets given : List ℕ) → place_wrong h.world.filestore path
+    ≡ None →
+    held files content ≡ Ok octets → given ≡ octets → put_file files h path content ≡ put_node h path (File given)
+put_file_held files h path content octets given none e same =
+    placed (place_wrong h.world.filestore path) (put_content files h path content) none ∙ put_held files h path content octets e
+    ∙ ap (λ (o : List ℕ). put_node h path (File o)) (sym same)
+
+pub put_file_unheld : (files : List ℕ → Option (List ℕ)) (h : Head) (path : Path) (content : Content) (why : Stop) → place_wrong h.world.filestore path ≡ None →
+    held files content ≡ Err why → put_file files h path content ≡ Err why
+put_file_unheld files h path content why none e =
+    placed (place_wrong h.world.filestore path) (put_content files h path content) none ∙ put_unheld files h path content why e
+
+pub put_file_misplaced : (files : List ℕ → Option (List ℕ)) (h : Head) (path : Path) (content : Content) (why : Stop) →
+    option_map IsWrong (place_wrong h.world.filestore path) ≡ Some why → put_file files h path content ≡ Err why
+put_file_misplaced files h path content why e = misplaced (place_wrong h.world.filestore path) (put_content files h path content) why e
+
+-- ---- the entity after it
+
+pub written_does : (h : HeadValue) (p : Option PlayValue) (after : PlayValue) (next : Play) (before text lines : List ℕ) → p ≡ Some after → play_from after
+    ≡ next →
+    lines ≡ (play_from after).lines → text ≡ before ++ lines → Does (written next) (stage_by h p) before text
+unfolding stage_by
+written_does h p after next before text lines is e l a = rw is (record {
+  text = lines;
+  does = ap written (sym e) ∙ ap (λ (o : List ℕ). Ok (Playing (play_from after), o)) (sym l);
+  appended = a;
+})
+
+-- ---- lines
+
+pub no_memory : (step : Step) (why : StopValue) → stop_of why ≡ NoMemory → Stops step why
+no_memory step why e = λ known. absurd (known e)
+
+pub silent : (step : Step) (stage : Stage) (text : List ℕ) → step ≡ Ok (stage, []) → Does step stage text text
+silent step stage text e = record { text = []; does = e; appended = sym (append-nil text) }
+
+-- ---- where the files are known
+
+abbrev pub Told : Type 0
+Told = Option (List ℕ → Option (List ℕ))
+
+abbrev pub PutStep : (List ℕ → Option (List ℕ)) → HeadValue → Option PlayValue → Path → Content → Step
+PutStep map h p path content = in_head word.Put (stage_by h p) (λ head. put_file map head path content)
+
+pub file_put : (told : Told) (h g : HeadValue) (p q : Option PlayValue) (path : Path) (content : Content) (octets given : List ℕ) → p ≡ None → q ≡ p →
+    place_wrong (head_of h).world.filestore path ≡ None → IfSome told (λ map. held map content ≡ Ok octets) → given ≡ octets →
+    put_node (head_of h) path (File given) ≡ Ok (head_of g) → IfSome told (λ map. PutStep map h p path content ≡ Ok (stage_by g q, []))
+file_put None h g p q path content octets given none kept place e same put = tt
+file_put (Some map) h g p q path content octets given none kept place e same put =
+    head_step h g p q word.Put (λ head. put_file map head path content) none kept (put_file_held map (head_of h) path content octets given place e same ∙ put)
+
+pub file_misplaced : (told : Told) (h : HeadValue) (p : Option PlayValue) (path : Path) (content : Content) (why : StopValue) → p ≡ None →
+    (stop_of why ≢ NoMemory → option_map IsWrong (place_wrong (head_of h).world.filestore path) ≡ Some (stop_of why)) →
+    IfSome told (λ map. Stops (PutStep map h p path content) why)
+file_misplaced None h p path content why none e = tt
+file_misplaced (Some map) h p path content why none e = λ known.
+    head_stop h p word.Put (λ head. put_file map head path content) (stop_of why) none (put_file_misplaced map (head_of h) path content (stop_of why) (e known))
+
+pub file_unread : (told : Told) (h : HeadValue) (p : Option PlayValue) (path : Path) (content : Content) (why : StopValue) → p ≡ None →
+    place_wrong (head_of h).world.filestore path ≡ None → IfSome told (λ map. stop_of why ≢ NoMemory → held map content ≡ Err (stop_of why)) →
+    IfSome told (λ map. Stops (PutStep map h p path content) why)
+file_unread None h p path content why none place e = tt
+file_unread (Some map) h p path content why none place e = λ known.
+    head_stop h p word.Put (λ head. put_file map head path content) (stop_of why) none
+    (put_file_unheld map (head_of h) path content (stop_of why) place (e known))
+
+pub file_not_put : (told : Told) (h : HeadValue) (p : Option PlayValue) (path : Path) (content : Content) (octets given : List ℕ) (why : StopValue) → p ≡ None →
+    place_wrong (head_of h).world.filestore path ≡ None → IfSome told (λ map. held map content ≡ Ok octets) → given ≡ octets →
+    (stop_of why ≢ NoMemory → put_node (head_of h) path (File given) ≡ Err (stop_of why)) → IfSome told (λ map. Stops (PutStep map h p path content) why)
+file_not_put None h p path content octets given why none place e same put = tt
+file_not_put (Some map) h p path content octets given why none place e same put = λ known.
+    head_stop h p word.Put (λ head. put_file map head path content) (stop_of why) none
+    (put_file_held map (head_of h) path content octets given place e same ∙ put known)
+
+-- a line that writes nothing
+pub quiet : (told : Told) (steps : (List ℕ → Option (List ℕ)) → Step) (stage : Stage) (text : List ℕ) → IfSome told (λ map. steps map ≡ Ok (stage, [])) →
+    IfSome told (λ map. Does (steps map) stage text text)
+quiet None steps stage text e = tt
+quiet (Some map) steps stage text e = silent (steps map) stage text e
+
+pub always : (told : Told) (step : Step) (stage : Stage) (text : List ℕ) → step ≡ Ok (stage, []) → IfSome told (λ map. Does step stage text text)
+always None step stage text e = tt
+always (Some map) step stage text e = silent step stage text e
