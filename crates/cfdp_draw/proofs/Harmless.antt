@@ -1,0 +1,62 @@
+-- Text that is shown begins and ends nothing of XML.
+--     harmless_digit                a hexadecimal digit
+--     harmless_octet, harmless      what is written of an octet, and of a text
+use Rattle.std.proofs.Common.{◌≡◌, refl, ℕ, ◌+◌, ◌/◌, ◌%◌, ◌<◌, ◌==◌, ◌&&◌, not, Bool, true, false, nat_lt, nat_le, if◌then◌else◌, arith, List, [], ◌∷◌, ◌++◌, codes}
+use Rattle.std.specs.List.{AllByRecursion}
+use Rattle.cfdp_draw.specs.Words.{EscapedIsHarmless, IsHarmless, digit_of, escaped, escaped_octet, is_plain}
+
+pub harmless_digit : (value : ℕ) → value < 16 → IsHarmless (digit_of value)
+harmless_digit value within =
+    let by : (z : Bool) → nat_lt value 10 ≡ z → IsHarmless (if z then 48 + value else 87 + value) =
+    λ z is. elim z as (λ v. nat_lt value 10 ≡ v → IsHarmless (if v then 48 + value else 87 + value)) [
+      | true ↦ λ small. record { no_less = grind arith; no_greater = grind arith; no_quote = grind arith; printed = grind arith; ascii = grind arith }
+      | false ↦ λ large. record { no_less = grind arith; no_greater = grind arith; no_quote = grind arith; printed = grind arith; ascii = grind arith }
+    ] is in
+    by (nat_lt value 10) refl
+
+pub both : (first second : List ℕ) → AllByRecursion IsHarmless first → AllByRecursion IsHarmless second → AllByRecursion IsHarmless (first ++ second)
+both [] second all rest = rest
+both (octet ∷ first) second all rest = (all.0, both first second all.1 rest)
+
+abbrev pub is_harmless : ℕ → Bool
+is_harmless octet = not (octet == 60) && not (octet == 62) && not (octet == 34) && nat_le 32 octet && nat_le octet 126
+
+abbrev pub are_harmless : List ℕ → Bool
+are_harmless [] = true
+are_harmless (octet ∷ rest) = is_harmless octet && are_harmless rest
+
+pub known : (octet : ℕ) → is_harmless octet ≡ true → IsHarmless octet
+known octet is = record { no_less = grind arith; no_greater = grind arith; no_quote = grind arith; printed = grind arith; ascii = grind arith }
+
+pub first_of : (a b : Bool) → (a && b) ≡ true → a ≡ true
+first_of true b is = refl
+first_of false b is = is
+
+pub second_of : (a b : Bool) → (a && b) ≡ true → b ≡ true
+second_of true b is = is
+second_of false true is = refl
+second_of false false is = is
+
+pub all_known : (text : List ℕ) → are_harmless text ≡ true → AllByRecursion IsHarmless text
+all_known [] is = tt
+all_known (octet ∷ rest) is =
+    (known octet (first_of (is_harmless octet) (are_harmless rest) is), all_known rest (second_of (is_harmless octet) (are_harmless rest) is))
+
+pub choose : (b : Bool) (x y : List ℕ) → (b ≡ true → AllByRecursion IsHarmless x) → (b ≡ false → AllByRecursion IsHarmless y) →
+    AllByRecursion IsHarmless (if b then x else y)
+choose true x y held missed = held refl
+choose false x y held missed = missed refl
+
+pub harmless_octet : (octet : ℕ) → octet < 256 → AllByRecursion IsHarmless (escaped_octet octet)
+harmless_octet octet within =
+    choose (octet == 38) (codes "&amp;") _ (λ is. all_known (codes "&amp;") refl) (λ amp.
+    choose (octet == 60) (codes "&lt;") _ (λ is. all_known (codes "&lt;") refl) (λ less.
+    choose (octet == 62) (codes "&gt;") _ (λ is. all_known (codes "&gt;") refl) (λ greater.
+    choose (octet == 34) (codes "&quot;") _ (λ is. all_known (codes "&quot;") refl) (λ quote.
+    choose (is_plain octet) (octet ∷ []) (37 ∷ digit_of (octet / 16) ∷ digit_of (octet % 16) ∷ [])
+    (λ plain. (record { no_less = grind arith; no_greater = grind arith; no_quote = grind arith; printed = grind arith; ascii = grind arith }, tt))
+    (λ other. (known 37 refl, (harmless_digit (octet / 16) (omega arith), (harmless_digit (octet % 16) (omega arith), tt))))))))
+
+pub harmless : EscapedIsHarmless
+harmless [] within = tt
+harmless (octet ∷ rest) within = both (escaped_octet octet) (escaped rest) (harmless_octet octet within.0) (harmless rest within.1)

@@ -1,0 +1,4 @@
+pub mod Gaining
+pub mod Harmless
+pub mod Placing
+pub mod Texts

@@ -1,0 +1,39 @@
+-- Where things are in a picture, in pixels.
+--     has_words            there is room for the kind of each mark in words
+--     pitch                how wide a mark is
+--     room                 what is left for the moments
+--     x_of total at        where a position of the time axis is
+--     right_of             the end of the axis
+--     has_data_words       there is room for the words of File Data PDUs too
+--     level_of             how high a part of a whole is
+--     TimeGoesRight, StaysInside      what is later is not further left;  all is between the ends of the axis
+use Rattle.std.specs.Prelude.{ℕ, ◌+◌, ◌-◌, ◌*◌, ◌/◌, ◌≤◌, ◌==◌, ◌&&◌, Bool, nat_le, min, max, if◌then◌else◌}
+use Rattle.cfdp_draw.specs.declared.axis.At.{At}
+use Rattle.cfdp_draw.specs.declared.axis.TheConstants.{LEFT, AXIS, WORDED, LETTERED, MOMENT}
+
+unfoldable pub has_words : At → Bool
+has_words total = nat_le (WORDED * total.places + MOMENT * total.moments) AXIS
+
+unfoldable pub pitch : At → ℕ
+pitch total = if has_words total then WORDED else LETTERED
+
+unfoldable pub room : At → ℕ
+room total = max (AXIS - pitch total * total.places) total.moments
+
+unfoldable pub has_data_words : At → Bool
+has_data_words total = has_words total && nat_le (WORDED * total.moments) (room total)
+
+unfoldable pub level_of : ℕ → ℕ → ℕ → ℕ
+level_of height part whole = if whole == 0 then 0 else height * min part whole / whole
+
+unfoldable pub right_of : At → ℕ
+right_of total = LEFT + pitch total * total.places + room total
+
+unfoldable pub x_of : At → At → ℕ
+x_of total at = LEFT + pitch total * min at.places total.places + level_of (room total) at.moments total.moments
+
+abbrev pub TimeGoesRight : Type 0
+TimeGoesRight = (total a b : At) → a.moments ≤ b.moments → a.places ≤ b.places → x_of total a ≤ x_of total b
+
+abbrev pub StaysInside : Type 0
+StaysInside = (total at : At) → (LEFT ≤ x_of total at) × (x_of total at ≤ right_of total)

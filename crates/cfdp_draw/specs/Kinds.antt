@@ -1,0 +1,77 @@
+-- What the marks and colours of a picture mean.
+--     kind_of_directive     the kind of a PDU by its directive code (CCSDS 727.0-B-5 §5.2)
+--     kind_words            a kind in words
+--     letter_of             the letter in a mark;  none for file data
+--     outline_of            the outline of a mark, as the data of a path: a box that points down, a triangle for file
+--                           data, a disc for what is no PDU
+--     way_opening           the beginning of a mark, with its class
+--     phase_words, phase_letter      a phase in a word, and its first letter
+use Rattle.std.specs.Prelude.{ℕ, ◌==◌, if◌then◌else◌, List, [], codes}
+use Rattle.cfdp_draw.specs.declared.kinds.Kind.{Kind}
+use Rattle.cfdp_draw.specs.declared.kinds.Kind.TheVariants.{Metadata, FileData, Eof, Nak, Ack, Finished, KeepAlive, Prompt, NoPdu, Timer, Cancel}
+use Rattle.cfdp_draw.specs.declared.kinds.Way.{Way}
+use Rattle.cfdp_draw.specs.declared.kinds.Way.TheVariants.{Came, Dropped, Sent}
+use Rattle.cfdp_draw.specs.declared.kinds.Phase.{Phase}
+use Rattle.cfdp_draw.specs.declared.kinds.Phase.TheVariants.{Held, Receiving, Awaiting, Waiting, Closed}
+
+abbrev pub kind_of_directive : ℕ → Kind
+kind_of_directive code =
+    if code == 4 then Eof
+    else if code == 5 then Finished
+    else if code == 6 then Ack
+    else if code == 7 then Metadata
+    else if code == 8 then Nak
+    else if code == 9 then Prompt
+    else if code == 12 then KeepAlive
+    else NoPdu
+
+unfoldable pub kind_words : Kind → List ℕ
+kind_words Metadata = codes "Metadata"
+kind_words FileData = codes "File Data"
+kind_words Eof = codes "EOF"
+kind_words Nak = codes "NAK"
+kind_words Ack = codes "ACK"
+kind_words Finished = codes "Finished"
+kind_words KeepAlive = codes "Keep Alive"
+kind_words Prompt = codes "Prompt"
+kind_words NoPdu = codes "no PDU"
+kind_words Timer = codes "timer"
+kind_words Cancel = codes "cancel"
+
+unfoldable pub letter_of : Kind → List ℕ
+letter_of Metadata = codes "M"
+letter_of FileData = []
+letter_of Eof = codes "E"
+letter_of Nak = codes "N"
+letter_of Ack = codes "A"
+letter_of Finished = codes "F"
+letter_of KeepAlive = codes "K"
+letter_of Prompt = codes "P"
+letter_of NoPdu = codes "?"
+letter_of Timer = codes "T"
+letter_of Cancel = codes "C"
+
+unfoldable pub outline_of : Kind → List ℕ
+outline_of FileData = codes "M0 2h6l-3 11z"
+outline_of Timer = codes "M0 7a7 7 0 1 1 14 0a7 7 0 1 1-14 0z"
+outline_of Cancel = codes "M0 7a7 7 0 1 1 14 0a7 7 0 1 1-14 0z"
+outline_of _ = codes "M0 0h14v10l-7 4l-7-4z"
+
+unfoldable pub way_opening : Way → List ℕ
+way_opening Came = codes "<g class=\"came\" transform=\"translate("
+way_opening Dropped = codes "<g class=\"dropped\" transform=\"translate("
+way_opening Sent = codes "<g class=\"sent\" transform=\"translate("
+
+unfoldable pub phase_words : Phase → List ℕ
+phase_words Held = codes "held"
+phase_words Receiving = codes "receiving"
+phase_words Awaiting = codes "awaiting"
+phase_words Waiting = codes "waiting"
+phase_words Closed = codes "closed"
+
+unfoldable pub phase_letter : Phase → List ℕ
+phase_letter Held = codes "h"
+phase_letter Receiving = codes "r"
+phase_letter Awaiting = codes "a"
+phase_letter Waiting = codes "w"
+phase_letter Closed = codes "c"

@@ -1,0 +1,12 @@
+pub mod Axis
+pub mod Blocks
+pub mod Collecting
+pub mod Kinds
+pub mod Lanes
+pub mod Legend
+pub mod Marks
+pub mod Notes
+pub mod Picture
+pub mod Shapes
+pub mod Times
+pub mod Words

@@ -1,0 +1,9 @@
+use Rattle.std.proofs.Common.{◌-◌}
+use Rattle.cfdp_run.specs.Playing.{most_settled, settling}
+use Rattle.cfdp_live.proofs.Making.{LeftToMake}
+use Rattle.cfdp_live.proofs.live.Live.settle.Given as goal
+
+abbrev pub invariant-inputs : goal.invariant-inputs
+invariant-inputs l =
+    LeftToMake l.self.receiver.state (settling (most_settled - l.counter) l.now l.self.receiver.state) l.initial.self.receiver.state
+    (settling most_settled l.now l.initial.self.receiver.state) l.initial.output l.output

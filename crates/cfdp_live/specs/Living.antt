@@ -1,0 +1,56 @@
+-- What a live receiving entity makes of its inputs. Which inputs there are, `cfdp_run` says: after a PDU, and after
+-- each timer that is served, all work is done and each outcome is taken.
+--     Out                       the PDUs that are sent, in order; the lines of the indications, one after the other;
+--                               whether a transaction ended, so that the filestore may have changed
+--     nothing, with_more        neither PDU nor line;  two of them, one after the other
+--     with_sent                 more PDUs after those that there are
+--     is_end indication         a transaction finished or was abandoned
+--     answered mib a            what an answer makes: its PDUs have a CRC where `mib` says so
+--     made R inputs             what inputs make, one after the other
+--     Makes R inputs N before after     the inputs lead from R to N, and what they make comes after what there was
+use Rattle.std.specs.Prelude.{◌≡◌, ℕ, Bool, true, false, ◌||◌, List, [], ◌∷◌, ◌++◌, map}
+use Rattle.std.specs.List.{list_any}
+use Rattle.cfdp_receiver.specs.declared.answer.Indication.{Indication}
+use Rattle.cfdp_receiver.specs.declared.answer.Indication.TheVariants.{TransactionFinished, Abandoned}
+use Rattle.cfdp_receiver.specs.declared.mib.Mib.{Mib}
+use Rattle.cfdp_receiver.specs.State.{AnswerFields, Input, State}
+use Rattle.cfdp_receiver.specs.Sent.{as_sent}
+use Rattle.cfdp_receiver.specs.Turning.{after, after_all, parts}
+use Rattle.cfdp_reports.specs.Reports.{pdus_in, told_lines}
+
+pub record Out : Type 0 where
+  pub sent : List (List ℕ)
+  pub told : List ℕ
+  pub ended : Bool
+
+abbrev pub nothing : Out
+nothing = record { sent = []; told = []; ended = false }
+
+abbrev pub with_more : Out → Out → Out
+with_more a b = record { sent = a.sent ++ b.sent; told = a.told ++ b.told; ended = a.ended || b.ended }
+
+abbrev pub with_sent : Out → List (List ℕ) → Out
+with_sent o pdus = record { sent = o.sent ++ pdus; told = o.told; ended = o.ended }
+
+abbrev pub is_end : Indication → Bool
+is_end (TransactionFinished id end) = true
+is_end (Abandoned id condition) = true
+is_end indication = false
+
+abbrev pub answered : Mib → AnswerFields → Out
+answered mib a = record {
+  sent = map (as_sent mib) (pdus_in a);
+  told = told_lines a.indications;
+  ended = list_any is_end a.indications;
+}
+
+abbrev pub made_of : State → Input → Out
+made_of R i = answered R.mib (parts R i).answer
+
+abbrev pub made : State → List Input → Out
+made R [] = nothing
+made R (i ∷ is) = with_more (made_of R i) (made (after R i) is)
+
+pub record Makes (R : State) (inputs : List Input) (N : State) (before after : Out) : Type 0 where
+  pub ends : N ≡ after_all R inputs
+  pub makes : after ≡ with_more before (made R inputs)
