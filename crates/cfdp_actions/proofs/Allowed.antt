@@ -1,8 +1,8 @@
 -- What a row of the action table that is not refused asks of the filestore, and what it does.
 --     Allowed F request         the row is successful
 --     IsRow o ..                what a row answers and changes, its ticks, and the blocks that it takes and gives back
---     file_made, directory_made, made_takes    an empty node is made where nothing stands and the parent is good
---     removed, denied           what stands at the path goes, a directory only without entries;  or nothing stood there
+--     file_made, directory_made, made_takes    an empty node is made where nothing exists and the parent is good
+--     removed, denied           what is at the path goes, a directory only without entries;  or nothing was there
 --     moved                     a tree moves
 --     appended, replaced        one file is joined with another;  replace_room, replace_fits: nothing is taken where both names are one
 --     successful                the answer of any such row;  takes_nothing: the rows that take no block
@@ -27,11 +27,13 @@ pub record IsRow (action : Action) (o : Outcome) (writes : List Change) (count t
   pub taken : o.taken ≡ takes
   pub given : o.given ≡ gives
 
-succeeded_row : (action : Action) (changes : List Change) (taken given moved count : ℕ) → taken + given + moved ≡ count → IsRow action (succeeds action changes taken given moved) changes count taken given
+succeeded_row : (action : Action) (changes : List Change) (taken given moved count : ℕ) → taken + given + moved ≡ count →
+    IsRow action (succeeds action changes taken given moved) changes count taken given
 succeeded_row action changes taken given moved count e = record { answer = refl; changes = refl; counted = e; taken = refl; given = refl }
 
 -- a fact on the row of another request that is the same
-row_of : (F : Filestore) (Q : Action → Outcome → Type 0) (request other : Request) → (Allowed F other → Q (action_in other) (table F other)) → Allowed F request → request ≡ other → Q (action_in request) (table F request)
+row_of : (F : Filestore) (Q : Action → Outcome → Type 0) (request other : Request) → (Allowed F other → Q (action_in other) (table F other)) →
+    Allowed F request → request ≡ other → Q (action_in request) (table F request)
 row_of F Q request other f h e = subst (λ r. Q (action_in r) (table F r)) (sym e) (f (subst (Allowed F) e h))
 
 -- ---- create
@@ -41,25 +43,29 @@ pub record Makes (F : Filestore) (p : Path) (node : Node) (action : Action) (o :
   pub parent : parent_is_good F p ≡ true
   pub row : IsRow action o (Becomes p (Some node) ∷ []) 1 1 0
 
-made : (action : Action) (node : Node) (p : Path) (o : Option Node) (good : Bool) → IsTrue (succeeded (create action node p o good).answer) → (o ≡ None) × (good ≡ true) × IsRow action (create action node p o good) (Becomes p (Some node) ∷ []) 1 1 0
+made : (action : Action) (node : Node) (p : Path) (o : Option Node) (good : Bool) → IsTrue (succeeded (create action node p o good).answer) → (o ≡ None)
+    × (good ≡ true) × IsRow action (create action node p o good) (Becomes p (Some node) ∷ []) 1 1 0
 unfolding create
 made action node p (Some other) good h = absurd (false≢true h)
 made action node p None false h = absurd (false≢true h)
 made action node p None true h = (refl, refl, succeeded_row _ _ _ _ _ _ refl)
 
-pub file_made : (F : Filestore) (request : Request) (p : Path) → Allowed F request → request ≡ CreateFile p → Makes F p (File []) (action_in request) (table F request)
+pub file_made : (F : Filestore) (request : Request) (p : Path) → Allowed F request → request ≡ CreateFile p →
+    Makes F p (File []) (action_in request) (table F request)
 unfolding table
 file_made F request p = row_of F (Makes F p (File [])) request (CreateFile p) (λ h.
     let facts = made action.CreateFile (File []) p (node_at F p) (parent_is_good F p) h in
     record { absent = facts.0; parent = facts.1; row = facts.2 })
 
-pub directory_made : (F : Filestore) (request : Request) (p : Path) → Allowed F request → request ≡ CreateDirectory p → Makes F p Directory (action_in request) (table F request)
+pub directory_made : (F : Filestore) (request : Request) (p : Path) → Allowed F request → request ≡ CreateDirectory p →
+    Makes F p Directory (action_in request) (table F request)
 unfolding table
 directory_made F request p = row_of F (Makes F p Directory) request (CreateDirectory p) (λ h.
     let facts = made action.CreateDirectory Directory p (node_at F p) (parent_is_good F p) h in
     record { absent = facts.0; parent = facts.1; row = facts.2 })
 
-pub made_takes : (F : Filestore) (request : Request) (p : Path) → Allowed F request → (request ≡ CreateFile p) ⊎ (request ≡ CreateDirectory p) → ((table F request).taken ≡ 1) × ((table F request).given ≡ 0)
+pub made_takes : (F : Filestore) (request : Request) (p : Path) → Allowed F request → (request ≡ CreateFile p) ⊎ (request ≡ CreateDirectory p) →
+    ((table F request).taken ≡ 1) × ((table F request).given ≡ 0)
 made_takes F request p h (inl e) = let row = (file_made F request p h e).row in (row.taken, row.given)
 made_takes F request p h (inr e) = let row = (directory_made F request p h e).row in (row.taken, row.given)
 
@@ -77,33 +83,38 @@ pub record IsDenied (F : Filestore) (p : Path) (action : Action) (o : Outcome) :
   pub childless : Childless (node_at F p) (has_entries F p)
   pub row : IsRow action o (if is_none (node_at F p) then [] else Becomes p None ∷ []) (weight (node_at F p)) 0 (weight (node_at F p))
 
-file_gone : (p : Path) (o : Option Node) (entries : Bool) → IsTrue (succeeded (delete_file p o).answer) → (is_some o ≡ true) × Childless o entries × IsRow action.DeleteFile (delete_file p o) (Becomes p None ∷ []) (weight o) 0 (weight o)
+file_gone : (p : Path) (o : Option Node) (entries : Bool) → IsTrue (succeeded (delete_file p o).answer) → (is_some o ≡ true) × Childless o entries
+    × IsRow action.DeleteFile (delete_file p o) (Becomes p None ∷ []) (weight o) 0 (weight o)
 unfolding delete_file
 file_gone p None entries h = absurd (false≢true h)
 file_gone p (Some Directory) entries h = absurd (false≢true h)
 file_gone p (Some (File octets)) entries h = (refl, λ e. absurd (false≢true e), succeeded_row _ _ _ _ _ _ (omega arith))
 
-directory_gone : (p : Path) (o : Option Node) (entries : Bool) → IsTrue (succeeded (remove_directory p o entries).answer) → (is_some o ≡ true) × Childless o entries × IsRow action.RemoveDirectory (remove_directory p o entries) (Becomes p None ∷ []) (weight o) 0 (weight o)
+directory_gone : (p : Path) (o : Option Node) (entries : Bool) → IsTrue (succeeded (remove_directory p o entries).answer) → (is_some o ≡ true)
+    × Childless o entries × IsRow action.RemoveDirectory (remove_directory p o entries) (Becomes p None ∷ []) (weight o) 0 (weight o)
 unfolding remove_directory
 directory_gone p None entries h = absurd (false≢true h)
 directory_gone p (Some (File octets)) entries h = absurd (false≢true h)
 directory_gone p (Some Directory) true h = absurd (false≢true h)
 directory_gone p (Some Directory) false h = (refl, λ e. refl, succeeded_row _ _ _ _ _ _ refl)
 
-file_denied : (p : Path) (o : Option Node) (entries : Bool) → IsTrue (succeeded (deny_file p o).answer) → Childless o entries × IsRow action.DenyFile (deny_file p o) (if is_none o then [] else Becomes p None ∷ []) (weight o) 0 (weight o)
+file_denied : (p : Path) (o : Option Node) (entries : Bool) → IsTrue (succeeded (deny_file p o).answer) → Childless o entries
+    × IsRow action.DenyFile (deny_file p o) (if is_none o then [] else Becomes p None ∷ []) (weight o) 0 (weight o)
 unfolding deny_file
 file_denied p None entries h = (λ e. absurd (false≢true e), succeeded_row _ _ _ _ _ _ refl)
 file_denied p (Some Directory) entries h = absurd (false≢true h)
 file_denied p (Some (File octets)) entries h = (λ e. absurd (false≢true e), succeeded_row _ _ _ _ _ _ (omega arith))
 
-directory_denied : (p : Path) (o : Option Node) (entries : Bool) → IsTrue (succeeded (deny_directory p o entries).answer) → Childless o entries × IsRow action.DenyDirectory (deny_directory p o entries) (if is_none o then [] else Becomes p None ∷ []) (weight o) 0 (weight o)
+directory_denied : (p : Path) (o : Option Node) (entries : Bool) → IsTrue (succeeded (deny_directory p o entries).answer) → Childless o entries
+    × IsRow action.DenyDirectory (deny_directory p o entries) (if is_none o then [] else Becomes p None ∷ []) (weight o) 0 (weight o)
 unfolding deny_directory
 directory_denied p None entries h = (λ e. absurd (false≢true e), succeeded_row _ _ _ _ _ _ refl)
 directory_denied p (Some (File octets)) entries h = absurd (false≢true h)
 directory_denied p (Some Directory) true h = absurd (false≢true h)
 directory_denied p (Some Directory) false h = (λ e. refl, succeeded_row _ _ _ _ _ _ refl)
 
-pub removed : (F : Filestore) (request : Request) (p : Path) → Allowed F request → (request ≡ DeleteFile p) ⊎ (request ≡ RemoveDirectory p) → Goes F p (action_in request) (table F request)
+pub removed : (F : Filestore) (request : Request) (p : Path) → Allowed F request → (request ≡ DeleteFile p) ⊎ (request ≡ RemoveDirectory p) →
+    Goes F p (action_in request) (table F request)
 unfolding table
 removed F request p h (inl e) = row_of F (Goes F p) request (DeleteFile p) (λ h.
     let facts = file_gone p (node_at F p) (has_entries F p) h in
@@ -112,7 +123,8 @@ removed F request p h (inr e) = row_of F (Goes F p) request (RemoveDirectory p) 
     let facts = directory_gone p (node_at F p) (has_entries F p) h in
     record { present = facts.0; childless = facts.1; row = facts.2 }) h e
 
-pub denied : (F : Filestore) (request : Request) (p : Path) → Allowed F request → (request ≡ DenyFile p) ⊎ (request ≡ DenyDirectory p) → IsDenied F p (action_in request) (table F request)
+pub denied : (F : Filestore) (request : Request) (p : Path) → Allowed F request → (request ≡ DenyFile p) ⊎ (request ≡ DenyDirectory p) →
+    IsDenied F p (action_in request) (table F request)
 unfolding table
 denied F request p h (inl e) = row_of F (IsDenied F p) request (DenyFile p) (λ h.
     let facts = file_denied p (node_at F p) (has_entries F p) h in
@@ -131,12 +143,14 @@ pub record Moves (F : Filestore) (p q : Path) (o : Outcome) : Type 0 where
   pub depth : is_too_deep p q (tree_at F p) ≡ false
   pub row : IsRow action.RenameFile o (vacated (tree_at F p) ++ settled p q (tree_at F p)) 0 0 0
 
-shallow : (changes : List Change) (deep : Bool) (o : Outcome) → o ≡ (if deep then refused (NotAllowed action.RenameFile) else succeeds action.RenameFile changes 0 0 0) → IsTrue (succeeded o.answer) → (deep ≡ false) × IsRow action.RenameFile o changes 0 0 0
+shallow : (changes : List Change) (deep : Bool) (o : Outcome) → o ≡ (if deep then refused (NotAllowed action.RenameFile)
+    else succeeds action.RenameFile changes 0 0 0) → IsTrue (succeeded o.answer) → (deep ≡ false) × IsRow action.RenameFile o changes 0 0 0
 shallow changes true o e h = absurd (false≢true (subst (λ (o : Outcome). IsTrue (succeeded o.answer)) e h))
 shallow changes false o e h = (refl, subst (λ o. IsRow action.RenameFile o changes 0 0 0) (sym e) (succeeded_row _ _ _ _ _ _ refl))
 
 tree_moved : (p q : Path) (a b : Option Node) (good below : Bool) (es : List (Path × Node)) → IsTrue (succeeded (rename p q a b good below es).answer) →
-    (is_some a ≡ true) × (b ≡ None) × (good ≡ true) × (below ≡ false) × (is_too_deep p q es ≡ false) × IsRow action.RenameFile (rename p q a b good below es) (vacated es ++ settled p q es) 0 0 0
+    (is_some a ≡ true) × (b ≡ None) × (good ≡ true) × (below ≡ false) × (is_too_deep p q es ≡ false)
+    × IsRow action.RenameFile (rename p q a b good below es) (vacated es ++ settled p q es) 0 0 0
 unfolding rename
 tree_moved p q None b good below es h = absurd (false≢true h)
 tree_moved p q (Some node) (Some other) good below es h = absurd (false≢true h)
@@ -160,16 +174,20 @@ size F p = length (octets_at F p)
 pub record Appends (F : Filestore) (p q : Path) (o : Outcome) : Type 0 where
   pub first : is_file (node_at F p) ≡ true
   pub second : is_file (node_at F q) ≡ true
-  pub row : IsRow action.AppendFile o (Becomes p (Some (File (octets_at F p ++ octets_at F q))) ∷ []) ((blocks_of (size F p + size F q) - blocks_of (size F p)) + blocks_of (size F q)) (blocks_of (size F p + size F q) - blocks_of (size F p)) 0
+  pub row : IsRow action.AppendFile o (Becomes p (Some (File (octets_at F p ++ octets_at F q))) ∷ []) ((blocks_of (size F p + size F q) - blocks_of (size F p))
+      + blocks_of (size F q)) (blocks_of (size F p + size F q) - blocks_of (size F p)) 0
 
 -- nothing is taken or given back where both names are one
 pub record Replaces (F : Filestore) (p q : Path) (o : Outcome) : Type 0 where
   pub first : is_file (node_at F p) ≡ true
   pub second : is_file (node_at F q) ≡ true
-  pub row : IsRow action.ReplaceFile o (if same_path p q then [] else Becomes p (Some (File (octets_at F q))) ∷ []) (if same_path p q then 0 else blocks_of (size F p) + 2 * blocks_of (size F q)) (if same_path p q then 0 else blocks_of (size F q)) (if same_path p q then 0 else blocks_of (size F p))
+  pub row : IsRow action.ReplaceFile o (if same_path p q then [] else Becomes p (Some (File (octets_at F q))) ∷ []) (if same_path p q then 0
+      else blocks_of (size F p) + 2 * blocks_of (size F q)) (if same_path p q then 0 else blocks_of (size F q)) (if same_path p q then 0
+      else blocks_of (size F p))
 
 file_appended : (p : Path) (a b : Option Node) → IsTrue (succeeded (append p a b).answer) → let n = length (octets_in a) in let m = length (octets_in b) in
-    (is_file a ≡ true) × (is_file b ≡ true) × IsRow action.AppendFile (append p a b) (Becomes p (Some (File (octets_in a ++ octets_in b))) ∷ []) ((blocks_of (n + m) - blocks_of n) + blocks_of m) (blocks_of (n + m) - blocks_of n) 0
+    (is_file a ≡ true) × (is_file b ≡ true) × IsRow action.AppendFile (append p a b) (Becomes p (Some (File (octets_in a ++ octets_in b))) ∷ [])
+    ((blocks_of (n + m) - blocks_of n) + blocks_of m) (blocks_of (n + m) - blocks_of n) 0
 unfolding append
 file_appended p None b h = absurd (false≢true h)
 file_appended p (Some a) None h = absurd (false≢true h)
@@ -177,8 +195,10 @@ file_appended p (Some Directory) (Some b) h = absurd (false≢true h)
 file_appended p (Some (File xs)) (Some Directory) h = absurd (false≢true h)
 file_appended p (Some (File xs)) (Some (File ys)) h = (refl, refl, succeeded_row _ _ _ _ _ _ (omega arith))
 
-file_replaced : (p : Path) (same : Bool) (a b : Option Node) → IsTrue (succeeded (replace p same a b).answer) → let n = length (octets_in a) in let m = length (octets_in b) in
-    (is_file a ≡ true) × (is_file b ≡ true) × IsRow action.ReplaceFile (replace p same a b) (if same then [] else Becomes p (Some (File (octets_in b))) ∷ []) (if same then 0 else blocks_of n + 2 * blocks_of m) (if same then 0 else blocks_of m) (if same then 0 else blocks_of n)
+file_replaced : (p : Path) (same : Bool) (a b : Option Node) → IsTrue (succeeded (replace p same a b).answer) → let n = length (octets_in a) in let m =
+    length (octets_in b) in
+    (is_file a ≡ true) × (is_file b ≡ true) × IsRow action.ReplaceFile (replace p same a b) (if same then [] else Becomes p (Some (File (octets_in b))) ∷ [])
+    (if same then 0 else blocks_of n + 2 * blocks_of m) (if same then 0 else blocks_of m) (if same then 0 else blocks_of n)
 unfolding replace
 file_replaced p same None b h = absurd (false≢true h)
 file_replaced p same (Some a) None h = absurd (false≢true h)
@@ -200,15 +220,19 @@ replaced F request p q = row_of F (λ _. Replaces F p q) request (ReplaceFile p 
     record { first = facts.0; second = facts.1; row = facts.2 })
 
 -- both names are one, or the row takes and gives back what the test of room counts
-pub replace_room : (F : Filestore) (p q : Path) (free : ℕ) (o : Outcome) → Replaces F p q o → nat_le (blocks_of (size F q)) (free + blocks_of (size F p)) ≡ nat_le o.taken (free + o.given)
+pub replace_room : (F : Filestore) (p q : Path) (free : ℕ) (o : Outcome) → Replaces F p q o → nat_le (blocks_of (size F q)) (free + blocks_of (size F p))
+    ≡ nat_le o.taken (free + o.given)
 replace_room F p q free o r =
     by_same (same_path p q) refl ∙ sym (λ i. nat_le (r.row.taken i) (free + r.row.given i))
   where
-    by_same : (same : Bool) → same_path p q ≡ same → nat_le (blocks_of (size F q)) (free + blocks_of (size F p)) ≡ nat_le (if same then 0 else blocks_of (size F q)) (free + (if same then 0 else blocks_of (size F p)))
-    by_same true e = le-leb (blocks_of (size F q)) (free + blocks_of (size F p)) (omega (arith, ap (λ x. blocks_of (size F x)) ((same_path-Decides p q).0 e))) ∙ sym (le-leb 0 (free + 0) (omega arith))
+    by_same : (same : Bool) → same_path p q ≡ same → nat_le (blocks_of (size F q)) (free + blocks_of (size F p))
+        ≡ nat_le (if same then 0 else blocks_of (size F q)) (free + (if same then 0 else blocks_of (size F p)))
+    by_same true e = le-leb (blocks_of (size F q)) (free + blocks_of (size F p)) (omega (arith, ap (λ x. blocks_of (size F x)) ((same_path-Decides p q).0 e)))
+        ∙ sym (le-leb 0 (free + 0) (omega arith))
     by_same false e = refl
 
-pub replace_fits : (F : Filestore) (p q : Path) (free : ℕ) (o : Outcome) → Replaces F p q o → o.taken ≤ free + o.given → blocks_of (size F q) ≤ free + blocks_of (size F p)
+pub replace_fits : (F : Filestore) (p q : Path) (free : ℕ) (o : Outcome) → Replaces F p q o → o.taken ≤ free + o.given → blocks_of (size F q) ≤ free
+    + blocks_of (size F p)
 replace_fits F p q free o r fits = leb-true _ _ (replace_room F p q free o r ∙ le-leb _ _ fits)
 
 -- ---- any row
@@ -225,13 +249,15 @@ successful F (DenyFile p) h = (denied F (DenyFile p) p h (inl refl)).row.answer
 successful F (DenyDirectory p) h = (denied F (DenyDirectory p) p h (inr refl)).row.answer
 
 -- where nothing bars it and its blocks are free
-pub performs : (prefixes : List Path) (F : Filestore) (free : ℕ) (request : Request) → Allowed F request → bars prefixes request ≡ false → nat_le (table F request).taken (free + (table F request).given) ≡ true → (act prefixes F free request).answer ≡ Performed (Successful (action_in request))
+pub performs : (prefixes : List Path) (F : Filestore) (free : ℕ) (request : Request) → Allowed F request → bars prefixes request ≡ false →
+    nat_le (table F request).taken (free + (table F request).given) ≡ true → (act prefixes F free request).answer ≡ Performed (Successful (action_in request))
 performs prefixes F free request h unbarred fits =
     ap (λ b. (within free (Perform request) (if b then denied_outcome (Perform request) else table F request)).answer) unbarred
     ∙ ap (λ b. (if b then table F request else denied_outcome (Perform request)).answer) fits
     ∙ successful F request h
 
-pub takes_nothing : (F : Filestore) (request : Request) → Allowed F request → action_in request ≢ action.CreateFile → action_in request ≢ action.CreateDirectory → action_in request ≢ action.AppendFile → action_in request ≢ action.ReplaceFile → (table F request).taken ≡ 0
+pub takes_nothing : (F : Filestore) (request : Request) → Allowed F request → action_in request ≢ action.CreateFile → action_in request
+    ≢ action.CreateDirectory → action_in request ≢ action.AppendFile → action_in request ≢ action.ReplaceFile → (table F request).taken ≡ 0
 takes_nothing F (CreateFile p) h file directory append replace = absurd (file refl)
 takes_nothing F (DeleteFile p) h file directory append replace = (removed F (DeleteFile p) p h (inl refl)).row.taken
 takes_nothing F (RenameFile p q) h file directory append replace = (moved F (RenameFile p q) p q h refl).row.taken

@@ -24,7 +24,8 @@ module _ (m : finite.FinMap path_cmp Node) where
   entries-without p =
       ap (λ n. finite.entries (finite.remove n p)) as_sorted
       ∙ ap (λ n. finite.entries n) (remove_is (finite.entries m) p nodes_sorted)
-      ∙ entries-from_sorted path_cmp (without p (finite.entries m)) (is_sorted-where_key path_cmp (λ q. not (same_path p q)) (finite.entries m) (entries_sorted m))
+      ∙ entries-from_sorted path_cmp (without p (finite.entries m)) (is_sorted-where_key path_cmp (λ q. not (same_path p q)) (finite.entries m)
+      (entries_sorted m))
 
 pub blocks-becomes : (F : Filestore) (p : Path) (node : Option Node) → blocks (changed F (Becomes p node)) + weight (node_at F p) ≡ blocks F + weight node
 unfolding blocks
@@ -35,6 +36,7 @@ blocks-becomes F p (Some node) =
     let es = finite.entries F.nodes in
     omega (arith, ap weights (entries-insert path_cmp-total F.nodes p node), weights-put p node es (nodes_sorted F.nodes), ap weight (get-entries F.nodes p))
 
-pub blocks-stages : (F : Filestore) (slot : ℕ) (octets : List ℕ) → slot < length F.staged → blocks (changed F (Stages slot octets)) + blocks_of (length (staged_in F slot)) ≡ blocks F + blocks_of (length octets)
+pub blocks-stages : (F : Filestore) (slot : ℕ) (octets : List ℕ) → slot < length F.staged → blocks (changed F (Stages slot octets))
+    + blocks_of (length (staged_in F slot)) ≡ blocks F + blocks_of (length octets)
 unfolding blocks
 blocks-stages F slot octets within = omega (arith, sum_by-set (λ (list : List ℕ). blocks_of (length list)) F.staged slot octets [] within)

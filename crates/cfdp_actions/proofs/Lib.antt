@@ -8,3 +8,8 @@ pub mod StoreLaws
 pub mod Refusing
 pub mod Allowed
 pub mod ChangeLaws
+pub mod Order
+pub mod Weights
+pub mod Growth
+pub mod Prefixes
+pub mod Moves

@@ -1,6 +1,6 @@
--- Paths that stand in all of the places of a row.
---     present_at       what stands in a place is the path of that number
---     present_after    behind the last place there is none
+-- Paths that are in all of the places of a row.
+--     present_at       what is in a place is the path of that number
+--     present_after    after the last place there is none
 --     same_present     two rows have the same in all places exactly where they have the same paths
 use Rattle.std.proofs.Common.{◌≡◌, ℕ, zero, suc, ◌≤◌, ◌<◌, Bool, ◌&&◌, List, [], ◌∷◌, length, Option, Some, None, refl, arith, slice_index_or}
 use Rattle.std.specs.Cmp.Lexicographic.{pointwise, slice_cmp}
@@ -43,4 +43,5 @@ same_present (Some p ∷ xs) (None ∷ ys) d e = absurd (omega (arith, few_prese
 same_present [] (Some q ∷ ys) d e = refl
 same_present (Some p ∷ xs) [] d e = refl
 same_present (Some p ∷ xs) (Some q ∷ ys) d e =
-    then_eq (path_cmp p q) (slice_cmp path_cmp (present xs) (present ys)) (pointwise (option_eq same_path) xs ys) (same_present xs ys (omega (arith, d)) (omega (arith, e)))
+    then_eq (path_cmp p q) (slice_cmp path_cmp (present xs) (present ys)) (pointwise (option_eq same_path) xs ys)
+    (same_present xs ys (omega (arith, d)) (omega (arith, e)))

@@ -1,9 +1,9 @@
 -- Why a row of the action table is refused, or that it is not.
 --     file_creation, directory_creation, deletion, denial, removal, directory_denial, appending, replacement
---                                          of a row, by the kinds that stand at its paths
---     create_present, create_bad, create_made    an empty node is made only where nothing stands and the parent is good
+--                                          of a row, by the kinds that are at its paths
+--     create_present, create_bad, create_made    an empty node is made only where nothing exists and the parent is good
 --     rename_old_absent, rename_new_present, rename_bad_parent, rename_into_itself, rename_too_deep, rename_of_tree
---                                          a tree moves only from where it stands to where it may
+--                                          a tree moves only from where it is to where it may
 use Rattle.std.proofs.Common.{◌≡◌, refl, ap, Bool, true, false, if◌then◌else◌, is_some, List, [], ◌∷◌, ◌++◌, Option, Some, None}
 use Rattle.cfdp_status.specs.declared.action.Action.{Action}
 use Rattle.cfdp_status.specs.declared.action.Action.TheVariants as action
@@ -27,21 +27,24 @@ deny_refuses p None = refl
 deny_refuses p (Some Directory) = refl
 deny_refuses p (Some (File octets)) = refl
 
-remove_refuses : (p : Path) (o : Option Node) (entries : Bool) → Refuses (remove_directory p o entries) (directory_refusal action.RemoveDirectory (Some RemoveAbsent) (kind_in o) entries)
+remove_refuses : (p : Path) (o : Option Node) (entries : Bool) → Refuses (remove_directory p o entries)
+    (directory_refusal action.RemoveDirectory (Some RemoveAbsent) (kind_in o) entries)
 unfolding remove_directory
 remove_refuses p None entries = refl
 remove_refuses p (Some (File octets)) entries = refl
 remove_refuses p (Some Directory) true = refl
 remove_refuses p (Some Directory) false = refl
 
-deny_directory_refuses : (p : Path) (o : Option Node) (entries : Bool) → Refuses (deny_directory p o entries) (directory_refusal action.DenyDirectory None (kind_in o) entries)
+deny_directory_refuses : (p : Path) (o : Option Node) (entries : Bool) →
+    Refuses (deny_directory p o entries) (directory_refusal action.DenyDirectory None (kind_in o) entries)
 unfolding deny_directory
 deny_directory_refuses p None entries = refl
 deny_directory_refuses p (Some (File octets)) entries = refl
 deny_directory_refuses p (Some Directory) true = refl
 deny_directory_refuses p (Some Directory) false = refl
 
-append_refuses : (p : Path) (a b : Option Node) → Refuses (append p a b) (joint_refusal action.AppendFile (AppendFirstAbsent, AppendSecondAbsent) (kind_in a) (kind_in b))
+append_refuses : (p : Path) (a b : Option Node) → Refuses (append p a b)
+    (joint_refusal action.AppendFile (AppendFirstAbsent, AppendSecondAbsent) (kind_in a) (kind_in b))
 unfolding append
 append_refuses p None b = refl
 append_refuses p (Some a) None = refl
@@ -49,7 +52,8 @@ append_refuses p (Some Directory) (Some b) = refl
 append_refuses p (Some (File xs)) (Some Directory) = refl
 append_refuses p (Some (File xs)) (Some (File ys)) = refl
 
-replace_refuses : (p : Path) (same : Bool) (a b : Option Node) → Refuses (replace p same a b) (joint_refusal action.ReplaceFile (ReplaceFirstAbsent, ReplaceSecondAbsent) (kind_in a) (kind_in b))
+replace_refuses : (p : Path) (same : Bool) (a b : Option Node) → Refuses (replace p same a b)
+    (joint_refusal action.ReplaceFile (ReplaceFirstAbsent, ReplaceSecondAbsent) (kind_in a) (kind_in b))
 unfolding replace
 replace_refuses p same None b = refl
 replace_refuses p same (Some a) None = refl
@@ -63,7 +67,8 @@ module _ (F : Filestore) (p : Path) (told : Option Status) where
   unfolding table
   file_creation e = e
 
-  pub directory_creation : Refuses (create action.CreateDirectory Directory p (node_at F p) (parent_is_good F p)) told → Refuses (table F (CreateDirectory p)) told
+  pub directory_creation : Refuses (create action.CreateDirectory Directory p (node_at F p) (parent_is_good F p)) told →
+      Refuses (table F (CreateDirectory p)) told
   unfolding table
   directory_creation e = e
 
@@ -83,28 +88,33 @@ module _ (F : Filestore) (p : Path) (told : Option Status) where
   unfolding table
   directory_denial e = rw e (deny_directory_refuses p (node_at F p) (has_entries F p))
 
-  pub appending : (q : Path) → told ≡ joint_refusal action.AppendFile (AppendFirstAbsent, AppendSecondAbsent) (kind_at F p) (kind_at F q) → Refuses (table F (AppendFile p q)) told
+  pub appending : (q : Path) → told ≡ joint_refusal action.AppendFile (AppendFirstAbsent, AppendSecondAbsent) (kind_at F p) (kind_at F q) →
+      Refuses (table F (AppendFile p q)) told
   unfolding table
   appending q e = rw e (append_refuses p (node_at F p) (node_at F q))
 
-  pub replacement : (q : Path) → told ≡ joint_refusal action.ReplaceFile (ReplaceFirstAbsent, ReplaceSecondAbsent) (kind_at F p) (kind_at F q) → Refuses (table F (ReplaceFile p q)) told
+  pub replacement : (q : Path) → told ≡ joint_refusal action.ReplaceFile (ReplaceFirstAbsent, ReplaceSecondAbsent) (kind_at F p) (kind_at F q) →
+      Refuses (table F (ReplaceFile p q)) told
   unfolding table
   replacement q e = rw e (replace_refuses p (same_path p q) (node_at F p) (node_at F q))
 
 -- ---- creation
 
-pub create_present : (action : Action) (node : Node) (p : Path) (o : Option Node) (good : Bool) → is_some o ≡ true → create action node p o good ≡ refused (NotAllowed action)
+pub create_present : (action : Action) (node : Node) (p : Path) (o : Option Node) (good : Bool) → is_some o ≡ true → create action node p o good
+    ≡ refused (NotAllowed action)
 unfolding create
 create_present action node p None good h = cc
 create_present action node p (Some other) good h = refl
 
-pub create_bad : (action : Action) (node : Node) (p : Path) (o : Option Node) (good : Bool) → good ≡ false → create action node p o good ≡ refused (NotAllowed action)
+pub create_bad : (action : Action) (node : Node) (p : Path) (o : Option Node) (good : Bool) → good ≡ false → create action node p o good
+    ≡ refused (NotAllowed action)
 unfolding create
 create_bad action node p None true h = cc
 create_bad action node p None false h = refl
 create_bad action node p (Some other) good h = refl
 
-pub create_made : (action : Action) (node : Node) (p : Path) (o : Option Node) (good : Bool) → o ≡ None → good ≡ true → create action node p o good ≡ succeeds action (Becomes p (Some node) ∷ []) 1 0 0
+pub create_made : (action : Action) (node : Node) (p : Path) (o : Option Node) (good : Bool) → o ≡ None → good ≡ true → create action node p o good
+    ≡ succeeds action (Becomes p (Some node) ∷ []) 1 0 0
 unfolding create
 create_made action node p None true h k = refl
 create_made action node p None false h k = cc
@@ -116,20 +126,23 @@ pub rename_old_absent : (F : Filestore) (p q : Path) → node_at F p ≡ None �
 unfolding table rename
 rename_old_absent F p q e = ap (λ o. rename p q o (node_at F q) (parent_is_good F q) (is_at_or_below q p) (tree_at F p)) e
 
-rename_onto : (p q : Path) (a b : Option Node) (good below : Bool) (es : List (Path × Node)) → is_some a ≡ true → is_some b ≡ true → rename p q a b good below es ≡ refused RenameNewPresent
+rename_onto : (p q : Path) (a b : Option Node) (good below : Bool) (es : List (Path × Node)) → is_some a ≡ true → is_some b ≡ true →
+    rename p q a b good below es ≡ refused RenameNewPresent
 unfolding rename
 rename_onto p q None b good below es h k = cc
 rename_onto p q (Some node) None good below es h k = cc
 rename_onto p q (Some node) (Some other) good below es h k = refl
 
-rename_bad : (p q : Path) (a b : Option Node) (good below : Bool) (es : List (Path × Node)) → is_some a ≡ true → b ≡ None → good ≡ false → rename p q a b good below es ≡ refused (NotAllowed action.RenameFile)
+rename_bad : (p q : Path) (a b : Option Node) (good below : Bool) (es : List (Path × Node)) → is_some a ≡ true → b ≡ None → good ≡ false →
+    rename p q a b good below es ≡ refused (NotAllowed action.RenameFile)
 unfolding rename
 rename_bad p q None b good below es h k g = cc
 rename_bad p q (Some node) (Some other) good below es h k g = cc
 rename_bad p q (Some node) None true below es h k g = cc
 rename_bad p q (Some node) None false below es h k g = refl
 
-rename_inside : (p q : Path) (a b : Option Node) (good below : Bool) (es : List (Path × Node)) → is_some a ≡ true → b ≡ None → below ≡ true → rename p q a b good below es ≡ refused (NotAllowed action.RenameFile)
+rename_inside : (p q : Path) (a b : Option Node) (good below : Bool) (es : List (Path × Node)) → is_some a ≡ true → b ≡ None → below ≡ true →
+    rename p q a b good below es ≡ refused (NotAllowed action.RenameFile)
 unfolding rename
 rename_inside p q None b good below es h k g = cc
 rename_inside p q (Some node) (Some other) good below es h k g = cc
@@ -137,39 +150,48 @@ rename_inside p q (Some node) None false below es h k g = refl
 rename_inside p q (Some node) None true true es h k g = refl
 rename_inside p q (Some node) None true false es h k g = cc
 
-rename_deep : (p q : Path) (a b : Option Node) (good below : Bool) (es : List (Path × Node)) → is_some a ≡ true → b ≡ None → is_too_deep p q es ≡ true → rename p q a b good below es ≡ refused (NotAllowed action.RenameFile)
+rename_deep : (p q : Path) (a b : Option Node) (good below : Bool) (es : List (Path × Node)) → is_some a ≡ true → b ≡ None → is_too_deep p q es ≡ true →
+    rename p q a b good below es ≡ refused (NotAllowed action.RenameFile)
 unfolding rename
 rename_deep p q None b good below es h k g = cc
 rename_deep p q (Some node) (Some other) good below es h k g = cc
 rename_deep p q (Some node) None false below es h k g = refl
 rename_deep p q (Some node) None true true es h k g = refl
-rename_deep p q (Some node) None true false es h k g = ap (λ deep. if deep then refused (NotAllowed action.RenameFile) else succeeds action.RenameFile (vacated es ++ settled p q es) 0 0 0) g
+rename_deep p q (Some node) None true false es h k g = ap (λ deep. if deep then refused (NotAllowed action.RenameFile)
+    else succeeds action.RenameFile (vacated es ++ settled p q es) 0 0 0) g
 
-rename_moved : (p q : Path) (a b : Option Node) (good below : Bool) (es : List (Path × Node)) → is_some a ≡ true → b ≡ None → good ≡ true → below ≡ false → is_too_deep p q es ≡ false → rename p q a b good below es ≡ succeeds action.RenameFile (vacated es ++ settled p q es) 0 0 0
+rename_moved : (p q : Path) (a b : Option Node) (good below : Bool) (es : List (Path × Node)) → is_some a ≡ true → b ≡ None → good ≡ true → below ≡ false →
+    is_too_deep p q es ≡ false → rename p q a b good below es ≡ succeeds action.RenameFile (vacated es ++ settled p q es) 0 0 0
 unfolding rename
 rename_moved p q None b good below es h k g l d = cc
 rename_moved p q (Some node) (Some other) good below es h k g l d = cc
 rename_moved p q (Some node) None false below es h k g l d = cc
 rename_moved p q (Some node) None true true es h k g l d = cc
-rename_moved p q (Some node) None true false es h k g l d = ap (λ deep. if deep then refused (NotAllowed action.RenameFile) else succeeds action.RenameFile (vacated es ++ settled p q es) 0 0 0) d
+rename_moved p q (Some node) None true false es h k g l d = ap (λ deep. if deep then refused (NotAllowed action.RenameFile)
+    else succeeds action.RenameFile (vacated es ++ settled p q es) 0 0 0) d
 
-pub rename_new_present : (F : Filestore) (p q : Path) → is_some (node_at F p) ≡ true → is_some (node_at F q) ≡ true → table F (RenameFile p q) ≡ refused RenameNewPresent
+pub rename_new_present : (F : Filestore) (p q : Path) → is_some (node_at F p) ≡ true → is_some (node_at F q) ≡ true → table F (RenameFile p q)
+    ≡ refused RenameNewPresent
 unfolding table
 rename_new_present F p q h k = rename_onto p q (node_at F p) (node_at F q) (parent_is_good F q) (is_at_or_below q p) (tree_at F p) h k
 
-pub rename_bad_parent : (F : Filestore) (p q : Path) → is_some (node_at F p) ≡ true → node_at F q ≡ None → parent_is_good F q ≡ false → table F (RenameFile p q) ≡ refused (NotAllowed action.RenameFile)
+pub rename_bad_parent : (F : Filestore) (p q : Path) → is_some (node_at F p) ≡ true → node_at F q ≡ None → parent_is_good F q ≡ false → table F (RenameFile p q)
+    ≡ refused (NotAllowed action.RenameFile)
 unfolding table
 rename_bad_parent F p q h k g = rename_bad p q (node_at F p) (node_at F q) (parent_is_good F q) (is_at_or_below q p) (tree_at F p) h k g
 
-pub rename_into_itself : (F : Filestore) (p q : Path) → is_some (node_at F p) ≡ true → node_at F q ≡ None → is_at_or_below q p ≡ true → table F (RenameFile p q) ≡ refused (NotAllowed action.RenameFile)
+pub rename_into_itself : (F : Filestore) (p q : Path) → is_some (node_at F p) ≡ true → node_at F q ≡ None → is_at_or_below q p ≡ true → table F (RenameFile p q)
+    ≡ refused (NotAllowed action.RenameFile)
 unfolding table
 rename_into_itself F p q h k g = rename_inside p q (node_at F p) (node_at F q) (parent_is_good F q) (is_at_or_below q p) (tree_at F p) h k g
 
-pub rename_too_deep : (F : Filestore) (p q : Path) → is_some (node_at F p) ≡ true → node_at F q ≡ None → is_too_deep p q (tree_at F p) ≡ true → table F (RenameFile p q) ≡ refused (NotAllowed action.RenameFile)
+pub rename_too_deep : (F : Filestore) (p q : Path) → is_some (node_at F p) ≡ true → node_at F q ≡ None → is_too_deep p q (tree_at F p) ≡ true →
+    table F (RenameFile p q) ≡ refused (NotAllowed action.RenameFile)
 unfolding table
 rename_too_deep F p q h k g = rename_deep p q (node_at F p) (node_at F q) (parent_is_good F q) (is_at_or_below q p) (tree_at F p) h k g
 
-pub rename_of_tree : (F : Filestore) (p q : Path) → is_some (node_at F p) ≡ true → node_at F q ≡ None → parent_is_good F q ≡ true → is_at_or_below q p ≡ false → is_too_deep p q (tree_at F p) ≡ false →
+pub rename_of_tree : (F : Filestore) (p q : Path) → is_some (node_at F p) ≡ true → node_at F q ≡ None → parent_is_good F q ≡ true → is_at_or_below q p ≡ false →
+    is_too_deep p q (tree_at F p) ≡ false →
     table F (RenameFile p q) ≡ succeeds action.RenameFile (vacated (tree_at F p) ++ settled p q (tree_at F p)) 0 0 0
 unfolding table
 rename_of_tree F p q h k g l d = rename_moved p q (node_at F p) (node_at F q) (parent_is_good F q) (is_at_or_below q p) (tree_at F p) h k g l d

@@ -1,7 +1,7 @@
--- What the answers of a store say of what stands, and how blocks and depths are counted.
+-- What the answers of a store say of what exists, and how blocks and depths are counted.
 --     there_by, absent_by, there_unless, nothing_by    what a test of the answer of `kind` says of the node
 --     blocks_of-small, blocks_of-twice, blocks_of-mono, blocks_of_both, blocks_of_one    the blocks of one size, and of two together
---     sum_is, too_deep          what `is_too_deep` adds up, and that it tells whether a tree would be too deep
+--     sum_is, too_deep          what `is_too_deep` adds up, and that it says whether a tree would be too deep
 use Rattle.std.proofs.Common.{◌≡◌, ℕ, ◌+◌, ◌-◌, ◌≤◌, Bool, true, false, List, [], ◌∷◌, ◌++◌, Option, Some, None, is_some, not, length, drop, max, nat_lt, ◌||◌, length-append, length-drop, refl, sym, ap, ◌∙◌, arith}
 use Rattle.std.proofs.lemmas.Bool.{false≢true}
 use Rattle.std.proofs.lemmas.Bool.Decides.{nat_tests}
@@ -69,4 +69,5 @@ sum_is to from deepest far b x y e f g h = omega arith
 pub too_deep : (p q : Path) (es : List (Path × Node)) → length q ≤ 8 → is_too_deep p q es ≡ nat_lt 8 (length q + (deepest_of es - length p))
 too_deep p q [] h = grind (arith, nat_tests)
 too_deep p q (e ∷ es) h =
-    ap (λ n. nat_lt 8 n || is_too_deep p q es) (length-rebased p q e.0) ∙ ap (λ b. nat_lt 8 (length q + (length e.0 - length p)) || b) (too_deep p q es h) ∙ sym (deeper (length q) (length e.0) (deepest_of es) (length p))
+    ap (λ n. nat_lt 8 n || is_too_deep p q es) (length-rebased p q e.0) ∙ ap (λ b. nat_lt 8 (length q + (length e.0 - length p)) || b) (too_deep p q es h)
+    ∙ sym (deeper (length q) (length e.0) (deepest_of es) (length p))

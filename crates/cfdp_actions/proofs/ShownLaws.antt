@@ -1,11 +1,11 @@
 -- What entries show: each change of the entries is that change of the paths and nodes that they show.
 --     shown_put, shown_where, shown_relocated    one entry put into its place;  those whose path passes a test;  a tree moved
---     found_is, found_some, found_none           what stands at a path
---     put-put, put-same                          a path put twice;  what stands there put again
+--     found_is, found_some, found_none           what is at a path
+--     put-put, put-same                          a path put twice;  what is there put again
 --     shown_twice                                 one entry put twice
---     found_other, second_octets                  what stands at another path than the one that was put, and its octets
---     stands, put_stands                          that something stands there
---     shown_deep, shown_below                    whether a tree is too deep for another place;  whether anything stands below a path
+--     found_other, second_octets                  what is at another path than the one that was put, and its octets
+--     stands, put_stands                          that something is there
+--     shown_deep, shown_below                    whether a tree is too deep for another place;  whether anything is below a path
 use Rattle.std.proofs.Common.{◌≡◌, ℕ, ◌||◌, Bool, true, false, not, nat_lt, if◌then◌else◌, List, [], ◌∷◌, Option, Some, None, is_some, length, refl, sym, ap, ◌∙◌, Bor, MatchOption, option_copied}
 use Rattle.std.specs.Cmp.{tied_itself}
 use Rattle.std.specs.FinMap.{find, put, is_sorted}
@@ -33,7 +33,8 @@ shown_put k x (e ∷ es) =
     elim (path_cmp k e.0) as (λ o. path_cmp k e.0 ≡ o → shown (put path_cmp k x (e ∷ es)) ≡ put path_cmp k (node_of x) (shown (e ∷ es))) [
       | Less ↦ λ p. ap shown (put-less k x e es p) ∙ sym (put-less k (node_of x) (shown_entry e) (shown es) p)
       | Equal ↦ λ p. ap shown (put-equal k x e es p) ∙ sym (put-equal k (node_of x) (shown_entry e) (shown es) p)
-      | Greater ↦ λ p. ap shown (put-greater k x e es p) ∙ ap (λ ys. shown_entry e ∷ ys) (shown_put k x es) ∙ sym (put-greater k (node_of x) (shown_entry e) (shown es) p)
+      | Greater ↦ λ p. ap shown (put-greater k x e es p) ∙ ap (λ ys. shown_entry e ∷ ys) (shown_put k x es)
+          ∙ sym (put-greater k (node_of x) (shown_entry e) (shown es) p)
     ] refl
 
 pub shown_where : (test : Path → Bool) (es : Entries) → shown (where_key path_cmp test es) ≡ where_key path_cmp test (shown es)
@@ -56,7 +57,8 @@ shown_moved p q [] = refl
 shown_moved p q (e ∷ es) = ap (λ ys. (rebased p q e.0, node_of e.1) ∷ ys) (shown_moved p q es)
 
 pub shown_relocated : (p q : Path) (es : Entries)
-    → shown (maps.puts (maps.rest_in p es) (maps.moved_to p q (maps.tree_in p es))) ≡ maps.puts (maps.rest_in p (shown es)) (maps.moved_to p q (maps.tree_in p (shown es)))
+    → shown (maps.puts (maps.rest_in p es) (maps.moved_to p q (maps.tree_in p es)))
+    ≡ maps.puts (maps.rest_in p (shown es)) (maps.moved_to p q (maps.tree_in p (shown es)))
 shown_relocated p q es =
     shown_puts (maps.rest_in p es) (maps.moved_to p q (maps.tree_in p es))
     ∙ ap (λ ys. maps.puts ys (shown (maps.moved_to p q (maps.tree_in p es)))) (shown_where (λ x. not (is_at_or_below x p)) es)
@@ -70,7 +72,8 @@ put-put k v w (e ∷ es) =
     elim (path_cmp k e.0) as (λ o. path_cmp k e.0 ≡ o → put path_cmp k v (put path_cmp k w (e ∷ es)) ≡ put path_cmp k v (e ∷ es)) [
       | Less ↦ λ p. ap (put path_cmp k v) (put-less k w e es p) ∙ put-equal k v (k, w) (e ∷ es) (tied_itself path_cmp-total k) ∙ sym (put-less k v e es p)
       | Equal ↦ λ p. ap (put path_cmp k v) (put-equal k w e es p) ∙ put-equal k v (e.0, w) es p ∙ sym (put-equal k v e es p)
-      | Greater ↦ λ p. ap (put path_cmp k v) (put-greater k w e es p) ∙ put-greater k v e (put path_cmp k w es) p ∙ ap (λ ys. e ∷ ys) (put-put k v w es) ∙ sym (put-greater k v e es p)
+      | Greater ↦ λ p. ap (put path_cmp k v) (put-greater k w e es p) ∙ put-greater k v e (put path_cmp k w es) p ∙ ap (λ ys. e ∷ ys) (put-put k v w es)
+          ∙ sym (put-greater k v e es p)
     ] refl
 
 other_way : {u v : Node} → Some u ≡ Some v → v ≡ u
@@ -113,14 +116,17 @@ shown_below q (e ∷ es) = ap (λ b. is_below e.0 q || b) (shown_below q es)
 
 pub found_other : (k q : Path) (x : Content) (es : Entries) → same_path q k ≡ false → found (put path_cmp k x es) q ≡ found es q
 found_other k q x es other =
-    ap (find path_cmp q) (shown_put k x es) ∙ find-put path_cmp path_cmp-total q k (node_of x) (shown es) ∙ ap (λ b. if b then Some (node_of x) else found es q) other
+    ap (find path_cmp q) (shown_put k x es) ∙ find-put path_cmp path_cmp-total q k (node_of x) (shown es)
+    ∙ ap (λ b. if b then Some (node_of x) else found es q) other
 
-pub shown_twice : (k : Path) (x w : Content) (es es1 es2 : Entries) → es1 ≡ put path_cmp k w es → es2 ≡ put path_cmp k x es1 → shown es2 ≡ put path_cmp k (node_of x) (shown es)
+pub shown_twice : (k : Path) (x w : Content) (es es1 es2 : Entries) → es1 ≡ put path_cmp k w es → es2 ≡ put path_cmp k x es1 → shown es2
+    ≡ put path_cmp k (node_of x) (shown es)
 shown_twice k x w es es1 es2 first second =
     ap shown second ∙ shown_put k x es1 ∙ ap (put path_cmp k (node_of x)) (ap shown first ∙ shown_put k w es) ∙ put-put k (node_of x) (node_of w) (shown es)
 
 pub same_path-comm : (p q : Path) → same_path p q ≡ same_path q p
-same_path-comm p q = both_ways (same_path p q) (same_path q p) (λ h. (same_path-Decides q p).1 (sym ((same_path-Decides p q).0 h))) (λ h. (same_path-Decides p q).1 (sym ((same_path-Decides q p).0 h)))
+same_path-comm p q = both_ways (same_path p q) (same_path q p) (λ h. (same_path-Decides q p).1 (sym ((same_path-Decides p q).0 h)))
+    (λ h. (same_path-Decides p q).1 (sym ((same_path-Decides q p).0 h)))
   where
     both_ways : (a b : Bool) → (a ≡ true → b ≡ true) → (b ≡ true → a ≡ true) → a ≡ b
     both_ways true b f g = sym (f refl)
@@ -128,10 +134,12 @@ same_path-comm p q = both_ways (same_path p q) (same_path q p) (λ h. (same_path
     both_ways false false f g = refl
 
 -- the octets at q, which may be those of k, at which something else was put
-pub second_octets : (b : Bool) (k q : Path) (w : Content) (es es1 : Entries) (octets : List ℕ) → b ≡ same_path k q → es1 ≡ put path_cmp k w es → octets ≡ octets_in (found es k)
+pub second_octets : (b : Bool) (k q : Path) (w : Content) (es es1 : Entries) (octets : List ℕ) → b ≡ same_path k q → es1 ≡ put path_cmp k w es → octets
+    ≡ octets_in (found es k)
     → (if b then octets else octets_in (found es1 q)) ≡ octets_in (found es q)
 second_octets true k q w es es1 octets e first front = front ∙ ap (λ p. octets_in (found es p)) ((same_path-Decides k q).0 (sym e))
-second_octets false k q w es es1 octets e first front = ap (λ ys. octets_in (found ys q)) first ∙ ap octets_in (found_other k q w es (same_path-comm q k ∙ sym e))
+second_octets false k q w es es1 octets e first front = ap (λ ys. octets_in (found ys q)) first
+    ∙ ap octets_in (found_other k q w es (same_path-comm q k ∙ sym e))
 
 is_some-map : (o : Option Content) → is_some (option_map node_of o) ≡ is_some o
 is_some-map None = refl
@@ -142,7 +150,8 @@ stands k es h = sym (ap is_some (found_is k es) ∙ is_some-map (find path_cmp k
 
 pub put_stands : (k : Path) (x : Content) (es es1 : Entries) → es1 ≡ put path_cmp k x es → is_some (find path_cmp k es1) ≡ true
 put_stands k x es es1 e =
-    ap (λ ys. is_some (find path_cmp k ys)) e ∙ ap is_some (find-put path_cmp path_cmp-total k k x es) ∙ ap (λ b. is_some (if b then Some x else find path_cmp k es)) ((same_path-Decides k k).1 refl)
+    ap (λ ys. is_some (find path_cmp k ys)) e ∙ ap is_some (find-put path_cmp path_cmp-total k k x es)
+    ∙ ap (λ b. is_some (if b then Some x else find path_cmp k es)) ((same_path-Decides k k).1 refl)
 
 pub file_there : (o : Option Node) → is_file o ≡ true → is_some o ≡ true
 file_there None h = cc
@@ -155,18 +164,21 @@ file_is (Some (File octets)) h = refl
 
 -- ---- answers of a look-up
 
-pub kind_answers : (o : Option (Bor Content)) (r : Option Kind) (k : Path) (es : Entries) → MatchOption o (r ≡ None) (λ x. IsSomeAnd r (λ y. y ≡ kind_of (node_of x.now)))
+pub kind_answers : (o : Option (Bor Content)) (r : Option Kind) (k : Path) (es : Entries) →
+    MatchOption o (r ≡ None) (λ x. IsSomeAnd r (λ y. y ≡ kind_of (node_of x.now)))
     → option_copied o ≡ find path_cmp k es → r ≡ kind_in (found es k)
 kind_answers None r k es cases e = cases ∙ sym (ap kind_in (found_none k es e))
 kind_answers (Some x) None k es cases e = absurd cases
 kind_answers (Some x) (Some y) k es cases e = ap Some cases ∙ sym (ap kind_in (found_some k es x.now e))
 
-pub directory_answers : (o : Option (Bor Content)) (r : Bool) (k : Path) (es : Entries) → MatchOption o (r ≡ false) (λ x. r ≡ is_directory (Some (node_of x.now)))
+pub directory_answers : (o : Option (Bor Content)) (r : Bool) (k : Path) (es : Entries) →
+    MatchOption o (r ≡ false) (λ x. r ≡ is_directory (Some (node_of x.now)))
     → option_copied o ≡ find path_cmp k es → r ≡ is_directory (found es k)
 directory_answers None r k es cases e = cases ∙ sym (ap is_directory (found_none k es e))
 directory_answers (Some x) r k es cases e = cases ∙ sym (ap is_directory (found_some k es x.now e))
 
 -- b is whether there is an answer
-pub found_absent : (k : Path) (es : Entries) (o : Option (Bor Content)) (b : Bool) → option_copied o ≡ find path_cmp k es → b ≡ is_some o → b ≡ false → found es k ≡ None
+pub found_absent : (k : Path) (es : Entries) (o : Option (Bor Content)) (b : Bool) → option_copied o ≡ find path_cmp k es → b ≡ is_some o → b ≡ false →
+    found es k ≡ None
 found_absent k es None b e is h = found_none k es e
 found_absent k es (Some x) b e is h = absurd (false≢true (sym h ∙ is))

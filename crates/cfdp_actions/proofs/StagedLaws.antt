@@ -16,7 +16,8 @@ pub octets_of-at : (vs : List (Vec ℕ Global)) (i : ℕ) (v : Vec ℕ Global) �
 octets_of-at vs i v h e = get_or-map (λ (vector : Vec ℕ Global). vector.items) vs i v [] h ∙ ap (λ (vector : Vec ℕ Global). vector.items) (sym e)
 
 -- and is put back with the same octets
-pub octets_of-same : (vs : List (Vec ℕ Global)) (i : ℕ) (v w : Vec ℕ Global) → i < length vs → v ≡ get_or vs i v → w.items ≡ v.items → octets_of (set vs i w) ≡ octets_of vs
+pub octets_of-same : (vs : List (Vec ℕ Global)) (i : ℕ) (v w : Vec ℕ Global) → i < length vs → v ≡ get_or vs i v → w.items ≡ v.items → octets_of (set vs i w)
+    ≡ octets_of vs
 octets_of-same vs i v w h e same =
     octets_of-set vs i w ∙ ap (set (octets_of vs) i) (same ∙ sym (octets_of-at vs i v h e)) ∙ set-get_or (octets_of vs) i []
 

@@ -43,13 +43,15 @@ alike test q x e = ap test (sym (path_antisym q x e))
 
 -- ---- lists in order as maps
 
-pub insert_is : (es : List (Path × Node)) (k : Path) (v : Node) → is_sorted path_cmp es ≡ true → finite.insert (finite.from_sorted {R = path_cmp} es) k v ≡ finite.from_sorted (put path_cmp k v es)
+pub insert_is : (es : List (Path × Node)) (k : Path) (v : Node) → is_sorted path_cmp es ≡ true → finite.insert (finite.from_sorted {R = path_cmp} es) k v
+    ≡ finite.from_sorted (put path_cmp k v es)
 insert_is es k v s =
     let t = T_from_true _ s in
     same_entries_map _ _ (entries-insert path_cmp-total (finite.from_sorted es) k v ∙ ap (put path_cmp k v) (entries-from_sorted path_cmp es t)
     ∙ sym (entries-from_sorted path_cmp (put path_cmp k v es) (is_sorted-put path_cmp path_cmp-total k v es t)))
 
-pub retain_is : (es : List (Path × Node)) (test : Path → Bool) → is_sorted path_cmp es ≡ true → finite.retain_keys (finite.from_sorted {R = path_cmp} es) test ≡ finite.from_sorted (where_key path_cmp test es)
+pub retain_is : (es : List (Path × Node)) (test : Path → Bool) → is_sorted path_cmp es ≡ true → finite.retain_keys (finite.from_sorted {R = path_cmp} es) test
+    ≡ finite.from_sorted (where_key path_cmp test es)
 retain_is es test s =
     let t = T_from_true _ s in
     same_map path_cmp-total path_antisym _ _ (λ q.
@@ -58,7 +60,8 @@ retain_is es test s =
     ∙ sym (find-where_key path_cmp test q (alike test q) es)
     ∙ sym (get-from_sorted path_cmp (where_key path_cmp test es) q (is_sorted-where_key path_cmp test es t)))
 
-pub entries_retained : (es : List (Path × Node)) (test : Path → Bool) → is_sorted path_cmp es ≡ true → finite.entries (finite.retain_keys (finite.from_sorted {R = path_cmp} es) test) ≡ where_key path_cmp test es
+pub entries_retained : (es : List (Path × Node)) (test : Path → Bool) → is_sorted path_cmp es ≡ true →
+    finite.entries (finite.retain_keys (finite.from_sorted {R = path_cmp} es) test) ≡ where_key path_cmp test es
 entries_retained es test s =
     ap finite.entries (retain_is es test s) ∙ entries-from_sorted path_cmp (where_key path_cmp test es) (is_sorted-where_key path_cmp test es (T_from_true _ s))
 
@@ -66,7 +69,8 @@ turned : {A : Type 0} (b : Bool) (x y : A) → (if not b then x else y) ≡ (if 
 turned true x y = refl
 turned false x y = refl
 
-pub remove_is : (es : List (Path × Node)) (k : Path) → is_sorted path_cmp es ≡ true → finite.remove (finite.from_sorted {R = path_cmp} es) k ≡ finite.from_sorted (without k es)
+pub remove_is : (es : List (Path × Node)) (k : Path) → is_sorted path_cmp es ≡ true → finite.remove (finite.from_sorted {R = path_cmp} es) k
+    ≡ finite.from_sorted (without k es)
 remove_is es k s =
     let t = T_from_true _ s in
     let test : Path → Bool = λ x. not (same_path k x) in
@@ -106,7 +110,8 @@ inserts-puts : (es more : List (Path × Node)) → is_sorted path_cmp es ≡ tru
 unfolding inserts
 inserts-puts es [] s = refl
 inserts-puts es (e ∷ more) s =
-    ap (λ m. inserts m more) (insert_is es e.0 e.1 s) ∙ inserts-puts (put path_cmp e.0 e.1 es) more (true_from_T _ (is_sorted-put path_cmp path_cmp-total e.0 e.1 es (T_from_true _ s)))
+    ap (λ m. inserts m more) (insert_is es e.0 e.1 s) ∙ inserts-puts (put path_cmp e.0 e.1 es) more
+    (true_from_T _ (is_sorted-put path_cmp path_cmp-total e.0 e.1 es (T_from_true _ s)))
 
 shadowed : {A : Type 0} (a b : Bool) (x y : A) → (if a then x else if b then x else y) ≡ (if b || a then x else y)
 shadowed true true x y = refl
@@ -114,7 +119,8 @@ shadowed true false x y = refl
 shadowed false true x y = refl
 shadowed false false x y = refl
 
-get-removes : (m : finite.FinMap path_cmp Node) (ts : List (Path × Node)) (q : Path) → finite.get (removes m ts) q ≡ (if list_any (same_path q) (map (λ e. e.0) ts) then None else finite.get m q)
+get-removes : (m : finite.FinMap path_cmp Node) (ts : List (Path × Node)) (q : Path) → finite.get (removes m ts) q
+    ≡ (if list_any (same_path q) (map (λ e. e.0) ts) then None else finite.get m q)
 unfolding removes
 get-removes m [] q = refl
 get-removes m (e ∷ es) q =
@@ -127,14 +133,16 @@ stays true None = refl
 stays true (Some node) = refl
 stays false o = refl
 
-removes-tree : (es : List (Path × Node)) (p : Path) → is_sorted path_cmp es ≡ true → removes (finite.from_sorted es) (tree_in p es) ≡ finite.from_sorted (rest_in p es)
+removes-tree : (es : List (Path × Node)) (p : Path) → is_sorted path_cmp es ≡ true → removes (finite.from_sorted es) (tree_in p es)
+    ≡ finite.from_sorted (rest_in p es)
 removes-tree es p s =
     let t = T_from_true _ s in
     let test : Path → Bool = λ q. is_at_or_below q p in
     let other : Path → Bool = λ q. not (is_at_or_below q p) in
     same_map path_cmp-total path_antisym _ _ (λ q.
     get-removes (finite.from_sorted es) (tree_in p es) q
-    ∙ ap (λ b. if b then None else finite.get (finite.from_sorted {R = path_cmp} es) q) (sym (is_some-find path_cmp q (tree_in p es)) ∙ ap is_some (find-where_key path_cmp test q (alike test q) es))
+    ∙ ap (λ b. if b then None else finite.get (finite.from_sorted {R = path_cmp} es) q) (sym (is_some-find path_cmp q (tree_in p es))
+    ∙ ap is_some (find-where_key path_cmp test q (alike test q) es))
     ∙ ap (λ o. if is_some (if test q then find path_cmp q es else None) then None else o) (get-from_sorted path_cmp es q t)
     ∙ stays (test q) (find path_cmp q es)
     ∙ sym (find-where_key path_cmp other q (alike other q) es)
@@ -171,7 +179,8 @@ some_more n = grind (arith, nat_tests)
 any-where : (es : List (Path × Node)) (p : Path) → not (length (where_key path_cmp (λ q. is_below q p) es) == 0) ≡ list_any (λ e. is_below e.0 p) es
 any-where [] p = refl
 any-where (e ∷ es) p =
-    elim (is_below e.0 p) as (λ b. is_below e.0 p ≡ b → not (length (where_key path_cmp (λ q. is_below q p) (e ∷ es)) == 0) ≡ list_any (λ x. is_below x.0 p) (e ∷ es)) [
+    elim (is_below e.0 p) as (λ b. is_below e.0 p ≡ b → not (length (where_key path_cmp (λ q. is_below q p) (e ∷ es)) == 0)
+    ≡ list_any (λ x. is_below x.0 p) (e ∷ es)) [
       | true ↦ λ h. rw h (some_more (length (where_key path_cmp (λ q. is_below q p) es)))
       | false ↦ λ h. rw h (any-where es p)
     ] refl
@@ -196,12 +205,15 @@ module _ (es : Entries) (staged : List (Vec ℕ Global)) (used capacity : ℕ) (
 
   pub has_entries-shown : (p : Path) → has_entries (store_of es staged capacity).filestore p ≡ any_below p (shown es)
   has_entries-shown p =
-      ap (λ n. not (n == 0)) (finite.len-entries (inside (store_of es staged capacity).filestore p) ∙ ap (λ es. length es) (entries_retained (shown es) (λ q. is_below q p) kept.sorted))
+      ap (λ n. not (n == 0)) (finite.len-entries (inside (store_of es staged capacity).filestore p)
+      ∙ ap (λ es. length es) (entries_retained (shown es) (λ q. is_below q p) kept.sorted))
       ∙ any-where (shown es) p
 
-  pub parent_is_good-shown : (p : Path) → 1 ≤ length (parent p) → 1 ≤ length p → parent_is_good (store_of es staged capacity).filestore p ≡ is_directory (found es (parent p))
+  pub parent_is_good-shown : (p : Path) → 1 ≤ length (parent p) → 1 ≤ length p → parent_is_good (store_of es staged capacity).filestore p
+      ≡ is_directory (found es (parent p))
   parent_is_good-shown p h k =
-      ap (λ b. not b && is_good (store_of es staged capacity).filestore (parent p)) (nonempty p k) ∙ good-by (store_of es staged capacity).filestore es (parent p) (node_at-found (parent p)) h
+      ap (λ b. not b && is_good (store_of es staged capacity).filestore (parent p)) (nonempty p k)
+      ∙ good-by (store_of es staged capacity).filestore es (parent p) (node_at-found (parent p)) h
 
   pub blocks-used : blocks (store_of es staged capacity).filestore ≡ used
   unfolding blocks
@@ -225,12 +237,18 @@ module _ (es : Entries) (staged : List (Vec ℕ Global)) (used capacity : ℕ) (
   -- ---- changes of the entries
 
   module _ (es' : Entries) where
-    pub put_store : (p : Path) (node : Node) → shown es' ≡ put path_cmp p node (shown es) → store_of es' staged capacity ≡ with_changes (store_of es staged capacity) (Becomes p (Some node) ∷ [])
+    pub put_store : (p : Path) (node : Node) → shown es' ≡ put path_cmp p node (shown es) → store_of es' staged capacity
+        ≡ with_changes (store_of es staged capacity) (Becomes p (Some node) ∷ [])
     put_store p node e =
         let nodes : nodes_of es' ≡ finite.insert (nodes_of es) p node = ap finite.from_sorted e ∙ sym (insert_is (shown es) p node kept.sorted) in
-        ap (λ (m : finite.FinMap path_cmp Node). record { filestore = record { nodes = m; staged = octets_of staged }; capacity = capacity; takes_no_memory = false }) nodes
+        ap (λ (m : finite.FinMap path_cmp Node). record {
+          filestore = record { nodes = m; staged = octets_of staged };
+          capacity = capacity;
+          takes_no_memory = false;
+        }) nodes
 
-    pub put_kept : (p : Path) (node : Node) (used' : ℕ) → shown es' ≡ put path_cmp p node (shown es) → used' + weight (found es p) ≡ used + weight (Some node) → used' ≤ capacity → IsKept es' staged used' capacity
+    pub put_kept : (p : Path) (node : Node) (used' : ℕ) → shown es' ≡ put path_cmp p node (shown es) → used' + weight (found es p) ≡ used + weight (Some node) →
+        used' ≤ capacity → IsKept es' staged used' capacity
     put_kept p node used' e count h = record {
       sorted = ordered-put p node (shown es) (shown es') e kept.sorted;
       slots = kept.slots;
@@ -239,10 +257,15 @@ module _ (es : Entries) (staged : List (Vec ℕ Global)) (used capacity : ℕ) (
       small = kept.small;
     }
 
-    pub gone_store : (p : Path) → shown es' ≡ without p (shown es) → store_of es' staged capacity ≡ with_changes (store_of es staged capacity) (Becomes p None ∷ [])
+    pub gone_store : (p : Path) → shown es' ≡ without p (shown es) → store_of es' staged capacity
+        ≡ with_changes (store_of es staged capacity) (Becomes p None ∷ [])
     gone_store p e =
         let nodes : nodes_of es' ≡ finite.remove (nodes_of es) p = ap finite.from_sorted e ∙ sym (remove_is (shown es) p kept.sorted) in
-        ap (λ (m : finite.FinMap path_cmp Node). record { filestore = record { nodes = m; staged = octets_of staged }; capacity = capacity; takes_no_memory = false }) nodes
+        ap (λ (m : finite.FinMap path_cmp Node). record {
+          filestore = record { nodes = m; staged = octets_of staged };
+          capacity = capacity;
+          takes_no_memory = false;
+        }) nodes
 
     pub gone_kept : (p : Path) (used' : ℕ) → shown es' ≡ without p (shown es) → used' + weight (found es p) ≡ used → IsKept es' staged used' capacity
     gone_kept p used' e count = record {
@@ -254,16 +277,24 @@ module _ (es : Entries) (staged : List (Vec ℕ Global)) (used capacity : ℕ) (
     }
 
     pub moved_store : (p q : Path) → shown es' ≡ puts (rest_in p (shown es)) (moved_to p q (tree_in p (shown es)))
-        → store_of es' staged capacity ≡ with_changes (store_of es staged capacity) (vacated (tree_at (store_of es staged capacity).filestore p) ++ settled p q (tree_at (store_of es staged capacity).filestore p))
+        → store_of es' staged capacity ≡ with_changes (store_of es staged capacity) (vacated (tree_at (store_of es staged capacity).filestore p)
+        ++ settled p q (tree_at (store_of es staged capacity).filestore p))
     moved_store p q e =
         let F : Filestore = (store_of es staged capacity).filestore in
         let ts : List (Path × Node) = tree_in p (shown es) in
-        let rest : is_sorted path_cmp (rest_in p (shown es)) ≡ true = ordered-where (λ x. not (is_at_or_below x p)) (shown es) (rest_in p (shown es)) refl kept.sorted in
+        let rest : is_sorted path_cmp (rest_in p (shown es)) ≡ true = ordered-where (λ x. not (is_at_or_below x p)) (shown es)
+        (rest_in p (shown es)) refl kept.sorted in
         let nodes : nodes_of es' ≡ inserts (removes (nodes_of es) ts) (moved_to p q ts) =
-        ap finite.from_sorted e ∙ sym (ap (λ m. inserts m (moved_to p q ts)) (removes-tree (shown es) p kept.sorted) ∙ inserts-puts (rest_in p (shown es)) (moved_to p q ts) rest) in
+        ap finite.from_sorted e ∙ sym (ap (λ m. inserts m (moved_to p q ts)) (removes-tree (shown es) p kept.sorted)
+        ∙ inserts-puts (rest_in p (shown es)) (moved_to p q ts) rest) in
         let gone : after F (vacated ts ++ settled p q ts) ≡ record F { nodes = inserts (removes F.nodes ts) (moved_to p q ts) } =
-        after-append F (vacated ts) (settled p q ts) ∙ ap (λ (G : Filestore). after G (settled p q ts)) (after-vacated F ts) ∙ after-settled (record F { nodes = removes F.nodes ts }) p q ts in
-        ap (λ (m : finite.FinMap path_cmp Node). record { filestore = record { nodes = m; staged = octets_of staged }; capacity = capacity; takes_no_memory = false }) nodes
+        after-append F (vacated ts) (settled p q ts) ∙ ap (λ (G : Filestore). after G (settled p q ts)) (after-vacated F ts)
+        ∙ after-settled (record F { nodes = removes F.nodes ts }) p q ts in
+        ap (λ (m : finite.FinMap path_cmp Node). record {
+          filestore = record { nodes = m; staged = octets_of staged };
+          capacity = capacity;
+          takes_no_memory = false;
+        }) nodes
         ∙ sym (ap (λ (G : Filestore). record { filestore = G; capacity = capacity; takes_no_memory = false }) gone)
         ∙ ap (λ (xs : List (Path × Node)). with_changes (store_of es staged capacity) (vacated xs ++ settled p q xs)) (sym (tree_at-shown p))
 
@@ -278,7 +309,8 @@ module _ (es : Entries) (staged : List (Vec ℕ Global)) (used capacity : ℕ) (
       moved_kept used' count = record {
         sorted =
             ap (is_sorted path_cmp) e
-            ∙ ordered-puts (rest_in p (shown es)) (moved_to p q (tree_in p (shown es))) (ordered-where (λ x. not (is_at_or_below x p)) (shown es) (rest_in p (shown es)) refl kept.sorted);
+            ∙ ordered-puts (rest_in p (shown es)) (moved_to p q (tree_in p (shown es)))
+            (ordered-where (λ x. not (is_at_or_below x p)) (shown es) (rest_in p (shown es)) refl kept.sorted);
         slots = kept.slots;
         counted = count;
         fits = omega (arith, count, moved_fits);
@@ -289,15 +321,26 @@ module _ (es : Entries) (staged : List (Vec ℕ Global)) (used capacity : ℕ) (
 
   module _ (staged' : List (Vec ℕ Global)) (slot : ℕ) (octets : List ℕ) (changed_list : octets_of staged' ≡ set (octets_of staged) slot octets) where
     pub staged_store : store_of es staged' capacity ≡ with_changes (store_of es staged capacity) (Stages slot octets ∷ [])
-    staged_store = ap (λ (lists : List (List ℕ)). record { filestore = record { nodes = nodes_of es; staged = lists }; capacity = capacity; takes_no_memory = false }) changed_list
+    staged_store = ap (λ (lists : List (List ℕ)). record {
+      filestore = record { nodes = nodes_of es; staged = lists };
+      capacity = capacity;
+      takes_no_memory = false;
+    }) changed_list
 
-    pub staged_kept : (used' : ℕ) → length staged' ≡ length staged → slot < 64 → used' + blocks_of (length (get_or (octets_of staged) slot [])) ≡ used + blocks_of (length octets) → used' ≤ capacity → IsKept es staged' used' capacity
+    pub staged_kept : (used' : ℕ) → length staged' ≡ length staged → slot < 64 → used' + blocks_of (length (get_or (octets_of staged) slot [])) ≡ used
+        + blocks_of (length octets) → used' ≤ capacity → IsKept es staged' used' capacity
     staged_kept used' e s count h =
         let within : slot < length (octets_of staged) = omega (arith, s, kept.slots, length-map staged (λ (vector : Vec ℕ Global). vector.items)) in
         record {
           sorted = kept.sorted;
           slots = e ∙ kept.slots;
-          counted = omega (arith, count, kept.counted, sum_by-set (λ (list : List ℕ). blocks_of (length list)) (octets_of staged) slot octets [] within, ap (λ (lists : List (List ℕ)). sum_by (λ (list : List ℕ). blocks_of (length list)) lists) changed_list);
+          counted = omega (
+            arith,
+            count,
+            kept.counted,
+            sum_by-set (λ (list : List ℕ). blocks_of (length list)) (octets_of staged) slot octets [] within,
+            ap (λ (lists : List (List ℕ)). sum_by (λ (list : List ℕ). blocks_of (length list)) lists) changed_list,
+          );
           fits = h;
           small = kept.small;
         }
@@ -307,7 +350,8 @@ empty_nodes = finite.empty_of_len (nodes_of []) (finite.len-entries (nodes_of []
 
 pub empty_lists : (staged : List (Vec ℕ Global)) (n : ℕ) → octets_of staged ≡ replicate n [] → lists_blocks staged ≡ 0
 empty_lists staged n e =
-    ap (λ (lists : List (List ℕ)). sum_by (λ (list : List ℕ). blocks_of (length list)) lists) e ∙ sum_by-replicate (λ (list : List ℕ). blocks_of (length list)) n [] ∙ ap (λ k. n * k) no_blocks ∙ mul-zero n
+    ap (λ (lists : List (List ℕ)). sum_by (λ (list : List ℕ). blocks_of (length list)) lists) e
+    ∙ sum_by-replicate (λ (list : List ℕ). blocks_of (length list)) n [] ∙ ap (λ k. n * k) no_blocks ∙ mul-zero n
 
 file-weight : (o : Option Node) → is_file o ≡ true → weight o ≡ 1 + blocks_of (length (octets_in o))
 file-weight None h = cc
@@ -320,7 +364,7 @@ root_is_good s [] h = absurd (omega arith)
 root_is_good s (n ∷ []) h = refl
 root_is_good s (n ∷ m ∷ p) h = absurd (omega arith)
 
--- what stands there and is no directory
+-- what is there and is no directory
 no_directory : (o : Option Node) (node : Node) → o ≡ Some node → is_directory o ≡ false → weight o ≡ 1 + blocks_of (length (octets_in o))
 no_directory None node e h = cc
 no_directory (Some Directory) node e h = absurd (true≢false h)
@@ -328,7 +372,8 @@ no_directory (Some (File octets)) node e h = refl
 
 -- ---- the same of a store that is seen so
 
-module _ (es : Entries) (staged : List (Vec ℕ Global)) (used capacity : ℕ) (kept : IsKept es staged used capacity) (now : Store) (view : store_of es staged capacity ≡ now) where
+module _ (es : Entries) (staged : List (Vec ℕ Global)) (used capacity : ℕ) (kept : IsKept es staged used capacity) (now : Store)
+    (view : store_of es staged capacity ≡ now) where
   pub seen_node : (p : Path) → node_at now.filestore p ≡ found es p
   seen_node p = ap (λ (s : Store). node_at s.filestore p) (sym view) ∙ node_at-found es staged used capacity kept p
 
@@ -345,7 +390,8 @@ module _ (es : Entries) (staged : List (Vec ℕ Global)) (used capacity : ℕ) (
   seen_parent p depth long some =
       let above : parent p ≡ take depth p = parent-take p ∙ ap (λ n. take n p) (omega (arith, long)) in
       let longer : length (parent p) ≡ depth = ap (λ (q : Path). length q) above ∙ omega (arith, long, length-take depth p) in
-      ap (λ (s : Store). parent_is_good s.filestore p) (sym view) ∙ parent_is_good-shown es staged used capacity kept p (omega (arith, longer, some)) (omega (arith, long)) ∙ ap (λ q. is_directory (found es q)) above
+      ap (λ (s : Store). parent_is_good s.filestore p) (sym view) ∙ parent_is_good-shown es staged used capacity kept p (omega (arith, longer, some))
+      (omega (arith, long)) ∙ ap (λ q. is_directory (found es q)) above
 
   pub seen_staged : (slot : ℕ) → staged_in now.filestore slot ≡ get_or (octets_of staged) slot []
   seen_staged slot = ap (λ (s : Store). staged_in s.filestore slot) (sym view)
@@ -362,17 +408,22 @@ module _ (es : Entries) (staged : List (Vec ℕ Global)) (used capacity : ℕ) (
   pub seen_free : free_blocks now + used ≡ capacity
   seen_free = omega (arith, seen_blocks, seen_capacity, kept.fits)
 
-  pub seen_put : (es' : Entries) (p : Path) (node : Node) → shown es' ≡ put path_cmp p node (shown es) → store_of es' staged capacity ≡ with_changes now (Becomes p (Some node) ∷ [])
+  pub seen_put : (es' : Entries) (p : Path) (node : Node) → shown es' ≡ put path_cmp p node (shown es) → store_of es' staged capacity
+      ≡ with_changes now (Becomes p (Some node) ∷ [])
   seen_put es' p node e = put_store es staged used capacity kept es' p node e ∙ ap (λ (s : Store). with_changes s (Becomes p (Some node) ∷ [])) view
 
   pub seen_gone : (es' : Entries) (p : Path) → shown es' ≡ without p (shown es) → store_of es' staged capacity ≡ with_changes now (Becomes p None ∷ [])
   seen_gone es' p e = gone_store es staged used capacity kept es' p e ∙ ap (λ (s : Store). with_changes s (Becomes p None ∷ [])) view
 
-  pub seen_moved : (es' : Entries) (p q : Path) → shown es' ≡ puts (rest_in p (shown es)) (moved_to p q (tree_in p (shown es))) → store_of es' staged capacity ≡ with_changes now (vacated (tree_at now.filestore p) ++ settled p q (tree_at now.filestore p))
-  seen_moved es' p q e = moved_store es staged used capacity kept es' p q e ∙ ap (λ (s : Store). with_changes s (vacated (tree_at s.filestore p) ++ settled p q (tree_at s.filestore p))) view
+  pub seen_moved : (es' : Entries) (p q : Path) → shown es' ≡ puts (rest_in p (shown es)) (moved_to p q (tree_in p (shown es))) → store_of es' staged capacity
+      ≡ with_changes now (vacated (tree_at now.filestore p) ++ settled p q (tree_at now.filestore p))
+  seen_moved es' p q e = moved_store es staged used capacity kept es' p q e
+      ∙ ap (λ (s : Store). with_changes s (vacated (tree_at s.filestore p) ++ settled p q (tree_at s.filestore p))) view
 
-  pub seen_list : (staged' : List (Vec ℕ Global)) (slot : ℕ) (octets : List ℕ) → octets_of staged' ≡ set (octets_of staged) slot octets → store_of es staged' capacity ≡ with_changes now (Stages slot octets ∷ [])
-  seen_list staged' slot octets e = staged_store es staged used capacity kept staged' slot octets e ∙ ap (λ (s : Store). with_changes s (Stages slot octets ∷ [])) view
+  pub seen_list : (staged' : List (Vec ℕ Global)) (slot : ℕ) (octets : List ℕ) → octets_of staged' ≡ set (octets_of staged) slot octets →
+      store_of es staged' capacity ≡ with_changes now (Stages slot octets ∷ [])
+  seen_list staged' slot octets e = staged_store es staged used capacity kept staged' slot octets e
+      ∙ ap (λ (s : Store). with_changes s (Stages slot octets ∷ [])) view
 
   -- ---- what changes need
 
@@ -385,29 +436,38 @@ module _ (es : Entries) (staged : List (Vec ℕ Global)) (used capacity : ℕ) (
   pub weight_there : (p : Path) → is_file (node_at now.filestore p) ≡ true → weight (found es p) ≡ 1 + blocks_of (length (octets_in (found es p)))
   weight_there p h = file-weight (found es p) (seen_file p h)
 
-  pub weight_unless : (p : Path) (node : Node) → found es p ≡ Some node → is_directory (node_at now.filestore p) ≡ false → weight (found es p) ≡ 1 + blocks_of (length (octets_in (found es p)))
+  pub weight_unless : (p : Path) (node : Node) → found es p ≡ Some node → is_directory (node_at now.filestore p) ≡ false → weight (found es p) ≡ 1
+      + blocks_of (length (octets_in (found es p)))
   weight_unless p node e h = no_directory (found es p) node e (sym (ap is_directory (seen_node p)) ∙ h)
 
-  -- one block more, at a path at which nothing stood
-  pub put_absent_kept : (es' : Entries) (p : Path) (node : Node) → shown es' ≡ put path_cmp p node (shown es) → node_at now.filestore p ≡ None → 1 ≤ free_blocks now → weight (Some node) ≡ 1 → IsKept es' staged (used + 1) capacity
+  -- one block more, at a path at which nothing was there
+  pub put_absent_kept : (es' : Entries) (p : Path) (node : Node) → shown es' ≡ put path_cmp p node (shown es) → node_at now.filestore p ≡ None →
+      1 ≤ free_blocks now → weight (Some node) ≡ 1 → IsKept es' staged (used + 1) capacity
   put_absent_kept es' p node e absent room one =
-      put_kept es staged used capacity kept es' p node (used + 1) e (omega (arith, ap weight (sym (seen_node p) ∙ absent), one)) (omega (arith, seen_free, room))
+      put_kept es staged used capacity kept es' p node (used + 1) e (omega (arith, ap weight (sym (seen_node p) ∙ absent), one))
+      (omega (arith, seen_free, room))
 
   -- an empty slot, and its list as a file
-  module _ (es' : Entries) (staged' : List (Vec ℕ Global)) (slot : ℕ) (p : Path) (octets : List ℕ) (emptied : octets_of staged' ≡ set (octets_of staged) slot []) (slots : length staged' ≡ length staged) (within : slot < 64) (file : shown es' ≡ put path_cmp p (File octets) (shown es)) where
+  module _ (es' : Entries) (staged' : List (Vec ℕ Global)) (slot : ℕ) (p : Path) (octets : List ℕ) (emptied : octets_of staged'
+      ≡ set (octets_of staged) slot []) (slots : length staged' ≡ length staged) (within : slot < 64) (file : shown es'
+      ≡ put path_cmp p (File octets) (shown es)) where
     left : ℕ
     left = used - blocks_of (length (get_or (octets_of staged) slot []))
 
     emptied_kept : IsKept es staged' left capacity
     unfolding left
     emptied_kept =
-        staged_kept es staged used capacity kept staged' slot [] emptied left slots within (omega (arith, no_blocks, list_small es staged used capacity kept slot)) (omega (arith, kept.fits))
+        staged_kept es staged used capacity kept staged' slot [] emptied left slots within
+        (omega (arith, no_blocks, list_small es staged used capacity kept slot)) (omega (arith, kept.fits))
 
     pub installed_store : store_of es' staged' capacity ≡ with_changes now (Stages slot [] ∷ Becomes p (Some (File octets)) ∷ [])
     installed_store =
-        put_store es staged' left capacity emptied_kept es' p (File octets) file ∙ ap (λ (s : Store). with_changes s (Becomes p (Some (File octets)) ∷ [])) (seen_list staged' slot [] emptied)
+        put_store es staged' left capacity emptied_kept es' p (File octets) file
+        ∙ ap (λ (s : Store). with_changes s (Becomes p (Some (File octets)) ∷ [])) (seen_list staged' slot [] emptied)
 
-    pub installed_kept : (used' : ℕ) → octets ≡ get_or (octets_of staged) slot [] → used' + weight (found es p) ≡ used + 1 → used' ≤ capacity → IsKept es' staged' used' capacity
+    pub installed_kept : (used' : ℕ) → octets ≡ get_or (octets_of staged) slot [] → used' + weight (found es p) ≡ used + 1 → used' ≤ capacity →
+        IsKept es' staged' used' capacity
     unfolding left
     installed_kept used' same count h =
-        put_kept es staged' left capacity emptied_kept es' p (File octets) used' file (omega (arith, count, ap (λ (list : List ℕ). blocks_of (length list)) same, list_small es staged used capacity kept slot)) h
+        put_kept es staged' left capacity emptied_kept es' p (File octets) used' file
+        (omega (arith, count, ap (λ (list : List ℕ). blocks_of (length list)) same, list_small es staged used capacity kept slot)) h

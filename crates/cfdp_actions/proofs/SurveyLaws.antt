@@ -10,15 +10,19 @@ use Rattle.cfdp_actions.specs.Filestore.{weight, weights, blocks_of}
 use Rattle.cfdp_actions.specs.Listed.{Entries, node_of, shown, octets_of}
 use Rattle.cfdp_actions.specs.declared.content.Content.{Content}
 
-pub weights_next : (ls : Entries) (i : ℕ) (x : Path × Content) → i < length ls → x ≡ get_or ls i x → weights (shown (drop i ls)) ≡ weight (Some (node_of x.1)) + weights (shown (drop (i + 1) ls))
-weights_next ls i x h e = at_drop_more (λ ys. weights (shown ys)) ls i x h ∙ ap (λ (y : Path × Content). weight (Some (node_of y.1)) + weights (shown (drop (i + 1) ls))) (sym e)
+pub weights_next : (ls : Entries) (i : ℕ) (x : Path × Content) → i < length ls → x ≡ get_or ls i x → weights (shown (drop i ls)) ≡ weight (Some (node_of x.1))
+    + weights (shown (drop (i + 1) ls))
+weights_next ls i x h e = at_drop_more (λ ys. weights (shown ys)) ls i x h
+    ∙ ap (λ (y : Path × Content). weight (Some (node_of y.1)) + weights (shown (drop (i + 1) ls))) (sym e)
 
 abbrev pub lists_blocks : List (Vec ℕ Global) → ℕ
 lists_blocks vs = sum_by (λ octets. blocks_of (length octets)) (octets_of vs)
 
-pub lists_next : (vs : List (Vec ℕ Global)) (i : ℕ) (v : Vec ℕ Global) → i < length vs → v ≡ get_or vs i v → lists_blocks (drop i vs) ≡ blocks_of (length v.items) + lists_blocks (drop (i + 1) vs)
+pub lists_next : (vs : List (Vec ℕ Global)) (i : ℕ) (v : Vec ℕ Global) → i < length vs → v ≡ get_or vs i v → lists_blocks (drop i vs)
+    ≡ blocks_of (length v.items) + lists_blocks (drop (i + 1) vs)
 lists_next vs i v h e =
-    at_drop_more lists_blocks vs i v h ∙ ap (λ y. lists_blocks (y ∷ drop (i + 1) vs)) (sym e) ∙ sum_by-cons (λ octets. blocks_of (length octets)) v.items (octets_of (drop (i + 1) vs))
+    at_drop_more lists_blocks vs i v h ∙ ap (λ y. lists_blocks (y ∷ drop (i + 1) vs)) (sym e)
+    ∙ sum_by-cons (λ octets. blocks_of (length octets)) v.items (octets_of (drop (i + 1) vs))
 
 pub blocks_of-bound : (n : ℕ) → blocks_of n ≤ 65536 → n ≤ 7864320
 unfolding blocks_of

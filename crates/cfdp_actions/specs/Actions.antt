@@ -1,10 +1,11 @@
--- The action table: what each filestore request does to the filestore, and how it ends (CCSDS 727.0-B-5 §4.9, with the
--- status codes of §5.4.2). Also the install of a delivered file, and the prefixes that nothing may change.
+-- The action table: what each filestore request does to the filestore, and how it ends (CCSDS 727.0-B-5, filestore
+-- procedures, with the status codes of §5.4.2). Also the install of a delivered file, and the prefixes that nothing may
+-- change.
 --     Request, Item             the nine actions with their paths;  an item is the install or a request
 --     action_in, first_in, second_in, request_of    a request's parts, and the request with these parts
 --     Answer, succeeded         a request's status, or whether the file was installed;  whether it went well
 --     Outcome, ticks            the answer, what changes, and the blocks taken, given back and moved;  their sum
---     create .. deny_directory, install    one row each, with unlimited room, by what stands at the paths that it names
+--     create .. deny_directory, install    one row each, with unlimited room, by what is at the paths that it names
 --     table F request           the row of a request;  free_row F slot item: of an item that stages in the slot
 --     is_protected, bars, is_barred    at or below a prefix;  what may not be changed
 --     row prefixes F slot item  the row, being barred coming first
@@ -106,9 +107,15 @@ abbrev pub refused : Status → Outcome
 refused status = unchanged (Performed status)
 
 abbrev pub succeeds : Action → List Change → ℕ → ℕ → ℕ → Outcome
-succeeds action changes taken given moved = record { answer = Performed (Successful action); changes = changes; taken = taken; given = given; moved = moved }
+succeeds action changes taken given moved = record {
+  answer = Performed (Successful action);
+  changes = changes;
+  taken = taken;
+  given = given;
+  moved = moved;
+}
 
--- an empty node at p, where nothing stands and the parent is good
+-- an empty node at p, where nothing exists and the parent is good
 unfoldable pub create : Action → Node → Path → Option Node → Bool → Outcome
 create action node p (Some _) good = refused (NotAllowed action)
 create action node p None false = refused (NotAllowed action)
@@ -128,12 +135,12 @@ abbrev pub is_too_deep : Path → Path → List (Path × Node) → Bool
 is_too_deep p q [] = false
 is_too_deep p q (e ∷ es) = nat_lt 8 (length (rebased p q e.0)) || is_too_deep p q es
 
--- nothing stands at the tree's paths any more
+-- nothing is at the tree's paths any more
 abbrev pub vacated : List (Path × Node) → List Change
 vacated [] = []
 vacated (e ∷ es) = Becomes e.0 None ∷ vacated es
 
--- each p/r stands at q/r
+-- each p/r is at q/r
 abbrev pub settled : Path → Path → List (Path × Node) → List Change
 settled p q [] = []
 settled p q (e ∷ es) = Becomes (rebased p q e.0) (Some e.1) ∷ settled p q es
@@ -155,7 +162,8 @@ append p (Some a) None = refused AppendSecondAbsent
 append p (Some Directory) (Some b) = refused (NotAllowed action.AppendFile)
 append p (Some (File xs)) (Some Directory) = refused (NotAllowed action.AppendFile)
 append p (Some (File xs)) (Some (File ys)) =
-    succeeds action.AppendFile (Becomes p (Some (File (xs ++ ys))) ∷ []) (blocks_of (length xs + length ys) - blocks_of (length xs)) 0 (blocks_of (length ys))
+    succeeds action.AppendFile (Becomes p (Some (File (xs ++ ys))) ∷ [])
+    (blocks_of (length xs + length ys) - blocks_of (length xs)) 0 (blocks_of (length ys))
 
 -- p has q's octets; nothing happens where both names are one
 unfoldable pub replace : Path → Bool → Option Node → Option Node → Outcome
@@ -165,7 +173,8 @@ replace p same (Some Directory) (Some b) = refused (NotAllowed action.ReplaceFil
 replace p same (Some (File xs)) (Some Directory) = refused (NotAllowed action.ReplaceFile)
 replace p true (Some (File xs)) (Some (File ys)) = succeeds action.ReplaceFile [] 0 0 0
 replace p false (Some (File xs)) (Some (File ys)) =
-    succeeds action.ReplaceFile (Becomes p (Some (File ys)) ∷ []) (blocks_of (length ys)) (blocks_of (length xs)) (blocks_of (length ys))
+    succeeds action.ReplaceFile (Becomes p (Some (File ys)) ∷ []) (blocks_of (length ys)) (blocks_of (length xs))
+    (blocks_of (length ys))
 
 unfoldable pub remove_directory : Path → Option Node → Bool → Outcome
 remove_directory p None entries = refused RemoveAbsent
@@ -188,7 +197,13 @@ deny_directory p (Some Directory) false = gone action.DenyDirectory p (Some Dire
 -- the staged list becomes p's contents, and the slot is empty
 abbrev pub installs : ℕ → Path → List ℕ → ℕ → ℕ → Outcome
 installs slot p octets taken given =
-    record { answer = Installed; changes = Stages slot [] ∷ Becomes p (Some (File octets)) ∷ []; taken = taken; given = given; moved = 0 }
+    record {
+      answer = Installed;
+      changes = Stages slot [] ∷ Becomes p (Some (File octets)) ∷ [];
+      taken = taken;
+      given = given;
+      moved = 0;
+    }
 
 unfoldable pub install : ℕ → Path → List ℕ → Option Node → Bool → Outcome
 install slot p octets None false = unchanged NotInstalled
@@ -197,11 +212,12 @@ install slot p octets (Some Directory) true = unchanged NotInstalled
 install slot p octets None true = installs slot p octets 1 0
 install slot p octets (Some (File old)) true = installs slot p octets 0 (blocks_of (length old))
 
--- the action table, with unlimited room: each row by what stands at the paths that it names
+-- the action table, with unlimited room: each row by what is at the paths that it names
 unfoldable pub table : Filestore → Request → Outcome
 table F (CreateFile p) = create action.CreateFile (File []) p (node_at F p) (parent_is_good F p)
 table F (DeleteFile p) = delete_file p (node_at F p)
-table F (RenameFile p q) = rename p q (node_at F p) (node_at F q) (parent_is_good F q) (is_at_or_below q p) (tree_at F p)
+table F (RenameFile p q) = rename p q (node_at F p) (node_at F q) (parent_is_good F q) (is_at_or_below q p)
+    (tree_at F p)
 table F (AppendFile p q) = append p (node_at F p) (node_at F q)
 table F (ReplaceFile p q) = replace p (same_path p q) (node_at F p) (node_at F q)
 table F (CreateDirectory p) = create action.CreateDirectory Directory p (node_at F p) (parent_is_good F p)

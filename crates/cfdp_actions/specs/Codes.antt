@@ -1,4 +1,4 @@
--- How a store is told apart from another, as the value of a type: no more than its parts.
+-- How a store is distinguished from another, as the value of a type: no more than its parts.
 --     node_code, store_code
 use Rattle.std.specs.Prelude.{◌≡◌, ℕ, Bool, List, Option, Some, None, refl}
 use Rattle.std.specs.Coded.{Coded, code_by, coded×, coded_list, coded_option, coded_ℕ, coded_bool}
@@ -27,7 +27,8 @@ StoreParts = (finite.FinMap path_cmp Node × List (List ℕ)) × (ℕ × Bool)
 
 abbrev pub store_code : Coded Store
 store_code =
-    code_by StoreParts (coded× (coded× (finite.code (coded_list (coded_list coded_ℕ)) node_code) (coded_list (coded_list coded_ℕ))) (coded× coded_ℕ coded_bool))
+    code_by StoreParts (coded× (coded× (finite.code (coded_list (coded_list coded_ℕ)) node_code)
+    (coded_list (coded_list coded_ℕ))) (coded× coded_ℕ coded_bool))
     (λ s. ((s.filestore.nodes, s.filestore.staged), (s.capacity, s.takes_no_memory)))
     (λ p. record { filestore = record { nodes = p.0.0; staged = p.0.1 }; capacity = p.1.0; takes_no_memory = p.1.1 })
     (λ _. refl)

@@ -1,17 +1,20 @@
--- The filestore that filestore requests work on (CCSDS 727.0-B-5 §4.9): what stands at each path and what is staged
--- in each of the 64 slots, and the blocks that it takes.
---     Node, Filestore             a directory or a file with its octets;  a finite map from paths to nodes, and the staged lists
---     node_at F p, staged_in F s  what stands at a path;  what is staged in a slot
---     empty_filestore             nothing stands, nothing is staged
+-- The filestore that filestore requests work on (CCSDS 727.0-B-5, filestore procedures): what is at each path and
+-- what is staged in each of the 64 slots, and the blocks that it takes.
+--     Node, Filestore             a directory or a file with its octets;  a finite map from paths to nodes, and the
+--                                 staged lists
+--     node_at F p, staged_in F s  what is at a path;  what is staged in a slot
+--     empty_filestore             nothing exists, nothing is staged
 --     blocks_of n                 the blocks of n octets
---     weight, weights, blocks     the blocks of what stands at a path;  of some entries;  of the whole filestore
---     Change, changed, after      what stands at a path, or is staged in a slot, from now on;  one change, and several in turn
---     inside F p, has_entries     what stands strictly below p;  whether anything does
---     is_directory, is_file       of what stands at a path
+--     weight, weights, blocks     the blocks of what is at a path;  of some entries;  of the whole filestore
+--     Change, changed, after      what is at a path, or is staged in a slot, from now on;  one change, and several
+--                                 in turn
+--     inside F p, has_entries     what is strictly below p;  whether anything is there
+--     is_directory, is_file       of what is at a path
 --     octets_in, octets_at        the octets of a file, none where there is no file
 --     is_good, parent_is_good     whether a path, or its parent, is the root or a directory
 --     IsRooted                    each path's parent is the root or a directory
---     tree_at F p, deepest_of     p and all that stands below it, in order;  the names of the longest path of some entries
+--     tree_at F p, deepest_of     p and all that is below it, in order;  the names of the longest path of some
+--                                 entries
 use Rattle.std.specs.Prelude.{ℕ, ◌+◌, ◌/◌, Bool, true, false, not, ◌&&◌, ◌==◌, IsTrue, IsSome, max, List, [], ◌∷◌, Option, Some, None, length, sum_by, slice_index_or, slice_set, replicate}
 use Rattle.std.specs.FinMap as finite
 use Rattle.cfdp_paths.specs.Paths.{Path, path_cmp, is_at_or_below, is_below, parent}
@@ -30,7 +33,7 @@ node_at F p = finite.get F.nodes p
 abbrev pub staged_in : Filestore → ℕ → List ℕ
 staged_in F slot = slice_index_or F.staged slot []
 
--- nothing stands, nothing is staged in any of the 64 slots
+-- nothing exists, nothing is staged in any of the 64 slots
 abbrev pub empty_filestore : Filestore
 empty_filestore = record { nodes = finite.empty; staged = replicate 64 [] }
 
@@ -49,11 +52,11 @@ abbrev pub weights : List (Path × Node) → ℕ
 weights [] = 0
 weights (e ∷ es) = weight (Some e.1) + weights es
 
--- of what stands, and of the staged lists
+-- of what exists, and of the staged lists
 unfoldable pub blocks : Filestore → ℕ
 blocks F = weights (finite.entries F.nodes) + sum_by (λ octets. blocks_of (length octets)) F.staged
 
--- one change: what stands at a path (None: nothing) or is staged in a slot from now on
+-- one change: what is at a path (None: nothing) or is staged in a slot from now on
 pub data Change : Type 0 where
   Becomes : Path → Option Node → Change
   Stages : ℕ → List ℕ → Change
@@ -71,7 +74,7 @@ abbrev pub after : Filestore → List Change → Filestore
 after F [] = F
 after F (c ∷ cs) = after (changed F c) cs
 
--- what stands strictly below p
+-- what is strictly below p
 abbrev pub inside : Filestore → Path → finite.FinMap path_cmp Node
 inside F p = finite.retain_keys F.nodes (λ q. is_below q p)
 
@@ -113,7 +116,7 @@ parent_is_good F p = not (is_root p) && is_good F (parent p)
 abbrev pub IsRooted : Filestore → Type 0
 IsRooted F = (p : Path) → IsSome (node_at F p) → IsTrue (parent_is_good F p)
 
--- p and all that stands below it, in order
+-- p and all that is below it, in order
 abbrev pub tree_at : Filestore → Path → List (Path × Node)
 tree_at F p = finite.entries (finite.retain_keys F.nodes (λ q. is_at_or_below q p))
 

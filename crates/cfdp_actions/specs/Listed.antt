@@ -1,8 +1,8 @@
 -- A filestore that is kept as entries in path order, one a path.
---     Entries                   paths with what stands there
+--     Entries                   paths with what is there
 --     node_of                   what an entry has
 --     shown es                  the entries as paths with nodes
---     found es p                what stands at a path
+--     found es p                what is at a path
 --     octets_of vectors         the lists of octets that vectors hold
 --     blocks_in es staged       the blocks of all together
 --     nodes_of, store_of        the entries as a finite map, and with the staged lists as a store
@@ -39,7 +39,11 @@ abbrev pub nodes_of : Entries → finite.FinMap path_cmp Node
 nodes_of es = finite.from_sorted (shown es)
 
 abbrev pub store_of : Entries → List (Vec ℕ Global) → ℕ → Store
-store_of es staged capacity = record { filestore = record { nodes = nodes_of es; staged = octets_of staged }; capacity = capacity; takes_no_memory = false }
+store_of es staged capacity = record {
+  filestore = record { nodes = nodes_of es; staged = octets_of staged };
+  capacity = capacity;
+  takes_no_memory = false;
+}
 
 pub record IsKept (es : Entries) (staged : List (Vec ℕ Global)) (used capacity : ℕ) : Type 0 where
   pub sorted : IsTrue (finite.is_sorted path_cmp (shown es))

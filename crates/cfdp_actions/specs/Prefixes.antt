@@ -1,5 +1,5 @@
 -- The list of protected prefixes, as a row of places holds it.
---     present places    the paths that stand in the places, in order
+--     present places    the paths that are in the places, in order
 --     same_paths        the same paths in the same order
 use Rattle.std.specs.Prelude.{Bool, List, [], ◌∷◌, Option, Some, None}
 use Rattle.std.specs.Cmp.Lexicographic.{slice_cmp}

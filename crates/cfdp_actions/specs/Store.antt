@@ -2,13 +2,13 @@
 --     Store                     a filestore, its capacity in blocks, and whether its changes take no memory
 --     free_blocks               the blocks that nothing takes
 --     with_changes s changes    the store after the changes
---     empty_store blocks        nothing stands in it
---     kind_of, kind_in, kind_at what stands at a path: a file, a directory or nothing
+--     empty_store blocks        nothing is in it
+--     kind_of, kind_in, kind_at what is at a path: a file, a directory or nothing
 --     is_file_kind              of the two kinds
 --     extended octets size      zeros at the end, up to the size
---     overwritten octets at piece    the piece in place of what stood at that place
+--     overwritten octets at piece    the piece in place of what was at that place
 --     entry_of, listing_of      a line of a listing, and all of them in path order
---     standing_of, standings_of the same without checksums, for a path and what stands below it
+--     standing_of, standings_of the same without checksums, for a path and what is below it
 use Rattle.std.specs.Prelude.{ℕ, ◌+◌, ◌-◌, Bool, true, false, List, ◌++◌, Option, Some, None, length, map, take, drop, replicate}
 use Rattle.std.specs.FinMap as finite
 use Rattle.cfdp_checksum.specs.Checksum.{checksum}
@@ -32,7 +32,11 @@ abbrev pub with_changes : Store → List Change → Store
 with_changes s changes = record s { filestore = after s.filestore changes }
 
 abbrev pub empty_store : ℕ → Bool → Store
-empty_store capacity takes_no_memory = record { filestore = empty_filestore; capacity = capacity; takes_no_memory = takes_no_memory }
+empty_store capacity takes_no_memory = record {
+  filestore = empty_filestore;
+  capacity = capacity;
+  takes_no_memory = takes_no_memory;
+}
 
 abbrev pub kind_of : Node → Kind
 kind_of Directory = kind.Directory
@@ -53,13 +57,18 @@ is_file_kind kind.Directory = false
 abbrev pub extended : List ℕ → ℕ → List ℕ
 extended octets size = octets ++ replicate (size - length octets) 0
 
--- the piece in place of what stood at that place
+-- the piece in place of what was at that place
 abbrev pub overwritten : List ℕ → ℕ → List ℕ → List ℕ
 overwritten octets at piece = take at octets ++ piece ++ drop (at + length piece) octets
 
 -- a directory's size and checksum are 0
 abbrev pub entry_of : Path × Node → Entry
-entry_of e = record { path = e.0; kind = kind_of e.1; size = length (octets_in (Some e.1)); checksum = checksum (octets_in (Some e.1)) }
+entry_of e = record {
+  path = e.0;
+  kind = kind_of e.1;
+  size = length (octets_in (Some e.1));
+  checksum = checksum (octets_in (Some e.1));
+}
 
 abbrev pub listing_of : Filestore → List Entry
 listing_of F = map entry_of (finite.entries F.nodes)

@@ -1,4 +1,4 @@
-//! What stands at a path of a store that keeps it in memory.
+//! What is at a path of a store that keeps it in memory.
 
 ghost use Rattle.std.specs.Prelude.{◌≡◌, ◌+◌, ◌≤◌, ◌++◌, if◌then◌else◌, IsTrue, IfOk, OnOk, OnErr, Some, length};
 ghost use Rattle.std.specs.FinMap.{put, is_sorted};
@@ -12,7 +12,7 @@ use crate::blocks::blocks_of;
 use cfdp_paths::{Memory, Path, PathMap};
 use std::alloc::Global;
 
-/// What stands at a path.
+/// What is at a path.
 #[derive(Debug, Drop)]
 pub enum Content {
     /// A directory.
@@ -88,7 +88,7 @@ pub struct Growth {
     pub to: u64,
 }
 
-/// Puts the second file's octets, as they were before, behind those of the first file, in place.
+/// Puts the second file's octets, as they were before, after those of the first file, in place.
 pub fn append(
     entries: &mut PathMap<Content>,
     alloc: Global,
@@ -116,7 +116,7 @@ pub fn append(
     Ok(Growth { from, to })
 }
 
-/// Puts the octets of the file at the path, or their own once more, behind the octets.
+/// Puts the octets of the file at the path, or their own once more, after the octets.
 fn extend(
     octets: &mut Vec<u8>,
     entries: &PathMap<Content>,

@@ -11,19 +11,19 @@ use crate::{Entry, Kind, Standing};
 use cfdp_paths::{Memory, Path};
 use std::alloc::Global;
 
-/// A store of files and directories (CCSDS 727.0-B-5 §4.9), with 64 lists of octets that are staged in slots until they
-/// are installed as files.
+/// A store of files and directories (CCSDS 727.0-B-5, filestore procedures), with 64 lists of octets that are staged in
+/// slots until they are installed as files.
 ///
 /// Contracts see it as its `state`: a filestore, a capacity in blocks, and whether its changes take no memory. A node
 /// takes one block, and each 120 octets of a file or of a staged list one more. Slots are numbers below 64. A change
-/// answers its ticks: the blocks that it took, those that it gave back, and the blocks whose octets it moved. After
-/// want of memory the state is as before; where `takes_no_memory` answers true, no change answers it.
+/// returns its ticks: the blocks that it took, those that it gave back, and the blocks whose octets it moved. After
+/// out of memory the state is as before; where `takes_no_memory` returns true, no change returns it.
 ///
 /// Ticks count blocks, not time: what a call costs is for each store to say.
 pub trait Filestore: Drop {
     ghost state: { Self → Store };
 
-    /// Whether a file or a directory stands at the path, if anything does.
+    /// Whether a file or a directory is at the path, if anything is.
     fn kind(&self, path: &Path) -> Option<Kind>
         ensures { result ≡ kind_at (state self.now).filestore path.now };
 
@@ -31,7 +31,7 @@ pub trait Filestore: Drop {
     fn parent_is_good(&self, path: &Path) -> bool
         ensures { result ≡ parent_is_good (state self.now).filestore path.now };
 
-    /// Whether anything stands below the path.
+    /// Whether anything is below the path.
     fn has_entries(&self, path: &Path) -> bool
         ensures { result ≡ has_entries (state self.now).filestore path.now };
 
@@ -41,21 +41,21 @@ pub trait Filestore: Drop {
         ensures value { result ≡ length (octets_at (state self.now).filestore path.now) }
         ensures within { result ≤ 7864320 };
 
-    /// Fills the buffer with a file's octets from the place `at` on.
+    /// Fills the buffer with a file's octets from offset `at` on.
     fn read(&self, path: &Path, at: u64, buffer: &mut [u8])
         requires file { IsTrue (is_file (node_at (state self.now).filestore path.now)) }
         requires range { at + length buffer.old ≤ length (octets_at (state self.now).filestore path.now) }
         ensures { buffer.new
             ≡ slice_range (octets_at (state self.now).filestore path.now) at (at + length buffer.old) };
 
-    /// A file's modular checksum (CCSDS 727.0-B-5 §4.2.2): modulo 2^32 the sum of its octets as words of four octets, the
-    /// first one the most significant and the last word filled with zeros. Takes no memory. In time at most linear in the
-    /// octets; a store that keeps the checksum with the octets takes no more than for `size`.
+    /// A file's modular checksum (CCSDS 727.0-B-5, checksum procedures): modulo 2^32 the sum of its octets as words of
+    /// four octets, the first one the most significant and the last word filled with zeros. Takes no memory. In time at
+    /// most linear in the octets; a store that keeps the checksum with the octets takes no more than for `size`.
     fn checksum(&self, path: &Path) -> u32
         requires { IsTrue (is_file (node_at (state self.now).filestore path.now)) }
         ensures { result ≡ checksum (octets_at (state self.now).filestore path.now) };
 
-    /// The number of names of the longest path at or below a path at which something stands: 1 to 8.
+    /// The number of names of the longest path at or below a path at which something exists: 1 to 8.
     fn deepest(&self, path: &Path) -> u8
         requires { IsSome (node_at (state self.now).filestore path.now) }
         ensures value { result ≡ deepest_of (tree_at (state self.now).filestore path.now) }
@@ -68,7 +68,7 @@ pub trait Filestore: Drop {
         ensures within { result ≤ 7864320 }
         ensures slots { length (state self.now).filestore.staged ≡ 64 };
 
-    /// Fills the buffer with the octets that are staged in the slot, from the place `at` on.
+    /// Fills the buffer with the octets that are staged in the slot, from offset `at` on.
     fn read_staged(&self, slot: u8, at: u64, buffer: &mut [u8])
         requires slot { slot < 64 }
         requires range { at + length buffer.old ≤ length (staged_in (state self.now).filestore slot) }
@@ -85,21 +85,21 @@ pub trait Filestore: Drop {
         ensures in_use { blocks (state self.now).filestore ≤ (state self.now).capacity }
         ensures capacity { (state self.now).capacity ≤ 65536 };
 
-    /// Whether no change of this store takes memory, so that none can answer want of it. Like `free` it tells that no more
-    /// than 65,536 blocks are in use, at no cost that grows with the store.
+    /// Whether no change of this store takes memory, so that none can run out of it. Like `free` it says that no
+    /// more than 65,536 blocks are in use, at no cost that grows with the store.
     fn takes_no_memory(&self) -> bool
         ensures value { result ≡ (state self.now).takes_no_memory }
         ensures in_use { blocks (state self.now).filestore ≤ 65536 };
 
-    /// All that stands, each path once, in path order.
+    /// All that exists, each path once, in path order.
     fn listing(&self, alloc: Global) -> Result<Vec<Entry>, Memory>
         ensures { IfOk result (λ entries. entries.items ≡ listing_of (state self.now).filestore) };
 
-    /// What stands at the path and below it, each path once, in path order.
+    /// What is at the path and below it, each path once, in path order.
     fn standing(&self, alloc: Global, path: &Path) -> Result<Vec<Standing>, Memory>
         ensures { IfOk result (λ found. found.items ≡ standings_of (state self.now).filestore path.now) };
 
-    /// Makes an empty file. Answers 1.
+    /// Makes an empty file. Returns 1.
     fn make_file(&mut self, path: &Path) -> Result<u32, Memory>
         requires absent { node_at (state self.old).filestore path.now ≡ None }
         requires parent { IsTrue (parent_is_good (state self.old).filestore path.now) }
@@ -110,7 +110,7 @@ pub trait Filestore: Drop {
         ensures err { OnErr result (state self.new ≡ state self.old) }
         ensures thrifty { IsTrue (state self.old).takes_no_memory → IsOk result };
 
-    /// Makes an empty directory. Answers 1.
+    /// Makes an empty directory. Returns 1.
     fn make_dir(&mut self, path: &Path) -> Result<u32, Memory>
         requires absent { node_at (state self.old).filestore path.now ≡ None }
         requires parent { IsTrue (parent_is_good (state self.old).filestore path.now) }
@@ -121,7 +121,7 @@ pub trait Filestore: Drop {
         ensures err { OnErr result (state self.new ≡ state self.old) }
         ensures thrifty { IsTrue (state self.old).takes_no_memory → IsOk result };
 
-    /// Removes a file, or a directory below which nothing stands. Answers the blocks that are given back.
+    /// Removes a file, or a directory below which nothing exists. Returns the blocks that are given back.
     fn remove(&mut self, path: &Path) -> Result<u32, Memory>
         requires present { IsSome (node_at (state self.old).filestore path.now) }
         requires childless { IsTrue (is_directory (node_at (state self.old).filestore path.now))
@@ -131,8 +131,8 @@ pub trait Filestore: Drop {
         ensures err { OnErr result (state self.new ≡ state self.old) }
         ensures thrifty { IsTrue (state self.old).takes_no_memory → IsOk result };
 
-    /// Moves what stands at the first path, with all that stands below it, to the second: each path p/r becomes q/r.
-    /// Answers 0.
+    /// Moves what is at the first path, with all that is below it, to the second: each path p/r becomes q/r.
+    /// Returns 0.
     fn rename(&mut self, from: &Path, to: &Path) -> Result<u32, Memory>
         requires present { IsSome (node_at (state self.old).filestore from.now) }
         requires absent { node_at (state self.old).filestore to.now ≡ None }
@@ -145,7 +145,7 @@ pub trait Filestore: Drop {
         ensures err { OnErr result (state self.new ≡ state self.old) }
         ensures thrifty { IsTrue (state self.old).takes_no_memory → IsOk result };
 
-    /// Puts the second file's octets, as they are before the call, at the end of the first file. Answers the blocks
+    /// Puts the second file's octets, as they are before the call, at the end of the first file. Returns the blocks
     /// that the first file takes more, and those of the second.
     fn append(&mut self, first: &Path, second: &Path) -> Result<u32, Memory>
         requires first { IsTrue (is_file (node_at (state self.old).filestore first.now)) }
@@ -162,7 +162,7 @@ pub trait Filestore: Drop {
         ensures err { OnErr result (state self.new ≡ state self.old) }
         ensures thrifty { IsTrue (state self.old).takes_no_memory → IsOk result };
 
-    /// Puts the second file's octets in the place of the first file's. Answers the blocks that are given back, those
+    /// Puts the second file's octets in the place of the first file's. Returns the blocks that are given back, those
     /// that are taken and those that are moved; 0 where both paths are one, since nothing happens then.
     fn replace(&mut self, first: &Path, second: &Path) -> Result<u32, Memory>
         requires first { IsTrue (is_file (node_at (state self.old).filestore first.now)) }
@@ -179,7 +179,7 @@ pub trait Filestore: Drop {
         ensures err { OnErr result (state self.new ≡ state self.old) }
         ensures thrifty { IsTrue (state self.old).takes_no_memory → IsOk result };
 
-    /// Adds zeros at the end of what is staged in the slot, up to the size. Answers the blocks that are taken.
+    /// Adds zeros at the end of what is staged in the slot, up to the size. Returns the blocks that are taken.
     fn stage_extend(&mut self, slot: u8, size: u64) -> Result<u32, Memory>
         requires slot { slot < 64 }
         requires longer { length (staged_in (state self.old).filestore slot) ≤ size }
@@ -192,21 +192,21 @@ pub trait Filestore: Drop {
         ensures err { OnErr result (state self.new ≡ state self.old) }
         ensures thrifty { IsTrue (state self.old).takes_no_memory → IsOk result };
 
-    /// Puts octets in the place of those that are staged in the slot from the place `at` on.
+    /// Puts octets in the place of those that are staged in the slot from offset `at` on.
     fn stage_put(&mut self, slot: u8, at: u64, octets: &[u8])
         requires slot { slot < 64 }
         requires range { at + length octets.now ≤ length (staged_in (state self.old).filestore slot) }
         ensures { state self.new ≡ with_changes (state self.old)
             (Stages slot (overwritten (staged_in (state self.old).filestore slot) at octets.now) ∷ []) };
 
-    /// Drops what is staged in the slot. Answers the blocks that are given back.
+    /// Drops what is staged in the slot. Returns the blocks that are given back.
     fn unstage(&mut self, slot: u8) -> u32
         requires { slot < 64 }
         ensures ticks { result ≡ blocks_of (length (staged_in (state self.old).filestore slot)) }
         ensures dropped { state self.new ≡ with_changes (state self.old) (Stages slot [] ∷ []) };
 
     /// Makes what is staged in the slot the contents of the file at the path, which is made where it is absent; the
-    /// slot is then empty. Answers 1 where the path was absent, else the blocks that the old contents give back.
+    /// slot is then empty. Returns 1 where the path was absent, else the blocks that the old contents give back.
     fn install(&mut self, slot: u8, path: &Path) -> Result<u32, Memory>
         requires slot { slot < 64 }
         requires parent { IsTrue (parent_is_good (state self.old).filestore path.now) }

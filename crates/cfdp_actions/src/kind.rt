@@ -1,11 +1,11 @@
-//! What stands at a path, as callers see it.
+//! What is at a path, as callers see it.
 
 ghost use Rattle.std.specs.Prelude.{◌≡◌};
 ghost use Rattle.cfdp_actions.specs.Store.{is_file_kind};
 
 use cfdp_paths::Path;
 
-/// What stands at a path of a filestore.
+/// What is at a path of a filestore.
 #[derive(Clone, Copy, Debug, PartialEq, Eq)]
 pub enum Kind {
     /// A file with its octets.
@@ -26,20 +26,20 @@ impl Kind {
 /// One line of a store's listing.
 #[derive(Debug, Drop, PartialEq, Eq)]
 pub struct Entry {
-    /// Where it stands.
+    /// Where it is.
     pub path: Path,
     /// Whether it is a file or a directory.
     pub kind: Kind,
     /// How many octets a file has; 0 for a directory.
     pub size: u64,
-    /// A file's modular checksum (CCSDS 727.0-B-5 §4.2.2); 0 for a directory.
+    /// A file's modular checksum (CCSDS 727.0-B-5, checksum procedures); 0 for a directory.
     pub checksum: u32,
 }
 
-/// What stands at or below a path, with its size and without its octets.
+/// What is at or below a path, with its size and without its octets.
 #[derive(Debug, Drop, PartialEq, Eq)]
 pub struct Standing {
-    /// Where it stands.
+    /// Where it is.
     pub path: Path,
     /// Whether it is a file or a directory.
     pub kind: Kind,

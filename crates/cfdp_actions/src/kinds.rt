@@ -13,14 +13,15 @@ use cfdp_status::{Action, Status};
 
 /// What the tests of the action table ask of a store, or of an outline of one that has no octets.
 ///
-/// Contracts see which filestores the value `tells` of, and it answers for each of them alike; and which moves it calls
-/// `deep`, whether it tells of a filestore or not. Every store meets it: it tells of the filestore that it has.
+/// Contracts see which filestores the value `tells` of, and it gives the same result for each of them; and which moves
+/// it calls `deep`, whether it describes a filestore or not. Every store meets it: it describes the filestore that it
+/// has.
 pub trait Kinds {
     ghost tells: { Self → Filestore → Type 0 };
 
     ghost deep: { Self → Path → Path → Bool };
 
-    /// Whether a file or a directory stands at the path, if anything does.
+    /// Whether a file or a directory is at the path, if anything is.
     fn kind(&self, path: &Path) -> Option<Kind>
         ensures { (F : Filestore) → tells self.now F → result ≡ kind_at F path.now };
 
@@ -28,11 +29,11 @@ pub trait Kinds {
     fn parent_is_good(&self, path: &Path) -> bool
         ensures { (F : Filestore) → tells self.now F → result ≡ parent_is_good F path.now };
 
-    /// Whether anything stands below the path.
+    /// Whether anything is below the path.
     fn has_entries(&self, path: &Path) -> bool
         ensures { (F : Filestore) → tells self.now F → result ≡ has_entries F path.now };
 
-    /// Whether a path at or below the first, at which something stands, would have more than 8 names once the first is
+    /// Whether a path at or below the first, at which something exists, would have more than 8 names once the first is
     /// the second.
     fn is_too_deep(&self, from: &Path, to: &Path) -> bool
         requires { (F : Filestore) → tells self.now F → IsSome (node_at F from.now) }
@@ -40,11 +41,11 @@ pub trait Kinds {
         ensures told { (F : Filestore) → tells self.now F → result ≡ is_too_deep from.now to.now (tree_at F from.now) };
 }
 
-/// The status of a request that the action table refuses (CCSDS 727.0-B-5 §4.9), where nothing is protected and room has
-/// no limit; `None` where its row is successful.
+/// The status of a request that the action table refuses (CCSDS 727.0-B-5, filestore procedures), where nothing is
+/// protected and room has no limit; `None` where its row is successful.
 ///
-/// Cost: for each name a `kind`, for a new one a `parent_is_good`, for a directory that is to go a `has_entries`, and for
-/// a move that nothing else refuses an `is_too_deep`.
+/// Cost: for each name a `kind`, for a new one a `parent_is_good`, for a directory that is to go a `has_entries`, and
+/// for a move that nothing else refuses an `is_too_deep`.
 pub fn refusal<K: Kinds>(kinds: &K, request: &Request) -> Option<Status>
     ensures told { (F : Filestore) → K.tells kinds.now F → Refuses (table F request.now) result }
     ensures shallow { (p q : Path) → request.now ≡ RenameFile p q → IfNone result (K.deep kinds.now p q ≡ false) }
@@ -74,7 +75,7 @@ pub fn refusal<K: Kinds>(kinds: &K, request: &Request) -> Option<Status>
     }
 }
 
-/// Why nothing may be made at the path: something stands there, or the parent is not good.
+/// Why nothing may be made at the path: something is there, or the parent is not good.
 fn creation<K: Kinds>(kinds: &K, action: Action, path: &Path) -> Option<Status>
     ensures { (F : Filestore) (node : Node) → K.tells kinds.now F
         → Refuses (create action node path.now (node_at F path.now) (parent_is_good F path.now)) result }
@@ -85,7 +86,7 @@ fn creation<K: Kinds>(kinds: &K, action: Action, path: &Path) -> Option<Status>
     None
 }
 
-/// Why no file may go from the path: nothing stands there, which is `absent`, or a directory.
+/// Why no file may go from the path: nothing is there, which is `absent`, or a directory.
 fn of_file<K: Kinds>(
     kinds: &K,
     action: Action,
@@ -101,7 +102,7 @@ fn of_file<K: Kinds>(
     }
 }
 
-/// Why no directory may go from the path: nothing stands there, which is `absent`, a file, or one with entries.
+/// Why no directory may go from the path: nothing is there, which is `absent`, a file, or one with entries.
 fn of_directory<K: Kinds>(
     kinds: &K,
     action: Action,
@@ -123,7 +124,7 @@ fn of_directory<K: Kinds>(
     }
 }
 
-/// Why what stands at the first path may not move to the second: nothing stands there, something stands at the second
+/// Why what is at the first path may not move to the second: nothing is there, something is at the second
 /// path, the second's parent is not good, it is at or below the first, or a path would be too deep.
 fn renaming<K: Kinds>(kinds: &K, from: &Path, to: &Path) -> Option<Status>
     ensures told { (F : Filestore) → K.tells kinds.now F → Refuses (table F (RenameFile from.now to.now)) result }
@@ -141,8 +142,8 @@ fn renaming<K: Kinds>(kinds: &K, from: &Path, to: &Path) -> Option<Status>
     None
 }
 
-/// Why the two files may not be joined: nothing stands at the first path, or at the second, which are the two statuses of
-/// `absent`; or a directory stands at one of them.
+/// Why the two files may not be joined: nothing is at the first path, or at the second, which are the two statuses
+/// of `absent`; or a directory is at one of them.
 fn joining<K: Kinds>(
     kinds: &K,
     action: Action,

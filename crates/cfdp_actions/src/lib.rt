@@ -1,8 +1,9 @@
-//! The filestore, and the filestore requests of CFDP performed on it (CCSDS 727.0-B-5 §4.9).
+//! The filestore, and the filestore requests of CFDP performed on it (CCSDS 727.0-B-5, filestore procedures).
 //!
 //! A store is anything that meets the trait [`Filestore`]: contracts see it as a finite map from paths to files and
-//! directories, 64 staged lists and a capacity in blocks. [`ListStore`] keeps it in one list in path order. [`perform`] does what
-//! the action table of `specs/Actions.antt` says, over any store, except at the prefixes that are [`Protected`].
+//! directories, 64 staged lists and a capacity in blocks. [`ListStore`] keeps it in one list in path order. [`perform`]
+//! does what the action table of `specs/Actions.antt` says, over any store, except at the prefixes that are
+//! [`Protected`].
 #![tactic(auto)]
 
 mod blocks;
@@ -25,6 +26,6 @@ pub use filestore::Filestore;
 pub use kind::{Entry, Kind, Standing};
 pub use kinds::{Kinds, refusal};
 pub use list_store::ListStore;
-pub use performed::{Performed, perform};
+pub use performed::{Performed, perform, perform_allowed};
 pub use protected::Protected;
 pub use request::Request;

@@ -16,12 +16,12 @@ pub const SLOTS: usize = 64;
 
 /// A store that keeps its paths in one list, in path order: the program that other stores are measured by.
 ///
-/// Most of its changes take memory. Cost: a call searches for each path that it names, by halves, and makes none to look
-/// one up; `free` is one subtraction. `make_file`, `make_dir`, `remove`, and an `install` where nothing stood, also move
-/// the entries after the path, and `rename` a few times those between the two paths and after them. `deepest` and
-/// `standing` go through what stands at and below the path, `listing` through the whole list, with all octets for the
-/// checksums. Octets are copied by `read`, `read_staged` and `stage_put`, which copy those that they are asked for, by
-/// `append` and `replace`, which copy the second file's, and where the first file of an `append` or the list of a
+/// Most of its changes take memory. Cost: a call searches for each path that it names, by halves, and makes none to
+/// look one up; `free` is one subtraction. `make_file`, `make_dir`, `remove`, and an `install` where nothing was there,
+/// also move the entries after the path, and `rename` a few times those between the two paths and after them. `deepest`
+/// and `standing` go through what is at and below the path, `listing` through the whole list, with all octets for
+/// the checksums. Octets are copied by `read`, `read_staged` and `stage_put`, which copy those that they are asked for,
+/// by `append` and `replace`, which copy the second file's, and where the first file of an `append` or the list of a
 /// `stage_extend` has to move to grow. A staged list is moved into its file, not copied.
 #[derive(Drop)]
 pub struct ListStore {
@@ -47,7 +47,7 @@ impl Model for ListStore {
 }
 
 impl ListStore {
-    /// A store of so many blocks, 1 to 65,536, in which nothing stands and nothing is staged.
+    /// A store of this many blocks, 1 to 65,536, in which nothing exists and nothing is staged.
     ///
     /// # Errors
     ///
@@ -70,7 +70,7 @@ impl ListStore {
     }
 }
 
-/// Fills the buffer with octets from the place `at` on.
+/// Fills the buffer with octets from offset `at` on.
 fn copy_out(octets: &[u8], at: usize, buffer: &mut [u8])
     requires { at + length buffer.old ≤ length octets.now }
     ensures { buffer.new ≡ slice_range octets.now at (at + length buffer.old) }

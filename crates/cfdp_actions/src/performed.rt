@@ -1,8 +1,8 @@
 //! Filestore requests, performed on any store, and what they come to.
 
-ghost use Rattle.std.specs.Prelude.{◌≡◌, IsTrue, IsOk, IfOk, OnOk, OnErr};
-ghost use Rattle.cfdp_actions.specs.Actions.{Performed as Status_of, succeeded, ticks};
-ghost use Rattle.cfdp_actions.specs.Store.{with_changes};
+ghost use Rattle.std.specs.Prelude.{◌≡◌, ◌+◌, ◌≤◌, IsTrue, IsOk, IfOk, OnOk, OnErr};
+ghost use Rattle.cfdp_actions.specs.Actions.{Performed as Status_of, succeeded, table, ticks};
+ghost use Rattle.cfdp_actions.specs.Store.{free_blocks, with_changes};
 ghost use Rattle.cfdp_actions.specs.Performing.{outcome_of};
 
 use crate::{Filestore, Protected, Request, refusal, rows};
@@ -18,13 +18,13 @@ pub struct Performed {
     pub ticks: u32,
 }
 
-/// Performs a filestore request on a store (CCSDS 727.0-B-5 §4.9), except where the prefixes bar it.
+/// Performs a filestore request on a store (CCSDS 727.0-B-5, filestore procedures), except where the prefixes bar it.
 ///
 /// Status, state after and ticks are those of the action table. Memory is wanted only where the table's answer is
-/// successful; after want of it the store is as before.
+/// successful; when out of memory the store is as before.
 ///
-/// Cost: at most two comparisons with each prefix, the reads of [`refusal`], a `free` where blocks are taken, the `size` of
-/// each file that is joined, one `kind` more of a path that is denied, and the change.
+/// Cost: at most two comparisons with each prefix, the reads of [`refusal`], a `free` where blocks are taken, the
+/// `size` of each file that is joined, one `kind` more of a path that is denied, and the change.
 pub fn perform<S: Filestore>(
     store: &mut S,
     protected: &Protected,
@@ -53,6 +53,34 @@ pub fn perform<S: Filestore>(
     let ticks = rows::change(store, request)?;
     Ok(Performed {
         status: Status::Successful(action),
+        ticks,
+    })
+}
+
+/// Performs a filestore request that the action table allows (CCSDS 727.0-B-5, filestore procedures): that was found
+/// out before, so the store is not asked again what exists at its paths. The state after and the ticks are those of the
+/// action table.
+///
+/// # Errors
+///
+/// Out of memory, where the store takes any: it is as before.
+///
+/// Cost: that of the change, and one `kind` of a path that is denied.
+pub fn perform_allowed<S: Filestore>(store: &mut S, request: &Request) -> Result<Performed, Memory>
+    requires allowed { IsTrue (succeeded (table (S.state store.old).filestore request.now).answer) }
+    requires room { let o = table (S.state store.old).filestore request.now in
+        o.taken ≤ free_blocks (S.state store.old) + o.given }
+    ensures status { IfOk result (λ done. Status_of done.status
+        ≡ (table (S.state store.old).filestore request.now).answer) }
+    ensures ticks { IfOk result (λ done. done.ticks ≡ ticks (table (S.state store.old).filestore request.now)) }
+    ensures state { OnOk result (S.state store.new
+        ≡ with_changes (S.state store.old) (table (S.state store.old).filestore request.now).changes) }
+    ensures err { OnErr result (S.state store.new ≡ S.state store.old) }
+    ensures thrifty { IsTrue (S.state store.old).takes_no_memory → IsOk result }
+{
+    let ticks = rows::change(store, request)?;
+    Ok(Performed {
+        status: Status::Successful(request.action()),
         ticks,
     })
 }

@@ -18,7 +18,7 @@ use std::marker::Model;
 /// How many prefixes can be protected.
 pub const PREFIXES: usize = 8;
 
-/// Up to eight paths, the prefixes: what stands at or below one of them is neither changed nor removed, and what stands
+/// Up to eight paths, the prefixes: what is at or below one of them is neither changed nor removed, and what is
 /// above one of them is not moved. New paths may be made there.
 ///
 /// Contracts see it as the list of its paths. It takes no memory, and a question compares its path at most twice with
@@ -49,7 +49,7 @@ impl Protected {
         }
     }
 
-    /// Protects what stands at or below the path; hands the path back exactly where eight are protected.
+    /// Protects what is at or below the path; hands the path back exactly where eight are protected.
     pub fn add(&mut self, path: Path) -> Result<(), Path>
         ensures full { IsErr result ↔ (length self.old ≡ 8) }
         ensures ok { OnOk result (self.new ≡ self.old ++ path ∷ []) }

@@ -33,7 +33,7 @@ pub fn has_room<S: Filestore>(store: &S, request: &Request) -> bool
     }
 }
 
-/// Changes the store as the row says, and answers its ticks. After want of memory the store is as before.
+/// Changes the store as the row says, and returns its ticks. When out of memory the store is as before.
 pub fn change<S: Filestore>(store: &mut S, request: &Request) -> Result<u32, Memory>
     requires allowed { IsTrue (succeeded (table (S.state store.old).filestore request.now).answer) }
     requires room { let o = table (S.state store.old).filestore request.now in
@@ -56,7 +56,7 @@ pub fn change<S: Filestore>(store: &mut S, request: &Request) -> Result<u32, Mem
     }
 }
 
-/// Removes what stands at the path; an absent path is denied already.
+/// Removes what is at the path; an absent path is denied already.
 fn deny<S: Filestore>(store: &mut S, path: &Path) -> Result<u32, Memory>
     requires { IsTrue (is_directory (node_at (S.state store.old).filestore path.now))
         → has_entries (S.state store.old).filestore path.now ≡ false }

@@ -13,7 +13,8 @@ pub fn extend(staged: &mut Vec<Vec<u8>>, slot: usize, size: usize) -> Result<(),
     requires slot { slot < vec_len staged.old }
     requires longer { length (slice_index_or (octets_of staged.old.items) slot []) ≤ size }
     ensures ok { OnOk result (octets_of staged.new.items
-        ≡ slice_set (octets_of staged.old.items) slot (extended (slice_index_or (octets_of staged.old.items) slot []) size)) }
+        ≡ slice_set (octets_of staged.old.items) slot (extended
+        (slice_index_or (octets_of staged.old.items) slot []) size)) }
     ensures err { OnErr result (octets_of staged.new.items ≡ octets_of staged.old.items) }
     ensures slots { length staged.new.items ≡ length staged.old.items }
 {
@@ -21,18 +22,19 @@ pub fn extend(staged: &mut Vec<Vec<u8>>, slot: usize, size: usize) -> Result<(),
     Ok(())
 }
 
-/// Puts octets in the place of those of a list from the place `at` on.
+/// Puts octets in the place of those of a list from offset `at` on.
 pub fn overwrite(staged: &mut Vec<Vec<u8>>, slot: usize, at: usize, octets: &[u8])
     requires slot { slot < vec_len staged.old }
     requires range { at + length octets.now ≤ length (slice_index_or (octets_of staged.old.items) slot []) }
     ensures list { octets_of staged.new.items
-        ≡ slice_set (octets_of staged.old.items) slot (overwritten (slice_index_or (octets_of staged.old.items) slot []) at octets.now) }
+        ≡ slice_set (octets_of staged.old.items) slot (overwritten
+        (slice_index_or (octets_of staged.old.items) slot []) at octets.now) }
     ensures slots { length staged.new.items ≡ length staged.old.items }
 {
     overwrite_list(staged[slot].as_mut_slice(), at, octets);
 }
 
-/// Puts octets in the place of those from the place `at` on.
+/// Puts octets in the place of those from offset `at` on.
 fn overwrite_list(list: &mut [u8], at: usize, octets: &[u8])
     requires { at + length octets.now ≤ length list.old }
     ensures { list.new ≡ overwritten list.old at octets.now }

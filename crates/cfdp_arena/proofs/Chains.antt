@@ -10,12 +10,14 @@ use Rattle.std.specs.Prelude.{IsSome}
 use Rattle.cfdp_arena.specs.Arena.{Blocks, live_count, octets_at, IsLive, free_count, with_block, without_block}
 use Rattle.cfdp_arena.specs.FreeList.{link, chain, vacated, arena_view, IsAbsent, AreApart, IsSound}
 
-pub chain-set : (blocks : List (List ℕ)) (n first i : ℕ) (block : List ℕ) → IsAbsent i (chain blocks n first) → chain (set blocks i block) n first ≡ chain blocks n first
+pub chain-set : (blocks : List (List ℕ)) (n first i : ℕ) (block : List ℕ) → IsAbsent i (chain blocks n first) → chain (set blocks i block) n first
+    ≡ chain blocks n first
 chain-set blocks zero first i block h = refl
 chain-set blocks (suc n) first i block h =
     let apart : first ≢ i = λ e. h.0 (sym e) in
     let same : get_or (set blocks i block) first [] ≡ get_or blocks first [] = get_or-set_other blocks i first block [] apart in
-    ap (λ next. first ∷ chain (set blocks i block) n (link next)) same ∙ ap (λ rest. first ∷ rest) (chain-set blocks n (link (get_or blocks first [])) i block h.1)
+    ap (λ next. first ∷ chain (set blocks i block) n (link next)) same ∙ ap (λ rest. first ∷ rest)
+    (chain-set blocks n (link (get_or blocks first [])) i block h.1)
 
 pub length-chain : (blocks : List (List ℕ)) (n first : ℕ) → length (chain blocks n first) ≡ n
 length-chain blocks zero first = refl
@@ -25,7 +27,8 @@ pub length-vacated : (xs : List ℕ) (arena : Blocks) → length (vacated xs are
 length-vacated [] arena = refl
 length-vacated (x ∷ xs) arena = length-set (vacated xs arena) x None ∙ length-vacated xs arena
 
-pub vacated-set : (xs : List ℕ) (arena : Blocks) (i : ℕ) (entry : Option (List ℕ)) → IsAbsent i xs → vacated xs (set arena i entry) ≡ set (vacated xs arena) i entry
+pub vacated-set : (xs : List ℕ) (arena : Blocks) (i : ℕ) (entry : Option (List ℕ)) → IsAbsent i xs → vacated xs (set arena i entry)
+    ≡ set (vacated xs arena) i entry
 vacated-set [] arena i entry h = refl
 vacated-set (x ∷ xs) arena i entry h = ap (λ l. set l x None) (vacated-set xs arena i entry h.1) ∙ set_comm (vacated xs arena) i x entry None h.0
 
@@ -42,7 +45,8 @@ live_is_absent [] arena i apart live = tt
 live_is_absent (x ∷ xs) arena i apart live =
     let long : x < length (vacated xs arena) = omega (arith, apart.0, length-vacated xs arena) in
     elim (cases_eq i x) [
-      | inl e ↦ no_live (octets_at (vacated (x ∷ xs) arena) i) (ap (λ k. get_or (set (vacated xs arena) x None) k None) e ∙ get_or-set_same (vacated xs arena) x None None long) live (IsAbsent i (x ∷ xs))
+      | inl e ↦ no_live (octets_at (vacated (x ∷ xs) arena) i) (ap (λ k. get_or (set (vacated xs arena) x None) k None) e
+          ∙ get_or-set_same (vacated xs arena) x None None long) live (IsAbsent i (x ∷ xs))
       | inr ne ↦ (ne, live_is_absent xs arena i apart.2 (subst IsSome (get_or-set_other (vacated xs arena) x i None None ne) live))
     ]
 
@@ -67,7 +71,8 @@ live_count-vacate (None ∷ bs) zero x e = cc
 live_count-vacate (Some b ∷ bs) (suc i) x e = omega (arith, live_count-vacate bs i x e)
 live_count-vacate (None ∷ bs) (suc i) x e = live_count-vacate bs i x e
 
-pub live_count-vacated : (blocks : List (List ℕ)) (xs : List ℕ) → AreApart (length blocks) xs → live_count (vacated xs (map Some blocks)) + length xs ≡ length blocks
+pub live_count-vacated : (blocks : List (List ℕ)) (xs : List ℕ) → AreApart (length blocks) xs → live_count (vacated xs (map Some blocks)) + length xs
+    ≡ length blocks
 live_count-vacated blocks [] apart = omega (arith, live_count-some blocks)
 live_count-vacated blocks (x ∷ xs) apart =
     let rest = vacated xs (map Some blocks) in
@@ -109,9 +114,10 @@ module _ {blocks : List (List ℕ)} {free head : ℕ} {value : Blocks} (sound : 
     -- is not on the chain
     pub absent : IsAbsent number (chain blocks free head)
     unfolding arena_view
-    absent = live_is_absent (chain blocks free head) (map Some blocks) number (subst (λ n. AreApart n (chain blocks free head)) (sym (length-map blocks Some)) sound.apart) live_here
+    absent = live_is_absent (chain blocks free head) (map Some blocks) number
+        (subst (λ n. AreApart n (chain blocks free head)) (sym (length-map blocks Some)) sound.apart) live_here
 
-    -- holds what stands in its place
+    -- holds what is in its place
     pub octets : octets_at value block ≡ Some (get_or blocks number [])
     unfolding arena_view
     octets =
@@ -125,7 +131,8 @@ module _ {blocks : List (List ℕ)} {free head : ℕ} {value : Blocks} (sound : 
           let same = chain-set blocks free head number octets absent in
           let long = length-set blocks number octets in
           record {
-            apart = subst (λ xs. AreApart (length (set blocks number octets)) xs) (sym same) (subst (λ n. AreApart n (chain blocks free head)) (sym long) sound.apart);
+            apart = subst (λ xs. AreApart (length (set blocks number octets)) xs) (sym same)
+                (subst (λ n. AreApart n (chain blocks free head)) (sym long) sound.apart);
             small = omega (arith, long, sound.small);
             fits = sound.fits;
           }
@@ -187,7 +194,12 @@ module _ {blocks : List (List ℕ)} {free head : ℕ} {value : Blocks} (sound : 
 
     pub first_free : octets_at value head ≡ None
     first_free =
-        let long : head < length (vacated rest (map Some blocks)) = omega (arith, first_within, length-vacated rest (map Some blocks), length-map {B = Option (List ℕ)} blocks Some) in
+        let long : head < length (vacated rest (map Some blocks)) = omega (
+          arith,
+          first_within,
+          length-vacated rest (map Some blocks),
+          length-map {B = Option (List ℕ)} blocks Some,
+        ) in
         ap (λ v. octets_at v head) (sym value_is) ∙ get_or-set_same (vacated rest (map Some blocks)) head None None long
 
     -- taken, it is live with the octets that it is given

@@ -38,7 +38,8 @@ rest_once x xs once i j d less within = once (suc i) (suc j) d (omega (arith, le
 pub rest_all : (P : ℕ → Type 0) (x : ℕ) (xs : List ℕ) → All P (x ∷ xs) → All P xs
 rest_all P x xs all k d less = all (suc k) d (omega (arith, less))
 
-apart-append : (capacity : ℕ) (xs ys : List ℕ) → All (λ b. b < capacity) xs → AllPairs (λ a b. a ≢ b) xs → All (λ b. IsAbsent b ys) xs → AreApart capacity ys → AreApart capacity (xs ++ ys)
+apart-append : (capacity : ℕ) (xs ys : List ℕ) → All (λ b. b < capacity) xs → AllPairs (λ a b. a ≢ b) xs → All (λ b. IsAbsent b ys) xs → AreApart capacity ys →
+    AreApart capacity (xs ++ ys)
 apart-append capacity [] ys within once off ys_apart = ys_apart
 apart-append capacity (x ∷ xs) ys within once off ys_apart = (
   within 0 0 (omega arith),
@@ -47,7 +48,8 @@ apart-append capacity (x ∷ xs) ys within once off ys_apart = (
 )
 
 -- what is written to a block that is vacated is lost
-vacated_over : (xs : List ℕ) (k b : ℕ) (arena : Blocks) (entry : Option (List ℕ)) → AllPairs (λ a b. a ≢ b) xs → k < length xs → b ≡ get_or xs k 0 → vacated xs (set arena b entry) ≡ vacated xs arena
+vacated_over : (xs : List ℕ) (k b : ℕ) (arena : Blocks) (entry : Option (List ℕ)) → AllPairs (λ a b. a ≢ b) xs → k < length xs → b ≡ get_or xs k 0 →
+    vacated xs (set arena b entry) ≡ vacated xs arena
 vacated_over [] k b arena entry once less is = absurd (omega (arith, less))
 vacated_over (x ∷ xs) zero b arena entry once less is =
     ap (λ c. set (vacated xs (set arena c entry)) x None) is
@@ -88,7 +90,8 @@ module _ {blocks : List (List ℕ)} {free head : ℕ} {value : Blocks} (sound : 
         ∙ ap (λ xs. first ∷ xs) (all_chain n next last (rest_all (IsLive value) first rest live) (rest_once first rest once) is)
 
   -- the whole chain, of at least one block
-  module _ (count first last : ℕ) (some : 0 < count) (live : All (IsLive value) (chain_in value count first)) (once : AllPairs (λ a b. a ≢ b) (chain_in value count first))
+  module _ (count first last : ℕ) (some : 0 < count) (live : All (IsLive value) (chain_in value count first))
+      (once : AllPairs (λ a b. a ≢ b) (chain_in value count first))
       (last_is : last ≡ get_or (chain_in value count first) (count - 1) 0) where
     given : List ℕ
     given = chain_in value count first
@@ -109,14 +112,21 @@ module _ {blocks : List (List ℕ)} {free head : ℕ} {value : Blocks} (sound : 
 
     pub all_room : free + count ≤ length blocks
     unfolding given
-    all_room = omega (arith, live_count-vacated blocks (given ++ chain blocks free head) apart_all, length-append given (chain blocks free head), length-chain_in value count first, length-chain blocks free head)
+    all_room = omega (
+      arith,
+      live_count-vacated blocks (given ++ chain blocks free head) apart_all,
+      length-append given (chain blocks free head),
+      length-chain_in value count first,
+      length-chain blocks free head,
+    )
 
     module _ {number : ℕ} (number_is : number ≡ last) (written : List ℕ) (linked : link written ≡ head) where
       chain_is : chain (set blocks number written) (free + count) first ≡ given ++ chain blocks free head
       unfolding given
       chain_is =
           let sum : free + count ≡ suc (count - 1) + free = omega arith in
-          let there : number ≡ get_or (chain_in value (suc (count - 1)) first) (count - 1) 0 = number_is ∙ last_is ∙ ap (λ n. get_or (chain_in value n first) (count - 1) 0) more in
+          let there : number ≡ get_or (chain_in value (suc (count - 1)) first) (count - 1) 0 = number_is ∙ last_is
+          ∙ ap (λ n. get_or (chain_in value n first) (count - 1) 0) more in
           ap (λ n. chain (set blocks number written) n first) sum
           ∙ all_chain written linked (count - 1) first number (subst (λ n. All (IsLive value) (chain_in value n first)) more live)
           (subst (λ n. AllPairs (λ a b. a ≢ b) (chain_in value n first)) more once) there
@@ -126,7 +136,8 @@ module _ {blocks : List (List ℕ)} {free head : ℕ} {value : Blocks} (sound : 
       all_given_sound =
           let long = length-set blocks number written in
           record {
-            apart = subst (λ xs. AreApart (length (set blocks number written)) xs) (sym chain_is) (subst (λ n. AreApart n (given ++ chain blocks free head)) (sym long) apart_all);
+            apart = subst (λ xs. AreApart (length (set blocks number written)) xs) (sym chain_is)
+                (subst (λ n. AreApart n (given ++ chain blocks free head)) (sym long) apart_all);
             small = omega (arith, long, sound.small);
             fits = omega (arith, within sound view_is refl first_live, sound.small);
           }

@@ -16,7 +16,8 @@ live_count-le [] = omega arith
 live_count-le (Some octets ∷ rest) = omega (arith, live_count-le rest)
 live_count-le (None ∷ rest) = omega (arith, live_count-le rest)
 
-live_count-taken : (arena : Blocks) (block : ℕ) (octets : List ℕ) → block < length arena → octets_at arena block ≡ None → live_count (with_block arena block octets) ≡ live_count arena + 1
+live_count-taken : (arena : Blocks) (block : ℕ) (octets : List ℕ) → block < length arena → octets_at arena block ≡ None →
+    live_count (with_block arena block octets) ≡ live_count arena + 1
 live_count-taken [] block octets within free = absurd (omega arith)
 live_count-taken (Some x ∷ rest) zero octets within free = cc
 live_count-taken (None ∷ rest) zero octets within free = refl
@@ -73,7 +74,8 @@ module _ (arena : Blocks) (block : ℕ) where
 pub octets_at-vacated_other : (arena : Blocks) (xs : List ℕ) (block : ℕ) → All (λ x. block ≢ x) xs → octets_at (vacated xs arena) block ≡ octets_at arena block
 octets_at-vacated_other arena xs block apart = get_or-vacated xs arena block (absent_from block xs apart)
 
-pub free_count-vacated : (arena : Blocks) (xs : List ℕ) → All (IsLive arena) xs → AllPairs (λ a b. a ≢ b) xs → free_count (vacated xs arena) ≡ free_count arena + length xs
+pub free_count-vacated : (arena : Blocks) (xs : List ℕ) → All (IsLive arena) xs → AllPairs (λ a b. a ≢ b) xs → free_count (vacated xs arena) ≡ free_count arena
+    + length xs
 free_count-vacated arena [] live once = omega arith
 free_count-vacated arena (x ∷ xs) live once =
     let there : IsLive (vacated xs arena) x = subst IsSome (sym (get_or-vacated xs arena x (first_absent x xs once))) (live 0 0 (omega arith)) in

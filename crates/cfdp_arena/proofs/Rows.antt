@@ -1,6 +1,6 @@
 -- The fields of a region in memory, and one block taken out of its row, put back, or seen. Assumes `Logic`.
 --     Fields, fields, word      the fields that are no ghosts, of a region, and their machine value
---     fields_told, fields_made, fields_open       what owning them tells, that it is made of nothing, and that a `&` to them opens
+--     fields_told, fields_made, fields_open       what owning them says, that it is made of nothing, and that a `&` to them opens
 --     block_out, block_in       a block out of the row, and back with other octets
 --     block_seen                a block of those that a `&` reaches
 --     row_append                a block after those that are there
@@ -37,7 +37,8 @@ word base room = vstruct (vcons (ptr_val base) (vcons (vint w64 room) vnil))
 
 pub fields_told : (base : Ptr) (room : ℕ) (vs : List Val) → Is Fields (base, (room, tt)) vs → vs ≡ word base room ∷ []
 fields_told base room vs is =
-    is.1.0 ∙ ap (λ (ws : List Val). vstruct (of_list (ws ++ (is.0.1.0 ++ []))) ∷ []) is.1.1.0 ∙ ap (λ (ws : List Val). vstruct (of_list (ptr_val base ∷ (ws ++ []))) ∷ []) is.1.1.1.0.0
+    is.1.0 ∙ ap (λ (ws : List Val). vstruct (of_list (ws ++ (is.0.1.0 ++ []))) ∷ []) is.1.1.0
+    ∙ ap (λ (ws : List Val). vstruct (of_list (ptr_val base ∷ (ws ++ []))) ∷ []) is.1.1.1.0.0
 
 pub fields_fit : (base : Ptr) (room : ℕ) (vs : List Val) → Is Fields (base, (room, tt)) vs → room < 2 ^ 64
 fields_fit base room vs is = is.1.1.1.0.1
@@ -51,23 +52,28 @@ module _ {M : Type 1} {𝓤 : Ura M} (𝓛 : Logic 𝓤) where
   fields_open = (Struct-Copied 𝓛 (shape C.the_type) (refl, (refl, tt)) (RawPtr-copy.copied M 𝓤 𝓛, (uint_Copied 𝓛 w64, tt))).opens
 
   module _ (b o : ℕ) (xs : List (List ℕ)) (i : ℕ) (within : i < length xs) where
-    pub block_out : ent 𝓤 (sem 𝓛 (blocks_own b o xs)) (sep 𝓤 (sem 𝓛 (part_at Block full_share (get_or xs i []) b (i * 128 + o))) (sem 𝓛 (others (shares Block) full_share xs i b o)))
+    pub block_out : ent 𝓤 (sem 𝓛 (blocks_own b o xs)) (sep 𝓤 (sem 𝓛 (part_at Block full_share (get_or xs i []) b (i * 128 + o)))
+        (sem 𝓛 (others (shares Block) full_share xs i b o)))
     block_out =
         qed 𝓛 (‵ (blocks_own b o xs) ∷ []) ∵
-        use1 𝓛 (‵ (part_at Block full_share (get_or xs i []) b (nth 128 o i)) ⊛ ‵ (others (shares Block) full_share xs i b o)) (takes (shares Block) full_share 𝓛 xs i [] b o within) $ split ! $
+        use1 𝓛 (‵ (part_at Block full_share (get_or xs i []) b (nth 128 o i)) ⊛ ‵ (others (shares Block) full_share xs i b o))
+        (takes (shares Block) full_share 𝓛 xs i [] b o within) $ split ! $
         rewrite ! 0 (λ (k : ℕ). ‵ (part_at Block full_share (get_or xs i []) b k)) (place_is 128 o i) refl $ done !
 
-    pub block_in : (y : List ℕ) → ent 𝓤 (sep 𝓤 (sem 𝓛 (part_at Block full_share y b (i * 128 + o))) (sem 𝓛 (others (shares Block) full_share xs i b o))) (sem 𝓛 (blocks_own b o (set xs i y)))
+    pub block_in : (y : List ℕ) → ent 𝓤 (sep 𝓤 (sem 𝓛 (part_at Block full_share y b (i * 128 + o))) (sem 𝓛 (others (shares Block) full_share xs i b o)))
+        (sem 𝓛 (blocks_own b o (set xs i y)))
     block_in y =
         qed 𝓛 (‵ (part_at Block full_share y b (i * 128 + o)) ∷ ‵ (others (shares Block) full_share xs i b o) ∷ []) ∵
         rewrite ! 0 (λ (k : ℕ). ‵ (part_at Block full_share y b k)) (sym (place_is 128 o i)) refl $
         by ! (puts (shares Block) full_share 𝓛 xs i y b o within)
 
-  pub block_seen : (κ : Lft) (b o : ℕ) (xs : List (List ℕ)) (i : ℕ) → i < length xs → (at : ℕ) → at ≡ i * 128 + o → ent 𝓤 (sem 𝓛 (blocks_lend b o xs κ)) (sem 𝓛 (shared_of Block (get_or xs i []) b at κ))
+  pub block_seen : (κ : Lft) (b o : ℕ) (xs : List (List ℕ)) (i : ℕ) → i < length xs → (at : ℕ) → at ≡ i * 128 + o →
+      ent 𝓤 (sem 𝓛 (blocks_lend b o xs κ)) (sem 𝓛 (shared_of Block (get_or xs i []) b at κ))
   block_seen κ b o [] i within at e = absurd (omega arith)
   block_seen κ b o (x ∷ xs) zero within at e =
       let here : o ≡ at = omega arith in
-      qed 𝓛 (‵ (blocks_lend b o (x ∷ xs) κ) ∷ []) ∵ fsplit ! $ move ! (1 ∷ []) $ drop ! $ rewrite ! 0 (λ (k : ℕ). ‵ (shared_of Block x b k κ)) here refl $ done !
+      qed 𝓛 (‵ (blocks_lend b o (x ∷ xs) κ) ∷ []) ∵ fsplit ! $ move ! (1 ∷ []) $ drop ! $ rewrite ! 0
+      (λ (k : ℕ). ‵ (shared_of Block x b k κ)) here refl $ done !
   block_seen κ b o (x ∷ xs) (suc i) within at e =
       qed 𝓛 (‵ (blocks_lend b o (x ∷ xs) κ) ∷ []) ∵ fsplit ! $ drop ! $ by ! (block_seen κ b (o + 128) xs i (omega arith) at (omega arith))
 
@@ -75,7 +81,8 @@ module _ {M : Type 1} {𝓤 : Ura M} (𝓛 : Logic 𝓤) where
       → ent 𝓤 (sep 𝓤 (sem 𝓛 (blocks_own b o xs)) (sem 𝓛 (part_at Block full_share y b at))) (sem 𝓛 (blocks_own b o (xs ++ y ∷ [])))
   row_append b o [] y at e =
       let here : at ≡ o = omega arith in
-      qed 𝓛 (‵ (blocks_own b o []) ∷ ‵ (part_at Block full_share y b at) ∷ []) ∵ rewrite ! 1 (λ (k : ℕ). ‵ (part_at Block full_share y b k)) here refl $ move ! (1 ∷ 0 ∷ []) $ fjoin ! $ done !
+      qed 𝓛 (‵ (blocks_own b o []) ∷ ‵ (part_at Block full_share y b at) ∷ []) ∵ rewrite ! 1 (λ (k : ℕ). ‵ (part_at Block full_share y b k)) here refl $ move !
+      (1 ∷ 0 ∷ []) $ fjoin ! $ done !
   row_append b o (x ∷ xs) y at e =
       qed 𝓛 (‵ (blocks_own b o (x ∷ xs)) ∷ ‵ (part_at Block full_share y b at) ∷ []) ∵ fsplit ! $ move ! (1 ∷ 2 ∷ []) $
       use2 𝓛 (‵ (blocks_own b (o + 128) (xs ++ y ∷ []))) (row_append b (o + 128) xs y at (omega arith)) $ move ! (1 ∷ 0 ∷ []) $ fjoin ! $ done !
@@ -103,13 +110,15 @@ module _ {M : Type 1} {𝓤 : Ura M} (𝓛 : Logic 𝓤) where
   pub block_whole : (x : List ℕ) (b o : ℕ) → ent 𝓤 (sem 𝓛 (part_at Block full_share x b o)) (guard 𝓤 (length x ≡ 128) (sem 𝓛 (part_at Block full_share x b o)))
   unfolding part_of
   block_whole x b o =
-      qed 𝓛 (‵ (part_at Block full_share x b o) ∷ []) ∵ fpick ! (λ vs. fsplit ! $ move ! (1 ∷ []) $ peeks ! Block (Is Block) (shows 𝓛 Block) x vs (λ told. check ! told.1.0.1 $
+      qed 𝓛 (‵ (part_at Block full_share x b o) ∷ []) ∵ fpick ! (λ vs. fsplit ! $ move ! (1 ∷ []) $ peeks ! Block (Is Block) (shows 𝓛 Block) x vs
+      (λ told. check ! told.1.0.1 $
       move ! (1 ∷ 0 ∷ []) $ fjoin ! $ fpack ! (List Val) (λ us. fsep (cell_at full_share Block.mir us b o) (Block.own_val x us)) vs $ done !))
 
   -- a region is made of its fields in memory and of its parts
   module _ (d : C.the_row.Denot) (vs : List Val) (b o at from : ℕ) where
     abbrev pub Held : List (List ℕ) → Fml
-    Held xs = fsep (blocks_own at from xs) (fsep (rest_own d.room at from (length xs)) (fsep (Fields.own_val (d.base, (d.room, tt)) vs) (cell_at full_share Fields.mir vs b o)))
+    Held xs = fsep (blocks_own at from xs) (fsep (rest_own d.room at from (length xs))
+        (fsep (Fields.own_val (d.base, (d.room, tt)) vs) (cell_at full_share Fields.mir vs b o)))
 
     pub closed : d.base ≡ block_ptr at from → (xs : List (List ℕ)) → length xs < d.room + 1 → d.room * 128 < 2 ^ 63
         → ent 𝓤 (sem 𝓛 (Held xs)) (sem 𝓛 (part_at C.the_row full_share (record d { blocks = xs }) b o))
@@ -150,7 +159,8 @@ module _ {M : Type 1} {𝓤 : Ura M} (𝓛 : Logic 𝓤) where
   block_room : (x : List ℕ) (b o : ℕ) → ent 𝓤 (sem 𝓛 (part_at Block full_share x b o)) (𝓛.H.room block_type b o)
   block_room x b o =
       qed 𝓛 (‵ (part_at Block full_share x b o) ∷ []) ∵
-      use1 𝓛 (some (λ (v : Val). ‵ (fat full_share block_type b o v) ⊛ ‵ (Block.own_val x (v ∷ [])))) (part_out 𝓛 Block refl full_share x b o) $ pick ! (λ v. split ! $ move ! (1 ∷ []) $ drop ! $
+      use1 𝓛 (some (λ (v : Val). ‵ (fat full_share block_type b o v) ⊛ ‵ (Block.own_val x (v ∷ [])))) (part_out 𝓛 Block refl full_share x b o) $ pick !
+      (λ v. split ! $ move ! (1 ∷ []) $ drop ! $
       by ! (𝓛.laws.at_room block_type b o v))
 
   pub blocks_room : (b o : ℕ) (xs : List (List ℕ)) (more all at : ℕ) → all ≡ length xs + more → at ≡ length xs * 128 + o
@@ -158,12 +168,14 @@ module _ {M : Type 1} {𝓤 : Ura M} (𝓛 : Logic 𝓤) where
   blocks_room b o [] more all at e here =
       let same : more ≡ all = omega arith in let start : at ≡ o = omega arith in
       qed 𝓛 (‵ (blocks_own b o []) ∷ ‵ (froom (ty_array block_type more) b at) ∷ []) ∵ drop ! $
-      rewrite ! 0 (λ (n : ℕ). ‵ (froom (ty_array block_type n) b at)) same refl $ rewrite ! 0 (λ (n : ℕ). ‵ (froom (ty_array block_type all) b n)) start refl $ done !
+      rewrite ! 0 (λ (n : ℕ). ‵ (froom (ty_array block_type n) b at)) same refl $ rewrite ! 0
+      (λ (n : ℕ). ‵ (froom (ty_array block_type all) b n)) start refl $ done !
   blocks_room b o (x ∷ xs) more all at e here =
       let next : all ≡ suc (length xs + more) = omega arith in
       qed 𝓛 (‵ (blocks_own b o (x ∷ xs)) ∷ ‵ (froom (ty_array block_type more) b at) ∷ []) ∵ fsplit ! $
       use1 𝓛 (‵ (froom block_type b o)) (block_room x b o) $ move ! (1 ∷ 2 ∷ []) $
-      use2 𝓛 (‵ (froom (ty_array block_type (length xs + more)) b (o + 128))) (blocks_room b (o + 128) xs more (length xs + more) at refl (omega arith)) $ move ! (1 ∷ 0 ∷ []) $
+      use2 𝓛 (‵ (froom (ty_array block_type (length xs + more)) b (o + 128)))
+      (blocks_room b (o + 128) xs more (length xs + more) at refl (omega arith)) $ move ! (1 ∷ 0 ∷ []) $
       use2 𝓛 (‵ (froom (ty_array block_type (suc (length xs + more))) b o)) (𝓛.laws.room_cons block_type (length xs + more) b o) $
       rewrite ! 0 (λ (n : ℕ). ‵ (froom (ty_array block_type n) b o)) (sym next) refl $ done !
 

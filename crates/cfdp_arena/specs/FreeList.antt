@@ -1,8 +1,9 @@
--- How an arena keeps its free blocks: a chain of block numbers, whose links stand in the free blocks.
+-- How an arena keeps its free blocks: a chain of block numbers, whose links are in the free blocks.
 --     link            the number that a free block leads to
 --     chain           the first count blocks of the chain that begins at a block
 --     vacated         entries of an arena, with those of a chain made free
---     arena_view      what a caller sees of the blocks that were made, the number of those on the list and the first of these
+--     arena_view      what a caller sees of the blocks that were made, the number of those on the list and the first of
+--                     these
 --     whole_view      the same of all blocks: one that is not made yet is free
 --     IsAbsent        a number that is not on a chain
 --     AreApart        numbers of blocks, none of them twice

@@ -43,10 +43,12 @@ freeing = ghosts.dealloc_token the_heap
 
 -- the room after count blocks, and the right to give all of it back
 abbrev pub rest_own : ℕ → ℕ → ℕ → ℕ → Fml
-rest_own room b o count = fsep (froom (ty_array block_type (room - count)) b (count * 128 + o)) (freeing (ty_array block_type room) (block_ptr b o))
+rest_own room b o count = fsep (froom (ty_array block_type (room - count)) b (count * 128 + o))
+    (freeing (ty_array block_type room) (block_ptr b o))
 
 abbrev pub region_owns : Ptr → ℕ → List (List ℕ) → Fml
-region_owns (block_ptr b o) room blocks = fsep (fits room blocks) (fsep (blocks_own b o blocks) (rest_own room b o (length blocks)))
+region_owns (block_ptr b o) room blocks = fsep (fits room blocks)
+    (fsep (blocks_own b o blocks) (rest_own room b o (length blocks)))
 region_owns null_ptr room blocks = ffalse
 
 abbrev pub blocks_lend : ℕ → ℕ → List (List ℕ) → Lft → Fml

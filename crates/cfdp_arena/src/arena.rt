@@ -169,7 +169,8 @@ impl Arena {
         requires to_live { IsLive self.old to }
         requires from_within { from_at + len ≤ 120 }
         requires to_within { to_at + len ≤ 120 }
-        ensures target { self.new ≡ with_block self.old to (copied (octets_of self.old from) from_at (octets_of self.old to) to_at len) }
+        ensures target { self.new ≡ with_block self.old to
+            (copied (octets_of self.old from) from_at (octets_of self.old to) to_at len) }
     {
         let from = from.number() as usize;
         let to = to.number() as usize;

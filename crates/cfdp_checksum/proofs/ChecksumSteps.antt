@@ -6,7 +6,7 @@ use Rattle.byteorder.specs.Endian.{big_number}
 use Rattle.cfdp_checksum.specs.Checksum.{weight, weighed_from, checksum_at, checksum}
 use Rattle.cfdp_checksum.specs.Laws.{PiecesAddUp, OffsetsAddUp, OnlyPlacesCount, ZerosAddNothing, PartsAreReplaced}
 
--- the place in a word says all
+-- the position in a word says all
 weight-place : (i j : ℕ) → i % 4 ≡ j % 4 → weight i ≡ weight j
 weight-place i j same = ap (λ (k : ℕ). 256 ^ (3 - k)) same
 
@@ -33,8 +33,9 @@ weighed-word (a ∷ b ∷ c ∷ d ∷ octets) long = omega (arith, weighed-place
 pub sum-step : (sum word rest total : ℕ) → (sum + (word + rest)) % 2 ^ 32 ≡ total → ((sum + word) % 2 ^ 32 + rest) % 2 ^ 32 ≡ total
 sum-step sum word rest total e = omega arith
 
--- octets within a word, from a place in it on
-pub weighed-shifted : (place : ℕ) (octets : List ℕ) → 0 < place → place < 4 → place + length octets ≤ 4 → weighed_from 0 octets / 2 ^ (8 * place) ≡ weighed_from place octets
+-- octets within a word, from an offset in it on
+pub weighed-shifted : (place : ℕ) (octets : List ℕ) → 0 < place → place < 4 → place + length octets ≤ 4 → weighed_from 0 octets / 2 ^ (8 * place)
+    ≡ weighed_from place octets
 unfolding weighed_from
 weighed-shifted zero octets some inside fits = absurd (omega arith)
 weighed-shifted (suc zero) [] some inside fits = refl
@@ -80,7 +81,11 @@ none-added at n = ap (λ sum. sum % 2 ^ 32) (weighed-zeros at n)
 -- zeros at the end
 pub zeros-add-nothing : ZerosAddNothing
 zeros-add-nothing i n xs =
-    let sum : weighed_from i (xs ++ replicate n 0) ≡ weighed_from i xs = omega (arith, weighed-append i xs (replicate n 0) (i + length xs) refl, weighed-zeros (i + length xs) n) in
+    let sum : weighed_from i (xs ++ replicate n 0) ≡ weighed_from i xs = omega (
+      arith,
+      weighed-append i xs (replicate n 0) (i + length xs) refl,
+      weighed-zeros (i + length xs) n,
+    ) in
     ap (λ k. k % 2 ^ 32) sum
 
 -- a part in the middle
@@ -95,9 +100,11 @@ parts-are-replaced front old new back long =
     omega (arith, first_new, first_old, rest_new, rest_old)
 
 -- what follows the end of a word
-pub rest-from-start : (place n : ℕ) (xs : List ℕ) → place < 4 → n ≡ min (length xs) (4 - place) → checksum_at (place + length (take n xs)) (drop n xs) ≡ checksum (drop n xs)
+pub rest-from-start : (place n : ℕ) (xs : List ℕ) → place < 4 → n ≡ min (length xs) (4 - place) → checksum_at (place + length (take n xs)) (drop n xs)
+    ≡ checksum (drop n xs)
 unfolding weighed_from
 rest-from-start place n xs inside n_is = elim (cases_lt n (length xs)) [
   | inl more ↦ only-places-count (place + length (take n xs)) 0 (drop n xs) (omega (arith, length-take-le n xs (omega arith)))
-  | inr all ↦ ap (λ ys. weighed_from (place + length (take n xs)) ys % 2 ^ 32) (drop_all n xs all) ∙ sym (ap (λ ys. weighed_from 0 ys % 2 ^ 32) (drop_all n xs all))
+  | inr all ↦ ap (λ ys. weighed_from (place + length (take n xs)) ys % 2 ^ 32) (drop_all n xs all)
+      ∙ sym (ap (λ ys. weighed_from 0 ys % 2 ^ 32) (drop_all n xs all))
 ]

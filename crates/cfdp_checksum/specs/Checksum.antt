@@ -1,4 +1,4 @@
--- The modular checksum (CCSDS 727.0-B-5 §4.2.2): the octets, each at its place in a word of four, the
+-- The modular checksum (CCSDS 727.0-B-5, checksum procedures): the octets, each at its position in a word of four, the
 -- first of them the highest, added up modulo 2^32.
 --   weight i             what an octet at offset i counts
 --   weighed_from i octets    the sum of the octets from offset i, each times its weight

@@ -8,7 +8,7 @@ use byteorder::{BigEndian, ByteOrder};
 /// The octets of a word.
 const WORD_OCTETS: usize = 4;
 
-/// The modular checksum of a file (CCSDS 727.0-B-5 §4.2.2): the sum modulo 2^32 of its octets as words
+/// The modular checksum of a file (CCSDS 727.0-B-5, checksum procedures): the sum modulo 2^32 of its octets as words
 /// of four from offset 0, the last word filled with zeros. It takes no memory, and goes over the octets once.
 #[inline]
 pub fn modular_checksum(octets: &[u8]) -> u32
@@ -23,9 +23,9 @@ pub fn modular_checksum(octets: &[u8]) -> u32
     sum.wrapping_add(last_word(rest))
 }
 
-/// What octets that begin at an offset of a file add to its modular checksum (CCSDS 727.0-B-5 §4.2.2): their sum modulo
-/// 2^32, each at its place in a word of four octets, counted from offset 0 of the file. It takes no memory, and goes
-/// over the octets once.
+/// What octets that begin at an offset of a file add to its modular checksum (CCSDS 727.0-B-5, checksum procedures):
+/// their sum modulo 2^32, each at its position in a word of four octets, counted from offset 0 of the file. It takes no
+/// memory, and goes over the octets once.
 #[inline]
 pub fn modular_checksum_at(offset: usize, octets: &[u8]) -> u32
     ensures { result ≡ checksum_at offset octets.now }
@@ -38,7 +38,7 @@ pub fn modular_checksum_at(offset: usize, octets: &[u8]) -> u32
     first_word(place, first).wrapping_add(modular_checksum(rest))
 }
 
-/// The end of a word from a place in it on, or a part of that, which stops before the word ends.
+/// The end of a word from an offset in it on, or a part of that, which stops before the word ends.
 fn first_word(place: usize, octets: &[u8]) -> u32
     requires some { 0 < place }
     requires inside { place < 4 }
@@ -48,7 +48,7 @@ fn first_word(place: usize, octets: &[u8]) -> u32
     last_word(octets) >> (8 * place)
 }
 
-/// Fewer octets than a word, filled with zeros behind.
+/// Fewer octets than a word, filled with zeros at its end.
 #[tactic(auto, unfolding(crate::specs::Checksum::weighed_from))]
 fn last_word(octets: &[u8]) -> u32
     requires { length octets.now < 4 }

@@ -2,19 +2,19 @@
 
 ghost use Rattle.cfdp_checksum.specs.Laws.{OffsetsAddUp, OnlyPlacesCount, PartsAreReplaced, PiecesAddUp, ZerosAddNothing};
 
-/// The checksum of two pieces is the sum modulo 2^32 of theirs, where the second begins at a multiple of four: so a file
-/// can be summed in pieces.
+/// The checksum of two pieces is the sum modulo 2^32 of theirs, where the second begins at a multiple of four: so a
+/// file can be summed in pieces.
 pub fn pieces_add_up()
     ensures { PiecesAddUp }
 {}
 
-/// The checksum of two pieces is the sum modulo 2^32 of theirs, each summed at its own offset: so octets can be added at
-/// the end of a file, wherever it ends.
+/// The checksum of two pieces is the sum modulo 2^32 of theirs, each summed at its own offset: so octets can be added
+/// at the end of a file, wherever it ends.
 pub fn offsets_add_up()
     ensures { OffsetsAddUp }
 {}
 
-/// Only the place in a word of four counts of the offset of a piece.
+/// Only the position in a word of four counts of the offset of a piece.
 pub fn only_places_count()
     ensures { OnlyPlacesCount }
 {}

@@ -11,7 +11,7 @@ use Rattle.clap.specs.declared.parser.matches.SubCommand.{SubCommand}
 use Rattle.cfdp_command_line.specs.Words.{IsAsked}
 use Rattle.cfdp_command_line.specs.declared.words.Asked.TheVariants.{Links, Plain, Replay}
 
--- the name of the command that was entered stands beside its rows
+-- the name of the command that was entered is beside its rows
 name_of_rows : {Z : Type 0} (entered : Option (Box SubCommand Z))
     → option_map (λ named. named.0) (subcommand_rows entered) ≡ option_map (λ b. (out-SubCommand (box_value b)).name.now) entered
 name_of_rows {Z = Z} None = refl

@@ -1,4 +1,4 @@
--- What is read of an input of which no more than so many octets are asked for.
+-- What is read of an input when at most n octets are asked for.
 use Rattle.std.proofs.Common.{◌≡◌, ◌<◌, ℕ, min, List, [], ◌++◌, Option, None, Some, take, length, option_map, ap, ◌∙◌, arith}
 use Rattle.std.specs.Prelude.{IfSome}
 use Rattle.std.proofs.lemmas.List.{length-take, take_all}

@@ -3,7 +3,7 @@
 --   fault_of        what an error of this kind is to the run
 --   IsInputFault    a file cannot be opened or read, or memory was refused
 --   AllPaired       two lists are of one length, and the fact holds of each pair, in order
---   IsWhole         these octets are all that an input had, where it tells that
+--   IsWhole         these octets are all that an input had, where it says that
 --   IsRead          a file was opened by this path, and these octets are all that it had
 use Rattle.std.specs.Prelude.{◌≡◌, ◌⊎◌, ⊤, ℕ, List, [], ◌∷◌, Option, IfSome}
 use Rattle.std.specs.declared.io.ErrorKind.{ErrorKind}
@@ -26,7 +26,8 @@ AllPaired P xs ys = ⊥
 abbrev pub IsWhole : Option (List ℕ) → List ℕ → Type 0
 IsWhole input octets = IfSome input (λ all. octets ≡ all)
 
-pub record IsRead {File : Type 0} (IsOpened : List ℕ → File → Type 0) (remaining : File → Option (List ℕ)) (path octets : List ℕ) : Type 0 where
+pub record IsRead {File : Type 0} (IsOpened : List ℕ → File → Type 0) (remaining : File → Option (List ℕ))
+    (path octets : List ℕ) : Type 0 where
   pub file : File
   pub opened : IsOpened path file
   pub whole : IsWhole (remaining file) octets

@@ -1,4 +1,4 @@
--- The words that the program knows, as `clap` is told them, and what they ask for.
+-- The words that the program knows, as `clap` has them, and what they ask for.
 --
 --   file_rule       an optional word
 --   files_rule      one to four words
@@ -52,4 +52,5 @@ IsAsked command Plain = (IsNamed (codes "replay") command → ⊥) × (IsNamed (
 IsAsked command (Replay file) = IsNamed (codes "replay") command
     × (option_map (λ name. name.now) file ≡ option_and_then (λ named. first_of (codes "FILE") named.1) command)
 IsAsked command (Links files) = IsNamed (codes "links") command
-    × (map (λ name. name.now) files.items ≡ unwrap_or (option_and_then (λ named. all_of (codes "FILE") named.1) command) [])
+    × (map (λ name. name.now) files.items ≡ unwrap_or (option_and_then (λ named. all_of (codes "FILE") named.1) command)
+    [])

@@ -21,7 +21,7 @@ fn fault_of(error: &Error) -> RunFault
     }
 }
 
-/// Where files are opened by their paths: the file system, or what stands in for it.
+/// Where files are opened by their paths: the file system, or what is used instead.
 pub trait Opens {
     /// A file that is open for reading.
     type File: Read + Drop;
@@ -100,8 +100,10 @@ pub fn read_whole<I: Read + Drop>(alloc: Global, input: I) -> Result<Vec<u8>, Ru
 ///
 /// Those of [`read_whole`], of the first input that has one.
 fn read_each<I: Read + Drop>(alloc: Global, inputs: Vec<I>) -> Result<Vec<Vec<u8>>, RunFault>
-    ensures read { IfOk result (λ scripts. AllPaired (λ input script. IsWhole (I.remaining input) script.items) inputs.items scripts.items) }
-    ensures short { IfOk result (λ scripts. AllByRecursion (λ script. length script.items ≤ input_limit) scripts.items) }
+    ensures read { IfOk result (λ scripts. AllPaired (λ input script. IsWhole (I.remaining input) script.items)
+        inputs.items scripts.items) }
+    ensures short { IfOk result (λ scripts. AllByRecursion
+        (λ script. length script.items ≤ input_limit) scripts.items) }
     ensures ends { IfErr result IsInputFault }
 {
     let mut scripts = Vec::new(alloc);
@@ -117,7 +119,8 @@ fn read_each<I: Read + Drop>(alloc: Global, inputs: Vec<I>) -> Result<Vec<Vec<u8
     Ok(scripts)
 }
 
-/// What the files of these paths have, in the order of the paths. All are opened, in their order, before the first is read.
+/// What the files of these paths have, in the order of the paths. All are opened, in their order, before the first is
+/// read.
 ///
 /// # Errors
 ///
@@ -130,9 +133,11 @@ pub fn read_all<O: Opens>(
     paths: &[&str],
 ) -> Result<Vec<Vec<u8>>, RunFault>
     // Of each path, in order, a file was opened, and this is what it had.
-    ensures read { IfOk result (λ scripts. AllPaired (λ path script. IsRead O.IsOpened O.File.remaining path.now script.items) paths.now scripts.items) }
+    ensures read { IfOk result (λ scripts. AllPaired (λ path script. IsRead O.IsOpened O.File.remaining path.now
+        script.items) paths.now scripts.items) }
     ensures each { IfOk result (λ scripts. length scripts.items ≡ length paths.now) }
-    ensures short { IfOk result (λ scripts. AllByRecursion (λ script. length script.items ≤ input_limit) scripts.items) }
+    ensures short { IfOk result (λ scripts. AllByRecursion
+        (λ script. length script.items ≤ input_limit) scripts.items) }
     ensures ends { IfErr result IsInputFault }
 {
     let opened = match open_all(files, alloc, paths) {

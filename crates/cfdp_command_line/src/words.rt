@@ -74,7 +74,8 @@ pub fn parse<'a, S: AsStr>(alloc: Global, words: &'a [S]) -> Result<Asked<'a>, P
 fn parse_command<'a, S: AsStr>(alloc: Global, words: &'a [S]) -> Result<Asked<'a>, Error>
     ensures asked { IfOk result (IsAsked (subcommand_of program (map S.text words.now))) }
     ensures taken { OnOk result (fault_of program (map S.text words.now) ≡ []) }
-    ensures refused { IfErr result (λ error. takes program (map S.text words.now) ≡ true → kind_of error ≡ kind.OutOfMemory) }
+    ensures refused { IfErr result (λ error. takes program (map S.text words.now) ≡ true → kind_of error
+        ≡ kind.OutOfMemory) }
 {
     let program = program_of(alloc)?;
     let matches = program.try_get_matches_from(words)?;
@@ -128,7 +129,7 @@ fn asked_by<'a>(alloc: Global, matches: &ArgMatches<'a>) -> Result<Asked<'a>, Al
     }
 }
 
-/// The files that stand behind a command, in their order.
+/// The files that come after a command, in their order.
 fn files_of<'a>(alloc: Global, found: &ArgMatches<'a>) -> Result<Vec<&'a str>, AllocError>
     ensures { IfOk result (λ files. map (λ name. name.now) files.items
         ≡ unwrap_or (all_of (codes "FILE") (rows_of (found_of found.now))) []) }

@@ -11,7 +11,8 @@ use Rattle.cfdp_transactions.specs.Events.{event_from}
 use Rattle.cfdp_engine.specs.Working.{event_in, event_read}
 
 -- the event of octets that came
-event_readable : ReadIsReadable → (octets : List ℕ) (event : Event) → AreOctets octets → (read : Result Pdu PduFault) → pdu_at octets ≡ read → event_read (event_from read) ≡ Some event → IsReadable event
+event_readable : ReadIsReadable → (octets : List ℕ) (event : Event) → AreOctets octets → (read : Result Pdu PduFault) → pdu_at octets ≡ read →
+    event_read (event_from read) ≡ Some event → IsReadable event
 event_readable law octets event are (Ok pdu) same is = law pdu event (pdu_sound octets pdu are (pdu_found octets (Ok pdu) same)) is
 event_readable law octets event are (Err fault) same is = cc is
 

@@ -1,4 +1,4 @@
--- What workers leave, by their numbers, and lists that are gone through place by place.
+-- What workers leave, by their numbers, and lists that are gone through index by index.
 use Rattle.std.proofs.Common.{◌≡◌, ℕ, suc, ◌+◌, ◌≤◌, Bool, true, false, if◌then◌else◌, List, [], ◌∷◌, ◌++◌, length, map, drop, Some, slice_get, sym, ap, ◌∙◌, subst, add-zero, append_assoc, append-nil, arith}
 use Rattle.std.proofs.lemmas.List.{drop_all}
 use Rattle.cfdp_transactions.specs.declared.event.Event.{Event}
@@ -9,7 +9,7 @@ use Rattle.cfdp_engine.specs.Working.{is_passed_over, passed_over}
 use Rattle.cfdp_commands.specs.Linked.{AllNumbered, AreHanded}
 use Rattle.cfdp_commands.specs.Links.{Said}
 
--- one more, behind the others
+-- one more, after the others
 pub numbered-snoc : {X : Type 0} (P : ℕ → X → Type 0) (number : ℕ) (xs : List X) (x : X) → AllNumbered P number xs → P (number + length xs) x
     → AllNumbered P number (xs ++ x ∷ [])
 numbered-snoc P number [] x before last = (subst (λ (n : ℕ). P n x) (add-zero number) last, tt)
@@ -27,7 +27,7 @@ passed_over-few [] = omega arith
 passed_over-few (m ∷ ms) =
     let h = at_most (is_passed_over m) (passed_over ms) (length ms) (passed_over-few ms) in omega arith
 
--- the first of what is left is the one that comes next, and behind it the numbers go on
+-- the first of what is left is the one that comes next, and after it the numbers go on
 pub numbered-first : {X Y : Type 0} (P : ℕ → X → Type 0) (all : List Y) (old rest : List X) (x : X) → AllNumbered P (length all) old → old ≡ x ∷ rest
     → P (length all) x
 numbered-first {X = X} P all old rest x before same = (subst (λ (xs : List X). AllNumbered P (length all) xs) same before).0
@@ -58,7 +58,7 @@ taken_over {X = X} taken more all place x at grown before =
     ∙ ap (λ (xs : List X). taken ++ xs) (sym behind)
     ∙ before
 
--- what holds whatever comes behind holds of all that there is
+-- what holds whatever follows holds of all that there is
 pub handed_all : {X : Type 0} (events : Seated → List Event) (said : X → List Said) (files : List X) (seats : List Seated) (dropped : List ℕ)
     → length seats ≡ length files
     → ((others : List Seated) (counts : List ℕ) → AreHanded events (length seats) (map said (drop (length seats) files)) others counts

@@ -50,7 +50,8 @@ with_prefix-fresh : (config : Config) (path : Option Path) → FreshAfter (with_
 unfolding FreshAfter
 with_prefix-fresh config None = tt
 with_prefix-fresh config (Some path) =
-    elim (nat_lt (length config.prefixes) 8) as (λ few. FreshAfter (if few then Some (Preparing false (record config { prefixes = config.prefixes ++ path ∷ [] }), []) else None)) [
+    elim (nat_lt (length config.prefixes) 8) as (λ few. FreshAfter (if few
+    then Some (Preparing false (record config { prefixes = config.prefixes ++ path ∷ [] }), []) else None)) [
       | true ↦ refl
       | false ↦ tt
     ]
@@ -153,7 +154,7 @@ pub file_kept : (stage : Stage) (script : List ℕ) (reading : Reading) → IsFr
 file_kept stage script reading fresh read =
     subst IsKept read (read_from-kept 1 (record { stage = stage; said = [] }) (lines_of script) fresh tt)
 
--- a file without a bad line, and those behind it
+-- a file without a bad line, and those after it
 pub files_from-more : (file : ℕ) (stage : Stage) (said : List (List Said)) (script : List ℕ) (scripts : List (List ℕ)) (reading : Reading)
     → file_said stage script ≡ Ok reading
     → files_from file stage said (script ∷ scripts) ≡ files_from (file + 1) (running reading.stage) (said ++ reading.said ∷ []) scripts

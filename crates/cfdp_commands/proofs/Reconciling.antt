@@ -52,9 +52,9 @@ differ : (before seats : List Seated) → AreApart before seats → Differ seats
 differ before [] apart = tt
 differ before (s ∷ ss) apart = (none_has (before ++ s ∷ []) ss s.number (taken_here before s) apart.1, differ (before ++ s ∷ []) ss apart.1)
 
--- ---- one place
+-- ---- one index
 
--- at this place stands one of the receipts, and then it is the first; or none does
+-- at this index is one of the receipts, and then it is the first; or none does
 record PassesOne (J : List Entry) (number place : ℕ) (e : Entry) (rs : List Receipt) : Type 0 where
   left : List Receipt
   entered : AreEntered J number (place + 1) left
@@ -96,7 +96,7 @@ pass_one J number place e (r ∷ rs) at entered readable =
       | inr before ↦ pass_before J number place e r rs before entered readable
     ]
 
--- ---- what a seat was told, and what the journal has of it
+-- ---- what a seat was informed of, and what the journal has of it
 
 -- of these entries, those of each seat have the events of its receipts
 abbrev Told : List Entry → List Seated → Type 0
@@ -118,7 +118,7 @@ told_own e rest s left same own told =
 
 -- ---- all seats
 
--- their receipts, at places that are not before this one
+-- their receipts, at indexes that are not before this one
 abbrev EachFrom : List Entry → ℕ → List Seated → Type 0
 EachFrom J place [] = ⊤
 EachFrom J place (s ∷ ss) = AreEntered J s.number place s.receipts × EachFrom J place ss
@@ -208,9 +208,9 @@ pass J place e (s ∷ ss) at entered readable apart =
       own = pass_own J place e s ss apart.0 one more;
     }
 
--- ---- all places
+-- ---- all indexes
 
--- behind the last place stands no receipt
+-- after the last index there is no receipt
 none_behind : (J : List Entry) (number place : ℕ) (rs : List Receipt) → ((i : ℕ) → slice_get J (place + i) ≡ None)
     → AreEntered J number place rs → length rs ≡ 0
 none_behind J number place [] end entered = refl
@@ -283,7 +283,7 @@ told J place (e ∷ rest) seats at entered readable apart all =
 from_first : (J : List Entry) (i : ℕ) → slice_get J (0 + i) ≡ slice_get J i
 from_first J i = let same : 0 + i ≡ i = omega arith in ap (λ (k : ℕ). slice_get J k) same
 
--- what the seats were told is what the journal has of them
+-- what the seats were informed of is what the journal has of them
 handed_by : (J : List Entry) (number : ℕ) (files : List (List Said)) (seats : List Seated) (dropped : List ℕ) → Told J seats
     → AreHanded (λ s. told_of s.receipts) number files seats dropped → AreHanded (events_by J) number files seats dropped
 handed_by J number [] [] [] known handed = tt

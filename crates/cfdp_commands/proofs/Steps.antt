@@ -9,7 +9,7 @@ use Rattle.cfdp_transactions.specs.World.{World, next_runnable}
 use Rattle.cfdp_commands.specs.Replay.{steps_by, steps_from}
 use Rattle.cfdp_texts.specs.Replies.{reply_line, told_lines}
 
--- so many steps are left: they end and write what all of them do
+-- this many steps are left: they end and write what all of them do
 pub record Steps (left : ℕ) (start W : World) (all : ℕ) (before text : List ℕ) : Type 0 where
   pub ends : run W (steps_from left W) ≡ run start (steps_from all start)
   pub writes : text ++ told_lines (steps_from left W) (replies W (steps_from left W))

@@ -1,8 +1,8 @@
--- What `links` writes: each entry of the journal, in order, and then what the seats have, how long the journal is, and all that
--- stands in the filestore.
+-- What `links` writes: each entry of the journal, in order, and then what the seats have, how long the journal is, and
+-- all that is in the filestore.
 --
---   entry_text       an entry: its place, from 0, the number of its seat, and the line of its reply
---   entry_texts      the entries from a place on
+--   entry_text       an entry: its index, from 0, the number of its seat, and the line of its reply
+--   entry_texts      the entries from an index on
 --   seat_text        a seat: its number, how many receipts it has, and how many PDUs of its file had no event
 --   seat_texts       the seats, each with that number
 --   journal_text     all of it
@@ -14,7 +14,8 @@ use Rattle.cfdp_engine.specs.Seats.{Seated}
 use Rattle.cfdp_texts.specs.Replies.{number_text, labelled, word, line, reply_line, listing_text}
 
 abbrev pub entry_text : ℕ → Entry → List ℕ
-entry_text place entry = number_text place ++ labelled (codes " ") entry.seat ++ word (reply_line (about entry.event) entry.reply)
+entry_text place entry = number_text place ++ labelled (codes " ") entry.seat
+    ++ word (reply_line (about entry.event) entry.reply)
 
 abbrev pub entry_texts : ℕ → List Entry → List ℕ
 entry_texts place [] = []
@@ -22,7 +23,8 @@ entry_texts place (entry ∷ entries) = entry_text place entry ++ entry_texts (p
 
 abbrev pub seat_text : Seated → ℕ → List ℕ
 seat_text seat dropped =
-    line (labelled (codes "seat ") seat.number ++ labelled (codes " ") (length seat.receipts) ++ labelled (codes " dropped ") dropped)
+    line (labelled (codes "seat ") seat.number ++ labelled (codes " ") (length seat.receipts)
+    ++ labelled (codes " dropped ") dropped)
 
 abbrev pub seat_texts : List Seated → List ℕ → List ℕ
 seat_texts (seat ∷ seats) (dropped ∷ others) = seat_text seat dropped ++ seat_texts seats others

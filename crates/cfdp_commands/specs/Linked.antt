@@ -1,29 +1,33 @@
 -- What a run of `links` is.
 --
---   IsFresh          nothing has happened to the entity: it stands as its configuration starts it
---   AddsLine         a line moved the stage on, and what it says came behind what stood there
---   IsBadLine        why a file is not read: want of memory, or the bad line that there is
+--   IsFresh          nothing has happened to the entity: it is as its configuration starts it
+--   AddsLine         a line moved the stage on, and what it says came after what was there
+--   IsBadLine        why a file is not read: out of memory, or the bad line that there is
 --   IsBadFile        why the files are not read: the same, of the first file that has a bad line
---   IsRunFault       a fault behind the reading of all files, but not the writer's
+--   IsRunFault       a fault after the reading of all files, but not the writer's
 --   fault_of         what a stop of a worker is to the whole run
 --   first_stop       why the first worker stopped that did
---   Agree            each worker took what its file says, the entity has this configuration, and the seats' receipts are its journal
---   IsWorkFault      why there is no text of what workers did: the first stop; without a stop, out of memory, or they do not agree
+--   Agree            each worker took what its file says, the entity has this configuration, and the seats' receipts
+--                    are its journal
+--   IsWorkFault      why there is no text of what workers did: the first stop; without a stop, out of memory, or they
+--                    do not agree
 --   IsHeard          what is said may be handed in: of what is no PDU, an event whose outcome can be written
 --   HasReadable      the events that a seat handed in may come from PDUs that were read
 --   AllNumbered      a fact of each of some things, by their numbers
---   IsWork           what a worker with this number leaves, if nothing stopped it: a seat of that number, which handed in just
---                    the events that the messages bring which it took, and how many of these were PDUs without an event
---   Handed           these events, and so many PDUs without one, are those of a file, by what its lines say: each line that is
---                    an event once, a run for some steps, 4,224 at most, and no others
---   AreHanded        each file's, by what is told of the seats with their numbers, and the PDUs without an event
+--   IsWork           what a worker with this number leaves, if nothing stopped it: a seat of that number, which handed
+--                    in just the events that the messages bring which it took, and how many of these were PDUs without
+--                    an event
+--   Handed           these events, and this many PDUs without one, are those of a file, by what its lines say: each
+--                    line that is an event once, a run for some steps, 4,224 at most, and no others
+--   AreHanded        each file's, by what is said of the seats with their numbers, and the PDUs without an event
 --   events_by        of a journal, the events that the seat handed in, in order
---   Stops            why no text is made: want of memory, the first bad line, or a fault behind the reading of all files
---   IsLinked         the text is that of a journal, which is a history under the files' configuration, of seats whose receipts
---                    are its entries, and in which each seat's events are those of its file's lines
+--   Stops            why no text is made: out of memory, the first bad line, or a fault after the reading of all
+--                    files
+--   IsLinked         the text is that of a journal, which is a history under the files' configuration, of seats whose
+--                    receipts are its entries, and in which each seat's events are those of its file's lines
 --   IsLinkedBy       the same of some scripts, none of which has a bad line
 --   IsLinkRun        such a text was written
---   IsLinkLost       a writer failed within such a text: a beginning of it was written, as far as the writer tells
+--   IsLinkLost       a writer failed within such a text: a beginning of it was written, as far as the writer shows
 use Rattle.std.specs.Prelude.{◌≡◌, ⊤, ℕ, ◌+◌, List, [], ◌∷◌, ◌++◌, map, filter, ◌==◌, Option, Some, None, Result, Ok, Err, IsOk}
 use Rattle.std.specs.Io.KnownBytes.{Appends}
 use Rattle.std.specs.List.{AllByRecursion}
@@ -51,7 +55,7 @@ use Rattle.cfdp_lines.specs.declared.faults.LinkFault.TheVariants.{Memory, BadLi
 abbrev pub IsFresh : Stage → Type 0
 IsFresh stage = world_of stage ≡ start (world_of stage).config
 
--- a line moved the stage on, and what it says came behind what stood there
+-- a line moved the stage on, and what it says came after what was there
 pub record AddsLine (from to : Stage) (line : List ℕ) (before after : List Said) : Type 0 where
   pub said : List Said
   pub answered : line_answer link_answer from line ≡ Some (to, said)
@@ -93,7 +97,8 @@ first_stop (worked ∷ workers) = or_later worked.stopped (first_stop workers)
 abbrev pub took_of : List Worked → List (List Said)
 took_of workers = map (λ worked. map said_of worked.taken.items) workers
 
-pub record Agree (config : Config) (journaled : Recorded) (said : List (List Said)) (workers : List Worked) : Type 0 where
+pub record Agree (config : Config) (journaled : Recorded) (said : List (List Said))
+    (workers : List Worked) : Type 0 where
   pub took : took_of workers ≡ said
   pub configured : journaled.core.world.config ≡ config
   pub reconciled : IsReconciled journaled.journal (map (λ worked. worked.seat) workers)

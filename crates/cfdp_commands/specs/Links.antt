@@ -2,14 +2,15 @@
 --
 --   Said           what a line says: the octets of a PDU that came, something of the entity's own, or a run
 --   said_of        what a message to a worker says
---   running        the stage behind the first event: the configuration stands
---   link_answer    what a line does: the stage after it, and what it says; nothing where it is bad. As in `replay`, without `list`
+--   running        the stage after the first event: the configuration is set
+--   link_answer    what a line does: the stage after it, and what it says; nothing where it is bad. As in `replay`,
+--                  without `list`
 --   Reading        how far a file is read: the stage, and what its lines said
 --   read_from      what the lines of a file say, one after the other, or the number of the first bad one
 --   Files          what all files say: the configuration, and what each says
 --   files_from     the files in order, or the number of the first that has a bad line, and that of its first one
---   link_files     the same from the first file on: files count from 0, and lines from 1. The configuration stands behind the
---                  first file
+--   link_files     the same from the first file on: files count from 0, and lines from 1. The configuration is set
+--                  after the first file
 use Rattle.std.specs.Prelude.{ℕ, ◌+◌, List, [], ◌∷◌, ◌++◌, Option, Some, None, Result, Ok, Err}
 use Rattle.std.specs.Arc.{arc_value}
 use Rattle.cfdp_status.specs.declared.transaction.TransactionId.{TransactionId}
@@ -69,7 +70,8 @@ obeyed_by_link stage None words = None
 obeyed_by_link stage (Some keyword.Config) words = prepared (configured stage (numbers_of words))
 obeyed_by_link stage (Some keyword.Protect) words = prepared (protected stage (octets_of_words words))
 obeyed_by_link stage (Some keyword.Pdu) words = pdu_said stage (octets_of_words words)
-obeyed_by_link stage (Some (keyword.Local which)) words = local_said stage (local_event which) (id_by (numbers_of words))
+obeyed_by_link stage (Some (keyword.Local which)) words =
+    local_said stage (local_event which) (id_by (numbers_of words))
 obeyed_by_link stage (Some keyword.Run) words = alone words (says stage Steps)
 obeyed_by_link stage (Some keyword.List) words = None
 
@@ -86,7 +88,7 @@ pub record Reading : Type 0 where
   pub stage : Stage
   pub said : List Said
 
--- what the line of this number says comes behind what those before it said
+-- what the line of this number says comes after what those before it said
 abbrev pub read_then : ℕ → List Said → Option (Stage × List Said) → (Reading → Result Reading ℕ) → Result Reading ℕ
 read_then number said None later = Err number
 read_then number said (Some answered) later = later (record { stage = answered.0; said = said ++ answered.1 })
@@ -94,7 +96,8 @@ read_then number said (Some answered) later = later (record { stage = answered.0
 abbrev pub read_from : ℕ → Reading → List (List ℕ) → Result Reading ℕ
 read_from number reading [] = Ok reading
 read_from number reading (line ∷ lines) =
-    read_then number reading.said (line_answer link_answer reading.stage line) (λ after. read_from (number + 1) after lines)
+    read_then number reading.said (line_answer link_answer reading.stage line)
+    (λ after. read_from (number + 1) after lines)
 
 -- a file, from its first line on
 abbrev pub file_said : Stage → List ℕ → Result Reading ℕ
@@ -104,8 +107,9 @@ pub record Files : Type 0 where
   pub config : Config
   pub said : List (List Said)
 
--- what a file says comes behind what those before it say
-abbrev pub files_then : ℕ → List (List Said) → Result Reading ℕ → (Stage → List (List Said) → Result Files (ℕ × ℕ)) → Result Files (ℕ × ℕ)
+-- what a file says comes after what those before it say
+abbrev pub files_then : ℕ → List (List Said) → Result Reading ℕ → (Stage → List (List Said) → Result Files (ℕ × ℕ)) →
+    Result Files (ℕ × ℕ)
 files_then file said (Err line) later = Err (file, line)
 files_then file said (Ok reading) later = later (running reading.stage) (said ++ reading.said ∷ [])
 

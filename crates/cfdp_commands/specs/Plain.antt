@@ -1,11 +1,12 @@
--- What `plain` does: filestore requests, line by line, on one filestore (CCSDS 727.0-B-5 §4.9).
+-- What `plain` does: filestore requests, line by line, on one filestore (CCSDS 727.0-B-5, filestore procedures).
 --
 --   plain_blocks     the blocks of the filestore
 --   PlainState       the filestore, and whether a request of this list was not successful
 --   plain_state      what a store and that flag are seen as
 --   at_start         an empty filestore, and no such request
 --   new_list         the next list on the same filestore
---   outcome_by       what a request by its paths comes to, by the action table with nothing protected; of no paths: not allowed
+--   outcome_by       what a request by its paths comes to, by the action table with nothing protected; of no paths: not
+--                    allowed
 --   outcome_on       the same, of the request as it was spelled
 --   status_in        the status in an outcome's answer
 --   comes_to         the state after an outcome, and the status that answers the request
@@ -63,7 +64,10 @@ status_in action Installed = Successful action
 status_in action NotInstalled = NotAllowed action
 
 abbrev pub comes_to : Filestore → Outcome → Status → PlainState × Status
-comes_to F outcome status = (record { filestore = after F outcome.changes; stopped = not (is_successful status) }, status)
+comes_to F outcome status = (
+  record { filestore = after F outcome.changes; stopped = not (is_successful status) },
+  status,
+)
 
 abbrev pub when_stopped : Bool → PlainState → RequestFields → PlainState × Status
 when_stopped true state fields = (state, NotPerformed fields.action)

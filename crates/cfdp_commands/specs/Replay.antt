@@ -11,7 +11,7 @@
 --   steps_from        the steps of `run`, of the first transaction that can take one until none can
 --   local             what a line says whose words are a transaction's name: the event that is made of it
 --   pdu_told          what a line `pdu` does, by its octets
---   obeyed            what a command does, by the words behind it; nothing where the line is bad
+--   obeyed            what a command does, by the words after it; nothing where the line is bad
 --   replay_answer     what a line does; one without words does nothing
 --   replay_report     what a whole script writes, and the bad line that ends it, if one does
 use Rattle.std.specs.Prelude.{ℕ, zero, suc, nat_lt, Bool, true, false, if◌then◌else◌, List, [], ◌∷◌, ◌++◌, length, Option, Some, None, Result, Ok, Err}
@@ -67,7 +67,11 @@ configured stage numbers = None
 abbrev pub with_prefix : Config → Option Path → Option (Stage × List ℕ)
 with_prefix config None = None
 with_prefix config (Some path) =
-    if nat_lt (length config.prefixes) 8 then Some (Preparing false (record config { prefixes = config.prefixes ++ path ∷ [] }), [])
+    if nat_lt (length config.prefixes) 8 then Some (
+      Preparing false
+          (record config { prefixes = config.prefixes ++ path ∷ [] }),
+      [],
+    )
     else None
 
 abbrev pub prefix_by : Config → Option (List ℕ) → Option (Stage × List ℕ)
@@ -95,12 +99,12 @@ local_by W event (Some id) = Some (told W (event id ∷ []))
 abbrev pub local : Stage → (TransactionId → Event) → List (List ℕ) → Option (Stage × List ℕ)
 local stage event words = local_by (world_of stage) event (id_by (numbers_of words))
 
--- the first step, and those behind it
+-- the first step, and those after it
 abbrev pub steps_by : Option TransactionId → (TransactionId → List Event) → List Event
 steps_by None later = []
 steps_by (Some id) later = events.Step id ∷ later id
 
--- at most so many
+-- at most this many
 unfoldable pub steps_from : ℕ → World → List Event
 steps_from zero W = []
 steps_from (suc more) W = steps_by (next_runnable W.table) (λ id. steps_from more (next W (events.Step id)).0)
@@ -118,7 +122,7 @@ pdu_told W (Some (octet ∷ octets)) = Some (read_told W (event_at (octet ∷ oc
 
 -- ---- lines
 
--- nothing stands behind the command
+-- nothing is after the command
 abbrev pub alone : {A : Type 0} → List (List ℕ) → A → Option A
 alone [] answer = Some answer
 alone (word ∷ words) answer = None

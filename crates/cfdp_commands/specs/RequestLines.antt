@@ -3,7 +3,7 @@
 --   dropped_for     why a line is dropped whose value is no request
 --   answerable      the request of a value, if it can be answered: one of 255 octets cannot, because its response
 --                   would be longer than a TLV can be
---   request_alone   the request of a TLV's type and value, with nothing behind it
+--   request_alone   the request of a TLV's type and value, with nothing after it
 --   request_in      the request of a TLV that was read, or of one that is cut
 --   request_on      the request of a line's octets, or the first fault: TLV cut, octets after it, another type, a value
 --                   that is no request, a value of 255 octets
@@ -35,7 +35,7 @@ abbrev pub answerable : List ℕ → Result RequestFields TlvFault → Result Re
 answerable value (Ok request) = if nat_lt 254 (length value) then Err RequestTooLong else Ok request
 answerable value (Err fault) = Err (dropped_for fault)
 
--- of a TLV's type and value, and what stands after it
+-- of a TLV's type and value, and what is after it
 abbrev pub request_alone : ℕ → List ℕ → List ℕ → Result RequestFields Dropped
 request_alone kind value (octet ∷ octets) = Err Trailing
 request_alone kind value [] = if kind == 0 then answerable value (request_at value) else Err NotARequest

@@ -25,7 +25,8 @@ pub fn reconcile(
     journaled: Journaled<TreeStore>,
     seats: Vec<Seat>,
 ) -> Result<Closed<TreeStore>, LinkFault>
-    ensures exactly { IsOk result ↔ ((journaled.core.world.config ≡ config.now) × IsReconciled journaled.journal seats.items) }
+    ensures exactly { IsOk result ↔ ((journaled.core.world.config ≡ config.now)
+        × IsReconciled journaled.journal seats.items) }
     ensures config { IfOk result (λ closed. closed.core.world.config ≡ config.now) }
     ensures core { IfOk result (λ closed. closed.core ≡ journaled.core) }
     ensures journal { IfOk result (λ closed. closed.journal.items ≡ journaled.journal) }
@@ -43,8 +44,8 @@ pub fn reconcile(
     }
 }
 
-/// The replies of a journal can be written, where its events are those of seats that handed in what may have been read. Does
-/// nothing.
+/// The replies of a journal can be written, where its events are those of seats that handed in what may have been read.
+/// Does nothing.
 fn replies_fit(core: &Core<TreeStore>, journal: &[Entry], seats: &[Seat])
     requires history { IsHistory journal.now core.now.world }
     requires reconciled { IsReconciled journal.now seats.now }
@@ -67,7 +68,8 @@ pub fn text_of_closed(
     requires history { IsHistory closed.now.journal.items closed.now.core.world }
     requires reconciled { IsReconciled closed.now.journal.items closed.now.seats.items }
     requires readable { AllByRecursion HasReadable closed.now.seats.items }
-    ensures ok { IfOk result (λ text. text.items ≡ journal_text closed.now.journal.items closed.now.seats.items dropped.now closed.now.core.world) }
+    ensures ok { IfOk result (λ text. text.items ≡ journal_text closed.now.journal.items closed.now.seats.items
+        dropped.now closed.now.core.world) }
     ensures memory { OnErr result (result ≡ Err Memory) }
 {
     replies_fit(&closed.core, &closed.journal, &closed.seats);

@@ -11,7 +11,7 @@ use cfdp_lines::next_word;
 use cfdp_status::TransactionId;
 use cfdp_transactions::Event;
 
-/// What the receiving entity is told of its own: an event of one transaction.
+/// What happens at the receiving entity itself: an event of one transaction.
 #[derive(Clone, Copy)]
 pub(crate) enum Local {
     /// The next item is performed.
@@ -51,7 +51,7 @@ pub(crate) enum Keyword {
     Local(Local),
     /// The next items are performed, of one transaction after the other, until none has any.
     Run,
-    /// What stands in the filestore is written.
+    /// What is in the filestore is written.
     List,
 }
 

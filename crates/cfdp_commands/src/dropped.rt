@@ -9,7 +9,7 @@ use cfdp_tlv::TlvFault;
 pub(crate) enum Dropped {
     /// A field is cut.
     Truncated,
-    /// Octets stand after the last field.
+    /// Octets are after the last field.
     Trailing,
     /// It is a TLV of another type.
     NotARequest,
@@ -21,7 +21,7 @@ pub(crate) enum Dropped {
 
 impl Dropped {
     /// Why a line is dropped whose value is no request. Such a value has been cut, or has an unknown action or octets
-    /// behind its last name; the faults of responses, of writers and of memory have an answer only so that each
+    /// after its last name; the faults of responses, of writers and of memory have an answer only so that each
     /// fault has one, as in the definition.
     pub(crate) fn of_fault(fault: TlvFault) -> Self
         ensures { result ≡ dropped_for fault }

@@ -1,4 +1,4 @@
-//! A receiving entity that a script tells what happens.
+//! A receiving entity to which a script says what happens.
 ghost use Rattle.std.specs.Prelude.{◌≡◌, ◌++◌, ℕ, List, IfOk, OnOk};
 ghost use Rattle.cfdp_actions.specs.Store.{empty_store};
 ghost use Rattle.cfdp_pdus.specs.Canonical.{IsHeader};
@@ -84,9 +84,11 @@ impl<S: Filestore> Entity<S> {
         text: &mut Vec<u8>,
     ) -> Result<(), AllocError>
         requires { IsHeader header.now }
-        ensures world { OnOk result (self.new.core.world ≡ (next self.old.core.world (DataCame header.now piece.now)).0) }
+        ensures world { OnOk result (self.new.core.world ≡ (next self.old.core.world
+            (DataCame header.now piece.now)).0) }
         ensures text { OnOk result (text.new.items ≡ text.old.items
-            ++ reply_line (about (DataCame header.now piece.now)) (next self.old.core.world (DataCame header.now piece.now)).1) }
+            ++ reply_line (about (DataCame header.now piece.now))
+            (next self.old.core.world (DataCame header.now piece.now)).1) }
     {
         match self.core.file_data(header, piece) {
             Reply::Memory => Err(AllocError),
@@ -94,9 +96,10 @@ impl<S: Filestore> Entity<S> {
         }
     }
 
-    /// Takes the octets of a PDU that is copied as it is read, and appends the line of what came of them.
+    /// Takes the octets of a PDU that is copied as it is read, and appends the line of what became of them.
     fn hear(&mut self, alloc: Global, octets: &[u8], text: &mut Vec<u8>) -> Result<(), AllocError>
-        ensures { OnOk result ((lines : List ℕ) × (read_told self.old.core.world (event_at octets.now) ≡ (Running self.new.core.world, lines))
+        ensures { OnOk result ((lines : List ℕ) × (read_told self.old.core.world (event_at octets.now)
+            ≡ (Running self.new.core.world, lines))
             × (text.new.items ≡ text.old.items ++ lines)) }
     {
         match read_event(alloc, octets) {
@@ -107,7 +110,7 @@ impl<S: Filestore> Entity<S> {
         }
     }
 
-    /// Takes the octets of a PDU, and appends the line of what came of them. The octets of a File Data PDU are copied
+    /// Takes the octets of a PDU, and appends the line of what became of them. The octets of a File Data PDU are copied
     /// once, into the filestore.
     pub(crate) fn receive(
         &mut self,
@@ -115,7 +118,8 @@ impl<S: Filestore> Entity<S> {
         octets: &[u8],
         text: &mut Vec<u8>,
     ) -> Result<(), AllocError>
-        ensures { OnOk result ((lines : List ℕ) × (read_told self.old.core.world (event_at octets.now) ≡ (Running self.new.core.world, lines))
+        ensures { OnOk result ((lines : List ℕ) × (read_told self.old.core.world (event_at octets.now)
+            ≡ (Running self.new.core.world, lines))
             × (text.new.items ≡ text.old.items ++ lines)) }
     {
         let Some((header, piece)) = read_piece(octets) else {
@@ -130,8 +134,10 @@ impl<S: Filestore> Entity<S> {
     /// Performs the next items, of one transaction after the other, until none has any: at most 4,224. The lines of the
     /// replies are appended.
     pub(crate) fn run(&mut self, alloc: Global, text: &mut Vec<u8>) -> Result<(), AllocError>
-        ensures world { OnOk result (self.new.core.world ≡ run self.old.core.world (steps_from most_runs self.old.core.world)) }
-        ensures text { OnOk result (text.new.items ≡ text.old.items ++ told_lines (steps_from most_runs self.old.core.world)
+        ensures world { OnOk result (self.new.core.world ≡ run self.old.core.world
+            (steps_from most_runs self.old.core.world)) }
+        ensures text { OnOk result (text.new.items ≡ text.old.items
+            ++ told_lines (steps_from most_runs self.old.core.world)
             (replies self.old.core.world (steps_from most_runs self.old.core.world))) }
     {
         'steps: for _ in 0..MOST_RUNS {
@@ -143,7 +149,7 @@ impl<S: Filestore> Entity<S> {
         Ok(())
     }
 
-    /// Appends the lines of what stands in the filestore.
+    /// Appends the lines of what is in the filestore.
     pub(crate) fn list(&self, alloc: Global, text: &mut Vec<u8>) -> Result<(), AllocError>
         ensures { OnOk result (text.new.items ≡ text.old.items ++ listing_text self.now.core.world) }
     {

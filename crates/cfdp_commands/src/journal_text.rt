@@ -63,7 +63,7 @@ fn push_seats(seats: &[Seat], dropped: &[u64], text: &mut Vec<u8>) -> Result<(),
     Ok(())
 }
 
-/// Appends the line that tells how many entries the journal has.
+/// Appends the line that says how many entries the journal has.
 fn push_count(count: usize, text: &mut Vec<u8>) -> Result<(), AllocError>
     ensures { OnOk result (text.new.items ≡ text.old.items ++ line (labelled (codes "journal ") count)) }
 {
@@ -71,7 +71,7 @@ fn push_count(count: usize, text: &mut Vec<u8>) -> Result<(), AllocError>
     Ok(text.push(b'\n')?)
 }
 
-/// The whole text: the entries, the seats, the journal's length, and what stands in the filestore.
+/// The whole text: the entries, the seats, the journal's length, and what is in the filestore.
 pub(crate) fn text_of<S: Filestore>(
     alloc: Global,
     core: &Core<S>,

@@ -1,9 +1,10 @@
 //! What the lines of a script say, and what is done of each: the text that a line is answered with.
 //!
-//! There are two kinds of script: [`Requests`], filestore requests as hexadecimal TLVs (CCSDS 727.0-B-5 §5.4), performed on one
-//! filestore (§4.9); and [`Transfers`], PDUs (§5.1 to §5.3) and local events of one receiving entity (§4.6). The files of `links`
-//! have the lines of the second kind: [`read_files`] makes messages of them, [`run_all`] runs a worker for each file, and
-//! [`text_of_closed`] is the text of what they did.
+//! There are two kinds of script: [`Requests`], filestore requests as hexadecimal TLVs (CCSDS 727.0-B-5 §5.4),
+//! performed on one filestore (filestore procedures); and [`Transfers`], PDUs (§5.1 to §5.3) and local events of one
+//! receiving entity (copy file procedures). The files of `links` have the lines of the second kind: [`read_files`]
+//! makes messages of them, [`run_all`] runs a worker for each file, and [`text_of_closed`] is the text of what they
+//! did.
 #![tactic(auto)]
 
 mod closed_text;

@@ -29,7 +29,7 @@ pub struct Prepared {
 ///
 /// # Errors
 ///
-/// The file's first bad line; want of memory.
+/// The file's first bad line; out of memory.
 fn read_next(
     alloc: Global,
     file: u8,
@@ -39,12 +39,17 @@ fn read_next(
 ) -> Result<(), LinkFault>
     requires short { length script.now ≤ input_limit }
     requires fresh { IsFresh (stage_of stage.old) }
-    ensures ok { OnOk result ((scripts : List (List ℕ)) → files_from file (stage_of stage.old) (map (λ file. map said_of file.items) files.old.items) (script.now ∷ scripts)
+    ensures ok { OnOk result ((scripts : List (List ℕ)) →
+        files_from file (stage_of stage.old) (map (λ file. map said_of file.items) files.old.items)
+        (script.now ∷ scripts)
         ≡ files_from (file + 1) (stage_of stage.new) (map (λ file. map said_of file.items) files.new.items) scripts) }
     ensures one { OnOk result (length files.new.items ≡ length files.old.items + 1) }
     ensures fresh { OnOk result (IsFresh (stage_of stage.new)) }
-    ensures heard { OnOk result (AllByRecursion (λ file. AllByRecursion IsHeard (map said_of file.items)) files.old.items → AllByRecursion (λ file. AllByRecursion IsHeard (map said_of file.items)) files.new.items) }
-    ensures bad { IfErr result (λ fault. (scripts : List (List ℕ)) → IsBadFile (files_from file (stage_of stage.old) (map (λ file. map said_of file.items) files.old.items) (script.now ∷ scripts)) fault) }
+    ensures heard { OnOk result (AllByRecursion (λ file. AllByRecursion IsHeard (map said_of file.items))
+        files.old.items → AllByRecursion (λ file. AllByRecursion IsHeard (map said_of file.items)) files.new.items) }
+    ensures bad { IfErr result (λ fault. (scripts : List (List ℕ)) →
+        IsBadFile (files_from file (stage_of stage.old) (map (λ file. map said_of file.items) files.old.items)
+        (script.now ∷ scripts)) fault) }
 {
     let messages = match read_file(alloc, file, stage, script) {
         Ok(messages) => messages,
@@ -60,15 +65,19 @@ fn read_next(
 ///
 /// # Errors
 ///
-/// The first bad line of the first file that has one; want of memory.
+/// The first bad line of the first file that has one; out of memory.
 pub fn read_files(alloc: Global, scripts: &[Vec<u8>]) -> Result<Prepared, LinkFault>
     requires few { length scripts.now ≤ 4 }
     requires short { AllByRecursion (λ script. length script.items ≤ input_limit) scripts.now }
     ensures ok { IfOk result (λ prepared. link_files (map (λ script. script.items) scripts.now)
-        ≡ Ok (record { config = prepared.core.world.config; said = map (λ file. map said_of file.items) prepared.files.items })) }
+        ≡ Ok (record {
+          config = prepared.core.world.config;
+          said = map (λ file. map said_of file.items) prepared.files.items;
+        })) }
     ensures each { IfOk result (λ prepared. length prepared.files.items ≡ length scripts.now) }
     ensures fresh { IfOk result (λ prepared. prepared.core.world ≡ start prepared.core.world.config) }
-    ensures heard { IfOk result (λ prepared. AllByRecursion (λ file. AllByRecursion IsHeard (map said_of file.items)) prepared.files.items) }
+    ensures heard { IfOk result (λ prepared. AllByRecursion
+        (λ file. AllByRecursion IsHeard (map said_of file.items)) prepared.files.items) }
     ensures bad { IfErr result (λ fault. IsBadFile (link_files (map (λ script. script.items) scripts.now)) fault) }
 {
     let mut stage = Stage::new();

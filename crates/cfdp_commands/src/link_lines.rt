@@ -25,8 +25,10 @@ use std::sync::Arc;
 
 /// A line `config`: its words are five numbers.
 fn configure(stage: &mut Stage, line: &[u8]) -> Result<(), LineFault>
-    ensures ok { OnOk result (prepared (configured (stage_of stage.old) (numbers_of (words_of line.now))) ≡ Some (stage_of stage.new, [])) }
-    ensures bad { (result ≡ Err Bad) ↔ (prepared (configured (stage_of stage.old) (numbers_of (words_of line.now))) ≡ None) }
+    ensures ok { OnOk result (prepared (configured (stage_of stage.old) (numbers_of (words_of line.now)))
+        ≡ Some (stage_of stage.new, [])) }
+    ensures bad { (result ≡ Err Bad) ↔ (prepared (configured (stage_of stage.old) (numbers_of (words_of line.now)))
+        ≡ None) }
 {
     let Some(numbers) = numbers_of(line) else {
         return Err(LineFault::Bad);
@@ -36,8 +38,10 @@ fn configure(stage: &mut Stage, line: &[u8]) -> Result<(), LineFault>
 
 /// A line `protect`: its words are the octets of a path.
 fn protect(alloc: Global, stage: &mut Stage, line: &[u8]) -> Result<(), LineFault>
-    ensures ok { OnOk result (prepared (protected (stage_of stage.old) (octets_of_words (words_of line.now))) ≡ Some (stage_of stage.new, [])) }
-    ensures bad { (result ≡ Err Bad) ↔ (prepared (protected (stage_of stage.old) (octets_of_words (words_of line.now))) ≡ None) }
+    ensures ok { OnOk result (prepared (protected (stage_of stage.old) (octets_of_words (words_of line.now)))
+        ≡ Some (stage_of stage.new, [])) }
+    ensures bad { (result ≡ Err Bad) ↔ (prepared (protected (stage_of stage.old) (octets_of_words (words_of line.now)))
+        ≡ None) }
 {
     protect_path(alloc, stage, line)
 }
@@ -61,9 +65,11 @@ fn receive(alloc: Global, stage: &mut Stage, line: &[u8]) -> Result<Message, Lin
 
 /// A line whose words name a transaction: something of the entity's own happened to it.
 fn tell(alloc: Global, stage: &mut Stage, which: Local, line: &[u8]) -> Result<Message, LineFault>
-    ensures ok { IfOk result (λ message. local_said (stage_of stage.old) (local_event which) (id_by (numbers_of (words_of line.now)))
+    ensures ok { IfOk result (λ message. local_said (stage_of stage.old) (local_event which)
+        (id_by (numbers_of (words_of line.now)))
         ≡ Some (stage_of stage.new, said_of message ∷ [])) }
-    ensures bad { (result ≡ Err Bad) ↔ (local_said (stage_of stage.old) (local_event which) (id_by (numbers_of (words_of line.now))) ≡ None) }
+    ensures bad { (result ≡ Err Bad) ↔ (local_said (stage_of stage.old) (local_event which)
+        (id_by (numbers_of (words_of line.now))) ≡ None) }
 {
     let Some(id) = id_in(line) else {
         return Err(LineFault::Bad);
@@ -88,7 +94,7 @@ fn run(alloc: Global, stage: &mut Stage, line: &[u8]) -> Result<Message, LineFau
     Ok(Message::Run)
 }
 
-/// What a line says, by its first word and what stands behind it.
+/// What a line says, by its first word and what is after it.
 fn obey(
     alloc: Global,
     stage: &mut Stage,
@@ -111,7 +117,8 @@ fn obey(
 
 /// What a line says that is neither too long nor a comment.
 fn read_words(alloc: Global, stage: &mut Stage, line: &[u8]) -> Result<Option<Message>, LineFault>
-    ensures ok { IfOk result (λ message. link_answer (stage_of stage.old) line.now ≡ Some (stage_of stage.new, said_in message)) }
+    ensures ok { IfOk result (λ message. link_answer (stage_of stage.old) line.now
+        ≡ Some (stage_of stage.new, said_in message)) }
     ensures bad { (result ≡ Err Bad) ↔ (link_answer (stage_of stage.old) line.now ≡ None) }
 {
     let mut rest = line;
@@ -126,7 +133,8 @@ fn read_words(alloc: Global, stage: &mut Stage, line: &[u8]) -> Result<Option<Me
 
 /// What a line says.
 fn read_line(alloc: Global, stage: &mut Stage, line: &[u8]) -> Result<Option<Message>, LineFault>
-    ensures ok { IfOk result (λ message. line_answer link_answer (stage_of stage.old) line.now ≡ Some (stage_of stage.new, said_in message)) }
+    ensures ok { IfOk result (λ message. line_answer link_answer (stage_of stage.old) line.now
+        ≡ Some (stage_of stage.new, said_in message)) }
     ensures bad { (result ≡ Err Bad) ↔ (line_answer link_answer (stage_of stage.old) line.now ≡ None) }
 {
     if line.len() > LINE_LIMIT {
@@ -138,7 +146,7 @@ fn read_line(alloc: Global, stage: &mut Stage, line: &[u8]) -> Result<Option<Mes
     read_words(alloc, stage, line)
 }
 
-/// The first line of some octets, and what stands behind it.
+/// The first line of some octets, and what is after it.
 fn first_line(octets: &[u8]) -> (&[u8], &[u8])
     requires { 0 < length octets.now }
     ensures lines { lines_of octets.now ≡ result.0.now ∷ lines_of result.1.now }
@@ -177,7 +185,7 @@ fn add_line(
 ///
 /// # Errors
 ///
-/// The first bad line, by the file's number and its own, counted from 1; want of memory.
+/// The first bad line, by the file's number and its own, counted from 1; out of memory.
 pub(crate) fn read_file(
     alloc: Global,
     file: u8,

@@ -1,4 +1,4 @@
-//! Filestore requests in lists, performed on one filestore (CCSDS 727.0-B-5 §4.9).
+//! Filestore requests in lists, performed on one filestore (CCSDS 727.0-B-5, filestore procedures).
 ghost use Rattle.std.specs.Prelude.{◌≡◌, ◌≤◌, ◌++◌, ℕ, List, false, length, Some, Ok, IfOk, OnOk, OnErr, Err};
 ghost use Rattle.cfdp_commands.specs.Plain.{plain_blocks, performed_on, plain_answer};
 ghost use Rattle.cfdp_lines.specs.declared.script.LineFault.TheVariants.{Bad};
@@ -43,7 +43,8 @@ impl<S: Filestore> Requests<S> {
 
     /// Performs a request, or does not, where an earlier one of this list was not successful.
     fn perform(&mut self, alloc: Global, request: &FilestoreRequest) -> Result<Status, AllocError>
-        ensures { IfOk result (λ status. performed_on (plain_state (S.state self.old.store) self.old.stopped) request.now
+        ensures { IfOk result (λ status. performed_on (plain_state (S.state self.old.store) self.old.stopped)
+            request.now
             ≡ (plain_state (S.state self.new.store) self.new.stopped, status)) }
     {
         if self.stopped {
@@ -66,8 +67,10 @@ impl<S: Filestore> Requests<S> {
         out: &mut Vec<u8>,
     ) -> Result<(), AllocError>
         requires { length (names_of request.first request.second) ≤ 253 }
-        ensures ok { OnOk result ((line : List ℕ) × (answer_to (plain_state (S.state self.old.store) self.old.stopped) (Ok request)
-            ≡ (plain_state (S.state self.new.store) self.new.stopped, line)) × (out.new.items ≡ out.old.items ++ line)) }
+        ensures ok { OnOk result ((line : List ℕ) × (answer_to (plain_state (S.state self.old.store) self.old.stopped)
+            (Ok request)
+            ≡ (plain_state (S.state self.new.store) self.new.stopped, line))
+            × (out.new.items ≡ out.old.items ++ line)) }
         ensures kept { OnErr result (out.new.items ≡ out.old.items) }
     {
         let status = self.perform(alloc, &request)?;
@@ -81,8 +84,10 @@ impl<S: Filestore> Requests<S> {
         octets: &[u8],
         out: &mut Vec<u8>,
     ) -> Result<(), AllocError>
-        ensures ok { OnOk result ((line : List ℕ) × (octets_answer (plain_state (S.state self.old.store) self.old.stopped) octets.now
-            ≡ (plain_state (S.state self.new.store) self.new.stopped, line)) × (out.new.items ≡ out.old.items ++ line)) }
+        ensures ok { OnOk result ((line : List ℕ) × (octets_answer
+            (plain_state (S.state self.old.store) self.old.stopped) octets.now
+            ≡ (plain_state (S.state self.new.store) self.new.stopped, line))
+            × (out.new.items ≡ out.old.items ++ line)) }
         ensures kept { OnErr result (out.new.items ≡ out.old.items) }
     {
         if octets.is_empty() {

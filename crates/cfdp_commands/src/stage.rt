@@ -43,7 +43,7 @@ pub(crate) fn with_prefixes(config: &Config, protected: Protected) -> Config
     .unwrap()
 }
 
-/// The same prefixes once more.
+/// A copy of the prefixes.
 fn copy_prefixes(alloc: Global, protected: &Protected) -> Result<Protected, AllocError>
     ensures { IfOk result (λ copy. copy ≡ protected.now) }
 {
@@ -59,7 +59,7 @@ fn copy_prefixes(alloc: Global, protected: &Protected) -> Result<Protected, Allo
     Ok(copy)
 }
 
-/// The same configuration once more.
+/// A copy of the configuration.
 pub fn copy_config(alloc: Global, config: &Config) -> Result<Config, AllocError>
     ensures { IfOk result (λ copy. copy ≡ config.now) }
 {
@@ -86,7 +86,14 @@ fn config_of(
     checks: u64,
     journal: u64,
 ) -> Result<Config, LineFault>
-    ensures ok { IfOk result (λ config. (config ≡ record { entity = entity; blocks = blocks; cap = cap; checks = checks; journal = journal; prefixes = [] })
+    ensures ok { IfOk result (λ config. (config ≡ record {
+      entity = entity;
+      blocks = blocks;
+      cap = cap;
+      checks = checks;
+      journal = journal;
+      prefixes = [];
+    })
         × (first_fault blocks cap checks journal ≡ None)) }
     ensures bad { OnErr result (IsSome (first_fault blocks cap checks journal)) }
     ensures only { OnErr result (result ≡ Err Bad) }
@@ -117,8 +124,8 @@ fn entity_of(alloc: Global, config: Config) -> Result<Entity<TreeStore>, AllocEr
 /// How far a script is.
 #[derive(Drop)]
 pub(crate) enum Stage {
-    /// Before the first event: whether no line came that is not passed over, the configuration but for the prefixes that
-    /// are protected, and these.
+    /// Before the first event: whether no line came that is not passed over, the configuration but for the prefixes
+    /// that are protected, and these.
     Preparing(bool, Config, Protected),
     /// After it.
     Running(Entity<TreeStore>),
@@ -148,8 +155,8 @@ impl Stage {
         Ok(())
     }
 
-    /// A path is protected, by the octets that spell it. A line that is bad is answered so even where memory is refused: so
-    /// whether one more path may be protected is tested first.
+    /// A path is protected, by the octets that spell it. A line that is bad is reported even where memory is
+    /// refused: so whether one more path may be protected is tested first.
     pub(crate) fn protect(&mut self, alloc: Global, octets: &[u8]) -> Result<(), LineFault>
         ensures ok { OnOk result (protected (stage_of self.old) (Some octets.now) ≡ Some (stage_of self.new, [])) }
         ensures bad { (result ≡ Err Bad) ↔ (protected (stage_of self.old) (Some octets.now) ≡ None) }
@@ -217,7 +224,8 @@ impl Stage {
         text: &mut Vec<u8>,
     ) -> Result<(), AllocError>
         requires { IsReadable event.now }
-        ensures { OnOk result ((lines : List ℕ) × (told (world_of (stage_of self.old)) (event.now ∷ []) ≡ (stage_of self.new, lines))
+        ensures { OnOk result ((lines : List ℕ) × (told (world_of (stage_of self.old)) (event.now ∷ [])
+            ≡ (stage_of self.new, lines))
             × (text.new.items ≡ text.old.items ++ lines)) }
     {
         self.begin(alloc)?;
@@ -227,14 +235,15 @@ impl Stage {
         entity.tell(alloc, event, text)
     }
 
-    /// Takes the octets of a PDU, and appends the line of what came of them.
+    /// Takes the octets of a PDU, and appends the line of what became of them.
     pub(crate) fn receive(
         &mut self,
         alloc: Global,
         octets: &[u8],
         text: &mut Vec<u8>,
     ) -> Result<(), AllocError>
-        ensures { OnOk result ((lines : List ℕ) × (read_told (world_of (stage_of self.old)) (event_at octets.now) ≡ (stage_of self.new, lines))
+        ensures { OnOk result ((lines : List ℕ) × (read_told (world_of (stage_of self.old)) (event_at octets.now)
+            ≡ (stage_of self.new, lines))
             × (text.new.items ≡ text.old.items ++ lines)) }
     {
         self.begin(alloc)?;
@@ -246,7 +255,8 @@ impl Stage {
 
     /// Performs the next items until there are none, and appends the lines of the replies.
     pub(crate) fn run(&mut self, alloc: Global, text: &mut Vec<u8>) -> Result<(), AllocError>
-        ensures { OnOk result ((lines : List ℕ) × (told (world_of (stage_of self.old)) (steps_from most_runs (world_of (stage_of self.old)))
+        ensures { OnOk result ((lines : List ℕ) × (told (world_of (stage_of self.old))
+            (steps_from most_runs (world_of (stage_of self.old)))
             ≡ (stage_of self.new, lines)) × (text.new.items ≡ text.old.items ++ lines)) }
     {
         self.begin(alloc)?;
@@ -256,7 +266,7 @@ impl Stage {
         entity.run(alloc, text)
     }
 
-    /// Appends the lines of what stands in the filestore.
+    /// Appends the lines of what is in the filestore.
     pub(crate) fn list(&mut self, alloc: Global, text: &mut Vec<u8>) -> Result<(), AllocError>
         ensures stage { OnOk result (stage_of self.new ≡ IsRunning (world_of (stage_of self.old))) }
         ensures text { OnOk result (text.new.items ≡ text.old.items ++ listing_text (world_of (stage_of self.old))) }

@@ -1,4 +1,4 @@
-//! The lines of `replay`: PDUs and local events, told to one receiving entity.
+//! The lines of `replay`: PDUs and local events, handed to one receiving entity.
 ghost use Rattle.std.specs.Prelude.{◌≡◌, ◌≢◌, ◌↔◌, [], OnOk, Some, None, Err};
 ghost use Rattle.cfdp_commands.specs.Commands.{local_event};
 ghost use Rattle.cfdp_lines.specs.Words.{numbers_of, words_of};
@@ -16,10 +16,11 @@ use std::alloc::Global;
 /// The most octets that spell a path: eight names of 96 octets, with a `/` before each.
 const LONGEST_PATH: usize = 8 * 97;
 
-/// Protects the path that the words of a line spell. Its octets take no memory, so that a bad line is answered so even
+/// Protects the path that the words of a line spell. Its octets take no memory, so that a bad line is reported even
 /// where memory is refused: only a path that may be protected takes some.
 pub(crate) fn protect_path(alloc: Global, stage: &mut Stage, line: &[u8]) -> Result<(), LineFault>
-    ensures ok { OnOk result (protected (stage_of stage.old) (octets_of_words (words_of line.now)) ≡ Some (stage_of stage.new, [])) }
+    ensures ok { OnOk result (protected (stage_of stage.old) (octets_of_words (words_of line.now))
+        ≡ Some (stage_of stage.new, [])) }
     ensures bad { (result ≡ Err Bad) ↔ (protected (stage_of stage.old) (octets_of_words (words_of line.now)) ≡ None) }
 {
     let mut room = [0u8; LONGEST_PATH];
@@ -55,8 +56,10 @@ impl Transfers {
 
     /// A line `config`: its words are five numbers.
     fn configure(&mut self, line: &[u8]) -> Result<(), LineFault>
-        ensures ok { OnOk result (configured (stage_of self.old.stage) (numbers_of (words_of line.now)) ≡ Some (stage_of self.new.stage, [])) }
-        ensures bad { (result ≡ Err Bad) ↔ (configured (stage_of self.old.stage) (numbers_of (words_of line.now)) ≡ None) }
+        ensures ok { OnOk result (configured (stage_of self.old.stage) (numbers_of (words_of line.now))
+            ≡ Some (stage_of self.new.stage, [])) }
+        ensures bad { (result ≡ Err Bad) ↔ (configured (stage_of self.old.stage) (numbers_of (words_of line.now))
+            ≡ None) }
         ensures text { self.new.text ≡ self.old.text }
     {
         let Some(numbers) = numbers_of(line) else {
@@ -67,8 +70,10 @@ impl Transfers {
 
     /// A line `protect`: its words are the octets of a path.
     fn protect(&mut self, alloc: Global, line: &[u8]) -> Result<(), LineFault>
-        ensures ok { OnOk result (protected (stage_of self.old.stage) (octets_of_words (words_of line.now)) ≡ Some (stage_of self.new.stage, [])) }
-        ensures bad { (result ≡ Err Bad) ↔ (protected (stage_of self.old.stage) (octets_of_words (words_of line.now)) ≡ None) }
+        ensures ok { OnOk result (protected (stage_of self.old.stage) (octets_of_words (words_of line.now))
+            ≡ Some (stage_of self.new.stage, [])) }
+        ensures bad { (result ≡ Err Bad) ↔ (protected (stage_of self.old.stage) (octets_of_words (words_of line.now))
+            ≡ None) }
         ensures text { self.new.text ≡ self.old.text }
     {
         protect_path(alloc, &mut self.stage, line)
@@ -79,7 +84,8 @@ impl Transfers {
         requires { self.old.text.items ≡ [] }
         ensures ok { OnOk result (pdu_told (world_of (stage_of self.old.stage)) (octets_of_words (words_of line.now))
             ≡ Some (stage_of self.new.stage, self.new.text.items)) }
-        ensures bad { (result ≡ Err Bad) ↔ (pdu_told (world_of (stage_of self.old.stage)) (octets_of_words (words_of line.now)) ≡ None) }
+        ensures bad { (result ≡ Err Bad) ↔ (pdu_told (world_of (stage_of self.old.stage))
+            (octets_of_words (words_of line.now)) ≡ None) }
     {
         if let Err(fault) = decode_words(line, &mut self.octets) {
             return Err(fault);
@@ -95,7 +101,8 @@ impl Transfers {
         requires { self.old.text.items ≡ [] }
         ensures ok { OnOk result (local (stage_of self.old.stage) (local_event which) (words_of line.now)
             ≡ Some (stage_of self.new.stage, self.new.text.items)) }
-        ensures bad { (result ≡ Err Bad) ↔ (local (stage_of self.old.stage) (local_event which) (words_of line.now) ≡ None) }
+        ensures bad { (result ≡ Err Bad) ↔ (local (stage_of self.old.stage) (local_event which) (words_of line.now)
+            ≡ None) }
     {
         let Some(id) = id_in(line) else {
             return Err(LineFault::Bad);
@@ -121,7 +128,8 @@ impl Transfers {
         requires { self.old.text.items ≡ [] }
         ensures ok { OnOk result (obeyed (stage_of self.old.stage) (Some ListAll) (words_of line.now)
             ≡ Some (stage_of self.new.stage, self.new.text.items)) }
-        ensures bad { (result ≡ Err Bad) ↔ (obeyed (stage_of self.old.stage) (Some ListAll) (words_of line.now) ≡ None) }
+        ensures bad { (result ≡ Err Bad) ↔ (obeyed (stage_of self.old.stage) (Some ListAll) (words_of line.now)
+            ≡ None) }
     {
         if !is_end(line) {
             return Err(LineFault::Bad);
@@ -129,12 +137,13 @@ impl Transfers {
         Ok(self.stage.list(alloc, &mut self.text)?)
     }
 
-    /// Does what a line says, by its first word and what stands behind it.
+    /// Does what a line says, by its first word and what is after it.
     fn obey(&mut self, alloc: Global, keyword: Keyword, line: &[u8]) -> Result<(), LineFault>
         requires { self.old.text.items ≡ [] }
         ensures ok { OnOk result (obeyed (stage_of self.old.stage) (Some keyword) (words_of line.now)
             ≡ Some (stage_of self.new.stage, self.new.text.items)) }
-        ensures bad { (result ≡ Err Bad) ↔ (obeyed (stage_of self.old.stage) (Some keyword) (words_of line.now) ≡ None) }
+        ensures bad { (result ≡ Err Bad) ↔ (obeyed (stage_of self.old.stage) (Some keyword) (words_of line.now)
+            ≡ None) }
     {
         match keyword {
             Keyword::Config => self.configure(line),

@@ -47,8 +47,8 @@ fn longest(files: &[Vec<Message>]) -> usize {
     most
 }
 
-/// Sends the workers what their files say, a message to each in turn, and closes their inboxes. A message for a worker that has
-/// stopped is given up.
+/// Sends the workers what their files say, a message to each in turn, and closes their inboxes. A message for a worker
+/// that has stopped is given up.
 fn feed<R: Wait>(
     rt: &R,
     alloc: Global,

@@ -1,4 +1,4 @@
--- What a receiving entity makes of an upload (CCSDS 727.0-B-5 §4.6.1).
+-- What a receiving entity makes of an upload (CCSDS 727.0-B-5, copy file procedures).
 --   data_events          the File Data PDUs of some pieces, as events
 --   events_of            the PDUs of an upload, as events
 --   kept_after           what is kept after these pieces came

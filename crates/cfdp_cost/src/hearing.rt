@@ -16,7 +16,7 @@ use std::alloc::Global;
 pub enum Heard {
     /// The entity stored its octets.
     Stored(TransactionId),
-    /// The receiver stored its octets, and tells its user of them: at which offset, and how many.
+    /// The receiver stored its octets, and notifies its user of them: at which offset, and how many.
     Told(TransactionId, u64, u64),
     /// They were not stored.
     Otherwise,

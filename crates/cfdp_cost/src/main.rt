@@ -1,14 +1,15 @@
-//! `cfdp_cost entity|receiver SESSIONS COUNT [each|immediate|deadline|stranger]`: File Data PDUs, so that their cost can be counted.
+//! `cfdp_cost entity|receiver SESSIONS COUNT [each|immediate|deadline|stranger]`: File Data PDUs, so that their cost
+//! can be counted.
 //!
-//! An entity begins SESSIONS transactions, 1 to 64, in acknowledged mode. Then COUNT File Data PDUs of 1,000 octets of the last
-//! transaction, 1 to 7,800, are handed in, in order, by `Entity::receive` or by `Receiver::receive`. They come from one buffer whose
-//! number and offset alone change, nothing else is done between them, and no memory is asked for. With `each` they are PDUs of all
-//! transactions in turn. With `immediate` the receiver asks for a
-//! gap when it begins. With `deadline` the receiver is asked for its deadline after each PDU. With `stranger` 256 transactions are
-//! closed before, and the PDUs are of a transaction that never began.
+//! An entity begins SESSIONS transactions, 1 to 64, in acknowledged mode. Then COUNT File Data PDUs of 1,000 octets of
+//! the last transaction, 1 to 7,800, are handed in, in order, by `Entity::receive` or by `Receiver::receive`. They come
+//! from one buffer whose number and offset alone change, nothing else is done between them, and no memory is asked for.
+//! With `each` they are PDUs of all transactions in turn. With `immediate` the receiver asks for a gap when it begins.
+//! With `deadline` the receiver is asked for its deadline after each PDU. With `stranger` 256 transactions are closed
+//! before, and the PDUs are of a transaction that never began.
 //!
-//! At the end a line says how many were stored and what became of the last one; the exit status is 1 unless all were stored, and of
-//! `stranger` none.
+//! At the end a line says how many were stored and what became of the last one; the exit status is 1 unless all were
+//! stored, and of `stranger` none.
 //!
 //! The instructions of a run with twice the COUNT, less those of a run with COUNT, are those of COUNT PDUs.
 #![tactic(auto)]

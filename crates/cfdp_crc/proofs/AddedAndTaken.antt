@@ -18,7 +18,7 @@ record IsPlain (first high low fourth : ℕ) (rest : List ℕ) (len : ℕ) : Typ
   whole : length (first ∷ high ∷ low ∷ fourth ∷ rest) ≡ header_len fourth + len
   room : len ≤ 65533
 
--- which tests held where a length is told
+-- which tests held where a length is reported
 abbrev by_tests : Bool → Bool → ℕ → Result ℕ SealFault
 by_tests same long found = if same then (if long then Err TooLong else Ok found) else Err NotAPdu
 
@@ -91,7 +91,8 @@ of_plain first high low fourth rest L all plain =
     let none : crc_of whole ≡ 0 = nothing_is_left front octets in
     let tail = crc / 256 ∷ crc % 256 ∷ [] in
     let long : length whole ≡ header_len fourth + len = omega (arith, length-append rest tail, plain.whole, len-is) in
-    let right : sealed_by whole len (header_len fourth + len) ≡ Ok (Some len) = by_right_crc whole len (header_len fourth + len) long (omega (arith, len-is)) none in
+    let right : sealed_by whole len (header_len fourth + len) ≡ Ok (Some len) =
+    by_right_crc whole len (header_len fourth + len) long (omega (arith, len-is)) none in
     let judged : sealed_at whole ≡ Ok (Some len) = rw (version, flagged) right in
     let more = rest ++ tail in
     let cut : take (length rest) more ≡ rest = take-append-le (length rest) rest tail (omega arith) ∙ take_all (length rest) rest (omega arith) in
@@ -115,7 +116,7 @@ of_sealed (a ∷ b ∷ []) len all e = absurd (none_of (eqb (a / 32) 1) (eqb (a 
 of_sealed (a ∷ b ∷ c ∷ []) len all e = absurd (none_of (eqb (a / 32) 1) (eqb (a / 2 % 2) 0) len e)
 of_sealed (a ∷ b ∷ c ∷ d ∷ rest) len all e = of_plain a b c d rest len all (plain_is a b c d rest len e)
 
--- by the length that was told
+-- by the length that was reported
 by_told : (found : Result ℕ SealFault) (octets whole : List ℕ) → AreOctets octets → plain_len octets ≡ found →
     sealed_from found octets ≡ Ok whole → unsealed whole ≡ Ok octets
 by_told (Ok len) octets whole all plain e =

@@ -65,7 +65,8 @@ two_one left a b c d hl ha hb hc hd e =
     let x-lt : bit_xor left ab < 65536 = xor_lt 16 left ab hl ab-lt in
     let y-lt : bit_xor left cd < 65536 = xor_lt 16 left cd hl cd-lt in
     let once = sym (two_octets left a b hl ha hb) ∙ e ∙ two_octets left c d hl hc hd in
-    let inner = divided_one 8 (divided 8 (bit_xor left ab)) (divided 8 (bit_xor left cd)) (divided_lt 8 (bit_xor left ab) x-lt) (divided_lt 8 (bit_xor left cd) y-lt) once in
+    let inner = divided_one 8 (divided 8 (bit_xor left ab)) (divided 8 (bit_xor left cd)) (divided_lt 8 (bit_xor left ab) x-lt)
+    (divided_lt 8 (bit_xor left cd) y-lt) once in
     let xored = divided_one 8 (bit_xor left ab) (bit_xor left cd) x-lt y-lt inner in
     let same : ab ≡ cd = xor_cancels ab cd left (xor_comm ab left ∙ xored ∙ xor_comm left cd) in
     (omega (arith, same, hb, hd), omega (arith, same, hb, hd))

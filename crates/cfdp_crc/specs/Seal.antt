@@ -1,7 +1,8 @@
--- A PDU with a CRC (CCSDS 727.0-B-5 §5.1): the flag is bit 1 of the first octet, and the CRC is the last two octets of the data field,
--- counted in its length. It is the CRC of all octets before it.
+-- A PDU with a CRC (CCSDS 727.0-B-5 §5.1): the flag is bit 1 of the first octet, and the CRC is the last two octets of
+-- the data field, counted in its length. It is the CRC of all octets before it.
 --     header_len fourth      how many octets a header has, by its fourth octet
---     sealed_at octets       the length of the data field where there is a CRC that is right, None where there is none, or the first fault
+--     sealed_at octets       the length of the data field where there is a CRC that is right, None where there is none,
+--                            or the first fault
 --     unsealed octets        the PDU without its CRC, or the first fault
 --     plain_len octets       the length of the data field of a PDU that can get a CRC, or the first fault
 --     with_flag octets len   the PDU with the flag, and with two octets more in the length of its data field
@@ -42,7 +43,8 @@ sealed_at (first ∷ rest) =
 abbrev pub opened : Option ℕ → List ℕ → List ℕ
 opened None octets = octets
 opened (Some len) octets =
-    take (length octets - 2) (slice_set (slice_set (slice_set octets 0 (slice_index octets 0 - 2)) 1 ((len - 2) / 256)) 2 ((len - 2) % 256))
+    take (length octets - 2) (slice_set (slice_set (slice_set octets 0 (slice_index octets 0 - 2)) 1 ((len - 2) / 256))
+    2 ((len - 2) % 256))
 
 abbrev pub opened_by : Result (Option ℕ) CrcFault → List ℕ → Result (List ℕ) CrcFault
 opened_by (Ok found) octets = Ok (opened found octets)

@@ -13,8 +13,8 @@ fn with_octet(left: u16, octet: u8) -> u16
     word_of(high ^ octet) ^ (u16::from(low) * 256)
 }
 
-/// The CRC of octets: sixteen bits of the polynomial x^16 + x^12 + x^5 + 1, begun with ones, the highest bit first, nothing inverted. That of
-/// the nine octets `123456789` is 0x29b1. Takes no memory. Cost: one look-up an octet.
+/// The CRC of octets: sixteen bits of the polynomial x^16 + x^12 + x^5 + 1, begun with ones, the highest bit first,
+/// nothing inverted. That of the nine octets `123456789` is 0x29b1. Takes no memory. Cost: one look-up an octet.
 pub fn crc16(octets: &[u8]) -> u16
     ensures { result ≡ crc_of octets.now }
 {

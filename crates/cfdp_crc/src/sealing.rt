@@ -22,7 +22,8 @@ pub enum CrcFault {
 /// Why a CRC is not added to a PDU, in the order in which it is judged.
 #[derive(Clone, Copy, Debug, PartialEq, Eq)]
 pub enum SealFault {
-    /// The octets are no whole PDU: the version is not 001, the header is cut, or the PDU's length is not what its header says.
+    /// The octets are no whole PDU: the version is not 001, the header is cut, or the PDU's length is not what its
+    /// header says.
     NotAPdu,
     /// The PDU has a CRC.
     HasCrc,
@@ -80,8 +81,9 @@ fn sealed_len(octets: &[u8]) -> Result<Option<u16>, CrcFault>
     check_crc(octets, len, whole)
 }
 
-/// Checks the CRC of a PDU and takes it off in place. Returns how many octets are left, at the beginning: all of them where the PDU has no
-/// CRC. The CRC flag is then 0, and the length of the data field (CCSDS 727.0-B-5 §5.1) does not count the CRC. Takes no memory.
+/// Checks the CRC of a PDU and takes it off in place. Returns how many octets are left, at the beginning: all of them
+/// where the PDU has no CRC. The CRC flag is then 0, and the length of the data field (CCSDS 727.0-B-5 §5.1) does not
+/// count the CRC. Takes no memory.
 ///
 /// # Errors
 ///
@@ -166,8 +168,9 @@ fn put_crc(room: &mut [u8], crc: u16)
     room[1] = (crc % 256) as u8;
 }
 
-/// Adds a CRC to the PDU in the first `len` octets of a buffer, in place: the CRC flag is then 1, and the CRC is the last two octets of the
-/// data field, whose length (CCSDS 727.0-B-5 §5.1) counts it. Returns the length of the PDU with its CRC. Takes no memory.
+/// Adds a CRC to the PDU in the first `len` octets of a buffer, in place: the CRC flag is then 1, and the CRC is the
+/// last two octets of the data field, whose length (CCSDS 727.0-B-5 §5.1) counts it. Returns the length of the PDU with
+/// its CRC. Takes no memory.
 ///
 /// # Errors
 ///

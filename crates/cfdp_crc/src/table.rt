@@ -29,7 +29,7 @@ static WORDS: [u16; 256] = [
     0x2e93, 0x3eb2, 0x0ed1, 0x1ef0,
 ];
 
-/// All of them.
+/// The table, lent.
 fn words() -> &'static [u16; 256]
     ensures { result.now ≡ WORDS }
 {

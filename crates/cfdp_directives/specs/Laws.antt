@@ -1,5 +1,5 @@
--- What is written of a PDU with a valid header is read as that header and value. A NAK PDU has room for as many requests as `most_requests` says,
--- and for no more.
+-- What is written of a PDU with a valid header is read as that header and value. A NAK PDU has room for as many
+-- requests as `most_requests` says, and for no more.
 use Rattle.std.specs.Prelude.{◌≡◌, ◌≤◌, ◌↔◌, ℕ, Bool, List, length, Ok, All}
 use Rattle.cfdp_pdus.specs.Canonical.{IsHeader}
 use Rattle.cfdp_pdus.specs.declared.header.Header.{Header}
@@ -17,7 +17,8 @@ AckReadsBack =
 
 abbrev pub NakReadsBack : Type 0
 NakReadsBack =
-    (header : Header) (scope : ℕ × ℕ) (requests : List (ℕ × ℕ)) → IsHeader header → length requests ≤ most_requests header.large →
+    (header : Header) (scope : ℕ × ℕ) (requests : List (ℕ × ℕ)) → IsHeader header →
+    length requests ≤ most_requests header.large →
     IsSizedRange header.large scope → All (IsSizedRange header.large) requests →
     nak_at (nak_pdu header scope requests) ≡ Ok (record { header = header; scope = scope; requests = requests })
 

@@ -41,7 +41,8 @@ range_octets large range = big_bytes (fss large) range.0 ++ big_bytes (fss large
 unfoldable pub nak_field : Bool → ℕ × ℕ → List (ℕ × ℕ) → List ℕ
 nak_field large scope requests = 8 ∷ (range_octets large scope ++ flat_map (range_octets large) requests)
 
--- a data field has 65,535 octets at most: the directive code, and 16 octets for the scope and for each request of a large file, else 8
+-- a data field has 65,535 octets at most: the directive code, and 16 octets for the scope and for each request of a
+-- large file, else 8
 abbrev pub most_requests : Bool → ℕ
 most_requests large = 4094 + (if large then 0 else 4096)
 

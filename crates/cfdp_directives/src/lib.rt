@@ -1,7 +1,7 @@
-//! The PDUs of CFDP that acknowledge, ask for retransmission, and ask for or tell progress: ACK, NAK, Prompt and Keep
+//! The PDUs of CFDP that acknowledge, ask for retransmission, and ask for or report progress: ACK, NAK, Prompt and Keep
 //! Alive (CCSDS 727.0-B-5 §5.2.4, §5.2.6 to §5.2.8).
 //!
-//! `cfdp_pdus` tells these PDUs apart: it reads each as `Pdu::NotOurs`, with its directive code. [`read_directive`]
+//! `cfdp_pdus` distinguishes these PDUs: it reads each as `Pdu::NotOurs`, with its directive code. [`read_directive`]
 //! reads an ACK, Prompt or Keep Alive PDU, and [`read_nak`] a NAK PDU. Each returns the PDU exactly where the octets
 //! spell it, and otherwise the first fault; `specs/Reading.antt` says what spells what. Reading takes no memory.
 //!

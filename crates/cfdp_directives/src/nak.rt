@@ -68,8 +68,8 @@ impl From<PduFault> for NakFault {
     }
 }
 
-/// How many requests a NAK PDU has at most: as many as fit into its data field of 65,535 octets after the directive code
-/// and the scope. They are 8,190, and 4,094 with the large file flag.
+/// How many requests a NAK PDU has at most: as many as fit into its data field of 65,535 octets after the directive
+/// code and the scope. They are 8,190, and 4,094 with the large file flag.
 pub fn most_requests(large: bool) -> usize
     ensures { result ≡ most_requests large }
 {

@@ -69,7 +69,8 @@ unfolding disturbed
 others_part [] after a other = other_alone a after other
 others_part (x ∷ []) after a other = by_held (is_held x) x a after other
 others_part (x ∷ y ∷ rest) after a other =
-    further (is_held x) (both x y) (said x) (disturbed rest) (disturbed (y ∷ rest)) (disturbed (rest ++ a ∷ after)) (disturbed (y ∷ rest ++ a ∷ after)) (a.0 ∷ disturbed after)
+    further (is_held x) (both x y) (said x) (disturbed rest) (disturbed (y ∷ rest)) (disturbed (rest ++ a ∷ after)) (disturbed (y ∷ rest ++ a ∷ after))
+    (a.0 ∷ disturbed after)
     (others_part rest after a other) (others_part (y ∷ rest) after a other)
 
 -- each line comes as often as was drawn ---------------------------------------------------
@@ -108,8 +109,10 @@ unfolding said
 times_said line a = by_pdu (is_pdu_line a.0) a.1.copies line a.0
 
 times_both_by : (pdu : Bool) (line : List ℕ) (a b : Drawn) → times line (cond pdu (said b ++ said a) (said a ++ said b)) ≡ weight line a + weight line b
-times_both_by true line a b = let one = times-append line (said b) (said a) in let two = times_said line a in let three = times_said line b in omega (arith, one, two, three)
-times_both_by false line a b = let one = times-append line (said a) (said b) in let two = times_said line a in let three = times_said line b in omega (arith, one, two, three)
+times_both_by true line a b = let one = times-append line (said b) (said a) in let two = times_said line a in let three = times_said line b in
+    omega (arith, one, two, three)
+times_both_by false line a b = let one = times-append line (said a) (said b) in let two = times_said line a in let three = times_said line b in
+    omega (arith, one, two, three)
 
 times_both : (line : List ℕ) (a b : Drawn) → times line (both a b) ≡ weight line a + weight line b
 unfolding both

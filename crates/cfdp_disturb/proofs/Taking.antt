@@ -1,8 +1,8 @@
 -- Lines that are taken one by one.
 --     text_of-append        the text of lines and then of others
 --     text_of_both          lines and then others after what was written
---     swapped, in_turn      what comes of two lines
---     alone                 what comes of a line that is not held back, and of those after it
+--     swapped, in_turn      what results from two lines
+--     alone                 what results from a line that is not held back, and of those after it
 --     taken_alone           a line that is not held back
 --     finished, finished_none       the end, with and without a line that was held back
 --     taken_both            a line, where one was held back
@@ -19,7 +19,8 @@ text_of-append xs ys = flat_map-append line_text xs ys
 pub text_of_both : {T E : Type 0} (r : Result T E) (old mid new : List ℕ) (xs ys whole : List (List ℕ)) → whole ≡ xs ++ ys → mid ≡ old ++ text_of xs →
     OnOk r (new ≡ mid ++ text_of ys) → OnOk r (new ≡ old ++ text_of whole)
 text_of_both (Ok x) old mid new xs ys whole is one two =
-    two ∙ ap (λ t. t ++ text_of ys) one ∙ append_assoc old (text_of xs) (text_of ys) ∙ ap (λ t. old ++ t) (sym (text_of-append xs ys)) ∙ ap (λ w. old ++ text_of w) (sym is)
+    two ∙ ap (λ t. t ++ text_of ys) one ∙ append_assoc old (text_of xs) (text_of ys) ∙ ap (λ t. old ++ t) (sym (text_of-append xs ys))
+    ∙ ap (λ w. old ++ text_of w) (sym is)
 text_of_both (Err e) old mid new xs ys whole is one two = tt
 
 pub swapped : (a b : Drawn) → is_pdu_line b.0 ≡ true → both a b ≡ said b ++ said a
@@ -54,7 +55,8 @@ pub finished : (held : List Drawn) (old new : List ℕ) (a : Drawn) → held ≡
 unfolding disturbed
 finished held old new a is written = written ∙ ap (λ h. old ++ text_of (disturbed h)) (sym is)
 
-pub taken_alone : {T E : Type 0} (r : Result T E) (held : List Drawn) (old new : List ℕ) (a : Drawn) → held ≡ [] → is_held a ≡ false → OnOk r (new ≡ old ++ text_of (said a)) →
+pub taken_alone : {T E : Type 0} (r : Result T E) (held : List Drawn) (old new : List ℕ) (a : Drawn) → held ≡ [] → is_held a ≡ false →
+    OnOk r (new ≡ old ++ text_of (said a)) →
     OnOk r ((more : List Drawn) → old ++ text_of (disturbed (a ∷ more)) ≡ new ++ text_of (disturbed (held ++ more)))
 taken_alone (Ok x) held old new a is free written = λ more.
     moved old new (said a) (a ∷ more) more (alone a more free) written ∙ ap (λ h. new ++ text_of (disturbed (h ++ more))) (sym is)

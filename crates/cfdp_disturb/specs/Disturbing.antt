@@ -2,9 +2,10 @@
 --     is_pdu_line           a line that hands in a PDU: `pdu HEX ..`, or `at T pdu HEX ..`
 --     Drawn                 a line, and what was drawn for it
 --     copies_of             a line as often as it comes
---     said                  what comes of a line by itself: a line that is no PDU line comes once
+--     said                  what results from a line by itself: a line that is no PDU line comes once
 --     is_held a             a PDU line for which it was drawn that it is swapped
---     both a b              what comes of such a line and the one after it: where that is a PDU line they are swapped
+--     both a b              what results from such a line and the one after it: where that is a PDU line they are
+--                           swapped
 --     disturbed             the lines that are written
 --     text_of               lines, each with a newline after it
 use Rattle.std.specs.Prelude.{ℕ, Bool, false, ◌&&◌, ◌||◌, if◌then◌else◌, List, [], ◌∷◌, ◌++◌, bytes_eq, codes}

@@ -7,14 +7,14 @@ pub fn quiet_is_same()
     ensures { QuietIsSame }
 {}
 
-/// A line that is no PDU line comes once, and stays where it is: what is before it comes before it, and what is after it
-/// comes after it, each as if it were alone.
+/// A line that is no PDU line comes once, and stays where it is: what is before it comes before it, and what is after
+/// it comes after it, each as if it were alone.
 pub fn others_part()
     ensures { OthersPart }
 {}
 
-/// Each PDU line comes as often as was drawn for it, 0, 1 or 2 times, and each other line once. No line is changed, and none
-/// is added.
+/// Each PDU line comes as often as was drawn for it, 0, 1 or 2 times, and each other line once. No line is changed, and
+/// none is added.
 pub fn each_comes()
     ensures { EachComes }
 {}

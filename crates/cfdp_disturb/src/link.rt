@@ -41,7 +41,7 @@ fn push_line(line: &[u8], text: &mut Vec<u8>) -> Result<(), AllocError>
     Ok(text.push(b'\n')?)
 }
 
-/// Appends what comes of a line by itself.
+/// Appends what results from a line by itself.
 #[tactic(auto, unfolding(crate::specs::Disturbing::said, crate::specs::Disturbing::text_of))]
 fn push_said(line: &[u8], draw: Draw, text: &mut Vec<u8>) -> Result<(), AllocError>
     ensures { OnOk result (text.new.items ≡ text.old.items ++ text_of (said (line.now, draw))) }
@@ -67,7 +67,7 @@ fn is_held(line: &[u8], draw: Draw) -> bool
     draw.swapped && is_pdu_line(line)
 }
 
-/// Appends what comes of a line that was held back, and of the one after it.
+/// Appends what results from a line that was held back, and of the one after it.
 #[tactic(auto, unfolding(crate::specs::Disturbing::both))]
 fn push_both(held: &Held, line: &[u8], draw: Draw, text: &mut Vec<u8>) -> Result<(), AllocError>
     ensures { OnOk result (text.new.items ≡ text.old.items
@@ -100,7 +100,8 @@ impl Link {
     ) -> Result<(), AllocError>
         requires { self.old ≡ [] }
         ensures ok { OnOk result ((more : List Drawn) →
-            text.old.items ++ text_of (disturbed ((line.now, draw) ∷ more)) ≡ text.new.items ++ text_of (disturbed (self.new ++ more))) }
+            text.old.items ++ text_of (disturbed ((line.now, draw) ∷ more)) ≡ text.new.items
+            ++ text_of (disturbed (self.new ++ more))) }
         ensures err { OnErr result (self.new ≡ self.old) }
     {
         if !is_held(line, draw) {
@@ -111,13 +112,13 @@ impl Link {
         Ok(())
     }
 
-    /// Takes the next line of a script, and what was drawn for it, and appends the lines that come now: whatever lines come
-    /// after it, all that comes is what was appended, and what comes of them and the line that is held back.
+    /// Takes the next line of a script, and what was drawn for it, and appends the lines that come now: whatever lines
+    /// come after it, all that comes is what was appended, and what results from them and the line that is held back.
     ///
     /// # Errors
     ///
-    /// Out of memory: a part of a line may have been appended, and the link is as before. Cost: the octets of the lines that
-    /// come, and a copy of a line that is held back.
+    /// Out of memory: a part of a line may have been appended, and the link is as before. Cost: the octets of the lines
+    /// that come, and a copy of a line that is held back.
     pub fn take(
         &mut self,
         alloc: Global,
@@ -126,7 +127,8 @@ impl Link {
         text: &mut Vec<u8>,
     ) -> Result<(), AllocError>
         ensures ok { OnOk result ((more : List Drawn) →
-            text.old.items ++ text_of (disturbed (self.old ++ (line.now, draw) ∷ more)) ≡ text.new.items ++ text_of (disturbed (self.new ++ more))) }
+            text.old.items ++ text_of (disturbed (self.old ++ (line.now, draw) ∷ more)) ≡ text.new.items
+            ++ text_of (disturbed (self.new ++ more))) }
         ensures err { OnErr result (self.new ≡ self.old) }
     {
         let Some(held) = &self.held else {
@@ -137,7 +139,7 @@ impl Link {
         Ok(())
     }
 
-    /// The script ends: appends what comes of the line that was held back.
+    /// The script ends: appends what results from the line that was held back.
     ///
     /// # Errors
     ///

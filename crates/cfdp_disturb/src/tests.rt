@@ -1,4 +1,4 @@
-//! What comes of a script, line by line. The expected lines are written by hand.
+//! What results from a script, line by line. The expected lines are written by hand.
 
 use crate::{Copies, Draw, Link, is_pdu_line};
 use std::alloc::Global;
@@ -28,7 +28,7 @@ const SWAPPED: Draw = Draw {
     swapped: true,
 };
 
-/// A script with a draw for each line, and what comes of it.
+/// A script with a draw for each line, and what results from it.
 struct Row {
     name: &'static str,
     lines: [(&'static str, Draw); 4],
@@ -119,7 +119,7 @@ const ROWS: [Row; 8] = [
     },
 ];
 
-/// What comes of a script.
+/// What results from a script.
 fn come(alloc: Global, lines: &[(&'static str, Draw)]) -> Result<Vec<u8>, Fail> {
     let mut link = Link::new();
     let mut text = Vec::new(alloc);

@@ -28,7 +28,8 @@ not_full reply taken is = let q = ap is_journal_full is in cc
 pub below : (j : Recorded) → length j.journal < j.core.world.config.journal → IsTrue (is_full j) → ⊥
 below j room full = grind (arith, nat_tests)
 
-module _ (j : Recorded) (seat : ℕ) (event : Event) (reply : Reply) (E : Engine) (follows : Follows j.core.world event reply E.world) (other : reply ≡ Reply.Memory → ⊥) where
+module _ (j : Recorded) (seat : ℕ) (event : Event) (reply : Reply) (E : Engine) (follows : Follows j.core.world event reply E.world) (other : reply
+    ≡ Reply.Memory → ⊥) where
   now : next j.core.world event ≡ (E.world, reply)
   now = follows_next j.core.world event reply E.world follows other
 

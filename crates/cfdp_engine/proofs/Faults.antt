@@ -9,15 +9,27 @@ both b holds fails = cc
 
 twice_apart : (before seats : List Seated) (number : ℕ) → IsFirstTwice before seats number → AreApart before seats → ⊥
 twice_apart before [] number twice apart = twice
-twice_apart before (s ∷ ss) number twice apart = elim twice [ inl here ↦ both _ here.0 apart.0 | inr later ↦ twice_apart (before ++ s ∷ []) ss number later.1 apart.1 ]
+twice_apart before (s ∷ ss) number twice apart = elim twice [
+  | inl here ↦ both _ here.0 apart.0
+  | inr later ↦
+      twice_apart (before ++ s ∷ []) ss number later.1 apart.1
+]
 
 unentered : (J : List Entry) (number low : ℕ) (rs : List Receipt) (place : ℕ) → IsFirstUnentered J number low rs place → AreEntered J number low rs → ⊥
 unentered J number low [] place first entered = first
-unentered J number low (r ∷ rs) place first entered = elim first [ inl here ↦ here.0 entered.0 | inr later ↦ unentered J number (r.place + 1) rs place later.1 entered.1 ]
+unentered J number low (r ∷ rs) place first entered = elim first [
+  | inl here ↦ here.0 entered.0
+  | inr later ↦
+      unentered J number (r.place + 1) rs place later.1 entered.1
+]
 
 differing : (J : List Entry) (seats : List Seated) (number place : ℕ) → IsFirstDiffering J seats number place → AllEntered J seats → ⊥
 differing J [] number place first entered = first
-differing J (s ∷ ss) number place first entered = elim first [ inl here ↦ unentered J s.number 0 s.receipts place here.1 entered.0 | inr later ↦ differing J ss number place later.1 entered.1 ]
+differing J (s ∷ ss) number place first entered = elim first [
+  | inl here ↦ unentered J s.number 0 s.receipts place here.1 entered.0
+  | inr later ↦
+      differing J ss number place later.1 entered.1
+]
 
 pub fault_differs : (J : List Entry) (seats : List Seated) (fault : Fault) → IsFirstFault J seats fault → IsReconciled J seats → ⊥
 fault_differs J seats CountDiffers first all = first all.counted

@@ -24,7 +24,8 @@ replied_more : (journal : List Entry) (e : Entry) → replies_of (journal ++ e �
 replied_more [] e = refl
 replied_more (d ∷ ds) e = ap (λ rs. d.reply ∷ rs) (replied_more ds e)
 
-events_end : (journal : List Entry) (W V : World) (e : Entry) → IsHistory journal W → next W e.event ≡ (V, e.reply) → run (start W.config) (events_of (journal ++ e ∷ [])) ≡ V
+events_end : (journal : List Entry) (W V : World) (e : Entry) → IsHistory journal W → next W e.event ≡ (V, e.reply) →
+    run (start W.config) (events_of (journal ++ e ∷ [])) ≡ V
 events_end journal W V e h follows =
     ap (λ (vs : List Event). run (start W.config) vs) (events_more journal e)
     ∙ run_more (start W.config) (events_of journal) e.event
@@ -35,6 +36,14 @@ pub history_more : (journal : List Entry) (W V : World) (e : Entry) → IsHistor
 history_more journal W V e h follows =
     let config : V.config ≡ W.config = ap (λ (a : World × Reply). a.0.config) (sym follows) ∙ (next_keeps W e.event).config in
     record {
-      replies = rw (config, events_more journal e, replies_more (start W.config) (events_of journal) e.event, h.world, follows, replied_more journal e, h.replies) refl;
+      replies = rw (
+        config,
+        events_more journal e,
+        replies_more (start W.config) (events_of journal) e.event,
+        h.world,
+        follows,
+        replied_more journal e,
+        h.replies,
+      ) refl;
       world = subst (λ (c : Config). run (start c) (events_of (journal ++ e ∷ [])) ≡ V) (sym config) (events_end journal W V e h follows);
     }

@@ -44,11 +44,13 @@ metadata_keeps W h m None =
     (λ _. judged_keeps W h m (verdict W.config.prefixes W.filestore (leases_of W.table) (spare W) (proposal_of W.config m)))))
 
 whole_keeps : (W : World) (k : ℕ) (e : Entry) (sum : ℕ) → IsKeeping W.config (whole W k e sum)
-whole_keeps W k e sum = cond_both (is_right_checksum e sum) _ _ (IsKeeping W.config) (λ _. record { config = refl; reply = refl }) (λ _. record { config = refl; reply = refl })
+whole_keeps W k e sum = cond_both (is_right_checksum e sum) _ _ (IsKeeping W.config) (λ _. record { config = refl; reply = refl })
+    (λ _. record { config = refl; reply = refl })
 
 after_eof_keeps : (W : World) (k : ℕ) (e : Entry) (eof : Option Eof) → IsKeeping W.config (after_eof eof W k e)
 after_eof_keeps W k e None = record { config = refl; reply = refl }
-after_eof_keeps W k e (Some eof) = cond_both (is_whole eof.size e.received) _ _ (IsKeeping W.config) (λ _. whole_keeps W k e eof.checksum) (λ _. record { config = refl; reply = refl })
+after_eof_keeps W k e (Some eof) = cond_both (is_whole eof.size e.received) _ _ (IsKeeping W.config) (λ _. whole_keeps W k e eof.checksum)
+    (λ _. record { config = refl; reply = refl })
 
 stored_keeps : (phase : Phase) (W : World) (k : ℕ) (e : Entry) → IsKeeping W.config (stored phase W k e)
 stored_keeps (Awaiting checks) W k e = after_eof_keeps W k e e.eof
@@ -66,7 +68,8 @@ data_keeps W k piece (Some e) =
     (λ _. cond_both (length piece.octets == 0) _ _ K (λ _. record { config = refl; reply = refl })
     (λ _. cond_both (nat_lt (limit e.phase W.config e) (piece.offset + length piece.octets)) _ _ K (λ _. record { config = refl; reply = refl })
     (λ _. cond_both (nat_lt 32 (pieces (kept_with e.received piece.offset piece.octets))) _ _ K (λ _. record { config = refl; reply = refl })
-    (λ _. stored_keeps e.phase (stores W k e (kept_with e.received piece.offset piece.octets)) k (storing W.filestore e (kept_with e.received piece.offset piece.octets))))))
+    (λ _. stored_keeps e.phase (stores W k e (kept_with e.received piece.offset piece.octets)) k
+    (storing W.filestore e (kept_with e.received piece.offset piece.octets))))))
     (λ _. record { config = refl; reply = refl })
 
 eof_keeps : (W : World) (k : ℕ) (eof : Eof) (o : Option Entry) → IsKeeping W.config (eof_came W k eof o)
@@ -83,7 +86,8 @@ eof_keeps W k eof (Some e) =
     (λ _. whole_keeps W k e eof.checksum)))))))
 
 check_keeps : (phase : Phase) (W : World) (k : ℕ) (e : Entry) → IsKeeping W.config (check_at phase W k e)
-check_keeps (Awaiting checks) W k e = cond_both (nat_le W.config.checks (checks + 1)) _ _ (IsKeeping W.config) (λ _. record { config = refl; reply = refl }) (λ _. record { config = refl; reply = refl })
+check_keeps (Awaiting checks) W k e = cond_both (nat_le W.config.checks (checks + 1)) _ _ (IsKeeping W.config) (λ _. record { config = refl; reply = refl })
+    (λ _. record { config = refl; reply = refl })
 check_keeps Receiving W k e = record { config = refl; reply = refl }
 check_keeps (Executing next) W k e = record { config = refl; reply = refl }
 check_keeps Refused W k e = record { config = refl; reply = refl }
@@ -103,7 +107,8 @@ step_at_keeps : (W : World) (k : ℕ) (e : Entry) (n : ℕ) (items : List Item) 
 step_at_keeps W k e n [] = record { config = refl; reply = refl }
 step_at_keeps W k e n (item ∷ items) =
     let reply = replied_keeps (act_now W e item).answer in
-    cond_both (succeeded (act_now W e item).answer) _ _ (IsKeeping W.config) (λ _. record { config = refl; reply = reply }) (λ _. record { config = refl; reply = reply })
+    cond_both (succeeded (act_now W e item).answer) _ _ (IsKeeping W.config) (λ _. record { config = refl; reply = reply })
+    (λ _. record { config = refl; reply = reply })
 
 step_keeps : (phase : Phase) (W : World) (k : ℕ) (e : Entry) → IsKeeping W.config (step_in phase W k e)
 step_keeps (Executing n) W k e = step_at_keeps W k e n (drop n e.items)
@@ -119,14 +124,17 @@ stepped_keeps W k (Some e) = step_keeps e.phase W k e
 
 cancelled_keeps : (W : World) (k : ℕ) (o : Option Entry) → IsKeeping W.config (cancelled W k o)
 cancelled_keeps W k None = record { config = refl; reply = refl }
-cancelled_keeps W k (Some e) = cond_both (is_live e.phase) _ _ (IsKeeping W.config) (λ _. record { config = refl; reply = refl }) (λ _. record { config = refl; reply = refl })
+cancelled_keeps W k (Some e) = cond_both (is_live e.phase) _ _ (IsKeeping W.config) (λ _. record { config = refl; reply = refl })
+    (λ _. record { config = refl; reply = refl })
 
 taken_keeps : (W : World) (k : ℕ) (o : Option Entry) → IsKeeping W.config (taken_out W k o)
 taken_keeps W k None = record { config = refl; reply = refl }
-taken_keeps W k (Some e) = cond_both (is_live e.phase) _ _ (IsKeeping W.config) (λ _. record { config = refl; reply = refl }) (λ _. record { config = refl; reply = refl })
+taken_keeps W k (Some e) = cond_both (is_live e.phase) _ _ (IsKeeping W.config) (λ _. record { config = refl; reply = refl })
+    (λ _. record { config = refl; reply = refl })
 
 ours_keeps : (W : World) (h : Header) (answer : World × Reply) → IsKeeping W.config answer → IsKeeping W.config (for_us W h answer)
-ours_keeps W h answer keeps = cond_both (h.destination == W.config.entity) answer (W, Reply.NotForUs) (IsKeeping W.config) (λ _. keeps) (λ _. record { config = refl; reply = refl })
+ours_keeps W h answer keeps = cond_both (h.destination == W.config.entity) answer (W, Reply.NotForUs) (IsKeeping W.config) (λ _. keeps)
+    (λ _. record { config = refl; reply = refl })
 
 pub next_keeps : (W : World) (event : Event) → IsKeeping W.config (next W event)
 next_keeps W (MetadataCame h m) = ours_keeps W h _ (metadata_keeps W h m (entry_of W (id_of h)))

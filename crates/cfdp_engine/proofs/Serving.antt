@@ -21,7 +21,8 @@ pub adds_none : (P : List Event → Type 0) (s : Seated) → P [] → Adds P s s
 adds_none P s p = record { added = []; number = refl; receipts = sym (append-nil s.receipts); events = p }
 
 -- and then some more
-pub adds_both : (P Q R : List Event → Type 0) (old mid new : Seated) → ((es fs : List Event) → P es → Q fs → R (es ++ fs)) → Adds P old mid → Adds Q mid new → Adds R old new
+pub adds_both : (P Q R : List Event → Type 0) (old mid new : Seated) → ((es fs : List Event) → P es → Q fs → R (es ++ fs)) → Adds P old mid → Adds Q mid new →
+    Adds R old new
 adds_both P Q R old mid new joined a b = record {
   added = a.added ++ b.added;
   number = b.number ∙ a.number;
@@ -31,7 +32,12 @@ adds_both P Q R old mid new joined a b = record {
 
 -- one receipt
 pub adds_one : (P : List Event → Type 0) (old new : Seated) (place : ℕ) (event : Event) → IsReceived old new place event → P (event ∷ []) → Adds P old new
-adds_one P old new place event r p = record { added = record { place = place; event = event; reply = r.reply } ∷ []; number = r.number; receipts = r.receipts; events = p }
+adds_one P old new place event r p = record {
+  added = record { place = place; event = event; reply = r.reply } ∷ [];
+  number = r.number;
+  receipts = r.receipts;
+  events = p;
+}
 
 -- steps --------------------------------------------------------------------------
 
@@ -48,7 +54,8 @@ adds_no_step s = adds_none (AreSteps 0) s no_steps
 one_step : (most : ℕ) (es : List Event) (id : TransactionId) → AreSteps most es → AreSteps (most + 1) (es ++ Step id ∷ [])
 one_step most es id steps = record { steps = all_steps es id steps.steps; few = rw length-append (let few = steps.few in omega arith) }
 
-pub adds_step : (most : ℕ) (old mid new : Seated) (place : ℕ) (id : TransactionId) → Adds (AreSteps most) old mid → IsReceived mid new place (Step id) → Adds (AreSteps (most + 1)) old new
+pub adds_step : (most : ℕ) (old mid new : Seated) (place : ℕ) (id : TransactionId) → Adds (AreSteps most) old mid → IsReceived mid new place (Step id) →
+    Adds (AreSteps (most + 1)) old new
 adds_step most old mid new place id before received =
     adds_both (AreSteps most) (λ es. es ≡ Step id ∷ []) (AreSteps (most + 1)) old mid new
     (λ es fs steps one. subst (λ (xs : List Event). AreSteps (most + 1) (es ++ xs)) (sym one) (one_step most es id steps))
@@ -73,7 +80,11 @@ pub begin_all : (ms : List Message) (es : List Event) → BringAll ms es → Beg
 begin_all ms es all = record { more = []; bring = subst (BringAll ms) (sym (append-nil es)) all }
 
 pub begin_more : (ms : List Message) (m : Message) (es first : List Event) → BringAll ms es → BeginsOne m first → BeginAll (ms ++ m ∷ []) (es ++ first)
-begin_more ms m es first all one = record { more = one.more; bring = subst (BringAll (ms ++ m ∷ [])) (sym (append_assoc es first one.more)) (bring_more ms m es (first ++ one.more) all one.brings) }
+begin_more ms m es first all one = record {
+  more = one.more;
+  bring = subst (BringAll (ms ++ m ∷ [])) (sym (append_assoc es first one.more))
+      (bring_more ms m es (first ++ one.more) all one.brings);
+}
 
 -- some list begins with nothing
 begins_none : (m : Message) → BeginsOne m []
@@ -88,20 +99,26 @@ pub on_err : {T E : Type 0} (r : Result T E) (P : Type 0) → P → OnErr r P
 on_err (Ok x) P p = tt
 on_err (Err e) P p = p
 
-pub all_more : (ms : List Message) (m : Message) (old mid new : Seated) → Adds (BringAll ms) old mid → Adds (Brings m) mid new → Adds (BringAll (ms ++ m ∷ [])) old new
-all_more ms m old mid new before one = adds_both (BringAll ms) (Brings m) (BringAll (ms ++ m ∷ [])) old mid new (λ es fs all here. bring_more ms m es fs all here) before one
+pub all_more : (ms : List Message) (m : Message) (old mid new : Seated) → Adds (BringAll ms) old mid → Adds (Brings m) mid new →
+    Adds (BringAll (ms ++ m ∷ [])) old new
+all_more ms m old mid new before one = adds_both (BringAll ms) (Brings m) (BringAll (ms ++ m ∷ [])) old mid new
+    (λ es fs all here. bring_more ms m es fs all here) before one
 
-pub all_begun : (ms : List Message) (m : Message) (old mid new : Seated) → Adds (BringAll ms) old mid → Adds (BeginsOne m) mid new → Adds (BeginAll (ms ++ m ∷ [])) old new
-all_begun ms m old mid new before one = adds_both (BringAll ms) (BeginsOne m) (BeginAll (ms ++ m ∷ [])) old mid new (λ es fs all here. begin_more ms m es fs all here) before one
+pub all_begun : (ms : List Message) (m : Message) (old mid new : Seated) → Adds (BringAll ms) old mid → Adds (BeginsOne m) mid new →
+    Adds (BeginAll (ms ++ m ∷ [])) old new
+all_begun ms m old mid new before one = adds_both (BringAll ms) (BeginsOne m) (BeginAll (ms ++ m ∷ [])) old mid new
+    (λ es fs all here. begin_more ms m es fs all here) before one
 
 -- PDUs without an event
 passed_more : (ms : List Message) (m : Message) → passed_over (ms ++ m ∷ []) ≡ passed_over ms + (if is_passed_over m then 1 else 0)
 passed_more [] m = omega arith
 passed_more (n ∷ ms) m = let h = passed_more ms m in omega arith
 
-pub passed_one : (ms : List Message) (m : Message) (before now : ℕ) → is_passed_over m ≡ true → before ≡ min (passed_over ms) (2 ^ 64 - 1) → now ≡ min (before + 1) (2 ^ 64 - 1)
+pub passed_one : (ms : List Message) (m : Message) (before now : ℕ) → is_passed_over m ≡ true → before ≡ min (passed_over ms) (2 ^ 64 - 1) → now
+    ≡ min (before + 1) (2 ^ 64 - 1)
     → now ≡ min (passed_over (ms ++ m ∷ [])) (2 ^ 64 - 1)
 passed_one ms m before now one old new = rw (passed_more ms m, one) (omega arith)
 
-pub passed_none : (ms : List Message) (m : Message) (before : ℕ) → is_passed_over m ≡ false → before ≡ min (passed_over ms) (2 ^ 64 - 1) → before ≡ min (passed_over (ms ++ m ∷ [])) (2 ^ 64 - 1)
+pub passed_none : (ms : List Message) (m : Message) (before : ℕ) → is_passed_over m ≡ false → before ≡ min (passed_over ms) (2 ^ 64 - 1) → before
+    ≡ min (passed_over (ms ++ m ∷ [])) (2 ^ 64 - 1)
 passed_none ms m before none old = rw (passed_more ms m, none) (omega arith)

@@ -1,8 +1,9 @@
 -- The journal: each event that was taken, in order, with the number of the seat that handed it in and the reply.
---     is_answered reply         the event was taken: it was refused neither for want of memory nor for a full journal
+--     is_answered reply         the event was taken: it was refused neither because it is out of memory nor because the
+--                               journal is full
 --     events_of, replies_of     what was handed in;  what was replied
---     IsHistory journal W       the journal is what one thread does: its events, run from the start, give each entry's reply, and
---                               the world after them is W
+--     IsHistory journal W       the journal is what one thread does: its events, run from the start, give each entry's
+--                               reply, and the world after them is W
 --     Recorded                the core, and its journal
 --     is_full                   the journal has no room for another entry
 --     entered j seat event reply        the journal after a call: one entry longer, where the event was taken
@@ -39,7 +40,8 @@ abbrev pub is_full : Recorded → Bool
 is_full j = nat_le j.core.world.config.journal (length j.journal)
 
 abbrev pub entered : List Entry → (seat : ℕ) → Event → Reply → List Entry
-entered journal seat event reply = if is_answered reply then journal ++ record { seat = seat; event = event; reply = reply } ∷ [] else journal
+entered journal seat event reply = if is_answered reply then journal
+    ++ record { seat = seat; event = event; reply = reply } ∷ [] else journal
 
 pub record IsWhole (capacity : ℕ) (j : Recorded) : Type 0 where
   pub history : IsHistory j.journal j.core.world

@@ -1,11 +1,13 @@
--- Those who hand in events, what they were told, and whether that is the journal.
+-- Those who hand in events, what they were informed of, and whether that is the journal.
 --     Seated                    a seat: its number, and its receipts
 --     receipts_in               how many receipts all seats have
---     is_taken, AreApart        a seat among these has the number;  the seats' numbers differ, also from those of the seats before
---     IsEntered J n low r       a seat's receipt: an entry of the journal, at a place that is not before `low`
---     AreEntered                a seat's receipts, in order: entries at rising places
---     IsReconciled J seats      the receipts are the journal: as many, of seats that differ, and each at its place
---     IsFirstTwice, IsFirstUnentered, IsFirstDiffering      a number, a seat's receipt, a receipt that is the first to break this
+--     is_taken, AreApart        a seat among these has the number;  the seats' numbers differ, also from those of the
+--                               seats before
+--     IsEntered J n low r       a seat's receipt: an entry of the journal, at an index that is not before `low`
+--     AreEntered                a seat's receipts, in order: entries at rising indexes
+--     IsReconciled J seats      the receipts are the journal: as many, of seats that differ, and each at its index
+--     IsFirstTwice, IsFirstUnentered, IsFirstDiffering      a number, a seat's receipt, a receipt that is the first to
+--                                                           break this
 --     IsFirstFault              the first that is broken, of the counts, the numbers and the receipts
 use Rattle.std.specs.Prelude.{◌≡◌, ◌≢◌, ⊤, ℕ, ◌+◌, ◌≤◌, Bool, ◌==◌, IsTrue, IsFalse, List, [], ◌∷◌, ◌++◌, length, Some, slice_get, ◌⊎◌}
 use Rattle.std.specs.List.{list_any}
@@ -36,7 +38,8 @@ AreApart before (s ∷ ss) = IsFalse (is_taken before s.number) × AreApart (bef
 abbrev pub IsFirstTwice : (before : List Seated) → List Seated → ℕ → Type 0
 IsFirstTwice before [] number = ⊥
 IsFirstTwice before (s ∷ ss) number =
-    (IsTrue (is_taken before s.number) × (number ≡ s.number)) ⊎ (IsFalse (is_taken before s.number) × IsFirstTwice (before ++ s ∷ []) ss number)
+    (IsTrue (is_taken before s.number) × (number ≡ s.number))
+    ⊎ (IsFalse (is_taken before s.number) × IsFirstTwice (before ++ s ∷ []) ss number)
 
 -- receipts -----------------------------------------------------------------------
 
@@ -52,17 +55,19 @@ abbrev pub AllEntered : List Entry → List Seated → Type 0
 AllEntered J [] = ⊤
 AllEntered J (s ∷ ss) = AreEntered J s.number 0 s.receipts × AllEntered J ss
 
--- the place of the first receipt that is not
+-- the index of the first receipt that is not
 abbrev pub IsFirstUnentered : List Entry → (number low : ℕ) → List Receipt → (place : ℕ) → Type 0
 IsFirstUnentered J number low [] place = ⊥
 IsFirstUnentered J number low (r ∷ rs) place =
-    (¬ IsEntered J number low r × (place ≡ r.place)) ⊎ (IsEntered J number low r × IsFirstUnentered J number (r.place + 1) rs place)
+    (¬ IsEntered J number low r × (place ≡ r.place)) ⊎ (IsEntered J number low r
+    × IsFirstUnentered J number (r.place + 1) rs place)
 
 -- of the first seat that has one
 abbrev pub IsFirstDiffering : List Entry → List Seated → (number place : ℕ) → Type 0
 IsFirstDiffering J [] number place = ⊥
 IsFirstDiffering J (s ∷ ss) number place =
-    ((number ≡ s.number) × IsFirstUnentered J s.number 0 s.receipts place) ⊎ (AreEntered J s.number 0 s.receipts × IsFirstDiffering J ss number place)
+    ((number ≡ s.number) × IsFirstUnentered J s.number 0 s.receipts place)
+    ⊎ (AreEntered J s.number 0 s.receipts × IsFirstDiffering J ss number place)
 
 -- all together -------------------------------------------------------------------
 
@@ -74,4 +79,5 @@ pub record IsReconciled (J : List Entry) (seats : List Seated) : Type 0 where
 abbrev pub IsFirstFault : List Entry → List Seated → Fault → Type 0
 IsFirstFault J seats CountDiffers = length J ≢ receipts_in seats
 IsFirstFault J seats (SeatTwice number) = (length J ≡ receipts_in seats) × IsFirstTwice [] seats number
-IsFirstFault J seats (ReceiptDiffers number place) = (length J ≡ receipts_in seats) × AreApart [] seats × IsFirstDiffering J seats number place
+IsFirstFault J seats (ReceiptDiffers number place) = (length J ≡ receipts_in seats) × AreApart [] seats
+    × IsFirstDiffering J seats number place

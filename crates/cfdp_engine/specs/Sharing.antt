@@ -1,6 +1,7 @@
 -- What the threads that share an engine learn of it.
 --     words_of                  why an event was not taken
---     receipt_of                what a seat is told of an event that it handed in: the receipt, or why it was not taken
+--     receipt_of                what a seat is informed of an event that it handed in: the receipt, or why it was not
+--                               taken
 --     IsReceived                a seat has one receipt more
 --     told_of                   the events of some receipts
 --     Adds P old new            a seat has more receipts than before, and of the events that they are for P holds

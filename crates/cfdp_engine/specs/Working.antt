@@ -1,9 +1,9 @@
 -- What a worker does with what it is sent.
 --     event_in octets           the event of a PDU's octets: none, where they spell no PDU, or one that is no event
 --     is_passed_over            a PDU without an event
---     PassesOver message answer what is answered of one: that it is, or that there was no memory for its copy
+--     PassesOver message answer what is returned for one: that it is, or that there was no memory for its copy
 --     passed_over messages      how many of the messages are that
---     is_step, AreSteps         a Step;  Steps, and so many at most
+--     is_step, AreSteps         a Step;  Steps, and at most this many
 --     Brings message es         the events of a message
 --     BringAll messages es      those of all, in order
 --     BeginAll messages es      some first of these
@@ -58,7 +58,8 @@ Brings messages.Run es = AreSteps 4224 es
 -- the first message's events, and then those of the others
 abbrev pub BringAll : List Message → List Event → Type 0
 BringAll [] es = es ≡ []
-BringAll (m ∷ ms) es = (first : List Event) × (others : List Event) × (es ≡ first ++ others) × Brings m first × BringAll ms others
+BringAll (m ∷ ms) es = (first : List Event) × (others : List Event) × (es ≡ first ++ others) × Brings m first
+    × BringAll ms others
 
 pub record BeginsOne (m : Message) (es : List Event) : Type 0 where
   pub more : List Event

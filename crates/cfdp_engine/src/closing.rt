@@ -69,7 +69,7 @@ fn first_twice(seats: &[Seat]) -> Option<u8>
     None
 }
 
-/// Whether a receipt of the seat with this number is an entry of the journal, at a place that is not before `low`.
+/// Whether a receipt of the seat with this number is an entry of the journal, at an index that is not before `low`.
 fn is_entered(journal: &[Entry], number: u8, low: u64, receipt: &Receipt) -> bool
     ensures { IsTrue result ↔ IsEntered journal.now number low receipt.now }
 {
@@ -82,7 +82,7 @@ fn is_entered(journal: &[Entry], number: u8, low: u64, receipt: &Receipt) -> boo
         && entry.reply.same(&receipt.reply)
 }
 
-/// The place of the first of a seat's receipts that is no entry of the journal, or does not rise.
+/// The index of the first of a seat's receipts that is no entry of the journal, or does not rise.
 fn first_unentered(journal: &[Entry], seat: &Seat) -> Option<u32>
     ensures entered { IfNone result (AreEntered journal.now seat.now.number 0 seat.now.receipts) }
     ensures not { IfSome result (λ place. IsFirstUnentered journal.now seat.now.number 0 seat.now.receipts place) }
@@ -98,7 +98,7 @@ fn first_unentered(journal: &[Entry], seat: &Seat) -> Option<u32>
     None
 }
 
-/// The first receipt that is faulty, by its seat's number and its place.
+/// The first receipt that is faulty, by its seat's number and its index.
 fn first_differing(journal: &[Entry], seats: &[Seat]) -> Option<(u8, u32)>
     ensures entered { IfNone result (AllEntered journal.now seats.now) }
     ensures differs { IfSome result (λ found. IsFirstDiffering journal.now seats.now found.0 found.1) }
@@ -130,14 +130,15 @@ fn first_fault(journal: &[Entry], seats: &[Seat]) -> Option<Fault>
 
 /// Compares the receipts of the seats with the journal, once those who had them are done.
 ///
-/// They are the journal where it has as many entries as the seats have receipts, the seats' numbers differ, and each seat's
-/// receipts are entries of the journal at rising places, with that seat, event and reply. So the entries of one seat, in order, are
-/// its receipts. Takes no memory. Cost: the octets of all events and replies, once, and the seats before each of the first 257.
+/// They are the journal where it has as many entries as the seats have receipts, the seats' numbers differ, and each
+/// seat's receipts are entries of the journal at rising indexes, with that seat, event and reply. So the entries of one
+/// seat, in order, are its receipts. Takes no memory. Cost: the octets of all events and replies, once, and the seats
+/// before each of the first 257.
 ///
 /// # Errors
 ///
-/// The first fault in the order of [`Fault`], exactly where they are not the journal; seats are gone through in the order handed
-/// in, and receipts in the order kept. All that came is handed back.
+/// The first fault in the order of [`Fault`], exactly where they are not the journal; seats are gone through in the
+/// order handed in, and receipts in the order kept. All that came is handed back.
 pub fn close<S: Filestore>(
     journaled: Journaled<S>,
     seats: Vec<Seat>,

@@ -36,7 +36,7 @@ impl SharedEvent {
     ///
     /// # Errors
     ///
-    /// Want of memory: there are as many handles as can be counted.
+    /// Out of memory: there are as many handles as can be counted.
     pub fn share(event: &Arc<Event, Global>) -> Result<SharedEvent, Memory>
         ensures { IfOk result (λ other. other ≡ arc_value event.now) }
     {

@@ -9,7 +9,7 @@ pub enum Fault {
     CountDiffers,
     /// The number of the first seat whose number a seat before it has.
     SeatTwice(u8),
-    /// The number of a seat, and the place that its first faulty receipt tells: the entry there is missing, or has another seat,
-    /// event or reply; or the place is not behind that of the seat's receipt before.
+    /// The number of a seat, and the index in its first faulty receipt: the entry there is missing, or has
+    /// another seat, event or reply; or the index is not after that of the seat's receipt before.
     ReceiptDiffers(u8, u32),
 }

@@ -20,8 +20,9 @@ use std::sync::Arc;
 
 /// The core of a receiving entity, and the journal of all that it did.
 ///
-/// Contracts see it as both. At all times the journal is a history: its events, run from the start of the configuration by one
-/// thread, give each entry's reply, and the world after them is the core's; and it has no more entries than the configuration says.
+/// Contracts see it as both. At all times the journal is a history: its events, run from the start of the configuration
+/// by one thread, give each entry's reply, and the world after them is the core's; and it has no more entries than the
+/// configuration says.
 #[derive(Drop)]
 pub struct Journaled<S: Filestore> {
     core: Core<S>,
@@ -40,15 +41,17 @@ impl<S: Filestore> Model for Journaled<S> {
 
     ghost view = { λ j. record { core = j.core; journal = j.entries.items } };
 
-    ghost invariant = { λ j. words.IsWhole (vec_capacity j.entries) (record { core = j.core; journal = j.entries.items }) };
+    ghost invariant = { λ j. words.IsWhole (vec_capacity j.entries)
+        (record { core = j.core; journal = j.entries.items }) };
 }
 
 impl<S: Filestore> Journaled<S> {
-    /// A core that has just begun, with an empty journal. The room of the whole journal is taken now, and no more later.
+    /// A core that has just begun, with an empty journal. The room of the whole journal is taken now, and no more
+    /// later.
     ///
     /// # Errors
     ///
-    /// Want of memory: the core is dropped. Cost: one allocation.
+    /// Out of memory: the core is dropped. Cost: one allocation.
     pub fn new(alloc: Global, core: Core<S>) -> Result<Journaled<S>, Memory>
         requires { core.world ≡ start core.world.config }
         ensures core { IfOk result (λ journaled. journaled.core ≡ core) }
@@ -81,17 +84,20 @@ impl<S: Filestore> Journaled<S> {
         &self.entries
     }
 
-    /// Takes an event that a seat hands in: the reply and the world after it are those of [`Core::apply`], and the event is
-    /// journaled exactly where the reply is not [`Reply::Memory`]. Where the journal is full the reply is [`Reply::JournalFull`]
-    /// to every event, and to none elsewhere; then, as with Memory, nothing changes, and the event is dropped.
+    /// Takes an event that a seat hands in: the reply and the world after it are those of [`Core::apply`], and the
+    /// event is journaled exactly where the reply is not [`Reply::Memory`]. Where the journal is full the reply is
+    /// [`Reply::JournalFull`] to every event, and to none elsewhere; then, as with Memory, nothing changes, and the
+    /// event is dropped.
     ///
     /// Memory is asked for by [`Core::apply_both`] alone. Cost: that of `apply_both`.
     pub fn accept(&mut self, seat: u8, event: Arc<Event, Global>) -> Reply
         ensures full { (result ≡ Reply.JournalFull) ↔ IsTrue (is_full self.old) }
         ensures unchanged { IsTrue (is_full self.old) → self.new ≡ self.old }
-        ensures follows { IsFalse (is_full self.old) → Follows self.old.core.world (arc_value event) result self.new.core.world }
+        ensures follows { IsFalse (is_full self.old) → Follows self.old.core.world
+            (arc_value event) result self.new.core.world }
         ensures journal { self.new.journal ≡ entered self.old.journal seat (arc_value event) result }
-        ensures answered { IsFalse (may_want_memory self.old.core.takes_no_memory (arc_value event)) → IsAnswered result }
+        ensures answered { IsFalse (may_want_memory self.old.core.takes_no_memory (arc_value event)) →
+            IsAnswered result }
         ensures lean { AsksForNone self.old.core.world (arc_value event) → IsAnswered result }
         ensures steady { self.new.core.takes_no_memory ≡ self.old.core.takes_no_memory }
     {
@@ -107,13 +113,14 @@ impl<S: Filestore> Journaled<S> {
         reply
     }
 
-    /// Takes an event as [`accept`](Journaled::accept) does, and tells the index that its entry has in the journal, where it
-    /// is journaled: how many entries there were before.
+    /// Takes an event as [`accept`](Journaled::accept) does, and returns the index that its entry has in the journal,
+    /// where it is journaled: how many entries there were before.
     pub(crate) fn accept_at(&mut self, seat: u8, event: Arc<Event, Global>) -> (u32, Reply)
         ensures place { result.0 ≡ length self.old.journal }
         ensures full { (result.1 ≡ Reply.JournalFull) ↔ IsTrue (is_full self.old) }
         ensures unchanged { IsTrue (is_full self.old) → self.new ≡ self.old }
-        ensures follows { IsFalse (is_full self.old) → Follows self.old.core.world (arc_value event) result.1 self.new.core.world }
+        ensures follows { IsFalse (is_full self.old) → Follows self.old.core.world
+            (arc_value event) result.1 self.new.core.world }
         ensures journal { self.new.journal ≡ entered self.old.journal seat (arc_value event) result.1 }
     {
         let _limit = self.core.config().journal();

@@ -1,8 +1,9 @@
-//! The engine round the core of a CFDP receiving entity (CCSDS 727.0-B-5): a journal of all that the core did, seats with the
-//! receipts of what they handed in, one lock, and workers.
+//! The engine round the core of a CFDP receiving entity (CCSDS 727.0-B-5): a journal of all that the core did, seats
+//! with the receipts of what they handed in, one lock, and workers.
 //!
-//! The definitions stand in `specs/`: `Journal.antt` says what a journal is, `Seats.antt` when receipts are the journal,
-//! `Sharing.antt` what a seat learns of an event that it handed in, and `Working.antt` which events a worker's messages bring.
+//! The definitions are in `specs/`: `Journal.antt` says what a journal is, `Seats.antt` when receipts are the
+//! journal, `Sharing.antt` what a seat learns of an event that it handed in, and `Working.antt` which events a worker's
+//! messages bring.
 #![tactic(auto)]
 
 mod closing;

@@ -6,7 +6,8 @@ use crate::receipt::Receipt;
 use std::alloc::Global;
 use std::marker::Model;
 
-/// One who hands in events, under a number, with the receipts of those that were taken, in the order in which they were.
+/// One who hands in events, under a number, with the receipts of those that were taken, in the order in which they
+/// were.
 #[derive(Drop)]
 pub struct Seat {
     pub(crate) number: u8,

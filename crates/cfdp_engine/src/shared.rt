@@ -17,7 +17,7 @@ use cfdp_transactions::{Event, Reply};
 use std::alloc::Global;
 use std::sync::{Arc, Mutex, Wait};
 
-/// What a seat is told of an event that was handed in, by the index that its entry gets and the reply.
+/// What a seat is informed of an event that was handed in, by the index that its entry gets and the reply.
 ///
 /// # Errors
 ///
@@ -36,8 +36,8 @@ fn receipt_of(place: u32, event: SharedEvent, reply: Reply) -> Result<Receipt, S
     }
 }
 
-/// A core with its journal, behind one lock: the one step that threads take together is one event. Whenever the lock is got and
-/// whenever it is given back, the journal is a history that one thread could have made, and the core is sound.
+/// A core with its journal, under one lock: the one step that threads take together is one event. Whenever the lock is
+/// got and whenever it is given back, the journal is a history that one thread could have made, and the core is sound.
 #[derive(Drop)]
 pub struct Shared<S: Filestore> {
     inner: Mutex<Journaled<S>>,
@@ -51,13 +51,13 @@ impl<S: Filestore> Shared<S> {
         }
     }
 
-    /// Takes an event that a seat hands in, and tells where it stands in the journal; the receipt is then the seat's last. It may
-    /// wait for others who hand in events. The receipt's room and its handle of the event are made before.
+    /// Takes an event that a seat hands in, and returns where it is in the journal; the receipt is then the seat's
+    /// last. It may wait for others who hand in events. The receipt's room and its handle of the event are made before.
     ///
     /// # Errors
     ///
-    /// [`Stop::Memory`] where memory was refused, for the receipt or to the core, and [`Stop::JournalFull`] where the journal is
-    /// full. Nothing changes, and the event is dropped.
+    /// [`Stop::Memory`] where memory was refused, for the receipt or to the core, and [`Stop::JournalFull`] where the
+    /// journal is full. Nothing changes, and the event is dropped.
     pub fn accept<R: Wait>(
         &self,
         rt: &R,
@@ -75,7 +75,8 @@ impl<S: Filestore> Shared<S> {
         Ok(place)
     }
 
-    /// The first transaction, in order of admission, whose items are being performed. It may wait for others who hand in events.
+    /// The first transaction, in order of admission, whose items are being performed. It may wait for others who hand
+    /// in events.
     pub fn next_runnable<R: Wait>(&self, rt: &R) -> Option<TransactionId> {
         self.inner.lock(rt).core().next_runnable()
     }

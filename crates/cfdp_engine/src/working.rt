@@ -26,7 +26,7 @@ const MOST_STEPS: u32 = 4_224;
 /// What a worker leaves.
 #[derive(Drop)]
 pub struct Worked {
-    /// Its seat, with the receipts of what it handed in behind those that it had.
+    /// Its seat, with the receipts of what it handed in after those that it had.
     pub seat: Seat,
     /// The messages that it took, in order.
     pub taken: Vec<Message>,
@@ -59,7 +59,7 @@ fn first_handle<T: Drop>(alloc: Global, value: T) -> Result<Arc<T, Global>, Allo
     Ok(Arc::new(alloc, value)?)
 }
 
-/// Hands in an event of the worker's own: the place of its entry.
+/// Hands in an event of the worker's own: the index of its entry.
 fn hand_in<S: Filestore, R: Wait>(
     rt: &R,
     alloc: Global,
@@ -92,7 +92,7 @@ fn run<S: Filestore, R: Wait>(
     Ok(())
 }
 
-/// Hands in what a message brings. It answers whether the message is a PDU without an event, which is passed over and
+/// Hands in what a message brings. It returns whether the message is a PDU without an event, which is passed over and
 /// counted: such a PDU never stops the worker, unless memory for its copy was refused.
 fn serve<S: Filestore, R: Wait>(
     rt: &R,
@@ -125,8 +125,8 @@ fn serve<S: Filestore, R: Wait>(
 /// How many messages a worker takes from its inbox at once.
 const HANDFUL: usize = 16;
 
-/// The messages that come to a worker, in order. All that are in the inbox are taken at once, 17 at most, so that a sender
-/// that waits for room is woken once for all of them.
+/// The messages that come to a worker, in order. All that are in the inbox are taken at once, 17 at most, so that a
+/// sender that waits for room is woken once for all of them.
 #[derive(Drop)]
 struct Incoming<'a> {
     inbox: &'a Receiver<Message, Global>,
@@ -197,12 +197,12 @@ fn serve_all<S: Filestore, R: Wait, G: Gate>(
 }
 
 /// Hands in what the inbox brings, in order, until it is closed: each PDU's event and each event, and for each
-/// [`Message::Run`] steps, as long as a transaction can be stepped and at most 4,224 times. With each message it passes the gate
-/// first. The inbox is closed with it: it is given up where the worker stops.
+/// [`Message::Run`] steps, as long as a transaction can be stepped and at most 4,224 times. With each message it passes
+/// the gate first. The inbox is closed with it: it is given up where the worker stops.
 ///
-/// A PDU that is refused for another cause than memory, or is no event of a receiving entity, is passed over and counted. No
-/// lock is held while it waits for a message, is at the gate or reads a PDU. The room of a message in what it took is made before it
-/// is received. Cost: for each message that of [`Shared::accept`], and of reading a PDU.
+/// A PDU that is refused for another cause than memory, or is no event of a receiving entity, is passed over and
+/// counted. No lock is held while it waits for a message, is at the gate or reads a PDU. The room of a message in what
+/// it took is made before it is received. Cost: for each message that of [`Shared::accept`], and of reading a PDU.
 ///
 /// It stops where memory is refused, or the journal is full.
 pub fn work<S: Filestore, R: Wait, G: Gate>(

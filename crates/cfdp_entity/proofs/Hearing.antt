@@ -16,5 +16,6 @@ toward_us : (b : Bool) (event : Event) → b ≡ false → heard_in (Ok (if b th
 toward_us b event same = rw same refl
 
 -- a File Data PDU toward the receiver is heard
-pub data_heard : (octets : List ℕ) (h : Header) (d : FileDataFields) → pdu_at octets ≡ Ok (pdus.FileData h d) → h.toward_sender ≡ false → heard octets ≡ Ok (Data h d)
+pub data_heard : (octets : List ℕ) (h : Header) (d : FileDataFields) → pdu_at octets ≡ Ok (pdus.FileData h d) → h.toward_sender ≡ false → heard octets
+    ≡ Ok (Data h d)
 data_heard octets h d found ours = ap (λ (read : Result Pdu PduFault). heard_in (event_from read)) found ∙ toward_us h.toward_sender (Data h d) ours

@@ -1,6 +1,6 @@
 -- What octets that came bring to a receiving entity (CCSDS 727.0-B-5 §5.1 to §5.3).
 --   heard octets            the event of the PDU that they spell, or why there is none
---   IsUnheard octets why    why there was no reply: that there is none, or want of memory
+--   IsUnheard octets why    why there was no reply: that there is none, or out of memory
 --   MayWantMemory octets    they spell a Metadata PDU: only this is copied
 use Rattle.std.specs.Prelude.{◌≡◌, ◌⊎◌, ⊤, ℕ, List, Option, Some, None, Result, Ok, Err}
 use Rattle.cfdp_pdus.specs.First.{pdu_at}

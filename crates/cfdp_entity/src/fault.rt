@@ -18,7 +18,7 @@ pub enum NotHeard {
 /// Why an outcome was not handed out. The entity is as before.
 #[derive(Clone, Copy, Debug, PartialEq, Eq)]
 pub enum NotTaken {
-    /// The Finished PDU has so many octets, which is more than there was room for.
+    /// The Finished PDU has this many octets, which is more than there was room for.
     TooShort(usize),
     /// There was no memory.
     Memory,

@@ -1,5 +1,5 @@
 -- What the holders of a path say of the grants.
---     place_in gs id               how many grants stand before that of the transaction
+--     place_in gs id               how many grants are before that of the transaction
 --     strangers                    who holds no footprint holds no path
 --     others-strangers, others-without      the holders of a path without those of one transaction
 --     first_leasing                the first holder of a path has the first grant that leases it
@@ -53,7 +53,8 @@ of_when id false h same = tt
 
 pub all_of : (id : TransactionId) (fp : Footprint) (p : Path) → AllByRecursion (IsOf id) (holders_of id fp p)
 all_of id fp p =
-    all-append (IsOf id) (when (set.contains fp.exclusive p) (record { transaction = id; lease = Exclusive })) (when (set.contains fp.shared p) (record { transaction = id; lease = Shared }))
+    all-append (IsOf id) (when (set.contains fp.exclusive p) (record { transaction = id; lease = Exclusive }))
+    (when (set.contains fp.shared p) (record { transaction = id; lease = Shared }))
     (of_when id (set.contains fp.exclusive p) _ refl) (of_when id (set.contains fp.shared p) _ refl)
 
 -- a footprint that does not lease the path gives it no holder
@@ -65,11 +66,13 @@ of_unleased id fp p none =
 -- one that has it as an exclusive path gives that holder first
 of_exclusive : (id : TransactionId) (fp : Footprint) (p : Path) → set.contains fp.exclusive p ≡ true
     → holders_of id fp p ≡ record { transaction = id; lease = Exclusive } ∷ when (set.contains fp.shared p) (record { transaction = id; lease = Shared })
-of_exclusive id fp p has = ap (λ b. when b (record { transaction = id; lease = Exclusive }) ++ when (set.contains fp.shared p) (record { transaction = id; lease = Shared })) has
+of_exclusive id fp p has = ap (λ b. when b (record { transaction = id; lease = Exclusive })
+    ++ when (set.contains fp.shared p) (record { transaction = id; lease = Shared })) has
 
 of_shared : (id : TransactionId) (fp : Footprint) (p : Path) → set.contains fp.exclusive p ≡ false → set.contains fp.shared p ≡ true
     → holders_of id fp p ≡ record { transaction = id; lease = Shared } ∷ []
-of_shared id fp p not_exclusive has = λ i. when (not_exclusive i) (record { transaction = id; lease = Exclusive }) ++ when (has i) (record { transaction = id; lease = Shared })
+of_shared id fp p not_exclusive has = λ i. when (not_exclusive i) (record { transaction = id; lease = Exclusive })
+    ++ when (has i) (record { transaction = id; lease = Shared })
 
 -- ---- who holds no footprint
 
@@ -94,7 +97,8 @@ pub all_go : (id : TransactionId) (hs : List Holder) → AllByRecursion (λ h. i
 all_go id [] all = refl
 all_go id (h ∷ hs) all = ap (λ b. cond (not b) (h ∷ others id hs) (others id hs)) all.0 ∙ all_go id hs all.1
 
-pub same_of : (id : TransactionId) (g : Grant) (hs : List Holder) → is_same g.0 id ≡ true → AllByRecursion (IsOf g.0) hs → AllByRecursion (λ h. is_same h.transaction id ≡ true) hs
+pub same_of : (id : TransactionId) (g : Grant) (hs : List Holder) → is_same g.0 id ≡ true → AllByRecursion (IsOf g.0) hs →
+    AllByRecursion (λ h. is_same h.transaction id ≡ true) hs
 same_of id g [] same all = tt
 same_of id g (h ∷ hs) same all = (ap (λ a. is_same a id) all.0 ∙ same, same_of id g hs same all.1)
 
@@ -116,7 +120,7 @@ others-without (g ∷ gs) id p =
           ∙ sym (ap (λ b. holders_at (cond (not b) (g ∷ without gs id) (without gs id)) p) other)
     ]
 
--- ---- the places of holders
+-- ---- the indexes of holders
 
 pub first_there : (hs : List Holder) (h : Holder) → Some h ≡ slice_get hs 0 → (rest : List Holder) × (hs ≡ h ∷ rest)
 first_there [] h found = absurd (cc found)
@@ -153,8 +157,9 @@ leased_by_shared fp p has = set.contains-union path_cmp_total fp.exclusive fp.sh
 not_exclusive : (fp : Footprint) (p : Path) → set.contains (leased fp) p ≡ false → set.contains fp.exclusive p ≡ false
 not_exclusive fp p none = (unleased fp p none).0
 
--- the holders of the grants behind one are not that one's
-first_behind : (g : Grant) (gs : Grants) (p : Path) (h : Holder) (hs : List Holder) → AreApart (g ∷ gs) → holders_at gs p ≡ h ∷ hs → is_same g.0 h.transaction ≡ false
+-- the holders of the grants after one are not that one's
+first_behind : (g : Grant) (gs : Grants) (p : Path) (h : Holder) (hs : List Holder) → AreApart (g ∷ gs) → holders_at gs p ≡ h ∷ hs → is_same g.0 h.transaction
+    ≡ false
 first_behind g gs p h hs apart are =
     is_same-symm g.0 h.transaction ∙ (subst (AllByRecursion (IsNotOf g.0)) are (strangers gs g.0 p apart.0.names)).0
 
@@ -195,7 +200,8 @@ nobody_leasing (g ∷ gs) p none =
       | neither fails ↦ let rest = nobody_leasing gs p (sym (nobody_of g gs p fails) ∙ none) in omega (arith, rest, behind (leasing p) g gs fails)
     ]
 
-pub first_leasing : (gs : Grants) (p : Path) (h : Holder) (hs : List Holder) → AreApart gs → holders_at gs p ≡ h ∷ hs → place_in gs h.transaction ≡ prefix_len (λ g. not (leasing p g)) gs
+pub first_leasing : (gs : Grants) (p : Path) (h : Holder) (hs : List Holder) → AreApart gs → holders_at gs p ≡ h ∷ hs → place_in gs h.transaction
+    ≡ prefix_len (λ g. not (leasing p g)) gs
 first_leasing [] p h hs apart are = absurd (cc are)
 first_leasing (g ∷ gs) p h hs apart are =
     elim (way g p) [
@@ -215,12 +221,14 @@ first_leasing (g ∷ gs) p h hs apart are =
 -- ---- exclusive leases
 
 -- beside a grant that leases a path none leases it exclusively
-alone : (g : Grant) (gs : Grants) (p : Path) → leasing p g ≡ true → AllByRecursion (λ k. is_conflict g.1 k.1 ≡ false) gs → length gs ≡ prefix_len (λ k. not (changing p k)) gs
+alone : (g : Grant) (gs : Grants) (p : Path) → leasing p g ≡ true → AllByRecursion (λ k. is_conflict g.1 k.1 ≡ false) gs → length gs
+    ≡ prefix_len (λ k. not (changing p k)) gs
 alone g [] p has apart = refl
 alone g (k ∷ gs) p has apart =
     let rest = alone g gs p has apart.1 in
     elim (cases_Bool (changing p k)) [
-      | inl passes ↦ absurd (true≢false (sym (or_right (reaches g.1 k.1) (reaches k.1 g.1) (reaches_at k.1 g.1 p p passes has (at_or_below-itself p))) ∙ apart.0))
+      | inl passes ↦ absurd (true≢false (sym (or_right (reaches g.1 k.1) (reaches k.1 g.1) (reaches_at k.1 g.1 p p passes has (at_or_below-itself p)))
+          ∙ apart.0))
       | inr fails ↦ omega (arith, rest, behind (changing p) k gs fails)
     ]
 
@@ -230,10 +238,12 @@ nobody_changing (g ∷ gs) p none =
     elim (way g p) [
       | exclusively passes ↦ absurd (cc (sym (ap (λ hs. hs ++ holders_at gs p) (of_exclusive g.0 g.1 p passes)) ∙ none))
       | merely fails passes ↦ absurd (cc (sym (ap (λ hs. hs ++ holders_at gs p) (of_shared g.0 g.1 p fails passes)) ∙ none))
-      | neither fails ↦ let rest = nobody_changing gs p (sym (nobody_of g gs p fails) ∙ none) in omega (arith, rest, behind (changing p) g gs (not_exclusive g.1 p fails))
+      | neither fails ↦ let rest = nobody_changing gs p (sym (nobody_of g gs p fails) ∙ none) in
+          omega (arith, rest, behind (changing p) g gs (not_exclusive g.1 p fails))
     ]
 
-pub first_shared : (gs : Grants) (p : Path) (h : Holder) (hs : List Holder) → AreApart gs → holders_at gs p ≡ h ∷ hs → h.lease ≡ Shared → length gs ≡ prefix_len (λ g. not (changing p g)) gs
+pub first_shared : (gs : Grants) (p : Path) (h : Holder) (hs : List Holder) → AreApart gs → holders_at gs p ≡ h ∷ hs → h.lease ≡ Shared → length gs
+    ≡ prefix_len (λ g. not (changing p g)) gs
 first_shared [] p h hs apart are shared = absurd (cc are)
 first_shared (g ∷ gs) p h hs apart are shared =
     elim (way g p) [
@@ -246,7 +256,8 @@ first_shared (g ∷ gs) p h hs apart are shared =
           omega (arith, rest, behind (changing p) g gs (not_exclusive g.1 p fails))
     ]
 
-pub first_exclusive : (gs : Grants) (p : Path) (h : Holder) (hs : List Holder) → AreApart gs → holders_at gs p ≡ h ∷ hs → h.lease ≡ Exclusive → place_in gs h.transaction ≡ prefix_len (λ g. not (changing p g)) gs
+pub first_exclusive : (gs : Grants) (p : Path) (h : Holder) (hs : List Holder) → AreApart gs → holders_at gs p ≡ h ∷ hs → h.lease ≡ Exclusive →
+    place_in gs h.transaction ≡ prefix_len (λ g. not (changing p g)) gs
 first_exclusive [] p h hs apart are exclusive = absurd (cc are)
 first_exclusive (g ∷ gs) p h hs apart are exclusive =
     elim (way g p) [
@@ -265,7 +276,8 @@ first_exclusive (g ∷ gs) p h hs apart are exclusive =
 
 -- ---- a release
 
-absent : (gs : Grants) (id : TransactionId) (g : Grant) (p : Path) → AreApart gs → find (λ h. is_same h.0 id) gs ≡ Some g → leasing p g ≡ false → AllByRecursion (IsNotOf id) (holders_at gs p)
+absent : (gs : Grants) (id : TransactionId) (g : Grant) (p : Path) → AreApart gs → find (λ h. is_same h.0 id) gs ≡ Some g → leasing p g ≡ false →
+    AllByRecursion (IsNotOf id) (holders_at gs p)
 absent [] id g p apart found none = absurd (cc found)
 absent (k ∷ gs) id g p apart found none =
     elim (cases_Bool (is_same k.0 id)) [

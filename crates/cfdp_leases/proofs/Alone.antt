@@ -36,12 +36,14 @@ free_before (g ∷ gs) fp p free has =
     nobody_of g gs p (unreached fp g.1 p has (or_both (reaches g.1 fp) (reaches fp g.1) frees.0).1) ∙ free_before gs fp p frees.1 has
 
 -- beside a grant that has it as an exclusive path
-nobody_beside : (g : Grant) (gs : Grants) (p : Path) → set.contains g.1.exclusive p ≡ true → AllByRecursion (λ k. is_conflict g.1 k.1 ≡ false) gs → holders_at gs p ≡ []
+nobody_beside : (g : Grant) (gs : Grants) (p : Path) → set.contains g.1.exclusive p ≡ true → AllByRecursion (λ k. is_conflict g.1 k.1 ≡ false) gs →
+    holders_at gs p ≡ []
 nobody_beside g [] p has apart = refl
 nobody_beside g (k ∷ gs) p has apart =
     nobody_of k gs p (unreached g.1 k.1 p has (or_both (reaches g.1 k.1) (reaches k.1 g.1) apart.0).0) ∙ nobody_beside g gs p has apart.1
 
-pub own_only : (gs : Grants) (id : TransactionId) (g : Grant) (p : Path) → AreApart gs → find (λ h. is_same h.0 id) gs ≡ Some g → set.contains g.1.exclusive p ≡ true
+pub own_only : (gs : Grants) (id : TransactionId) (g : Grant) (p : Path) → AreApart gs → find (λ h. is_same h.0 id) gs ≡ Some g → set.contains g.1.exclusive p
+    ≡ true
     → others id (holders_at gs p) ≡ []
 own_only [] id g p apart found has = absurd (cc found)
 own_only (k ∷ gs) id g p apart found has =
@@ -55,5 +57,6 @@ own_only (k ∷ gs) id g p apart found has =
       | inr other ↦
           let there = sym (ap (λ b. cond b (Some k) (find (λ h. is_same h.0 id) gs)) other) ∙ found in
           let apart_from = all_found (λ (h : Grant). is_conflict k.1 h.1 ≡ false) (λ h. is_same h.0 id) gs g apart.0.paths there in
-          ap (others id) (nobody_of k gs p (unreached g.1 k.1 p has (or_both (reaches k.1 g.1) (reaches g.1 k.1) apart_from).1)) ∙ own_only gs id g p apart.1 there has
+          ap (others id) (nobody_of k gs p (unreached g.1 k.1 p has (or_both (reaches k.1 g.1) (reaches g.1 k.1) apart_from).1))
+          ∙ own_only gs id g p apart.1 there has
     ]

@@ -26,7 +26,8 @@ or_both false b h = (refl, h)
 pub or_none : (a b : Bool) → a ≡ false → b ≡ false → (a || b) ≡ false
 or_none a b h k = (λ i. h i || k i)
 
-pub none_first : (b : Bool) (g : Grant) (o : Option Grant) → option_map (λ (h : Grant). h.0) (cond b (Some g) o) ≡ None → (b ≡ false) × (option_map (λ (h : Grant). h.0) o ≡ None)
+pub none_first : (b : Bool) (g : Grant) (o : Option Grant) → option_map (λ (h : Grant). h.0) (cond b (Some g) o) ≡ None → (b ≡ false)
+    × (option_map (λ (h : Grant). h.0) o ≡ None)
 none_first true g o h = absurd (true≢false (ap is_some h))
 none_first false g o h = (refl, h)
 
@@ -46,14 +47,22 @@ apart_push (h ∷ gs) g apart free unheld =
 pub all_filter : {X : Type 0} (P : X → Type 0) (test : X → Bool) (xs : List X) → AllByRecursion P xs → AllByRecursion P (filter test xs)
 all_filter P test [] all = tt
 all_filter P test (x ∷ xs) all =
-    elim (test x) as (λ b. AllByRecursion P (cond b (x ∷ filter test xs) (filter test xs))) [ true ↦ (all.0, all_filter P test xs all.1) | false ↦ all_filter P test xs all.1 ]
+    elim (test x) as (λ b. AllByRecursion P (cond b (x ∷ filter test xs) (filter test xs))) [
+      | true ↦ (all.0, all_filter P test xs all.1)
+      | false ↦
+          all_filter P test xs all.1
+    ]
 
 none_filter : (any test : Grant → Bool) (gs : Grants) → list_any any gs ≡ false → list_any any (filter test gs) ≡ false
 none_filter any test [] h = refl
 none_filter any test (g ∷ gs) h =
     let parts = or_both (any g) (list_any any gs) h in
     let rest = none_filter any test gs parts.1 in
-    elim (test g) as (λ b. list_any any (cond b (g ∷ filter test gs) (filter test gs)) ≡ false) [ true ↦ or_none (any g) (list_any any (filter test gs)) parts.0 rest | false ↦ rest ]
+    elim (test g) as (λ b. list_any any (cond b (g ∷ filter test gs) (filter test gs)) ≡ false) [
+      | true ↦
+          or_none (any g) (list_any any (filter test gs)) parts.0 rest
+      | false ↦ rest
+    ]
 
 pub apart_filter : (test : Grant → Bool) (gs : Grants) → AreApart gs → AreApart (filter test gs)
 apart_filter test [] apart = tt

@@ -1,5 +1,5 @@
 -- A row changes only what is exclusive, and so keeps each footprint without a conflict.
---     node_at-changed          what stands at a path after one change
+--     node_at-changed          what is at a path after one change
 --     own_changes, frame_of_changes, isolation
 use Rattle.std.proofs.Common.{◌≡◌, refl, sym, ◌∙◌, ap, ℕ, Bool, true, false, cond, inl, inr, List, [], ◌∷◌, ◌++◌, map, length, drop}
 use Rattle.std.specs.Prelude.{Option, Some, None, is_some, if◌then◌else◌}
@@ -23,7 +23,7 @@ use Rattle.cfdp_leases.proofs.ReadFrame.{exclusive_below, get_kept}
 
 -- ---- one change
 
--- what a change writes at a path, where x stands there before
+-- what a change writes at a path, where x is there before
 abbrev pub written : Change → Path → Option Node → Option Node
 written (Becomes p node) q x = cond (same_path q p) node x
 written (Stages slot octets) q x = x
@@ -64,7 +64,8 @@ module _ (fp : Footprint) (slot : ℕ) where
   abbrev Own : List Change → Type 0
   Own changes = AllByRecursion (IsOwn fp slot) changes
 
-  own_vacated : (p : Path) (es : List (Path × Node)) → is_exclusive fp p ≡ true → AllByRecursion (λ (e : Path × Node). is_at_or_below e.0 p ≡ true) es → Own (vacated es)
+  own_vacated : (p : Path) (es : List (Path × Node)) → is_exclusive fp p ≡ true → AllByRecursion (λ (e : Path × Node). is_at_or_below e.0 p ≡ true) es →
+      Own (vacated es)
   own_vacated p [] h below = tt
   own_vacated p (e ∷ es) h below = (exclusive_below fp p e.0 h below.0, own_vacated p es h below.1)
 
@@ -92,7 +93,8 @@ module _ (fp : Footprint) (slot : ℕ) where
   own_rename p q (Some x) None false below es h k t = tt
   own_rename p q (Some x) None true true es h k t = tt
   own_rename p q (Some x) None true false es h k t =
-      elim (is_too_deep p q es) as (λ b. Own (if b then refused (NotAllowed action.RenameFile) else succeeds action.RenameFile (vacated es ++ settled p q es) 0 0 0).changes) [
+      elim (is_too_deep p q es) as (λ b. Own (if b then refused (NotAllowed action.RenameFile)
+      else succeeds action.RenameFile (vacated es ++ settled p q es) 0 0 0).changes) [
         | true ↦ tt
         | false ↦ all-append (IsOwn fp slot) (vacated es) (settled p q es) (own_vacated p es h t) (own_settled p q es k)
       ]

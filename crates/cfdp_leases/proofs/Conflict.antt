@@ -35,7 +35,8 @@ within_since fp item h = record {
   shared = all_from (λ p. is_covered fp p ≡ true) (shared_in item) (λ q s. covered_since fp q (h.of_shared q s));
 }
 
-pub all_within : (fp : Footprint) (items : List Item) → HasPaths fp (flat_map exclusive_in items) (flat_map shared_in items) → AllByRecursion (IsWithin fp) items
+pub all_within : (fp : Footprint) (items : List Item) → HasPaths fp (flat_map exclusive_in items) (flat_map shared_in items) →
+    AllByRecursion (IsWithin fp) items
 all_within fp [] h = tt
 all_within fp (item ∷ items) h = (
   within_since fp item (record {
@@ -95,7 +96,8 @@ item_ancestors item p q (inr h) a =
           shared_ancestors item found.0 q found.1 (higher found.0 p q found.2 a)
     ]
 
-pub list_ancestors : (items : List Item) (p q : Path) → stands p (flat_map exclusive_in items) ⊎ stands p (flat_map shared_in items) → stands q (ancestors p) → stands q (flat_map shared_in items)
+pub list_ancestors : (items : List Item) (p q : Path) → stands p (flat_map exclusive_in items) ⊎ stands p (flat_map shared_in items) → stands q (ancestors p) →
+    stands q (flat_map shared_in items)
 list_ancestors [] p q (inl h) a = absurd (true≢false (sym h))
 list_ancestors [] p q (inr h) a = absurd (true≢false (sym h))
 list_ancestors (item ∷ items) p q (inl h) a =
@@ -117,7 +119,8 @@ list_names (item ∷ items) p all h =
       | inr rest ↦ list_names items p all.1 rest
     ]
 
-list_above : (items : List Item) (p q : Path) → set.contains (leased (footprint_of items)) p ≡ true → stands q (ancestors p) → set.contains (footprint_of items).shared q ≡ true
+list_above : (items : List Item) (p q : Path) → set.contains (leased (footprint_of items)) p ≡ true → stands q (ancestors p) →
+    set.contains (footprint_of items).shared q ≡ true
 list_above items p q h a =
     contains_from_stands (flat_map shared_in items) q
     (list_ancestors items p q
@@ -134,9 +137,11 @@ has_ancestors items named = record {
 }
 
 -- what was gathered of a list, as lists of the same paths none of which is the root, has their ancestors too
-pub gathered : (items : List Item) (xs ys : List Path) → SameSet xs (flat_map exclusive_in items) → SameSet ys (flat_map shared_in items) → AreNamed xs → HasAncestors (of_lists xs ys)
+pub gathered : (items : List Item) (xs ys : List Path) → SameSet xs (flat_map exclusive_in items) → SameSet ys (flat_map shared_in items) → AreNamed xs →
+    HasAncestors (of_lists xs ys)
 gathered items xs ys exclusive shared named = record {
-  above = subst (λ fp. (p q : Path) → set.contains (leased fp) p ≡ true → stands q (ancestors p) → set.contains fp.shared q ≡ true) (λ i. record { exclusive = sym exclusive i; shared = sym shared i }) (list_above items);
+  above = subst (λ fp. (p q : Path) → set.contains (leased fp) p ≡ true → stands q (ancestors p) → set.contains fp.shared q ≡ true)
+      (λ i. record { exclusive = sym exclusive i; shared = sym shared i }) (list_above items);
   names = λ p h. all_at (λ x. x ≢ []) xs p named (stands_from_contains xs p h);
 }
 
@@ -150,12 +155,14 @@ reaches_from A B h =
     let inner = any_in-from (leased B) (λ l. is_at_or_below l outer.0) outer.2 in
     (outer.0, inner.0, outer.1, inner.1, inner.2)
 
-pub reaches_at : (A B : Footprint) (e l : Path) → set.contains A.exclusive e ≡ true → set.contains (leased B) l ≡ true → is_at_or_below l e ≡ true → reaches A B ≡ true
+pub reaches_at : (A B : Footprint) (e l : Path) → set.contains A.exclusive e ≡ true → set.contains (leased B) l ≡ true → is_at_or_below l e ≡ true → reaches A B
+    ≡ true
 reaches_at A B e l exclusive leases below =
     any_in-at A.exclusive (λ x. any_in (leased B) (λ y. is_at_or_below y x)) e exclusive
     (any_in-at (leased B) (λ y. is_at_or_below y e) l leases below)
 
-met : (A B : Footprint) → HasAncestors A → HasAncestors B → reaches A B ≡ true → (e : Path) × (set.contains A.exclusive e ≡ true) × (set.contains (leased B) e ≡ true)
+met : (A B : Footprint) → HasAncestors A → HasAncestors B → reaches A B ≡ true → (e : Path) × (set.contains A.exclusive e ≡ true)
+    × (set.contains (leased B) e ≡ true)
 met A B a b h =
     let found = reaches_from A B h in (
       found.0,
@@ -186,4 +193,5 @@ conflict_by_paths A B a b = (
 )
 
 pub lists_conflict_by_paths : ConflictByPaths
-lists_conflict_by_paths items others named names = conflict_by_paths (footprint_of items) (footprint_of others) (has_ancestors items named) (has_ancestors others names)
+lists_conflict_by_paths items others named names = conflict_by_paths (footprint_of items) (footprint_of others) (has_ancestors items named)
+    (has_ancestors others names)

@@ -151,7 +151,8 @@ module _ (paths : LeasedPaths) (k : Path) (holders : Path → List Holder) (held
   free_none free = neither (under_hash paths k) (get path_cmp paths.others k) (none_mapped holders_in (row_of paths k) (held.rows k ∙ ap unless_none free))
 
 -- what is written back is what was there
-pub unwritten : {X : Type 0} (f g : ℕ → Option X) (h : ℕ) (x : X) → ((q : ℕ) → g q ≡ cond (is_eq (nat_cmp h q)) (Some x) (f q)) → f h ≡ Some x → (q : ℕ) → g q ≡ f q
+pub unwritten : {X : Type 0} (f g : ℕ → Option X) (h : ℕ) (x : X) → ((q : ℕ) → g q ≡ cond (is_eq (nat_cmp h q)) (Some x) (f q)) → f h ≡ Some x → (q : ℕ) → g q
+    ≡ f q
 unwritten f g h x update found q =
     elim (cases_Bool (is_eq (nat_cmp h q))) [
       | inl tie ↦
@@ -162,9 +163,11 @@ unwritten f g h x update found q =
 
 -- what `Holds` says at one path
 abbrev HoldsAt : LeasedPaths → (Path → List Holder) → Path → Type 0
-HoldsAt paths holders p = (option_map holders_in (row_of paths p) ≡ unless_none (holders p)) × (IsSome (under_hash paths p) → get path_cmp paths.others p ≡ None)
+HoldsAt paths holders p = (option_map holders_in (row_of paths p) ≡ unless_none (holders p))
+    × (IsSome (under_hash paths p) → get path_cmp paths.others p ≡ None)
 
-holds_each : (paths : LeasedPaths) (holders : Path → List Holder) → ((h : ℕ) → HasHash h (get nat_cmp paths.rows h)) → ((p : Path) → HoldsAt paths holders p) → Holds paths holders
+holds_each : (paths : LeasedPaths) (holders : Path → List Holder) → ((h : ℕ) → HasHash h (get nat_cmp paths.rows h)) → ((p : Path) → HoldsAt paths holders p) →
+    Holds paths holders
 holds_each paths holders hashes at = record { rows = λ p. (at p).0; once = λ p. (at p).1; hashes = hashes }
 
 module _ (old new : LeasedPaths) (holders : Path → List Holder) (held : Holds old holders) where
@@ -173,7 +176,8 @@ module _ (old new : LeasedPaths) (holders : Path → List Holder) (held : Holds 
   hashes_kept rows h = subst (HasHash h) (sym (rows h)) (held.hashes h)
 
   -- both maps have the same rows
-  pub holds_kept : ((h : ℕ) → get nat_cmp new.rows h ≡ get nat_cmp old.rows h) → ((p : Path) → get path_cmp new.others p ≡ get path_cmp old.others p) → Holds new holders
+  pub holds_kept : ((h : ℕ) → get nat_cmp new.rows h ≡ get nat_cmp old.rows h) → ((p : Path) → get path_cmp new.others p ≡ get path_cmp old.others p) →
+      Holds new holders
   holds_kept rows others =
       let under : (p : Path) → under_hash new p ≡ under_hash old p = λ p. ap (λ r. own_row r p) (rows (hash_of p)) in
       record {
@@ -188,7 +192,8 @@ module _ (old new : LeasedPaths) (holders : Path → List Holder) (held : Holds 
   holds_unwritten h row update found = holds_kept (unwritten (get nat_cmp old.rows) (get nat_cmp new.rows) h row update found)
 
   module _ (k : Path) (now : Path → List Holder) (same : (q : Path) → same_path q k ≡ false → now q ≡ holders q) where
-    apart_same : (q : Path) → same_path k q ≡ false → under_hash new q ≡ under_hash old q → get path_cmp new.others q ≡ get path_cmp old.others q → HoldsAt new now q
+    apart_same : (q : Path) → same_path k q ≡ false → under_hash new q ≡ under_hash old q → get path_cmp new.others q ≡ get path_cmp old.others q →
+        HoldsAt new now q
     apart_same q apart under others = (
       (λ i. option_map holders_in (option_or (under i) (others i))) ∙ held.rows q ∙ sym (ap unless_none (same q (same_back q k ∙ apart))),
       λ some. others ∙ held.once q (sym (ap is_some under) ∙ some),
@@ -208,9 +213,12 @@ module _ (old new : LeasedPaths) (holders : Path → List Holder) (held : Holds 
         own =
             let under : under_hash new k ≡ option_map (λ r. r.holders) w =
             ap (λ r. own_row r k)
-            (ap (get nat_cmp new.rows) (sym hash) ∙ rows h ∙ ap (λ o. cond (is_eq o) w (get nat_cmp old.rows h)) (tied_itself nat_cmp_total h)) ∙ own_here w k after in
-            let gone : get path_cmp new.others k ≡ None = others k ∙ none in
-            ((λ i. option_map holders_in (option_or (under i) (gone i))) ∙ ap (option_map holders_in) (or_none (option_map (λ r. r.holders) w)) ∙ row, λ some. gone)
+            (ap (get nat_cmp new.rows) (sym hash) ∙ rows h ∙ ap (λ o. cond (is_eq o) w (get nat_cmp old.rows h)) (tied_itself nat_cmp_total h))
+            ∙ own_here w k after in
+            let gone : get path_cmp new.others k ≡ None = others k ∙ none in (
+              (λ i. option_map holders_in (option_or (under i) (gone i))) ∙ ap (option_map holders_in) (or_none (option_map (λ r. r.holders) w)) ∙ row,
+              λ some. gone,
+            )
 
         hashes : (q : ℕ) → HasHash q (get nat_cmp new.rows q)
         hashes q =
@@ -253,13 +261,15 @@ module _ (old new : LeasedPaths) (holders : Path → List Holder) (held : Holds 
     -- the row under the path's hash is its own, and has other holders, or is gone
     module _ (h : ℕ) (hash : h ≡ hash_of k) (row : Row) (found : get nat_cmp old.rows h ≡ Some row) (own : row.path ≡ k)
         (others : (p : Path) → get path_cmp new.others p ≡ get path_cmp old.others p) where
-      pub under_written : (after : Holders) → ((q : ℕ) → get nat_cmp new.rows q ≡ cond (is_eq (nat_cmp h q)) (Some (record { path = row.path; holders = after })) (get nat_cmp old.rows q))
+      pub under_written : (after : Holders) → ((q : ℕ) → get nat_cmp new.rows q
+          ≡ cond (is_eq (nat_cmp h q)) (Some (record { path = row.path; holders = after })) (get nat_cmp old.rows q))
           → Some (holders_in after) ≡ unless_none (now k) → Holds new now
       under_written after rows now_has =
           under_changed h hash (Some (record { path = row.path; holders = after })) rows others (subst (IsOf k) (sym found) own) own
           (under_once old k holders held h hash row found own) now_has
 
-      pub under_removed : ((q : ℕ) → get nat_cmp new.rows q ≡ cond (is_eq (nat_cmp h q)) None (get nat_cmp old.rows q)) → None ≡ unless_none (now k) → Holds new now
+      pub under_removed : ((q : ℕ) → get nat_cmp new.rows q ≡ cond (is_eq (nat_cmp h q)) None (get nat_cmp old.rows q)) → None ≡ unless_none (now k) →
+          Holds new now
       under_removed rows now_has =
           under_changed h hash None rows others (subst (IsOf k) (sym found) own) tt (under_once old k holders held h hash row found own) now_has
 
@@ -278,7 +288,8 @@ when_either false true h apart = refl
 when_either false false h apart = refl
 
 -- a path that comes before another one in strict order is not that one
-before_apart : (xs : List Path) (i : ℕ) (x p : Path) → IsStrictlySortedBy path_cmp xs → i < length xs → x ≡ get_or xs i x → stands p (take i xs) → same_path p x ≡ false
+before_apart : (xs : List Path) (i : ℕ) (x p : Path) → IsStrictlySortedBy path_cmp xs → i < length xs → x ≡ get_or xs i x → stands p (take i xs) → same_path p x
+    ≡ false
 before_apart xs i x p sorted within read before =
     let found = Contains_from_stands p (take i xs) before in
     let place : found.0 < i = omega (arith, found.1, length-take {A = Path}) in
@@ -287,10 +298,12 @@ before_apart xs i x p sorted within read before =
     ap (λ q. same_path p q) read ∙ ap is_eq (subst (λ q. path_cmp q (get_or xs i x) ≡ Less) at less)
 
 -- a path is not among those before it in strict order, and it is among all
-pub free_yet : (xs : List Path) (i : ℕ) (x : Path) (h : Holder) (holders : Path → List Holder) → IsStrictlySortedBy path_cmp xs → i < length xs → x ≡ get_or xs i x
+pub free_yet : (xs : List Path) (i : ℕ) (x : Path) (h : Holder) (holders : Path → List Holder) → IsStrictlySortedBy path_cmp xs → i < length xs → x
+    ≡ get_or xs i x
     → AreFree (λ p. list_any (same_path p) xs) holders → holders x ++ when (list_any (same_path x) (take i xs)) h ≡ []
 free_yet xs i x h holders sorted within read free =
-    when_not (list_any (same_path x) (take i xs)) h (holders x) (not_yet (list_any (same_path x) (take i xs)) refl) ∙ free x (stands_from_Contains x xs (i, within, sym read))
+    when_not (list_any (same_path x) (take i xs)) h (holders x) (not_yet (list_any (same_path x) (take i xs)) refl)
+    ∙ free x (stands_from_Contains x xs (i, within, sym read))
   where
     not_yet : (b : Bool) → list_any (same_path x) (take i xs) ≡ b → b ≡ false
     not_yet true there = absurd (true≢false (sym (same_path-itself x) ∙ before_apart xs i x x sorted within read there))
@@ -303,7 +316,8 @@ when_more xs i x p h holders sorted within read =
     append_assoc holders (when (list_any (same_path p) (take i xs)) h) (when (same_path p x) h)
     ∙ ap (λ more. holders ++ more)
     (when_either (list_any (same_path p) (take i xs)) (same_path p x) h (before_apart xs i x p sorted within read)
-    ∙ ap (λ b. when b h) (sym (ap (list_any (same_path p)) (take_more xs i x within ∙ ap (λ y. take i xs ++ y ∷ []) (sym read)) ∙ list_any-append (same_path p) (take i xs) (x ∷ []))))
+    ∙ ap (λ b. when b h) (sym (ap (list_any (same_path p)) (take_more xs i x within ∙ ap (λ y. take i xs ++ y ∷ []) (sym read))
+    ∙ list_any-append (same_path p) (take i xs) (x ∷ []))))
 
 -- ---- a transaction's leases taken away
 
@@ -326,7 +340,8 @@ filter_twice test (x ∷ xs) =
     elim (cases_Bool (test x)) [
       | inl kept ↦
           let once : filter test (x ∷ xs) ≡ x ∷ filter test xs = ap (λ b. cond b (x ∷ filter test xs) (filter test xs)) kept in
-          ap (filter test) once ∙ ap (λ b. cond b (x ∷ filter test (filter test xs)) (filter test (filter test xs))) kept ∙ ap (λ ys. x ∷ ys) (filter_twice test xs) ∙ sym once
+          ap (filter test) once ∙ ap (λ b. cond b (x ∷ filter test (filter test xs)) (filter test (filter test xs))) kept
+          ∙ ap (λ ys. x ∷ ys) (filter_twice test xs) ∙ sym once
       | inr gone ↦
           let once : filter test (x ∷ xs) ≡ filter test xs = ap (λ b. cond b (x ∷ filter test xs) (filter test xs)) gone in
           ap (filter test) once ∙ filter_twice test xs ∙ sym once
@@ -349,7 +364,8 @@ left_more id xs i x p hs within read =
     left_either id (list_any (same_path p) (take i xs)) (same_path p x) hs
     ∙ ap (λ b. left id b hs)
     (or_nothing (list_any (same_path p) (take i xs)) (same_path p x)
-    ∙ sym (ap (list_any (same_path p)) (take_more xs i x within ∙ ap (λ y. take i xs ++ y ∷ []) (sym read)) ∙ list_any-append (same_path p) (take i xs) (x ∷ [])))
+    ∙ sym (ap (list_any (same_path p)) (take_more xs i x within ∙ ap (λ y. take i xs ++ y ∷ []) (sym read))
+    ∙ list_any-append (same_path p) (take i xs) (x ∷ [])))
 
 -- nobody where the test holds, and all of them elsewhere
 abbrev pub emptied : Bool → List Holder → List Holder
@@ -367,7 +383,8 @@ emptied_more xs i x p hs within read =
     emptied_either (list_any (same_path p) (take i xs)) (same_path p x) hs
     ∙ ap (λ b. emptied b hs)
     (or_nothing (list_any (same_path p) (take i xs)) (same_path p x)
-    ∙ sym (ap (list_any (same_path p)) (take_more xs i x within ∙ ap (λ y. take i xs ++ y ∷ []) (sym read)) ∙ list_any-append (same_path p) (take i xs) (x ∷ [])))
+    ∙ sym (ap (list_any (same_path p)) (take_more xs i x within ∙ ap (λ y. take i xs ++ y ∷ []) (sym read))
+    ∙ list_any-append (same_path p) (take i xs) (x ∷ [])))
 
 -- the paths that only the transaction holds are dropped first
 pub left_emptied : (id : TransactionId) (a b : Bool) (hs : List Holder) → (a ≡ true → others id hs ≡ []) → left id b (emptied a hs) ≡ left id (a || b) hs
@@ -416,7 +433,8 @@ unleased fp p none = or_both (set.contains fp.exclusive p) (set.contains fp.shar
 
 -- what some have is in other words what some have
 pub some_wider : (id : TransactionId) (at wide : Path → Bool) (middle holders : Path → List Holder) (paths : LeasedPaths) → HoldsSome id at middle paths
-    → ((p : Path) → others id (middle p) ≡ others id (holders p)) → ((p : Path) → wide p ≡ false → (at p ≡ false) × (middle p ≡ holders p)) → HoldsSome id wide holders paths
+    → ((p : Path) → others id (middle p) ≡ others id (holders p)) → ((p : Path) → wide p ≡ false → (at p ≡ false) × (middle p ≡ holders p)) →
+    HoldsSome id wide holders paths
 some_wider id at wide middle holders paths some kept same =
     record {
       now = some.now;

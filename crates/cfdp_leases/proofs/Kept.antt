@@ -4,8 +4,8 @@
 --     grants-filter, footprints-filter      one live transaction less
 --     own_key                      a transaction has one key in the list
 --     others-push, others-filter   the slab has no other footprints, with one live transaction more, and with one less
---     place-live, length-live, transaction-live      places in the list are places among the grants
---     kept_same, kept_admitted, kept_released      what is kept, after each change
+--     place-live, length-live, transaction-live      indexes in the list are indexes among the grants
+--     kept_same, kept_admitted, kept_released, kept_emptied      what is kept, after each change
 use Rattle.std.proofs.Common.{◌≡◌, ◌≢◌, refl, sym, ◌∙◌, ap, subst, ℕ, Bool, true, false, cond, not, ◌||◌, ◌==◌, inl, inr, List, [], ◌∷◌, ◌++◌, length, arith, Option, Some, None, is_some}
 use Rattle.std.specs.Prelude.{find, filter, slice_get, unwrap_or, IsSome}
 use Rattle.std.specs.FinSet as set
@@ -66,7 +66,8 @@ all_push : {X : Type 0} (P : X → Type 0) (xs : List X) (x : X) → AllByRecurs
 all_push P [] x all this = (this, tt)
 all_push P (y ∷ xs) x all this = (all.0, all_push P xs x all.1 this)
 
-pub footprints-push : (s t : Slab Footprint) (new : Live) (fp : Footprint) (live : List Live) → HaveFootprints s live → get s new.key ≡ None → Updates s t new.key (Some fp)
+pub footprints-push : (s t : Slab Footprint) (new : Live) (fp : Footprint) (live : List Live) → HaveFootprints s live → get s new.key ≡ None →
+    Updates s t new.key (Some fp)
     → HaveFootprints t (live ++ new ∷ [])
 footprints-push s t new fp [] kept none update = (ap is_some update.changed, tt, tt)
 footprints-push s t new fp (l ∷ live) kept none update = (
@@ -81,21 +82,27 @@ pub occupied : (s : Slab Footprint) (live : List Live) → HaveFootprints s live
 occupied s [] kept = tt
 occupied s (l ∷ live) kept = (kept.0, occupied s live kept.2)
 
-all_but : (P : Live → Type 0) (id : TransactionId) (live : List Live) → AllByRecursion P live → AllByRecursion (λ m. is_same m.transaction id ≡ false → P m) live
+all_but : (P : Live → Type 0) (id : TransactionId) (live : List Live) → AllByRecursion P live →
+    AllByRecursion (λ m. is_same m.transaction id ≡ false → P m) live
 all_but P id [] all = tt
 all_but P id (l ∷ live) all = ((λ other. all.0), all_but P id live all.1)
 
 -- the footprints of others are under other keys
-pub elsewhere : (s : Slab Footprint) (id : TransactionId) (live : List Live) (l : Live) → HaveFootprints s live → find (λ m. is_same m.transaction id) live ≡ Some l
+pub elsewhere : (s : Slab Footprint) (id : TransactionId) (live : List Live) (l : Live) → HaveFootprints s live → find (λ m. is_same m.transaction id) live
+    ≡ Some l
     → AllByRecursion (λ m. is_same m.transaction id ≡ false → m.key ≢ l.key) live
 elsewhere s id [] l kept found = tt
 elsewhere s id (m ∷ live) l kept found =
     elim (cases_Bool (is_same m.transaction id)) [
       | inl passes ↦
-          let this : m ≡ l = some_is m l (sym (ap (λ b. cond b (Some m) (find (λ n. is_same n.transaction id) live)) passes) ∙ found) in
-          ((λ fails. absurd (true≢false (sym passes ∙ fails))), all_but (λ n. n.key ≢ l.key) id live (subst (λ k. AllByRecursion (λ n. n.key ≢ k.key) live) this kept.1))
+          let this : m ≡ l = some_is m l (sym (ap (λ b. cond b (Some m) (find (λ n. is_same n.transaction id) live)) passes) ∙ found) in (
+            (λ fails. absurd (true≢false (sym passes ∙ fails))),
+            all_but (λ n. n.key ≢ l.key) id live
+                (subst (λ k. AllByRecursion (λ n. n.key ≢ k.key) live) this kept.1),
+          )
       | inr fails ↦
-          let behind : find (λ n. is_same n.transaction id) live ≡ Some l = sym (ap (λ b. cond b (Some m) (find (λ n. is_same n.transaction id) live)) fails) ∙ found in
+          let behind : find (λ n. is_same n.transaction id) live ≡ Some l = sym (ap (λ b. cond b (Some m) (find (λ n. is_same n.transaction id) live)) fails)
+          ∙ found in
           ((λ _ same. all_found (λ n. n.key ≢ m.key) (λ n. is_same n.transaction id) live l kept.1 behind (sym same)), elsewhere s id live l kept.2 behind)
     ]
 
@@ -107,13 +114,16 @@ grants-filter s t key id (m ∷ live) update all =
     let rest = grants-filter s t key id live update all.1 in
     elim (cases_Bool (is_same m.transaction id)) [
       | inl passes ↦
-          ap (λ b. grants_of t (cond (not b) (m ∷ filter (λ n. not (is_same n.transaction id)) live) (filter (λ n. not (is_same n.transaction id)) live))) passes
+          ap (λ b. grants_of t (cond (not b) (m ∷ filter (λ n. not (is_same n.transaction id)) live) (filter (λ n. not (is_same n.transaction id)) live)))
+          passes
           ∙ rest
-          ∙ sym (ap (λ b. cond (not b) ((m.transaction, footprint_at s m.key) ∷ filter (λ g. not (is_same g.0 id)) (grants_of s live)) (filter (λ g. not (is_same g.0 id)) (grants_of s live))) passes)
+          ∙ sym (ap (λ b. cond (not b) ((m.transaction, footprint_at s m.key) ∷ filter (λ g. not (is_same g.0 id)) (grants_of s live))
+          (filter (λ g. not (is_same g.0 id)) (grants_of s live))) passes)
       | inr fails ↦
           ap (λ b. grants_of t (cond (not b) (m ∷ filter (λ n. not (is_same n.transaction id)) live) (filter (λ n. not (is_same n.transaction id)) live))) fails
           ∙ (λ i. (m.transaction, unwrap_or (update.others m.key (all.0 fails) i) (of_lists [] [])) ∷ rest i)
-          ∙ sym (ap (λ b. cond (not b) ((m.transaction, footprint_at s m.key) ∷ filter (λ g. not (is_same g.0 id)) (grants_of s live)) (filter (λ g. not (is_same g.0 id)) (grants_of s live))) fails)
+          ∙ sym (ap (λ b. cond (not b) ((m.transaction, footprint_at s m.key) ∷ filter (λ g. not (is_same g.0 id)) (grants_of s live))
+          (filter (λ g. not (is_same g.0 id)) (grants_of s live))) fails)
     ]
 
 pub footprints-filter : (s t : Slab Footprint) (key : ℕ) (id : TransactionId) (live : List Live) → HaveFootprints s live → Updates s t key None
@@ -123,15 +133,18 @@ footprints-filter s t key id (m ∷ live) kept update all =
     let rest = footprints-filter s t key id live kept.2 update all.1 in
     elim (cases_Bool (is_same m.transaction id)) [
       | inl passes ↦
-          subst (λ b. HaveFootprints t (cond (not b) (m ∷ filter (λ n. not (is_same n.transaction id)) live) (filter (λ n. not (is_same n.transaction id)) live))) (sym passes) rest
+          subst (λ b. HaveFootprints t (cond (not b) (m ∷ filter (λ n. not (is_same n.transaction id)) live)
+          (filter (λ n. not (is_same n.transaction id)) live))) (sym passes) rest
       | inr fails ↦
-          subst (λ b. HaveFootprints t (cond (not b) (m ∷ filter (λ n. not (is_same n.transaction id)) live) (filter (λ n. not (is_same n.transaction id)) live))) (sym fails)
+          subst (λ b. HaveFootprints t (cond (not b) (m ∷ filter (λ n. not (is_same n.transaction id)) live)
+          (filter (λ n. not (is_same n.transaction id)) live))) (sym fails)
           (ap is_some (update.others m.key (all.0 fails)) ∙ kept.0, all_filter (λ n. n.key ≢ m.key) (λ n. not (is_same n.transaction id)) live kept.1, rest)
     ]
 
 -- ---- no other footprints
 
-pub others-push : (s t : Slab Footprint) (new : Live) (fp : Footprint) (live : List Live) → HasNoOthers s live → Updates s t new.key (Some fp) → HasNoOthers t (live ++ new ∷ [])
+pub others-push : (s t : Slab Footprint) (new : Live) (fp : Footprint) (live : List Live) → HasNoOthers s live → Updates s t new.key (Some fp) →
+    HasNoOthers t (live ++ new ∷ [])
 others-push s t new fp live only update key some =
     list_any-append (λ l. l.key == key) live (new ∷ [])
     ∙ elim (cases_Bool (new.key == key)) [
@@ -149,16 +162,23 @@ no_key s id key (m ∷ live) none =
     let parts = or_both (is_same m.transaction id) (holds (grants_of s live) id) none in
     ((λ same. absurd (true≢false (sym same ∙ parts.0))), no_key s id key live parts.1)
 
-pub own_key : (s : Slab Footprint) (id : TransactionId) (live : List Live) (l : Live) → AreApart (grants_of s live) → find (λ m. is_same m.transaction id) live ≡ Some l
+pub own_key : (s : Slab Footprint) (id : TransactionId) (live : List Live) (l : Live) → AreApart (grants_of s live) → find (λ m. is_same m.transaction id) live
+    ≡ Some l
     → AllByRecursion (λ m. is_same m.transaction id ≡ true → m.key ≡ l.key) live
 own_key s id [] l apart found = tt
 own_key s id (m ∷ live) l apart found =
     elim (cases_Bool (is_same m.transaction id)) [
       | inl passes ↦
-          let this : m ≡ l = some_is m l (sym (ap (λ b. cond b (Some m) (find (λ n. is_same n.transaction id) live)) passes) ∙ found) in
-          ((λ _. ap (λ n. n.key) this), no_key s id l.key live (subst (λ i. holds (grants_of s live) i ≡ false) (same_is m.transaction id passes) apart.0.names))
-      | inr fails ↦
-          ((λ passes. absurd (true≢false (sym passes ∙ fails))), own_key s id live l apart.1 (sym (ap (λ b. cond b (Some m) (find (λ n. is_same n.transaction id) live)) fails) ∙ found))
+          let this : m ≡ l = some_is m l (sym (ap (λ b. cond b (Some m) (find (λ n. is_same n.transaction id) live)) passes) ∙ found) in (
+            (λ _. ap (λ n. n.key) this),
+            no_key s id l.key live (subst (λ i. holds (grants_of s live) i ≡ false)
+                (same_is m.transaction id passes) apart.0.names),
+          )
+      | inr fails ↦ (
+        (λ passes. absurd (true≢false (sym passes ∙ fails))),
+        own_key s id live l apart.1
+            (sym (ap (λ b. cond b (Some m) (find (λ n. is_same n.transaction id) live)) fails) ∙ found),
+      )
     ]
 
 -- another key stays in the list
@@ -190,19 +210,21 @@ others-filter s t gone id live only update own key some =
     let other : key ≢ gone = λ same. true≢false (sym some ∙ ap (λ k. is_some (get t k)) same ∙ ap is_some update.changed) in
     key_stays id gone key live other own (only key (ap is_some (sym (update.others key other)) ∙ some))
 
--- ---- places among the live ones
+-- ---- indexes among the live ones
 
 abbrev grant_of : Slab Footprint → Live → TransactionId × Footprint
 grant_of s l = (l.transaction, footprint_at s l.key)
 
-pub place-live : (s : Slab Footprint) (live : List Live) (id : TransactionId) → prefix_len (λ l. not (is_same l.transaction id)) live ≡ place_in (grants_of s live) id
+pub place-live : (s : Slab Footprint) (live : List Live) (id : TransactionId) → prefix_len (λ l. not (is_same l.transaction id)) live
+    ≡ place_in (grants_of s live) id
 place-live s live id = sym (prefix_len-map (grant_of s) (λ g. not (is_same g.0 id)) live)
 
 pub length-live : (s : Slab Footprint) (live : List Live) → length live ≡ length (grants_of s live)
 length-live s [] = refl
 length-live s (l ∷ live) = omega (arith, length-live s live)
 
-pub transaction-live : (s : Slab Footprint) (live : List Live) (n : ℕ) → option_map (λ l. l.transaction) (slice_get live n) ≡ option_map (λ g. g.0) (slice_get (grants_of s live) n)
+pub transaction-live : (s : Slab Footprint) (live : List Live) (n : ℕ) → option_map (λ l. l.transaction) (slice_get live n)
+    ≡ option_map (λ g. g.0) (slice_get (grants_of s live) n)
 transaction-live s live n =
     sym (option_map-map (grant_of s) (λ g. g.0) (slice_get live n)) ∙ sym (ap (option_map (λ g. g.0)) (slice_get-map (grant_of s) live n))
 
@@ -230,13 +252,15 @@ kept_same s t live now before paths same lists kept rows =
       rows = subst (λ gs. Holds paths (holders_at gs)) grants rows;
     })
 
-pub grants_admitted : (s t : Slab Footprint) (live : List Live) (new : Live) (fp : Footprint) → HaveFootprints s live → get s new.key ≡ None → Updates s t new.key (Some fp)
+pub grants_admitted : (s t : Slab Footprint) (live : List Live) (new : Live) (fp : Footprint) → HaveFootprints s live → get s new.key ≡ None →
+    Updates s t new.key (Some fp)
     → grants_of t (live ++ new ∷ []) ≡ grants_of s live ++ (new.transaction, fp) ∷ []
 grants_admitted s t live new fp kept none update =
     map-append (grant_of t) live (new ∷ [])
     ∙ (λ i. grants-push s t new.key fp live kept none update i ++ (new.transaction, footprint_is t new.key fp update.changed i) ∷ [])
 
-pub kept_admitted : (s t : Slab Footprint) (live : List Live) (new : Live) (fp : Footprint) (before paths : LeasedPaths) → AreKept s live before → get s new.key ≡ None
+pub kept_admitted : (s t : Slab Footprint) (live : List Live) (new : Live) (fp : Footprint) (before paths : LeasedPaths) → AreKept s live before → get s new.key
+    ≡ None
     → Updates s t new.key (Some fp) → HasAncestors fp → first_conflict (grants_of s live) fp ≡ None → holds (grants_of s live) new.transaction ≡ false
     → Holds paths (λ p. holders_at (grants_of s live) p ++ holders_of new.transaction fp p) → AreKept t (live ++ new ∷ []) paths
 kept_admitted s t live new fp before paths kept none update ancestors free unheld rows =
@@ -249,14 +273,16 @@ kept_admitted s t live new fp before paths kept none update ancestors free unhel
       apart = subst AreApart grants (apart_push gs (new.transaction, fp) kept.apart free unheld);
       rows = subst (λ ks. Holds paths (holders_at ks)) grants
           (holds_same paths (λ p. holders_at gs p ++ holders_of new.transaction fp p) (holders_at (gs ++ (new.transaction, fp) ∷ []))
-          (λ p. sym (flat_map-append (λ g. holders_of g.0 g.1 p) gs ((new.transaction, fp) ∷ []) ∙ ap (λ hs. holders_at gs p ++ hs) (append-nil (holders_of new.transaction fp p))))
+          (λ p. sym (flat_map-append (λ g. holders_of g.0 g.1 p) gs ((new.transaction, fp) ∷ [])
+          ∙ ap (λ hs. holders_at gs p ++ hs) (append-nil (holders_of new.transaction fp p))))
           rows);
     }
 
 -- ---- a release
 
 -- nobody is released
-pub nobody_there : (s : Slab Footprint) (live : List Live) (id : TransactionId) → None ≡ option_map (λ l. l.key) (find (λ l. is_same l.transaction id) live) → grants_of s live ≡ without (grants_of s live) id
+pub nobody_there : (s : Slab Footprint) (live : List Live) (id : TransactionId) → None ≡ option_map (λ l. l.key) (find (λ l. is_same l.transaction id) live) →
+    grants_of s live ≡ without (grants_of s live) id
 nobody_there s [] id none = refl
 nobody_there s (l ∷ live) id none =
     elim (cases_Bool (is_same l.transaction id)) [
@@ -271,19 +297,23 @@ pub live_there : (live : List Live) (id : TransactionId) (key : ℕ) → Some ke
     → (l : Live) × (find (λ m. is_same m.transaction id) live ≡ Some l) × (l.key ≡ key)
 live_there live id key found = which (find (λ l. is_same l.transaction id) live) refl found
   where
-    which : (o : Option Live) → find (λ l. is_same l.transaction id) live ≡ o → Some key ≡ option_map (λ l. l.key) o → (l : Live) × (find (λ m. is_same m.transaction id) live ≡ Some l) × (l.key ≡ key)
+    which : (o : Option Live) → find (λ l. is_same l.transaction id) live ≡ o → Some key ≡ option_map (λ l. l.key) o → (l : Live)
+        × (find (λ m. is_same m.transaction id) live ≡ Some l) × (l.key ≡ key)
     which None is there = absurd (cc there)
     which (Some l) is there = (l, is, sym (some_is key l.key there))
 
 -- the grant of a live transaction
-pub grant_there : (s : Slab Footprint) (live : List Live) (id : TransactionId) (l : Live) (fp : Footprint) → find (λ m. is_same m.transaction id) live ≡ Some l → get s l.key ≡ Some fp
+pub grant_there : (s : Slab Footprint) (live : List Live) (id : TransactionId) (l : Live) (fp : Footprint) → find (λ m. is_same m.transaction id) live
+    ≡ Some l → get s l.key ≡ Some fp
     → find (λ g. is_same g.0 id) (grants_of s live) ≡ Some (l.transaction, fp)
 grant_there s live id l fp found has =
     find-map (grant_of s) (λ g. is_same g.0 id) live ∙ ap (option_map (grant_of s)) found ∙ ap (λ f. Some (l.transaction, f)) (footprint_is s l.key fp has)
 
-pub kept_released : (s t : Slab Footprint) (live : List Live) (id : TransactionId) (l : Live) (fp : Footprint) (before paths : LeasedPaths) → AreKept s live before
+pub kept_released : (s t : Slab Footprint) (live : List Live) (id : TransactionId) (l : Live) (fp : Footprint) (before paths : LeasedPaths) →
+    AreKept s live before
     → find (λ m. is_same m.transaction id) live ≡ Some l → get s l.key ≡ Some fp → Updates s t l.key None
-    → Holds paths (λ p. left id (set.contains (leased fp) p) (holders_at (grants_of s live) p)) → AreKept t (filter (λ m. not (is_same m.transaction id)) live) paths
+    → Holds paths (λ p. left id (set.contains (leased fp) p) (holders_at (grants_of s live) p)) →
+    AreKept t (filter (λ m. not (is_same m.transaction id)) live) paths
 kept_released s t live id l fp before paths kept found has update rows =
     let gs = grants_of s live in
     let apart_keys = elsewhere s id live l kept.kept found in
@@ -298,3 +328,20 @@ kept_released s t live id l fp before paths kept found has update rows =
           (holds_same paths (λ p. left id (set.contains (leased fp) p) (holders_at gs p)) (holders_at (without gs id))
           (λ p. released gs id (l.transaction, fp) p kept.apart there) rows);
     }
+
+-- the last one is released, and no path has a holder
+pub kept_emptied : (s t : Slab Footprint) (live : List Live) (id : TransactionId) (l : Live) (fp : Footprint) (before paths : LeasedPaths) →
+    AreKept s live before
+    → find (λ m. is_same m.transaction id) live ≡ Some l → get s l.key ≡ Some fp → Updates s t l.key None
+    → filter (λ m. not (is_same m.transaction id)) live ≡ [] → Holds paths (λ p. []) → AreKept t (filter (λ m. not (is_same m.transaction id)) live) paths
+kept_emptied s t live id l fp before paths kept found has update last rows =
+    let gs = grants_of s live in
+    let none = grants-filter s t l.key id live update (elsewhere s id live l kept.kept found) in
+    kept_released s t live id l fp before paths kept found has update
+    (holds_same paths (λ p. []) (λ p. left id (set.contains (leased fp) p) (holders_at gs p))
+    (λ p. sym (released gs id (l.transaction, fp) p kept.apart (grant_there s live id l fp found has)
+    ∙ ap (λ ks. holders_at ks p) (sym none ∙ ap (grants_of t) last))) rows)
+
+pub none_of : {A : Type 0} (xs : List A) → (length xs == 0) ≡ true → xs ≡ []
+none_of [] e = refl
+none_of (x ∷ xs) e = absurd (omega (arith, eqb-true (length (x ∷ xs)) 0 e))

@@ -1,7 +1,7 @@
 -- Rows keep each key of the filestore a path.
---     IsKeyed change           what the change makes stand, if anything, stands at a path
+--     IsKeyed change           what the change makes exist, if anything, is at a path
 --     keys_after               such changes keep the keys paths
---     keyed_settled            the new places of a tree that moves, where none is too deep
+--     keyed_settled            the new paths of a tree that moves, where none is too deep
 --     keyed_create .. keyed_row          the changes of each row are such
 --     keys_stay_paths
 use Rattle.std.proofs.Common.{◌≡◌, refl, sym, ◌∙◌, ap, subst, ℕ, ◌+◌, ◌≤◌, Bool, true, false, cond, inl, inr, List, [], ◌∷◌, ◌++◌, length, arith}
@@ -33,7 +33,8 @@ AreKeyed changes = AllByRecursion IsKeyed changes
 keys_become : (F : Filestore) (p : Path) (what : Option Node) → IsKeyed (Becomes p what) → KeysArePaths F → KeysArePaths (changed F (Becomes p what))
 keys_become F p what keyed keys x there =
     elim (cases_Bool (same_path x p)) [
-      | inl here ↦ subst IsPath (sym ((same_path-Decides x p).0 here)) (placed what keyed (sym (ap is_some (node_at-changed F (Becomes p what) x ∙ ap (λ b. cond b what (node_at F x)) here)) ∙ there))
+      | inl here ↦ subst IsPath (sym ((same_path-Decides x p).0 here)) (placed what keyed
+          (sym (ap is_some (node_at-changed F (Becomes p what) x ∙ ap (λ b. cond b what (node_at F x)) here)) ∙ there))
       | inr apart ↦ keys x (sym (ap is_some (node_at-changed F (Becomes p what) x ∙ ap (λ b. cond b what (node_at F x)) apart)) ∙ there)
     ]
   where
@@ -55,7 +56,8 @@ keyed_vacated : (es : List (Path × Node)) → AreKeyed (vacated es)
 keyed_vacated [] = tt
 keyed_vacated (e ∷ es) = (tt, keyed_vacated es)
 
-keyed_settled : (F : Filestore) (p q : Path) (es : List (Path × Node)) → KeysArePaths F → IsPath q → AllByRecursion (Of F p) es → is_too_deep p q es ≡ false → AreKeyed (settled p q es)
+keyed_settled : (F : Filestore) (p q : Path) (es : List (Path × Node)) → KeysArePaths F → IsPath q → AllByRecursion (Of F p) es → is_too_deep p q es ≡ false →
+    AreKeyed (settled p q es)
 keyed_settled F p q [] keys to each deep = tt
 keyed_settled F p q (e ∷ es) keys to each deep =
     let parts = or_parts (nat_lt 8 (length (rebased p q e.0))) (is_too_deep p q es) deep in
@@ -78,7 +80,8 @@ keyed_delete p None = tt
 keyed_delete p (Some Directory) = tt
 keyed_delete p (Some (File octets)) = (tt, tt)
 
-keyed_rename : (F : Filestore) (p q : Path) (x y : Option Node) (good below : Bool) (es : List (Path × Node)) → KeysArePaths F → IsPath q → AllByRecursion (Of F p) es →
+keyed_rename : (F : Filestore) (p q : Path) (x y : Option Node) (good below : Bool) (es : List (Path × Node)) → KeysArePaths F → IsPath q →
+    AllByRecursion (Of F p) es →
     AreKeyed (rename p q x y good below es).changes
 unfolding rename
 keyed_rename F p q None y good below es keys to each = tt
@@ -86,7 +89,8 @@ keyed_rename F p q (Some x) (Some y) good below es keys to each = tt
 keyed_rename F p q (Some x) None false below es keys to each = tt
 keyed_rename F p q (Some x) None true true es keys to each = tt
 keyed_rename F p q (Some x) None true false es keys to each =
-    (elim (is_too_deep p q es) as (λ deep. is_too_deep p q es ≡ deep → AreKeyed (if deep then refused (NotAllowed action.RenameFile) else succeeds action.RenameFile (vacated es ++ settled p q es) 0 0 0).changes) [
+    (elim (is_too_deep p q es) as (λ deep. is_too_deep p q es ≡ deep → AreKeyed (if deep then refused (NotAllowed action.RenameFile)
+    else succeeds action.RenameFile (vacated es ++ settled p q es) 0 0 0).changes) [
       | true ↦ λ is. tt
       | false ↦ λ is. all-append IsKeyed (vacated es) (settled p q es) (keyed_vacated es) (keyed_settled F p q es keys to each is)
     ]) refl

@@ -1,8 +1,8 @@
 -- Lists of paths in path order, each path once, and what a binary search in one finds.
 --     same_set_from, same_set-append, same_set-there, same_set-insert      lists of the same paths
---     searchable                   how the paths of an ordered list stand to one path never falls
+--     searchable                   how the paths of an ordered list compare with one path never falls
 --     sorted-insert                a path is put in its place
---     found_there                  a path that is found stands there
+--     found_there                  a path that is found is there
 use Rattle.std.proofs.Common.{◌≡◌, ◌≢◌, length-take, refl, sym, ◌∙◌, ap, subst, ℕ, zero, suc, ◌<◌, ◌≤◌, ◌==◌, Bool, true, false, ◌||◌, inl, inr, List, [], ◌∷◌, ◌++◌, length, take, drop, get_or, arith, append_assoc, take-append-drop, ◌+◌, map, Option, Some, Result, Ok, Err}
 use Rattle.std.specs.Prelude.{flat_map, OnOk}
 use Rattle.std.proofs.lemmas.Grind.{flat_map-append}
@@ -38,7 +38,7 @@ pub same_members : (xs ys : List Path) (q : Path) → SameSet xs ys → list_any
 same_members xs ys q h =
     sym (set.contains-from_list path_cmp_total xs q) ∙ ap (λ s. set.contains s q) h ∙ set.contains-from_list path_cmp_total ys q
 
--- more of the same behind both
+-- more of the same after both
 pub same_set-append : (xs ys zs : List Path) → SameSet xs ys → SameSet (xs ++ zs) (ys ++ zs)
 same_set-append xs ys zs h =
     same_set_from (xs ++ zs) (ys ++ zs)
@@ -73,11 +73,13 @@ same_set-insert xs x i =
     same_set_from (insert xs i x) (xs ++ x ∷ [])
     (λ q. list_any-append (same_path q) (take i xs) (x ∷ drop i xs)
     ∙ between (list_any (same_path q) (take i xs)) (same_path q x) (list_any (same_path q) (drop i xs))
-    ∙ ap (λ b. b || (same_path q x || false)) (sym (list_any-append (same_path q) (take i xs) (drop i xs)) ∙ ap (list_any (same_path q)) (take-append-drop i xs))
+    ∙ ap (λ b. b || (same_path q x || false)) (sym (list_any-append (same_path q) (take i xs) (drop i xs))
+    ∙ ap (list_any (same_path q)) (take-append-drop i xs))
     ∙ sym (list_any-append (same_path q) xs (x ∷ [])))
 
 -- the same after a call that may find no memory
-pub and_then : {T : Type 0} (r : Result T AllocError) (xs ys zs a b : List Path) → SameSet ys (xs ++ a) → OnOk r (SameSet zs (ys ++ b)) → OnOk r (SameSet zs (xs ++ (a ++ b)))
+pub and_then : {T : Type 0} (r : Result T AllocError) (xs ys zs a b : List Path) → SameSet ys (xs ++ a) → OnOk r (SameSet zs (ys ++ b)) →
+    OnOk r (SameSet zs (xs ++ (a ++ b)))
 and_then (Ok done) xs ys zs a b h k = same_set-then xs ys zs a b h k
 and_then (Err refusal) xs ys zs a b h k = tt
 
@@ -121,7 +123,7 @@ all-insert P [] t (suc i) all this = (this, tt)
 all-insert P (x ∷ xs) t zero all this = (this, all)
 all-insert P (x ∷ xs) t (suc i) all this = (all.0, all-insert P xs t i all.1 this)
 
--- a path that is put behind all smaller ones and before all greater ones
+-- a path that is put after all smaller ones and before all greater ones
 pub sorted-insert : (xs : List Path) (t : Path) (i : ℕ) → IsStrictlySortedBy path_cmp xs → i ≤ length xs
     → AllWithin (λ y. path_cmp y t ≡ Less) xs 0 i → AllWithin (λ y. path_cmp y t ≡ Greater) xs i (length xs) → IsStrictlySortedBy path_cmp (insert xs i t)
 unfolding IsStrictlySortedBy
@@ -132,7 +134,8 @@ sorted-insert (x ∷ xs) t zero sorted within low high =
     ((before, all_after t x xs before sorted.0), sorted)
 sorted-insert (x ∷ xs) t (suc i) sorted within low high = (
   all-insert (λ y. path_cmp x y ≡ Less) xs t i sorted.0 (low zero x (omega arith) (omega arith)),
-  sorted-insert xs t i sorted.1 (omega arith) (λ k d _ below. low (suc k) d (omega arith) (omega arith)) (λ k d above below. high (suc k) d (omega arith) (omega arith)),
+  sorted-insert xs t i sorted.1 (omega arith) (λ k d _ below. low (suc k) d (omega arith) (omega arith))
+      (λ k d above below. high (suc k) d (omega arith) (omega arith)),
 )
 
 -- a beginning of some names is not the root
@@ -145,7 +148,8 @@ sorted-none = tt
 
 -- ---- the paths of one request
 
-pub changed-rename : (r : Request) (p q : Path) → action_in r ≡ RenameFile → p ≡ first_in r → Some q ≡ second_in r → (p ∷ []) ++ (q ∷ []) ≡ exclusive_in (Perform r)
+pub changed-rename : (r : Request) (p q : Path) → action_in r ≡ RenameFile → p ≡ first_in r → Some q ≡ second_in r → (p ∷ []) ++ (q ∷ [])
+    ≡ exclusive_in (Perform r)
 changed-rename (actions.RenameFile x y) p q same first second = cc
 changed-rename (actions.CreateFile x) p q same first second = cc
 changed-rename (actions.DeleteFile x) p q same first second = cc
@@ -157,7 +161,8 @@ changed-rename (actions.DenyFile x) p q same first second = cc
 changed-rename (actions.DenyDirectory x) p q same first second = cc
 
 -- what it names are its two paths
-pub above-two : (r : Request) (p q : Path) → p ≡ first_in r → Some q ≡ second_in r → ancestors p ++ ancestors q ≡ flat_map ancestors (exclusive_in (Perform r) ++ read_in (Perform r))
+pub above-two : (r : Request) (p q : Path) → p ≡ first_in r → Some q ≡ second_in r → ancestors p ++ ancestors q
+    ≡ flat_map ancestors (exclusive_in (Perform r) ++ read_in (Perform r))
 above-two (actions.RenameFile x y) p q first second = let e : q ≡ y = cc in rw (first, e) (ap (λ a. ancestors x ++ a) (sym (append-nil (ancestors y))))
 above-two (actions.AppendFile x y) p q first second = let e : q ≡ y = cc in rw (first, e) (ap (λ a. ancestors x ++ a) (sym (append-nil (ancestors y))))
 above-two (actions.ReplaceFile x y) p q first second = let e : q ≡ y = cc in rw (first, e) (ap (λ a. ancestors x ++ a) (sym (append-nil (ancestors y))))

@@ -53,7 +53,8 @@ find_at test (x ∷ xs) =
 
 -- ---- one path more
 
-any_more : (s : PathSet) (xs : List Path) (i : ℕ) (x : Path) → i < length xs → x ≡ get_or xs i x → (has_any s (take i xs) || set.contains s x) ≡ has_any s (take (i + 1) xs)
+any_more : (s : PathSet) (xs : List Path) (i : ℕ) (x : Path) → i < length xs → x ≡ get_or xs i x → (has_any s (take i xs) || set.contains s x)
+    ≡ has_any s (take (i + 1) xs)
 any_more s xs i x within read =
     or_nothing (has_any s (take i xs)) (set.contains s x)
     ∙ sym (ap (has_any s) (take_more xs i x within ∙ ap (λ y. take i xs ++ y ∷ []) (sym read)) ∙ list_any-append (set.contains s) (take i xs) (x ∷ []))
@@ -64,7 +65,8 @@ any_more s xs i x within read =
     or_nothing false false = refl
 
 pub first_more : (of : Footprint → PathSet) (gs : Grants) (xs : List Path) (i : ℕ) (x : Path) → i < length xs → x ≡ get_or xs i x
-    → min (prefix_len (λ g. not (has_any (of g.1) (take i xs))) gs) (prefix_len (λ g. not (set.contains (of g.1) x)) gs) ≡ prefix_len (λ g. not (has_any (of g.1) (take (i + 1) xs))) gs
+    → min (prefix_len (λ g. not (has_any (of g.1) (take i xs))) gs) (prefix_len (λ g. not (set.contains (of g.1) x)) gs)
+    ≡ prefix_len (λ g. not (has_any (of g.1) (take (i + 1) xs))) gs
 first_more of gs xs i x within read =
     sym (prefix_len-either (λ g. has_any (of g.1) (take i xs)) (λ g. set.contains (of g.1) x) gs)
     ∙ prefix_len-same (λ g. not (has_any (of g.1) (take i xs) || set.contains (of g.1) x)) (λ g. not (has_any (of g.1) (take (i + 1) xs))) gs
@@ -102,20 +104,33 @@ conflict_by_lists A B xs ys a b exclusive shared =
     (λ met. elim (or_cases (has_any (leased A) xs) (has_any A.exclusive ys) met) [
       | inl leases ↦
           let both = both_of (leased A) B.exclusive xs exclusive leases in
-          (conflict_by_paths A B a b).1 (both.0, both.2, union_left B.exclusive B.shared both.0 both.1, or_right (set.contains A.exclusive both.0) (set.contains B.exclusive both.0) both.1)
+          (conflict_by_paths A B a b).1 (
+            both.0,
+            both.2,
+            union_left B.exclusive B.shared both.0 both.1,
+            or_right (set.contains A.exclusive both.0) (set.contains B.exclusive both.0) both.1,
+          )
       | inr changes ↦
           let both = both_of A.exclusive B.shared ys shared changes in
-          (conflict_by_paths A B a b).1 (both.0, union_left A.exclusive A.shared both.0 both.2, union_right B.exclusive B.shared both.0 both.1, or_left (set.contains A.exclusive both.0) (set.contains B.exclusive both.0) both.2)
+          (conflict_by_paths A B a b).1 (
+            both.0,
+            union_left A.exclusive A.shared both.0 both.2,
+            union_right B.exclusive B.shared both.0 both.1,
+            or_left (set.contains A.exclusive both.0) (set.contains B.exclusive both.0) both.2,
+          )
     ])
 
-conflicts_at : (gs : Grants) (B : Footprint) (xs ys : List Path) → AllByRecursion (λ g. HasAncestors g.1) gs → HasAncestors B → set.from_list xs ≡ B.exclusive → set.from_list ys ≡ B.shared
+conflicts_at : (gs : Grants) (B : Footprint) (xs ys : List Path) → AllByRecursion (λ g. HasAncestors g.1) gs → HasAncestors B → set.from_list xs ≡ B.exclusive →
+    set.from_list ys ≡ B.shared
     → prefix_len (λ g. not (is_conflict g.1 B)) gs ≡ prefix_len (λ g. not (has_any (leased g.1) xs || has_any g.1.exclusive ys)) gs
 conflicts_at [] B xs ys all b exclusive shared = refl
 conflicts_at (g ∷ gs) B xs ys all b exclusive shared =
     λ i. cond (not (conflict_by_lists g.1 B xs ys all.0 b exclusive shared i)) (1 + conflicts_at gs B xs ys all.1 b exclusive shared i) 0
 
-pub conflict_at : (gs : Grants) (B : Footprint) (xs ys : List Path) → AllByRecursion (λ g. HasAncestors g.1) gs → HasAncestors B → set.from_list xs ≡ B.exclusive → set.from_list ys ≡ B.shared
-    → first_conflict gs B ≡ option_map (λ g. g.0) (slice_get gs (min (prefix_len (λ g. not (has_any (leased g.1) xs)) gs) (prefix_len (λ g. not (has_any g.1.exclusive ys)) gs)))
+pub conflict_at : (gs : Grants) (B : Footprint) (xs ys : List Path) → AllByRecursion (λ g. HasAncestors g.1) gs → HasAncestors B → set.from_list xs
+    ≡ B.exclusive → set.from_list ys ≡ B.shared
+    → first_conflict gs B ≡ option_map (λ g. g.0) (slice_get gs (min (prefix_len (λ g. not (has_any (leased g.1) xs)) gs)
+    (prefix_len (λ g. not (has_any g.1.exclusive ys)) gs)))
 conflict_at gs B xs ys all b exclusive shared =
     ap (option_map (λ g. g.0))
     (find_at (λ g. is_conflict g.1 B) gs

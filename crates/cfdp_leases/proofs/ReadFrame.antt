@@ -29,10 +29,12 @@ covered_exclusive fp p h = or_left _ _ h
 -- a name of the item, read or changed
 pub covered_read : (fp : Footprint) (item : Item) (p : Path) → IsWithin fp item → stands p (read_in item) → is_covered fp p ≡ true
 covered_read fp item p w h =
-    all_at (λ x. is_covered fp x ≡ true) (shared_in item) p w.shared (stands-append_left p (read_in item) (flat_map ancestors (exclusive_in item ++ read_in item)) h)
+    all_at (λ x. is_covered fp x ≡ true) (shared_in item) p w.shared (stands-append_left p (read_in item)
+    (flat_map ancestors (exclusive_in item ++ read_in item)) h)
 
 -- the parent of a name, the root apart
-pub covered_parent : (fp : Footprint) (item : Item) (p : Path) → IsWithin fp item → stands p (exclusive_in item ++ read_in item) → parent p ≢ [] → is_covered fp (parent p) ≡ true
+pub covered_parent : (fp : Footprint) (item : Item) (p : Path) → IsWithin fp item → stands p (exclusive_in item ++ read_in item) → parent p ≢ [] →
+    is_covered fp (parent p) ≡ true
 covered_parent fp item p w h some =
     let other : p ≢ parent p = λ same. parent_other p (λ none. some (ap parent none)) same in
     let above : stands (parent p) (ancestors p) = ancestor_stands p (parent p) (parent_at_or_below p) other some in
@@ -53,7 +55,8 @@ same_test test q x tie = sym (ap test (path_cmp-IsAntisymmetric q x tie))
 pub get_kept : (F : Filestore) (test : Path → Bool) (q : Path) → finite.get (finite.retain_keys F.nodes test) q ≡ cond (test q) (node_at F q) None
 get_kept F test q = finite.get-retain_keys F.nodes test q (same_test test q)
 
-same_kept : (F G : Filestore) (test : Path → Bool) → ((q : Path) → test q ≡ true → node_at F q ≡ node_at G q) → finite.retain_keys F.nodes test ≡ finite.retain_keys G.nodes test
+same_kept : (F G : Filestore) (test : Path → Bool) → ((q : Path) → test q ≡ true → node_at F q ≡ node_at G q) → finite.retain_keys F.nodes test
+    ≡ finite.retain_keys G.nodes test
 same_kept F G test same =
     finite.same_map path_cmp_total path_cmp-IsAntisymmetric _ _
     (λ q. get_kept F test q ∙ chosen (test q) (node_at F q) (node_at G q) (same q) ∙ sym (get_kept G test q))
@@ -71,7 +74,8 @@ module _ (fp : Footprint) (F G : Filestore) (slot : ℕ) (alike : IsAlike fp slo
 
   entries_alike : (p : Path) → is_exclusive fp p ≡ true → has_entries F p ≡ has_entries G p
   entries_alike p h =
-      ap (λ m. not (finite.len m == 0)) (same_kept F G (λ q. is_below q p) (λ q below. node_alike q (exclusive_below fp p q h (and_parts (is_at_or_below q p) _ below).0)))
+      ap (λ m. not (finite.len m == 0)) (same_kept F G (λ q. is_below q p) (λ q below.
+      node_alike q (exclusive_below fp p q h (and_parts (is_at_or_below q p) _ below).0)))
 
   good_alike : (item : Item) (p : Path) → IsWithin fp item → stands p (exclusive_in item ++ read_in item) → parent_is_good F p ≡ parent_is_good G p
   good_alike item p w h = ap (λ b. not (is_root p) && b) (at (parent p) (covered_parent fp item p w h))
@@ -91,7 +95,8 @@ module _ (fp : Footprint) (F G : Filestore) (slot : ℕ) (alike : IsAlike fp slo
 
   table_alike : (request : Request) → IsWithin fp (Perform request) → table F request ≡ table G request
   unfolding table
-  table_alike (CreateFile p) w = λ i. create action.CreateFile (File []) p (node_alike p w.exclusive.0 i) (good_alike (Perform (CreateFile p)) p w (head_stands p []) i)
+  table_alike (CreateFile p) w = λ i. create action.CreateFile (File []) p (node_alike p w.exclusive.0 i)
+      (good_alike (Perform (CreateFile p)) p w (head_stands p []) i)
   table_alike (DeleteFile p) w = ap (delete_file p) (node_alike p w.exclusive.0)
   table_alike (RenameFile p q) w =
       λ i. rename p q (node_alike p w.exclusive.0 i) (node_alike q w.exclusive.1.0 i)
@@ -100,7 +105,8 @@ module _ (fp : Footprint) (F G : Filestore) (slot : ℕ) (alike : IsAlike fp slo
       λ i. append p (node_alike p w.exclusive.0 i) (read_alike (Perform (AppendFile p q)) q w (head_stands q []) i)
   table_alike (ReplaceFile p q) w =
       λ i. replace p (same_path p q) (node_alike p w.exclusive.0 i) (read_alike (Perform (ReplaceFile p q)) q w (head_stands q []) i)
-  table_alike (CreateDirectory p) w = λ i. create action.CreateDirectory Directory p (node_alike p w.exclusive.0 i) (good_alike (Perform (CreateDirectory p)) p w (head_stands p []) i)
+  table_alike (CreateDirectory p) w = λ i. create action.CreateDirectory Directory p (node_alike p w.exclusive.0 i)
+      (good_alike (Perform (CreateDirectory p)) p w (head_stands p []) i)
   table_alike (RemoveDirectory p) w = λ i. remove_directory p (node_alike p w.exclusive.0 i) (entries_alike p w.exclusive.0 i)
   table_alike (DenyFile p) w = ap (deny_file p) (node_alike p w.exclusive.0)
   table_alike (DenyDirectory p) w = λ i. deny_directory p (node_alike p w.exclusive.0 i) (entries_alike p w.exclusive.0 i)
@@ -126,7 +132,8 @@ module _ (fp : Footprint) (F G : Filestore) (slot : ℕ) (alike : IsAlike fp slo
   bound_alike (Perform (RenameFile p q)) w = refl
   bound_alike (Perform (AppendFile p q)) w = ap (λ node. 2 * content node) (read_alike (Perform (AppendFile p q)) q w (head_stands q []))
   bound_alike (Perform (ReplaceFile p q)) w =
-      λ i. if (same_path p q) then 0 else (content (node_alike p w.exclusive.0 i) + 2 * content (read_alike (Perform (ReplaceFile p q)) q w (head_stands q []) i))
+      λ i. if (same_path p q) then 0 else (content (node_alike p w.exclusive.0 i)
+      + 2 * content (read_alike (Perform (ReplaceFile p q)) q w (head_stands q []) i))
   bound_alike (Perform (CreateDirectory p)) w = refl
   bound_alike (Perform (RemoveDirectory p)) w = refl
   bound_alike (Perform (DenyFile p)) w = ap weight (node_alike p w.exclusive.0)

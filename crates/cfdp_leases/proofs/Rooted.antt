@@ -1,7 +1,7 @@
 -- Rows keep the filestore rooted: each path's parent stays the root or a directory.
 --     IsParent F a             the path is the root or a directory
 --     rooted_becomes           one change keeps the filestore rooted
---     settled_at, vacated_at   what stands at a path after a directory was moved
+--     settled_at, vacated_at   what is at a path after a directory was moved
 --     stays_rooted
 use Rattle.std.proofs.Common.{◌≡◌, ◌≢◌, refl, sym, ◌∙◌, ap, subst, ℕ, zero, suc, ◌≤◌, Bool, true, false, cond, ◌||◌, ◌⊎◌, inl, inr, List, [], ◌∷◌, ◌++◌, map, length, drop, arith, T}
 use Rattle.std.specs.FinMap.Entries.{below_all, is_sorted, find}
@@ -61,7 +61,7 @@ is_some_since (Some (File octets)) h = refl
 
 -- ---- one change
 
--- what is written at p has a good parent, and is a directory where something stands in p
+-- what is written at p has a good parent, and is a directory where something is in p
 pub rooted_becomes : (F : Filestore) (p : Path) (node : Option Node) → IsRooted F → (is_some node ≡ true → parent_is_good F p ≡ true) →
     ((x : Path) → x ≢ [] → parent x ≡ p → is_some (node_at F x) ≡ true → is_directory node ≡ true) → IsRooted (changed F (Becomes p node))
 rooted_becomes F p node rooted placed full x there =
@@ -71,7 +71,8 @@ rooted_becomes F p node rooted placed full x there =
           let written_there : is_some node ≡ true = sym (ap is_some (node_at-changed F (Becomes p node) x ∙ ap (λ b. cond b node (node_at F x)) e)) ∙ there in
           let parts = good_parts F p (placed written_there) in
           let some : x ≢ [] = λ none. parts.0 (sym same ∙ none) in
-          good_from (changed F (Becomes p node)) x some (stays (parent x) (subst (λ y. IsParent F (parent y)) (sym same) parts.1) (λ again. absurd (parent_other x some (same ∙ sym again))))
+          good_from (changed F (Becomes p node)) x some (stays (parent x) (subst (λ y. IsParent F (parent y)) (sym same) parts.1)
+          (λ again. absurd (parent_other x some (same ∙ sym again))))
       | inr e ↦
           let before : is_some (node_at F x) ≡ true = sym (ap is_some (node_at-changed F (Becomes p node) x ∙ ap (λ b. cond b node (node_at F x)) e)) ∙ there in
           let parts = good_parts F x (rooted x before) in
@@ -86,8 +87,9 @@ rooted_becomes F p node rooted placed full x there =
           | inr e ↦ inr (ap is_directory (node_at-changed F (Becomes p node) a ∙ ap (λ b. cond b node (node_at F a)) e) ∙ directory)
         ]
 
--- nothing stands in what is no directory
-nothing_in : (F : Filestore) (p : Path) → IsRooted F → is_directory (node_at F p) ≡ false → (x : Path) → x ≢ [] → parent x ≡ p → is_some (node_at F x) ≡ true → p ≡ []
+-- nothing is in what is no directory
+nothing_in : (F : Filestore) (p : Path) → IsRooted F → is_directory (node_at F p) ≡ false → (x : Path) → x ≢ [] → parent x ≡ p → is_some (node_at F x) ≡ true →
+    p ≡ []
 nothing_in F p rooted plain x some above there =
     elim (good_parts F x (rooted x there)).1 [
       | inl root ↦ sym above ∙ root
@@ -151,7 +153,7 @@ tree_at-of F p =
     ))
     (tree_at F p) (tree_below F p) (found_each (tree_at F p) (is_true _ (finite.entries_sorted kept)))
 
--- what stands at or below p is a key of the tree
+-- what is at or below p is a key of the tree
 key_since : (F : Filestore) (p x : Path) → is_at_or_below x p ≡ true → is_some (node_at F x) ≡ true → stands x (map (λ (e : Entry). e.0) (tree_at F p))
 key_since F p x below there =
     let kept = finite.retain_keys F.nodes (λ q. is_at_or_below q p) in
@@ -164,7 +166,8 @@ after-append : (F : Filestore) (cs ds : List Change) → after F (cs ++ ds) ≡ 
 after-append F [] ds = refl
 after-append F (c ∷ cs) ds = after-append (changed F c) cs ds
 
-vacated_at : (F : Filestore) (es : List Entry) (x : Path) → node_at (after F (vacated es)) x ≡ cond (list_any (same_path x) (map (λ (e : Entry). e.0) es)) None (node_at F x)
+vacated_at : (F : Filestore) (es : List Entry) (x : Path) → node_at (after F (vacated es)) x
+    ≡ cond (list_any (same_path x) (map (λ (e : Entry). e.0) es)) None (node_at F x)
 vacated_at F [] x = refl
 vacated_at F (e ∷ es) x =
     vacated_at (changed F (Becomes e.0 None)) es x
@@ -176,7 +179,7 @@ vacated_at F (e ∷ es) x =
     either true false y = refl
     either false b y = refl
 
--- at x stands an entry's node, where x is where the entry goes, or else what stood there
+-- at x is an entry's node, where x is where the entry goes, or else what was there
 settled_at : (Q : Entry → Type 0) (F : Filestore) (p q : Path) (es : List Entry) (x : Path) → AllByRecursion Q es →
     ((e : Entry) × Q e × (rebased p q e.0 ≡ x) × (node_at (after F (settled p q es)) x ≡ Some e.1))
     ⊎ ((node_at (after F (settled p q es)) x ≡ node_at F x) × AllByRecursion (λ (e : Entry). rebased p q e.0 ≢ x) es)
@@ -212,8 +215,9 @@ no_names : (x : Path) → length x ≤ 0 → x ≡ []
 no_names [] e = refl
 no_names (n ∷ x) e = absurd (omega arith)
 
--- nothing stands at or below a path where nothing stands
-below_absent : (F : Filestore) (q : Path) → IsRooted F → q ≢ [] → node_at F q ≡ None → (bound : ℕ) (x : Path) → length x ≤ bound → is_at_or_below x q ≡ true → is_some (node_at F x) ≡ true → ⊥
+-- nothing is at or below a path where nothing exists
+below_absent : (F : Filestore) (q : Path) → IsRooted F → q ≢ [] → node_at F q ≡ None → (bound : ℕ) (x : Path) → length x ≤ bound → is_at_or_below x q ≡ true →
+    is_some (node_at F x) ≡ true → ⊥
 below_absent F q rooted named absent zero x within below there = (good_parts F x (rooted x there)).0 (no_names x within)
 below_absent F q rooted named absent (suc bound) x within below there =
     let parts = good_parts F x (rooted x there) in
@@ -223,7 +227,8 @@ below_absent F q rooted named absent (suc bound) x within below there =
           let above : is_at_or_below (parent x) q ≡ true = parent_from_below x q below (λ same. true≢false (sym ((same_path-Decides x q).1 same) ∙ e)) in
           elim parts.1 [
             | inl root ↦ named (at_or_below-antisym q [] refl (subst (λ y. is_at_or_below y q ≡ true) root above))
-            | inr directory ↦ below_absent F q rooted named absent bound (parent x) (omega (arith, length-parent x parts.0, within)) above (is_some_since (node_at F (parent x)) directory)
+            | inr directory ↦ below_absent F q rooted named absent bound (parent x) (omega (arith, length-parent x parts.0, within)) above
+                (is_some_since (node_at F (parent x)) directory)
           ]
     ]
 
@@ -247,7 +252,7 @@ none_stands P (e ∷ es) x all h =
       | inr rest ↦ none_stands P es x all.1 rest
     ]
 
--- p, which stands, is moved to q, which does not, has a parent, and is not at or below p
+-- p, which exists, is moved to q, which does not, has a parent, and is not at or below p
 pub record IsMove (F : Filestore) (p q : Path) : Type 0 where
   pub rooted : IsRooted F
   pub there : is_some (node_at F p) ≡ true
@@ -265,20 +270,23 @@ module _ (F : Filestore) (p q : Path) (move : IsMove F p q) where
   named_q : q ≢ []
   named_q = (good_parts F q move.good).0
 
-  -- what stands at x afterwards: an entry's node, or what stood there and is not at or below p
+  -- what is at x afterwards: an entry's node, or what was there and is not at or below p
   moved_at : (x : Path) →
       ((e : Entry) × Of F p e × (rebased p q e.0 ≡ x) × (node_at (moved F p q) x ≡ Some e.1))
-      ⊎ ((node_at (moved F p q) x ≡ cond (list_any (same_path x) (map (λ (e : Entry). e.0) (tree_at F p))) None (node_at F x)) × AllByRecursion (λ (e : Entry). rebased p q e.0 ≢ x) (tree_at F p))
+      ⊎ ((node_at (moved F p q) x ≡ cond (list_any (same_path x) (map (λ (e : Entry). e.0) (tree_at F p))) None (node_at F x))
+      × AllByRecursion (λ (e : Entry). rebased p q e.0 ≢ x) (tree_at F p))
   moved_at x =
       let es = tree_at F p in
-      let split : node_at (moved F p q) x ≡ node_at (after (after F (vacated es)) (settled p q es)) x = ap (λ G. node_at G x) (after-append F (vacated es) (settled p q es)) in
+      let split : node_at (moved F p q) x ≡ node_at (after (after F (vacated es)) (settled p q es)) x =
+      ap (λ G. node_at G x) (after-append F (vacated es) (settled p q es)) in
       elim (settled_at (Of F p) (after F (vacated es)) p q es x (tree_at-of F p)) [
         | inl found ↦ inl (found.0, found.1, found.2, split ∙ found.3)
         | inr none ↦ inr (split ∙ none.0 ∙ vacated_at F es x, none.1)
       ]
 
   -- a directory that is not at or below p, nor at or below q, stays one
-  stays_directory : (a : Path) → is_directory (node_at F a) ≡ true → is_at_or_below a p ≡ false → is_at_or_below a q ≡ false → is_directory (node_at (moved F p q) a) ≡ true
+  stays_directory : (a : Path) → is_directory (node_at F a) ≡ true → is_at_or_below a p ≡ false → is_at_or_below a q ≡ false →
+      is_directory (node_at (moved F p q) a) ≡ true
   stays_directory a directory off_p off_q =
       elim (moved_at a) [
         | inl found ↦ absurd (true≢false (sym (subst (λ y. is_at_or_below y q ≡ true) found.2 (at_or_below-append q (drop (length p) found.0.0))) ∙ off_q))
@@ -304,7 +312,8 @@ module _ (F : Filestore) (p q : Path) (move : IsMove F p q) where
       ]
 
   parent_q_off_p : is_at_or_below (parent q) p ≡ false
-  parent_q_off_p = false_from_ne_true (is_at_or_below (parent q) p) (λ h. true≢false (sym (at_or_below-trans q (parent q) p (parent_at_or_below q) h) ∙ move.apart))
+  parent_q_off_p = false_from_ne_true (is_at_or_below (parent q) p) (λ h.
+      true≢false (sym (at_or_below-trans q (parent q) p (parent_at_or_below q) h) ∙ move.apart))
 
   parent_q_off_q : is_at_or_below (parent q) q ≡ false
   parent_q_off_q = false_from_ne_true (is_at_or_below (parent q) q) (λ h. parent_other q named_q (at_or_below-antisym q (parent q) (parent_at_or_below q) h))
@@ -334,8 +343,9 @@ module _ (F : Filestore) (p q : Path) (move : IsMove F p q) where
       named [] b some e = some refl
       named (m ∷ a) b some e = (cc)
 
-  -- what stood there and was not moved still has its parent
-  stayed : (x : Path) → is_some (node_at F x) ≡ true → list_any (same_path x) (map (λ (e : Entry). e.0) (tree_at F p)) ≡ false → parent_is_good (moved F p q) x ≡ true
+  -- what was there and was not moved still has its parent
+  stayed : (x : Path) → is_some (node_at F x) ≡ true → list_any (same_path x) (map (λ (e : Entry). e.0) (tree_at F p)) ≡ false → parent_is_good (moved F p q) x
+      ≡ true
   stayed x there off =
       let parts = good_parts F x (move.rooted x there) in
       let off_p : is_at_or_below x p ≡ true → ⊥ = λ h. true≢false (sym (key_since F p x h there) ∙ off) in
@@ -366,9 +376,10 @@ module _ (F : Filestore) (p q : Path) (move : IsMove F p q) where
 
 -- ---- rows
 
--- nothing stands in what is no directory, so what is written there may be anything
+-- nothing is in what is no directory, so what is written there may be anything
 module _ (F : Filestore) (rooted : IsRooted F) where
-  becomes_plain : (p : Path) (node x : Option Node) → node_at F p ≡ x → is_directory x ≡ false → p ≢ [] → (is_some node ≡ true → parent_is_good F p ≡ true) → IsRooted (changed F (Becomes p node))
+  becomes_plain : (p : Path) (node x : Option Node) → node_at F p ≡ x → is_directory x ≡ false → p ≢ [] → (is_some node ≡ true → parent_is_good F p ≡ true) →
+      IsRooted (changed F (Becomes p node))
   becomes_plain p node x at plain named placed =
       rooted_becomes F p node rooted placed
       (λ y some above there. absurd (named (nothing_in F p rooted (ap is_directory at ∙ plain) y some above there)))
@@ -398,7 +409,8 @@ module _ (F : Filestore) (rooted : IsRooted F) where
       let below : is_below x p ≡ true = subst (λ y. is_below x y ≡ true) above (parent_below x (omega (arith, length-parent x some))) in
       absurd (true≢false (sym there ∙ ap is_some (nothing_inside p x none below))))
 
-  rooted_create : (action : Action) (node : Node) (p : Path) (x : Option Node) (good : Bool) → node_at F p ≡ x → parent_is_good F p ≡ good → IsRooted (after F (create action node p x good).changes)
+  rooted_create : (action : Action) (node : Node) (p : Path) (x : Option Node) (good : Bool) → node_at F p ≡ x → parent_is_good F p ≡ good →
+      IsRooted (after F (create action node p x good).changes)
   unfolding create
   rooted_create action node p (Some x) good at g = rooted
   rooted_create action node p None false at g = rooted
@@ -410,7 +422,8 @@ module _ (F : Filestore) (rooted : IsRooted F) where
   rooted_delete p (Some Directory) at = rooted
   rooted_delete p (Some (File octets)) at = file_gone p octets at
 
-  rooted_rename : (p q : Path) (x y : Option Node) (good below : Bool) → node_at F p ≡ x → node_at F q ≡ y → parent_is_good F q ≡ good → is_at_or_below q p ≡ below →
+  rooted_rename : (p q : Path) (x y : Option Node) (good below : Bool) → node_at F p ≡ x → node_at F q ≡ y → parent_is_good F q ≡ good → is_at_or_below q p
+      ≡ below →
       IsRooted (after F (rename p q x y good below (tree_at F p)).changes)
   unfolding rename
   rooted_rename p q None y good below a b c d = rooted
@@ -419,7 +432,8 @@ module _ (F : Filestore) (rooted : IsRooted F) where
   rooted_rename p q (Some x) None true true a b c d = rooted
   rooted_rename p q (Some x) None true false a b c d =
       let es = tree_at F p in
-      elim (is_too_deep p q es) as (λ deep. IsRooted (after F (if deep then refused (NotAllowed action.RenameFile) else succeeds action.RenameFile (vacated es ++ settled p q es) 0 0 0).changes)) [
+      elim (is_too_deep p q es) as (λ deep. IsRooted (after F (if deep then refused (NotAllowed action.RenameFile)
+      else succeeds action.RenameFile (vacated es ++ settled p q es) 0 0 0).changes)) [
         | true ↦ rooted
         | false ↦ rooted_moved F p q (record { rooted = rooted; there = ap is_some a; absent = b; good = c; apart = d })
       ]
@@ -473,7 +487,8 @@ module _ (F : Filestore) (rooted : IsRooted F) where
   rooted_table (DenyFile p) = rooted_deny_file p (node_at F p) refl
   rooted_table (DenyDirectory p) = rooted_deny_directory p (node_at F p) (has_entries F p) refl
 
-rooted_install : (F : Filestore) (slot : ℕ) (p : Path) (octets : List ℕ) (x : Option Node) (good : Bool) → IsRooted F → node_at F p ≡ x → parent_is_good F p ≡ good → IsRooted (after F (install slot p octets x good).changes)
+rooted_install : (F : Filestore) (slot : ℕ) (p : Path) (octets : List ℕ) (x : Option Node) (good : Bool) → IsRooted F → node_at F p ≡ x → parent_is_good F p
+    ≡ good → IsRooted (after F (install slot p octets x good).changes)
 unfolding install
 rooted_install F slot p octets None false rooted at g = rooted
 rooted_install F slot p octets (Some x) false rooted at g = rooted

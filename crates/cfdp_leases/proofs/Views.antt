@@ -27,7 +27,8 @@ pub find-map : {X Y : Type 0} (f : X → Y) (test : Y → Bool) (xs : List X) �
 find-map f test [] = refl
 find-map f test (x ∷ xs) =
     ap (cond (test (f x)) (Some (f x))) (find-map f test xs)
-    ∙ elim (test (f x)) as (λ b. cond b (Some (f x)) (option_map f (find (λ y. test (f y)) xs)) ≡ option_map f (cond b (Some x) (find (λ y. test (f y)) xs))) [ true ↦ refl | false ↦ refl ]
+    ∙ elim (test (f x)) as (λ b. cond b (Some (f x)) (option_map f (find (λ y. test (f y)) xs))
+    ≡ option_map f (cond b (Some x) (find (λ y. test (f y)) xs))) [ true ↦ refl | false ↦ refl ]
 
 pub option_map-map : {X Y Z : Type 0} (f : X → Y) (g : Y → Z) (o : Option X) → option_map g (option_map f o) ≡ option_map (λ x. g (f x)) o
 option_map-map f g None = refl

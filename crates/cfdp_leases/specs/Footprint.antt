@@ -1,17 +1,22 @@
 -- Footprints: the paths that a list of items may change or relies on; what a footprint covers, when two conflict, and
--- when a filestore is kept at one. CCSDS 727.0-B-5 §4.9 lets filestore requests of several transactions meet on one
--- filestore; leasing their paths beforehand is this project's own.
---     exclusive_in, read_in, shared_in   of one item: the names that it changes;  that it only reads;  these with all proper ancestors
---     PathSet, SameSet, any_in           a finite set of paths;  two lists have the same;  whether one of them passes a test
+-- when a filestore is kept at one. The filestore procedures of CCSDS 727.0-B-5 let filestore requests of several
+-- transactions meet on one filestore; leasing their paths beforehand is this project's own.
+--     exclusive_in, read_in, shared_in   of one item: the names that it changes;  that it only reads;  these with all
+--                                        proper ancestors
+--     PathSet, SameSet, any_in           a finite set of paths;  two lists have the same;  whether one of them passes a
+--                                        test
 --     Footprint, footprint_of            the exclusive and the shared paths;  of a list of items
 --     of_lists exclusive shared          the footprint of two lists of paths
 --     leased                             both kinds together
---     HasAncestors fp                    the proper ancestors of what it leases are shared, and it does not lease the root exclusively
+--     HasAncestors fp                    the proper ancestors of what it leases are shared, and it does not lease the
+--                                        root exclusively
 --     AreNamed paths                     none of them is the root
 --     HaveAncestors paths                each path's proper ancestors are among them
---     IsSound exclusive shared           both lists are in path order, each path once, with the ancestors of their paths
+--     IsSound exclusive shared           both lists are in path order, each path once, with the ancestors of their
+--                                        paths
 --     has_any paths wanted               one of the wanted paths is in the set
---     is_exclusive, is_shared, is_covered, covers      how a footprint holds a path: at or below an exclusive one, else as a shared one
+--     is_exclusive, is_shared, is_covered, covers      how a footprint holds a path: at or below an exclusive one, else
+--                                                      as a shared one
 --     reaches A B, is_conflict A B       an exclusive path of A has a leased one of B at or below it;  either way round
 --     IsWithin fp item                   the footprint has the item's paths, as the item's own footprint does
 --     Keeps F G fp                       the filestores agree at each covered path
@@ -73,18 +78,23 @@ paths_code = set.code (coded_list (coded_list coded_ℕ))
 
 abbrev pub footprint_code : Coded Footprint
 footprint_code =
-    code_by (PathSet × PathSet) (coded× paths_code paths_code) (λ fp. (fp.exclusive, fp.shared)) (λ p. record { exclusive = p.0; shared = p.1 }) (λ _. refl)
+    code_by (PathSet × PathSet) (coded× paths_code paths_code) (λ fp. (fp.exclusive, fp.shared))
+    (λ p. record { exclusive = p.0; shared = p.1 }) (λ _. refl)
 
 abbrev pub footprint_of : List Item → Footprint
 footprint_of items =
-    record { exclusive = set.from_list (flat_map exclusive_in items); shared = set.from_list (flat_map shared_in items) }
+    record {
+      exclusive = set.from_list (flat_map exclusive_in items);
+      shared = set.from_list (flat_map shared_in items);
+    }
 
 abbrev pub leased : Footprint → PathSet
 leased fp = set.union fp.exclusive fp.shared
 
 -- the proper ancestors of each leased path are shared, and the root is not leased exclusively
 pub record HasAncestors (fp : Footprint) : Type 0 where
-  pub above : (p q : Path) → IsTrue (set.contains (leased fp) p) → IsTrue (list_any (same_path q) (ancestors p)) → IsTrue (set.contains fp.shared q)
+  pub above : (p q : Path) → IsTrue (set.contains (leased fp) p) → IsTrue (list_any (same_path q) (ancestors p)) →
+      IsTrue (set.contains fp.shared q)
   pub names : (p : Path) → IsTrue (set.contains fp.exclusive p) → p ≢ []
 
 -- none of the paths is the root
@@ -93,7 +103,8 @@ AreNamed paths = AllByRecursion (λ p. p ≢ []) paths
 
 -- the proper ancestors of each path are among the paths
 abbrev pub HaveAncestors : List Path → Type 0
-HaveAncestors paths = (p q : Path) → IsTrue (list_any (same_path p) paths) → IsTrue (list_any (same_path q) (ancestors p)) → IsTrue (list_any (same_path q) paths)
+HaveAncestors paths = (p q : Path) → IsTrue (list_any (same_path p) paths) →
+    IsTrue (list_any (same_path q) (ancestors p)) → IsTrue (list_any (same_path q) paths)
 
 -- both lists are in path order, each path once, and they have the ancestors of their paths
 pub record IsSound (exclusive shared : List Path) : Type 0 where
@@ -129,6 +140,6 @@ pub record IsWithin (fp : Footprint) (item : Item) : Type 0 where
   pub exclusive : AllByRecursion (λ p. IsTrue (is_exclusive fp p)) (exclusive_in item)
   pub shared : AllByRecursion (λ p. IsTrue (is_covered fp p)) (shared_in item)
 
--- whatever the footprint covers is the same in both; two directories are, whatever stands in them
+-- whatever the footprint covers is the same in both; two directories are, whatever is in them
 abbrev pub Keeps : Filestore → Filestore → Footprint → Type 0
 Keeps F G fp = (p : Path) → IsTrue (is_covered fp p) → node_at F p ≡ node_at G p

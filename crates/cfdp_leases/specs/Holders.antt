@@ -1,11 +1,13 @@
 -- Who holds each leased path.
 --     when b holder             the holder where b is true, and nobody otherwise
---     holders_of id fp p        the holders of a path by a transaction's footprint: as an exclusive one, as a shared one, or both
+--     holders_of id fp p        the holders of a path by a transaction's footprint: as an exclusive one, as a shared
+--                               one, or both
 --     holders_at grants p       those by all grants, in order of admission
 --     others id holders         those of other transactions
 --     holders_in row            the holders that a row of the map has
 --     own_row row p             the holders that a row has, where it is the path's
---     under_hash paths p        those that the row under the path's hash has, where it is the path's;  IsOther paths p: it is not
+--     under_hash paths p        those that the row under the path's hash has, where it is the path's;  IsOther paths p:
+--                               it is not
 --     row_of paths p            the holders of a path: of its own row, else by the map of the other paths
 --     HasHash hash row          the row's path, if there is a row, has this hash
 --     Holds paths holders       the two maps have exactly these holders: each path's, and no row more
@@ -71,8 +73,8 @@ abbrev pub HasHash : ℕ → Option Row → Type 0
 HasHash hash None = Unit {0}
 HasHash hash (Some row) = hash_of row.path ≡ hash
 
--- Each path has the holders that the function says, and no row if it says none. No path is both under its hash and among
--- the others. Each row is under the hash of its path, so the first clause speaks of every row.
+-- Each path has the holders that the function says, and no row if it says none. No path is both under its hash and
+-- among the others. Each row is under the hash of its path, so the first clause speaks of every row.
 pub record Holds (paths : LeasedPaths) (holders : Path → List Holder) : Type 0 where
   pub rows : (p : Path) → option_map holders_in (row_of paths p) ≡ unless_none (holders p)
   pub once : (p : Path) → IsSome (under_hash paths p) → get path_cmp paths.others p ≡ None
@@ -87,7 +89,8 @@ abbrev pub AreOwn : TransactionId → (Path → Bool) → (Path → List Holder)
 AreOwn id at holders = (p : Path) → at p ≡ true → others id (holders p) ≡ []
 
 -- the same but for holders of one transaction, which may be there at the paths of the test
-pub record HoldsSome (id : TransactionId) (at : Path → Bool) (holders : Path → List Holder) (paths : LeasedPaths) : Type 0 where
+pub record HoldsSome (id : TransactionId) (at : Path → Bool) (holders : Path → List Holder)
+    (paths : LeasedPaths) : Type 0 where
   pub now : Path → List Holder
   pub rows : Holds paths now
   pub kept : (p : Path) → others id (now p) ≡ others id (holders p)

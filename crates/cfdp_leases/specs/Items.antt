@@ -1,9 +1,10 @@
--- The items of a transaction, and what one of them may do at most: the install of the delivered file (CCSDS 727.0-B-5
--- §4.6.1) and the filestore requests after it (§4.9).
+-- The items of a transaction, and what one of them may do at most: the install of the delivered file (CCSDS 727.0-B-5,
+-- copy file procedures) and the filestore requests after it (filestore procedures).
 --     items_of destination requests      the install, where there is a destination, and then the requests in order
 --     performed prefixes F slot item     the filestore after the item's row
---     content                            the blocks of the octets of what stands at a path
---     bound_by content_at weight_at item how many ticks the item may take, by the blocks at a path;  step_bound F item: in a filestore
+--     content                            the blocks of the octets of what is at a path
+--     bound_by content_at weight_at item how many ticks the item may take, by the blocks at a path;
+--                                        step_bound F item: in a filestore
 use Rattle.std.specs.Prelude.{ℕ, ◌+◌, ◌*◌, min, if◌then◌else◌, List, ◌++◌, [], ◌∷◌, Option, Some, None, length, map}
 use Rattle.cfdp_paths.specs.Paths.{Path, same_path}
 use Rattle.cfdp_actions.specs.Filestore.{Node, Directory, File, Filestore, node_at, blocks_of, weight, after}
@@ -24,7 +25,7 @@ content None = 0
 content (Some Directory) = 0
 content (Some (File octets)) = blocks_of (length octets)
 
--- how many ticks an item may take, by the blocks of the octets of what stands at a path, and by all its blocks
+-- how many ticks an item may take, by the blocks of the octets of what is at a path, and by all its blocks
 abbrev pub bound_by : (Path → ℕ) → (Path → ℕ) → Item → ℕ
 bound_by content_at weight_at (Install p) = 1 + content_at p
 bound_by content_at weight_at (Perform (CreateFile p)) = 1

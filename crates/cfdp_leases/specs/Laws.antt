@@ -1,12 +1,16 @@
 -- What is true of footprints and of the action table, whatever the code does.
 --     HasNames, CommonPath, ConflictByPaths      when the footprints of two lists conflict
 --     OwnFootprint                               a list's footprint has all paths of its items
---     IsAlike fp slot F G                        the transaction of the footprint and the slot cannot tell F and G apart
+--     IsAlike fp slot F G                        the transaction of the footprint and the slot cannot distinguish F and
+--                                                G apart
 --     FrameOfReads                               a row reads only what the footprint covers
 --     IsOwn fp slot change, OwnChanges           each change of a row is at an exclusive path or in the slot
---     FrameOfChanges, Isolation                  so nothing else changes, and no footprint without a conflict is touched
---     StaysRooted, Growth, WithinBound           what a row does to directories and to the blocks in use, and how long it takes
---     KeysArePaths F, NamesPaths item            each key of the filestore, or each name of the item, is a path within the limits
+--     FrameOfChanges, Isolation                  so nothing else changes, and no footprint without a conflict is
+--                                                touched
+--     StaysRooted, Growth, WithinBound           what a row does to directories and to the blocks in use, and how long
+--                                                it takes
+--     KeysArePaths F, NamesPaths item            each key of the filestore, or each name of the item, is a path within
+--                                                the limits
 --     KeysStayPaths                              a row of such an item keeps the keys so
 use Rattle.std.specs.Prelude.{◌≡◌, ◌≢◌, ℕ, ◌+◌, ◌≤◌, ◌<◌, ◌||◌, IsTrue, IsFalse, IsSome, List, [], ◌++◌, ◌↔◌, length}
 use Rattle.std.specs.List.{AllByRecursion}
@@ -21,17 +25,18 @@ use Rattle.cfdp_leases.specs.Footprint.{exclusive_in, read_in, Footprint, footpr
 abbrev pub HasNames : Item → Type 0
 HasNames item = AllByRecursion (λ p. p ≢ []) (exclusive_in item ++ read_in item)
 
--- a path stands in both, and is exclusive in at least one
+-- a path is in both, and is exclusive in at least one
 abbrev pub CommonPath : Footprint → Footprint → Type 0
 CommonPath A B =
     (p : Path) × IsTrue (set.contains (leased A) p) × IsTrue (set.contains (leased B) p)
     × IsTrue (set.contains A.exclusive p || set.contains B.exclusive p)
 
--- two lists' footprints conflict exactly where a path stands in both and is exclusive in at least one
+-- two lists' footprints conflict exactly where a path is in both and is exclusive in at least one
 abbrev pub ConflictByPaths : Type 0
 ConflictByPaths =
     (items others : List Item) → AllByRecursion HasNames items → AllByRecursion HasNames others →
-    IsTrue (is_conflict (footprint_of items) (footprint_of others)) ↔ CommonPath (footprint_of items) (footprint_of others)
+    IsTrue (is_conflict (footprint_of items) (footprint_of others))
+    ↔ CommonPath (footprint_of items) (footprint_of others)
 
 -- a list's own footprint has all paths of its items
 abbrev pub OwnFootprint : Type 0
@@ -44,7 +49,8 @@ pub record IsAlike (fp : Footprint) (slot : ℕ) (F G : Filestore) : Type 0 wher
 -- a row reads only what the footprint covers
 abbrev pub FrameOfReads : Type 0
 FrameOfReads =
-    (prefixes : List Path) (fp : Footprint) (F G : Filestore) (slot : ℕ) (item : Item) → IsAlike fp slot F G → IsWithin fp item →
+    (prefixes : List Path) (fp : Footprint) (F G : Filestore) (slot : ℕ) (item : Item) → IsAlike fp slot F G →
+    IsWithin fp item →
     (row prefixes F slot item ≡ row prefixes G slot item) × (step_bound F item ≡ step_bound G item)
 
 -- the change is to an exclusive path, or in the slot
@@ -61,31 +67,36 @@ OwnChanges =
 -- so a row changes only what is exclusive
 abbrev pub FrameOfChanges : Type 0
 FrameOfChanges =
-    (prefixes : List Path) (fp : Footprint) (F : Filestore) (slot : ℕ) (item : Item) (q : Path) → IsWithin fp item → IsFalse (is_exclusive fp q) →
+    (prefixes : List Path) (fp : Footprint) (F : Filestore) (slot : ℕ) (item : Item) (q : Path) → IsWithin fp item →
+    IsFalse (is_exclusive fp q) →
     node_at (performed prefixes F slot item) q ≡ node_at F q
 
 -- so it keeps each footprint that does not conflict with its own
 abbrev pub Isolation : Type 0
 Isolation =
-    (prefixes : List Path) (A B : Footprint) (F : Filestore) (slot : ℕ) (item : Item) → IsWithin A item → IsFalse (is_conflict A B) →
+    (prefixes : List Path) (A B : Footprint) (F : Filestore) (slot : ℕ) (item : Item) → IsWithin A item →
+    IsFalse (is_conflict A B) →
     Keeps F (performed prefixes F slot item) B
 
 -- each path's parent stays the root or a directory
 abbrev pub StaysRooted : Type 0
-StaysRooted = (prefixes : List Path) (F : Filestore) (slot : ℕ) (item : Item) → IsRooted F → IsRooted (performed prefixes F slot item)
+StaysRooted = (prefixes : List Path) (F : Filestore) (slot : ℕ) (item : Item) → IsRooted F →
+    IsRooted (performed prefixes F slot item)
 
 -- the blocks in use after a row: those before, with those taken and without those given back
 abbrev pub Growth : Type 0
 Growth =
     (prefixes : List Path) (F : Filestore) (slot : ℕ) (item : Item) → IsRooted F → slot < length F.staged →
-    blocks (performed prefixes F slot item) + (row prefixes F slot item).given ≡ blocks F + (row prefixes F slot item).taken
+    blocks (performed prefixes F slot item) + (row prefixes F slot item).given ≡ blocks F
+    + (row prefixes F slot item).taken
 
 -- a row takes no more ticks than its bound
 abbrev pub WithinBound : Type 0
 WithinBound =
-    (prefixes : List Path) (F : Filestore) (slot : ℕ) (item : Item) → ticks (row prefixes F slot item) ≤ step_bound F item
+    (prefixes : List Path) (F : Filestore) (slot : ℕ) (item : Item) →
+    ticks (row prefixes F slot item) ≤ step_bound F item
 
--- each key is a path: something stands only at 1 to 8 names, each within the limits
+-- each key is a path: something is only at 1 to 8 names, each within the limits
 abbrev pub KeysArePaths : Filestore → Type 0
 KeysArePaths F = (p : Path) → IsSome (node_at F p) → IsPath p
 
@@ -96,4 +107,5 @@ NamesPaths item = AllByRecursion IsPath (exclusive_in item ++ read_in item)
 -- each key stays a path, also where a directory moves with all below it
 abbrev pub KeysStayPaths : Type 0
 KeysStayPaths =
-    (prefixes : List Path) (F : Filestore) (slot : ℕ) (item : Item) → NamesPaths item → KeysArePaths F → KeysArePaths (performed prefixes F slot item)
+    (prefixes : List Path) (F : Filestore) (slot : ℕ) (item : Item) → NamesPaths item → KeysArePaths F →
+    KeysArePaths (performed prefixes F slot item)

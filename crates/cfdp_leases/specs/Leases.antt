@@ -17,7 +17,8 @@ Grants = List (TransactionId × Footprint)
 
 abbrev pub transaction_code : Coded TransactionId
 transaction_code =
-    code_by (ℕ × ℕ) (coded× coded_ℕ coded_ℕ) (λ id. (id.source, id.number)) (λ p. record { source = p.0; number = p.1 }) (λ _. refl)
+    code_by (ℕ × ℕ) (coded× coded_ℕ coded_ℕ) (λ id. (id.source, id.number)) (λ p. record { source = p.0; number = p.1 })
+    (λ _. refl)
 
 abbrev pub grants_code : Coded Grants
 grants_code = coded_list (coded× transaction_code footprint_code)

@@ -4,8 +4,8 @@
 --     grants_of footprints live        each live transaction with its footprint
 --     HaveFootprints footprints live   each live transaction has a footprint, under a key of its own
 --     HasNoOthers footprints live      each key of the slab is a live transaction's
---     AreKept footprints live paths    the slab has the footprints of the live transactions and no others, no two of them
---                                      conflict, and the maps have their paths, holders and kinds and nothing else
+--     AreKept footprints live paths    the slab has the footprints of the live transactions and no others, no two of
+--                                      them conflict, and the maps have their paths, holders and kinds and nothing else
 use Rattle.std.specs.Prelude.{◌≢◌, ◌==◌, ℕ, IsSome, IsTrue, List, [], ◌∷◌, map, unwrap_or}
 use Rattle.std.specs.List.{AllByRecursion, list_any}
 use Rattle.slab.specs.Slab.{Slab, get}
@@ -24,7 +24,8 @@ grants_of footprints live = map (λ l. (l.transaction, footprint_at footprints l
 -- each has a footprint, under a key of its own
 abbrev pub HaveFootprints : Slab Footprint → List Live → Type 0
 HaveFootprints footprints [] = Unit {0}
-HaveFootprints footprints (l ∷ live) = IsSome (get footprints l.key) × AllByRecursion (λ m. m.key ≢ l.key) live × HaveFootprints footprints live
+HaveFootprints footprints (l ∷ live) = IsSome (get footprints l.key) × AllByRecursion (λ m. m.key ≢ l.key) live
+    × HaveFootprints footprints live
 
 -- each key of the slab is a live transaction's
 abbrev pub HasNoOthers : Slab Footprint → List Live → Type 0

@@ -13,7 +13,7 @@ use std::marker::Model;
 
 /// The paths that a list of filestore requests may change, and those that it relies on.
 ///
-/// Each stands in it once for each kind. Contracts see it as two finite sets of paths.
+/// Each is in it once for each kind. Contracts see it as two finite sets of paths.
 #[derive(Debug, Drop)]
 pub struct Footprint {
     pub(crate) exclusive: Vec<Path>,
@@ -34,8 +34,8 @@ impl Model for Footprint {
 }
 
 impl Footprint {
-    /// The paths that are leased exclusively, in path order, each once: those that the requests and the install may change.
-    /// Takes no memory.
+    /// The paths that are leased exclusively, in path order, each once: those that the requests and the install may
+    /// change. Takes no memory.
     pub fn exclusive(&self) -> &[Path]
         ensures paths { set.from_list result.now ≡ self.now.exclusive }
         ensures ordered { IsStrictlySortedBy path_cmp result.now }
@@ -53,8 +53,8 @@ impl Footprint {
     }
 }
 
-/// How a footprint holds a path: exclusively at or below an exclusive path, else shared where it is a shared one, else not
-/// at all. Takes no memory, and looks at each path of the footprint once at most.
+/// How a footprint holds a path: exclusively at or below an exclusive path, else shared where it is a shared one, else
+/// not at all. Takes no memory, and looks at each path of the footprint once at most.
 pub fn covers(footprint: &Footprint, path: &Path) -> Option<Lease>
     ensures { result ≡ covers footprint.now path.now }
 {

@@ -58,8 +58,10 @@ fn add_install(
     ensures exclusive_ordered { OnOk result (IsStrictlySortedBy path_cmp exclusive.new.items) }
     ensures shared_ordered { OnOk result (IsStrictlySortedBy path_cmp shared.new.items) }
     ensures named { AreNamed exclusive.old.items → OnOk result (AreNamed exclusive.new.items) }
-    ensures exclusive { OnOk result (SameSet exclusive.new.items (exclusive.old.items ++ flat_map exclusive_in (install_of (option_copied destination.entry)))) }
-    ensures shared { OnOk result (SameSet shared.new.items (shared.old.items ++ flat_map shared_in (install_of (option_copied destination.entry)))) }
+    ensures exclusive { OnOk result (SameSet exclusive.new.items (exclusive.old.items
+        ++ flat_map exclusive_in (install_of (option_copied destination.entry)))) }
+    ensures shared { OnOk result (SameSet shared.new.items (shared.old.items
+        ++ flat_map shared_in (install_of (option_copied destination.entry)))) }
 {
     match destination {
         None => Ok(()),
@@ -108,7 +110,8 @@ fn add_above(
     requires ordered { IsStrictlySortedBy path_cmp paths.old.items }
     requires above { HaveAncestors paths.old.items }
     ensures ordered { OnOk result (IsStrictlySortedBy path_cmp paths.new.items) }
-    ensures added { OnOk result (SameSet paths.new.items (paths.old.items ++ flat_map ancestors (exclusive_in (Perform request.now) ++ read_in (Perform request.now)))) }
+    ensures added { OnOk result (SameSet paths.new.items (paths.old.items
+        ++ flat_map ancestors (exclusive_in (Perform request.now) ++ read_in (Perform request.now)))) }
 {
     let parent = add_ancestors(alloc, paths, request.first(), guess)?;
     match request.second() {
@@ -142,7 +145,7 @@ fn add_ancestors(
     }
 }
 
-/// Inserts a path's parent at its place, and then the ancestors above it that are not there, from the deepest up to the
+/// Inserts a path's parent at its index, and then the ancestors above it that are not there, from the deepest up to the
 /// first that is: all above that one are there too. Returns the index of the parent. Cost: a binary search for each
 /// ancestor above the parent that is not there, and one for the first that is; those after a new path are shifted.
 fn insert_ancestors(
@@ -174,7 +177,7 @@ fn insert_ancestors(
     Ok(parent)
 }
 
-/// The index of a path's parent if it is there: then all proper ancestors of the path are. Or else the place where it
+/// The index of a path's parent if it is there: then all proper ancestors of the path are. Or else the index where it
 /// keeps the order. Cost: one comparison, and a binary search where the parent is not at the index `guess`.
 #[tactic(auto, using(crate::proofs::Closed::parent_there))]
 fn find_parent(paths: &[Path], path: &Path, guess: usize) -> Result<usize, usize>
@@ -203,7 +206,7 @@ fn add(alloc: Global, paths: &mut Vec<Path>, path: &Path) -> Result<(), Memory>
     }
 }
 
-/// Inserts the path of the first `depth` names of a path at a place where it keeps the order, and shifts those from
+/// Inserts the path of the first `depth` names of a path at an index where it keeps the order, and shifts those from
 /// there on.
 fn insert_beginning(
     alloc: Global,
@@ -226,7 +229,7 @@ fn insert_beginning(
     Ok(())
 }
 
-/// Where the path of the first `depth` names of a path stands, or else the place where it keeps the order.
+/// Where the path of the first `depth` names of a path exists, or else the index where it keeps the order.
 fn find_beginning(paths: &[Path], path: &Path, depth: usize) -> Result<usize, usize>
     requires ordered { IsStrictlySortedBy path_cmp paths.now }
     requires within { depth ≤ length path.now }

@@ -1,9 +1,9 @@
 //! What is true of footprints and of the action table by their definitions alone. A law is a function that does
-//! nothing: its contract is the statement, which stands in `specs/Laws.antt`.
+//! nothing: its contract is the statement, which is in `specs/Laws.antt`.
 
 ghost use Rattle.cfdp_leases.specs.Laws.{ConflictByPaths, FrameOfChanges, FrameOfReads, Isolation, KeysStayPaths, OwnChanges, OwnFootprint, StaysRooted};
 
-/// The footprints of two lists conflict exactly where some path stands in both and is exclusive in at least one. So
+/// The footprints of two lists conflict exactly where some path is in both and is exclusive in at least one. So
 /// the paths of one, looked up among the leased ones, show every conflict.
 pub fn conflict_by_paths()
     ensures { ConflictByPaths }
@@ -14,8 +14,8 @@ pub fn own_footprint()
     ensures { OwnFootprint }
 {}
 
-/// A row of the action table (CCSDS 727.0-B-5 §4.9) reads only what the footprint covers: on two filestores that agree
-/// there it is the same row, and may take as many steps.
+/// A row of the action table (CCSDS 727.0-B-5, filestore procedures) reads only what the footprint covers: on two
+/// filestores that agree there it is the same row, and may take as many steps.
 pub fn frame_of_reads()
     ensures { FrameOfReads }
 {}

@@ -3,7 +3,7 @@
 ghost use Rattle.std.specs.Prelude.{◌≡◌, ◌++◌, ◌∷◌, [], ◌≤◌, List, None, Some, OnOk, OnErr, length, slice_get, take, if◌then◌else◌};
 ghost use Rattle.std.specs.List.{list_any};
 ghost use Rattle.std.specs.List.Sorted.{IsStrictlySortedBy};
-ghost use Rattle.std.specs.BTreeMap.{get};
+ghost use Rattle.std.specs.BTreeMap.{get, IsUnchanged};
 ghost use Rattle.std.specs.FinSet as set;
 ghost use Rattle.cfdp_paths.specs.Paths.{Path as Names, path_cmp, same_path};
 ghost use Rattle.cfdp_leases.specs.Footprint.{leased};
@@ -69,7 +69,8 @@ impl Holders {
     /// Takes the leases of a transaction away, and returns whether nobody else holds the path: then it is to be
     /// dropped. Takes no memory. Cost: one pass over the holders.
     fn remove(&mut self, transaction: TransactionId) -> bool
-        ensures { unless_none (others transaction (holders_in self.old)) ≡ if result then None else Some (holders_in self.new) }
+        ensures { unless_none (others transaction (holders_in self.old)) ≡ if result then None
+            else Some (holders_in self.new) }
     {
         match self {
             Holders::One(holder) => holder.transaction == transaction,
@@ -136,9 +137,11 @@ impl LeasedPaths {
         transaction: TransactionId,
         footprint: &Footprint,
     ) -> Result<(), Memory>
-        ensures ok { (holders : Names → List Holder) → Holds self.old holders → AreFree (set.contains footprint.now.exclusive) holders
+        ensures ok { (holders : Names → List Holder) → Holds self.old holders →
+            AreFree (set.contains footprint.now.exclusive) holders
             → OnOk result (Holds self.new (λ p. holders p ++ holders_of transaction footprint.now p)) }
-        ensures err { (holders : Names → List Holder) → Holds self.old holders → AreFree (set.contains footprint.now.exclusive) holders
+        ensures err { (holders : Names → List Holder) → Holds self.old holders →
+            AreFree (set.contains footprint.now.exclusive) holders
             → ((p : Names) → others transaction (holders p) ≡ holders p) → OnErr result (Holds self.new holders) }
     {
         let leased = self.add_footprint(alloc, transaction, footprint);
@@ -152,11 +155,23 @@ impl LeasedPaths {
     /// Takes no memory. Cost: for each exclusive path two searches, and for each shared one three at most and a pass
     /// over its holders.
     pub(crate) fn release(&mut self, transaction: TransactionId, footprint: &Footprint)
-        ensures { (holders : Names → List Holder) → Holds self.old holders → AreOwn transaction (set.contains footprint.now.exclusive) holders
-            → Holds self.new (λ p. if set.contains (leased footprint.now) p then others transaction (holders p) else holders p) }
+        ensures { (holders : Names → List Holder) → Holds self.old holders →
+            AreOwn transaction (set.contains footprint.now.exclusive) holders
+            → Holds self.new (λ p. if set.contains (leased footprint.now) p then others transaction (holders p)
+            else holders p) }
     {
         self.drop_all(footprint.exclusive());
         self.remove_all(footprint.shared(), transaction);
+        give_back(&mut self.rows);
+        give_back(&mut self.others);
+    }
+
+    /// Drops all paths with their holders. Takes no memory. Cost: that of dropping each path.
+    pub(crate) fn clear(&mut self)
+        ensures { Holds self.new (λ _. []) }
+    {
+        self.rows.clear();
+        self.others.clear();
     }
 
     /// Adds the leases of a footprint, whose exclusive paths nobody holds. Where there is no memory for one, some of
@@ -167,9 +182,11 @@ impl LeasedPaths {
         transaction: TransactionId,
         footprint: &Footprint,
     ) -> Result<(), Memory>
-        ensures ok { (holders : Names → List Holder) → Holds self.old holders → AreFree (set.contains footprint.now.exclusive) holders
+        ensures ok { (holders : Names → List Holder) → Holds self.old holders →
+            AreFree (set.contains footprint.now.exclusive) holders
             → OnOk result (Holds self.new (λ p. holders p ++ holders_of transaction footprint.now p)) }
-        ensures err { (holders : Names → List Holder) → Holds self.old holders → AreFree (set.contains footprint.now.exclusive) holders
+        ensures err { (holders : Names → List Holder) → Holds self.old holders →
+            AreFree (set.contains footprint.now.exclusive) holders
             → OnErr result (HoldsSome transaction (set.contains (leased footprint.now)) holders self.new) }
     {
         let exclusive = Holder {
@@ -188,9 +205,11 @@ impl LeasedPaths {
     /// it.
     fn add_all_new(&mut self, alloc: Global, paths: &[Path], holder: Holder) -> Result<(), Memory>
         requires { IsStrictlySortedBy path_cmp paths.now }
-        ensures ok { (holders : Names → List Holder) → Holds self.old holders → AreFree (λ p. list_any (same_path p) paths.now) holders
+        ensures ok { (holders : Names → List Holder) → Holds self.old holders →
+            AreFree (λ p. list_any (same_path p) paths.now) holders
             → OnOk result (Holds self.new (λ p. holders p ++ when (list_any (same_path p) paths.now) holder)) }
-        ensures err { (holders : Names → List Holder) → Holds self.old holders → AreFree (λ p. list_any (same_path p) paths.now) holders
+        ensures err { (holders : Names → List Holder) → Holds self.old holders →
+            AreFree (λ p. list_any (same_path p) paths.now) holders
             → OnErr result (HoldsSome holder.transaction (λ p. list_any (same_path p) paths.now) holders self.new) }
     {
         for path in paths {
@@ -317,7 +336,8 @@ impl LeasedPaths {
     /// Takes the leases of a transaction away from each of the paths.
     fn remove_all(&mut self, paths: &[Path], transaction: TransactionId)
         ensures { (holders : Names → List Holder) → Holds self.old holders
-            → Holds self.new (λ p. if list_any (same_path p) paths.now then others transaction (holders p) else holders p) }
+            → Holds self.new (λ p. if list_any (same_path p) paths.now then others transaction (holders p)
+            else holders p) }
     {
         for path in paths {
             self.remove(path, transaction);
@@ -353,5 +373,14 @@ impl LeasedPaths {
         if holders.remove(transaction) {
             self.others.remove(path);
         }
+    }
+}
+
+/// Gives back what a map keeps for entries to come, where it has none. Takes no memory.
+fn give_back<K: Ord + Drop, V: Drop>(map: &mut BTreeMap<K, V>)
+    ensures { IsUnchanged map.old map.new }
+{
+    if map.is_empty() {
+        map.clear();
     }
 }

@@ -1,6 +1,6 @@
 //! The footprints of all live transactions.
 
-ghost use Rattle.std.specs.Prelude.{◌≡◌, ◌++◌, ◌∷◌, [], IsFalse, None, OnOk, OnErr, not, find, slice_get};
+ghost use Rattle.std.specs.Prelude.{◌≡◌, ◌++◌, ◌∷◌, [], IsFalse, IfOk, None, OnOk, OnErr, not, find, slice_get};
 ghost use Rattle.std.specs.FinSet as set;
 ghost use Rattle.std.specs.List.{list_any, prefix_len};
 ghost use Rattle.std.specs.Option.{option_map};
@@ -23,7 +23,8 @@ struct Live {
     key: usize,
 }
 
-/// The footprints of the live transactions, no two of which conflict. Contracts see them as a list in order of admission.
+/// The footprints of the live transactions, no two of which conflict. Contracts see them as a list in order of
+/// admission.
 #[derive(Debug, Drop)]
 pub struct Leases {
     /// In order of admission.
@@ -59,8 +60,24 @@ impl Leases {
         }
     }
 
-    /// The first transaction, in order of admission, whose footprint conflicts with this one. Takes no memory, and makes
-    /// no path.
+    /// No leases, with room for this many transactions: no grant asks for memory for that, as long as no more are live.
+    /// The paths of footprints still take some.
+    ///
+    /// # Errors
+    ///
+    /// [`Memory`] when out of memory. Cost: two allocations.
+    pub fn with_capacity(alloc: Global, transactions: usize) -> Result<Leases, Memory>
+        ensures { IfOk result (λ leases. leases ≡ []) }
+    {
+        Ok(Leases {
+            live: Vec::with_capacity(alloc, transactions)?,
+            footprints: Slab::with_capacity(alloc, transactions)?,
+            paths: LeasedPaths::new(alloc),
+        })
+    }
+
+    /// The first transaction, in order of admission, whose footprint conflicts with this one. Takes no memory, and
+    /// makes no path.
     ///
     /// Cost: nothing where no transaction is live. Else for each path of this footprint a pass over its octets and two
     /// searches at most among all leased paths, and where it conflicts there a pass over the transactions.
@@ -107,8 +124,9 @@ impl Leases {
 
     /// Takes a transaction's footprint away; nothing changes where it holds none. Takes no memory.
     ///
-    /// Cost: a pass over the transactions, for each path of the footprint a pass over its octets, for each exclusive
-    /// one two searches among all leased paths, and for each shared one three at most and a pass over its holders.
+    /// Cost: a pass over the transactions. If another one is live, also for each path of the footprint a pass over its
+    /// octets, for each exclusive one two searches among all leased paths, and for each shared one three at most and a
+    /// pass over its holders. If none is live, each path is dropped without a search.
     pub fn release(&mut self, transaction: TransactionId)
         ensures { self.new ≡ without self.old transaction }
     {
@@ -116,11 +134,17 @@ impl Leases {
             return;
         };
         let footprint = self.footprints.remove(key);
-        self.paths.release(transaction, &footprint);
         self.live.retain(|live| live.transaction != transaction);
+        let is_last = self.live.as_slice().is_empty();
+        if is_last {
+            self.paths.clear();
+            return;
+        }
+        self.paths.release(transaction, &footprint);
     }
 
-    /// How many transactions were admitted before the first one that leases one of the paths; all of them where none does.
+    /// How many transactions were admitted before the first one that leases one of the paths; all of them where none
+    /// does.
     fn first_leasing(&self, paths: &[Path]) -> usize
         ensures { result ≡ prefix_len (λ g. not (has_any (leased g.1) paths.now)) self.now }
     {
@@ -131,8 +155,8 @@ impl Leases {
         first
     }
 
-    /// How many transactions were admitted before the first one that leases one of the paths exclusively; all of them where
-    /// none does.
+    /// How many transactions were admitted before the first one that leases one of the paths exclusively; all of them
+    /// where none does.
     fn first_changing(&self, paths: &[Path]) -> usize
         ensures { result ≡ prefix_len (λ g. not (has_any g.1.exclusive paths.now)) self.now }
     {
@@ -153,8 +177,8 @@ impl Leases {
         }
     }
 
-    /// How many transactions were admitted before the one that leases the path exclusively; all of them where none does.
-    /// Such a one is the path's only holder, so the first holder tells.
+    /// How many transactions were admitted before the one that leases the path exclusively; all of them where none
+    /// does. Such a one is the path's only holder, so the first holder says.
     fn changing(&self, path: &Path) -> usize
         ensures { result ≡ prefix_len (λ g. not (set.contains g.1.exclusive path.now)) self.now }
     {
@@ -167,7 +191,7 @@ impl Leases {
     }
 }
 
-/// The transaction at a place, if there is one.
+/// The transaction at an index, if there is one.
 fn transaction_at(live: &[Live], place: usize) -> Option<TransactionId>
     ensures { result ≡ option_map (λ l. l.transaction) (slice_get live.now place) }
 {
@@ -190,7 +214,7 @@ fn any_of(live: &[Live], transaction: TransactionId) -> bool
     live.iter().any(|live| live.transaction == transaction)
 }
 
-/// How many stand before the transaction; all of them where it is none of them.
+/// How many are before the transaction; all of them where it is none of them.
 fn count_before(live: &[Live], transaction: TransactionId) -> usize
     ensures { result ≡ prefix_len (λ l. not (is_same l.transaction transaction)) live.now }
 {

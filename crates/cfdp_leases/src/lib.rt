@@ -1,8 +1,8 @@
-//! Footprints and leases: which paths of the filestore a list of filestore requests may change, and which it relies
-//! on, so that two lists that could disturb one another are never let in together. A [`Footprint`] is what one list
-//! needs; [`Leases`] are the footprints of all live transactions. CCSDS 727.0-B-5 leaves it open how filestore
-//! requests of several transactions meet (§4.9): leasing their paths beforehand is this project's own. The
-//! definitions stand in `specs/Footprint.antt` and `specs/Leases.antt`, and what is true of them in [`laws`].
+//! Footprints and leases: which paths of the filestore a list of filestore requests may change, and which it relies on,
+//! so that two lists that could disturb one another are never let in together. A [`Footprint`] is what one list needs;
+//! [`Leases`] are the footprints of all live transactions. CCSDS 727.0-B-5 leaves it open how filestore requests of
+//! several transactions meet (filestore procedures): leasing their paths beforehand is this project's own. The
+//! definitions are in `specs/Footprint.antt` and `specs/Leases.antt`, and what is true of them in [`laws`].
 #![tactic(auto)]
 
 mod footprints;

@@ -59,7 +59,7 @@ module _ (State : Type 0) (answer : State → List ℕ → Option (State × List
         );
   }
 
-  -- what comes behind a bad line makes no difference
+  -- what follows a bad line makes no difference
   pub StopsBad-before : (p : Place State) (a b w : List ℕ) (n : ℕ) → StopsBad answer p a w n → StopsBad answer p (a ++ b) w n
   StopsBad-before p a b w n f = record {
     stops = λ ends rest. ap (report_at answer ends p) (append_assoc a b rest) ∙ f.stops ends (b ++ rest);
@@ -170,7 +170,7 @@ module _ (State : Type 0) (answer : State → List ℕ → Option (State × List
       ap (λ (octets : List ℕ). report answer n state (lines_of octets)) (append-nil line)
       ∙ ap (report answer n state) (lines_of-last line h few)
 
-  -- some octets, others, and those behind which make no difference
+  -- some octets, others, and those after which make no difference
 
   pub Runs-none : (here : Place State) (old : Option (List ℕ)) → Runs answer here here [] old old
   Runs-none here old = record { written = []; moves = Moves-none here; appended = Appends-none old }
@@ -191,7 +191,7 @@ module _ (State : Type 0) (answer : State → List ℕ → Option (State × List
     appended = Appends-more x y z f.written g.written f.appended g.appended;
   }
 
-  -- the end of the script, with what the writer tells
+  -- the end of the script, with what the writer says
 
   pub Finishes-last : (n : ℕ) (state after : State) (line text : List ℕ) (old new : Option (List ℕ)) → IsOneLine line
       → 0 < length line → line_answer answer state line ≡ Some (after, text) → Appends old new text

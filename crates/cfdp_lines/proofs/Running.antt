@@ -51,7 +51,7 @@ Consumes-begun a None x p = absurd p
 Consumes-begun a (Some b) x p = (b, p)
 
 module _ (State : Type 0) (answer : State → List ℕ → Option (State × List ℕ)) where
-  -- some pieces were read and run, and so many octets may still come
+  -- some pieces were read and run, and this many octets may still come
   pub record Running (start : State) (here : Place State) (left : ℕ) (input unread old new : Option (List ℕ)) : Type 0 where
     pub octets : List ℕ
     pub consumed : Consumes input unread octets
@@ -77,7 +77,7 @@ module _ (State : Type 0) (answer : State → List ℕ → Option (State × List
     within = omega (arith, length-append r.octets piece, r.within);
   }
 
-  -- what is reported of the octets read so far, if nothing comes behind them
+  -- what is reported of the octets read so far, if nothing follows them
   report_so_far : (start : State) (here : Place State) (octets written : List ℕ)
       → (rest : List ℕ) → report_at answer true (place 1 start []) (octets ++ rest) ≡ wrote written (report_at answer true here rest)
       → Begins (script_report answer start (octets ++ rest)).text written
@@ -154,7 +154,7 @@ module _ (State : Type 0) (answer : State → List ℕ → Option (State × List
     within = omega (arith, length-append r.octets piece, r.within);
   }
 
-  -- a line that is bad whatever comes behind is one of those that are run
+  -- a line that is bad whatever follows is one of those that are run
   limited_report-bad : (start : State) (read more written : List ℕ) (n : ℕ) → length read ≤ input_limit
       → StopsBad answer (place 1 start []) read written n
       → limited_report answer start (read ++ more) ≡ wrote written (stopped_at n)
@@ -290,4 +290,5 @@ module _ (State : Type 0) (answer : State → List ℕ → Option (State × List
   pub PartRun-none : (start : State) (most : ℕ) (input old : Option (List ℕ)) → input_limit ≤ most
       → PartRun answer start most input input old old
   PartRun-none start most input old enough =
-      Running-fails start (place 1 start []) input_limit most input input input old old old (Running-none start input old) (KeptOrLost-same input) (Keeps-same old) enough
+      Running-fails start (place 1 start []) input_limit most input input input old old old (Running-none start input old) (KeptOrLost-same input)
+      (Keeps-same old) enough

@@ -35,7 +35,7 @@ chosen m f g v {s} {a} {b} r p q =
     ∙ ap₂ (sel_l (map (top 7) (map m v))) p q
     ∙ sel-map m f g v
 
--- the lesser of both in each lane, and the greater, by what an operator tells of them
+-- the lesser of both in each lane, and the greater, by what an operator says of them
 pub lesser : (h : ℕ → ℕ → ℕ) (f g : ℕ → ℕ) (v : List ℕ) {a b : List ℕ} → a ≡ map f v → b ≡ map g v
     → sel_l (map (top 7) (zip2 h a b)) a b ≡ map (λ x. cond (top 7 (h (f x) (g x))) (f x) (g x)) v
 lesser h f g v p q = chosen (λ x. h (f x) (g x)) f g v (joined h f g v p q) p q
@@ -98,7 +98,7 @@ values_are v z octets f lanes all = record {
       subst (λ (n : ℕ). IsValue n (value_of (get_or v k 0))) (sym number) (value_at f 256 (get_or v k 0) all (octets.small k));
 }
 
--- of two loads, one behind the other
+-- of two loads, one after the other
 pub values_at : (word front back : List ℕ) → 32 ≤ length word → AreValues (chunk 0 16 word) front
     → AreValues (chunk 16 16 word) back → (k : ℕ) → k < 32 → IsValue (get_or (front ++ back) k 0) (value_of (get_or word k 0))
 values_at word front back long first second k h =
@@ -273,7 +273,7 @@ from_piece word sub i m n t digits e long next =
       good = λ all. next.good (λ k h. subst P (sym (at k (omega arith))) (all k (omega arith)));
     }
 
--- a load of what lies from one place on
+-- a load of what is from one offset on
 pub from_there : (word sub : List ℕ) (i : ℕ) (digits : Type 0) → ArePairs (take (length word - 2 * i) (drop (2 * i) word)) sub 16 digits
     → ArePairs (drop (2 * i) word) sub 16 digits
 from_there word sub i digits next =

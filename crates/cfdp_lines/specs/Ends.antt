@@ -11,8 +11,8 @@ use Rattle.cfdp_lines.specs.declared.faults.ProgramEnd.{ProgramEnd}
 use Rattle.cfdp_lines.specs.declared.faults.ProgramEnd.TheVariants.{Fine, Usage, Run, Link}
 use Rattle.cfdp_lines.specs.declared.faults.LinkFault.TheVariants as link
 
--- the exit status: 0 fine, 1 what reads, writes or remembers failed, or the journal is full or not what the seats were told, 2
--- unknown words, 3 a bad line
+-- the exit status: 0 fine, 1 what reads, writes or remembers failed, or the journal is full or not what the seats were
+-- reported, 2 unknown words, 3 a bad line
 abbrev pub status_of : ProgramEnd → ℕ
 status_of Fine = 0
 status_of Usage = 2

@@ -6,7 +6,7 @@
 --   hex_octets       the octets that a line of hexadecimal spells, if it does
 --   octets_in        the octets of a word, if it spells some
 --
--- A line is words with spaces between them, before and behind; each word is pairs of digits, in either case.
+-- A line is words with spaces between them, before and after; each word is pairs of digits, in either case.
 use Rattle.std.specs.Prelude.{ℕ, ◌==◌, Bool, List, [], ◌∷◌, ◌++◌, Option, Some, None, Result, Ok, Err}
 use Rattle.std.specs.List.{slice_split}
 use Rattle.hex.specs.Hex.{decode_of}

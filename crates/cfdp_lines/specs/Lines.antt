@@ -6,11 +6,12 @@
 --   is_overlong          a line longer than the limit, which is bad
 --   is_comment           a line that is passed over
 --   IsOneLine            octets without a newline
---   without_empty_last   parts of a text without the last one, if nothing stands in it
+--   without_empty_last   parts of a text without the last one, if nothing is in it
 --   lines_of             the lines of some octets
 --   without_open_last    parts of a text without the last one, unless it is overlong
---   settled_lines        the lines of some octets that octets behind them leave as they are
---   limited_lines        the lines of a script that are run: those that are settled within the input limit where it is longer
+--   settled_lines        the lines of some octets that octets after them leave as they are
+--   limited_lines        the lines of a script that are run: those that are settled within the input limit where it is
+--                        longer
 use Rattle.std.specs.Prelude.{◌≡◌, ℕ, nat_lt, ◌==◌, Bool, false, if◌then◌else◌, List, [], ◌∷◌, length, take}
 use Rattle.std.specs.List.{slice_split, All}
 
@@ -39,7 +40,7 @@ is_comment (octet ∷ octets) = octet == 35
 abbrev pub IsOneLine : List ℕ → Type 0
 IsOneLine octets = All (λ octet. is_newline octet ≡ false) octets
 
--- the parts of a text without the last one, if nothing stands in it
+-- the parts of a text without the last one, if nothing is in it
 abbrev pub without_empty_last : List (List ℕ) → List (List ℕ)
 without_empty_last [] = []
 without_empty_last (part ∷ []) = if length part == 0 then [] else part ∷ []
@@ -55,7 +56,7 @@ without_open_last [] = []
 without_open_last (part ∷ []) = if is_overlong part then part ∷ [] else []
 without_open_last (part ∷ next ∷ parts) = part ∷ without_open_last (next ∷ parts)
 
--- the lines that stand whatever comes behind these octets: those that have ended, and an overlong one
+-- the lines that exist whatever follows these octets: those that have ended, and an overlong one
 abbrev pub settled_lines : List ℕ → List (List ℕ)
 settled_lines octets = without_open_last (slice_split is_newline octets)
 

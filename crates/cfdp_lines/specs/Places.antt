@@ -1,4 +1,4 @@
--- Where a session stands.
+-- Where a session is.
 --
 --   place_of   the place of a session, by what its script's state is seen as
 use Rattle.cfdp_lines.specs.Session.{Place, place}

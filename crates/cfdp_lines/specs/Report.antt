@@ -5,7 +5,7 @@
 --   stopped_at       the report of a bad line
 --   wrote            a report with some text before it
 --   line_answer      what one line does: the state after it and its text, or nothing where it is bad
---   and_then         the report of a line and those behind it
+--   and_then         the report of a line and those after it
 --   report           the report of a list of lines
 --   script_report    the report of a script's octets, from its first line on
 --   limited_report   the report of those of its lines that are run: all, unless it is longer than the input limit
@@ -31,7 +31,8 @@ abbrev pub wrote : List ℕ → Report → Report
 wrote text later = record { text = text ++ later.text; bad_line = later.bad_line }
 
 -- an overlong line is bad, even a comment; another comment is passed over
-abbrev pub line_answer : {State X : Type 0} → (State → List ℕ → Option (State × List X)) → State → List ℕ → Option (State × List X)
+abbrev pub line_answer : {State X : Type 0} → (State → List ℕ → Option (State × List X)) → State → List ℕ →
+    Option (State × List X)
 line_answer answer state line =
     if is_overlong line then None
     else if is_comment line then Some (state, [])
@@ -52,6 +53,6 @@ report answer number state (line ∷ lines) =
 abbrev pub script_report : {State : Type 0} → (State → List ℕ → Option (State × List ℕ)) → State → List ℕ → Report
 script_report answer start octets = report answer 1 start (lines_of octets)
 
--- of a script longer than the limit, what can be told from as many octets as the limit
+-- of a script longer than the limit, what can be reported from as many octets as the limit
 abbrev pub limited_report : {State : Type 0} → (State → List ℕ → Option (State × List ℕ)) → State → List ℕ → Report
 limited_report answer start octets = report answer 1 start (limited_lines octets)

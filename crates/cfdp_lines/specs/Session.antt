@@ -1,20 +1,20 @@
--- Where a run stands in the middle of its script, and what moves it on.
+-- Where a run is in the middle of its script, and what moves it on.
 --
 --   Place      the number of the line that is being read, the state before it, and what has come of it (place)
---   lines_by   the lines of some octets, where the script ends behind them, or where it may go on
---   report_at  what is reported from a place on, of the octets that come from there
+--   lines_by   the lines of some octets, where the script ends after them, or where it may go on
+--   report_at  what is reported from a state on, of the octets that come from there
 --   Moves      some octets took a run from one place to another and wrote what is theirs
 --   StopsBad   some octets ended a run at a bad line
 --   Breaks     a run broke off within some octets; what it wrote is a beginning of what they report
---   Refuses    a run broke off at a line that was refused memory, and that these octets do not show to be bad, unless it
---              began before them
+--   Refuses    a run broke off at a line that was refused memory, and that these octets do not show to be bad, unless
+--              it began before them
 --
--- and the same of a writer that tells its octets:
+-- and the same of a writer that shows its octets:
 --
 --   Runs         some octets were run, and their text was written
 --   RunsBad      some octets were run up to a bad line, and the text before it was written
 --   RunsPart     some of the octets were run, and a beginning of their text was written
---   RunsLost     the same, of a writer that failed, and may no longer tell its octets
+--   RunsLost     the same, of a writer that failed, and may no longer show its octets
 --   Finishes     the script ended, and the text of its last line was written
 --   FinishesBad  the script ended in a bad line
 --   FinishesLost the script ended, and the writer failed at the text of its last line
@@ -36,23 +36,30 @@ abbrev pub lines_by : Bool → List ℕ → List (List ℕ)
 lines_by true octets = lines_of octets
 lines_by false octets = settled_lines octets
 
-abbrev pub report_at : {State : Type 0} → (State → List ℕ → Option (State × List ℕ)) → Bool → Place State → List ℕ → Report
+abbrev pub report_at : {State : Type 0} → (State → List ℕ → Option (State × List ℕ)) → Bool → Place State → List ℕ →
+    Report
 report_at answer ends place octets = report answer place.number place.state (lines_by ends (place.line ++ octets))
 
 -- whatever comes after them, and whether the script ends there
-pub record Moves {State : Type 0} (answer : State → List ℕ → Option (State × List ℕ)) (from to : Place State) (octets : List ℕ)
+pub record Moves {State : Type 0} (answer : State → List ℕ → Option (State × List ℕ)) (from to : Place State)
+    (octets : List ℕ)
     (written : List ℕ) : Type 0 where
-  pub goes_on : (ends : Bool) (rest : List ℕ) → report_at answer ends from (octets ++ rest) ≡ wrote written (report_at answer ends to rest)
+  pub goes_on : (ends : Bool) (rest : List ℕ) → report_at answer ends from (octets ++ rest)
+      ≡ wrote written (report_at answer ends to rest)
 
-pub record StopsBad {State : Type 0} (answer : State → List ℕ → Option (State × List ℕ)) (from : Place State) (octets : List ℕ)
+pub record StopsBad {State : Type 0} (answer : State → List ℕ → Option (State × List ℕ)) (from : Place State)
+    (octets : List ℕ)
     (written : List ℕ) (number : ℕ) : Type 0 where
-  pub stops : (ends : Bool) (rest : List ℕ) → report_at answer ends from (octets ++ rest) ≡ wrote written (stopped_at number)
+  pub stops : (ends : Bool) (rest : List ℕ) → report_at answer ends from (octets ++ rest)
+      ≡ wrote written (stopped_at number)
 
-pub record Breaks {State : Type 0} (answer : State → List ℕ → Option (State × List ℕ)) (from : Place State) (octets : List ℕ)
+pub record Breaks {State : Type 0} (answer : State → List ℕ → Option (State × List ℕ)) (from : Place State)
+    (octets : List ℕ)
     (written : List ℕ) : Type 0 where
   pub begins : (rest : List ℕ) → Begins (report_at answer true from (octets ++ rest)).text written
 
-pub record Refuses {State : Type 0} (answer : State → List ℕ → Option (State × List ℕ)) (from : Place State) (octets : List ℕ)
+pub record Refuses {State : Type 0} (answer : State → List ℕ → Option (State × List ℕ)) (from : Place State)
+    (octets : List ℕ)
     : Type 0 where
   pub done : List ℕ
   pub rest : List ℕ
@@ -62,25 +69,29 @@ pub record Refuses {State : Type 0} (answer : State → List ℕ → Option (Sta
   pub moves : Moves answer from to done text
   pub good : to.line ≡ [] → StopsBad answer to rest [] to.number → ⊥
 
-pub record Runs {State : Type 0} (answer : State → List ℕ → Option (State × List ℕ)) (from to : Place State) (octets : List ℕ)
+pub record Runs {State : Type 0} (answer : State → List ℕ → Option (State × List ℕ)) (from to : Place State)
+    (octets : List ℕ)
     (old new : Option (List ℕ)) : Type 0 where
   pub written : List ℕ
   pub moves : Moves answer from to octets written
   pub appended : Appends old new written
 
-pub record RunsBad {State : Type 0} (answer : State → List ℕ → Option (State × List ℕ)) (from : Place State) (octets : List ℕ)
+pub record RunsBad {State : Type 0} (answer : State → List ℕ → Option (State × List ℕ)) (from : Place State)
+    (octets : List ℕ)
     (number : ℕ) (old new : Option (List ℕ)) : Type 0 where
   pub written : List ℕ
   pub stops : StopsBad answer from octets written number
   pub appended : Appends old new written
 
-pub record RunsPart {State : Type 0} (answer : State → List ℕ → Option (State × List ℕ)) (from : Place State) (octets : List ℕ)
+pub record RunsPart {State : Type 0} (answer : State → List ℕ → Option (State × List ℕ)) (from : Place State)
+    (octets : List ℕ)
     (old new : Option (List ℕ)) : Type 0 where
   pub written : List ℕ
   pub breaks : Breaks answer from octets written
   pub appended : Appends old new written
 
-pub record RunsLost {State : Type 0} (answer : State → List ℕ → Option (State × List ℕ)) (from : Place State) (octets : List ℕ)
+pub record RunsLost {State : Type 0} (answer : State → List ℕ → Option (State × List ℕ)) (from : Place State)
+    (octets : List ℕ)
     (old new : Option (List ℕ)) : Type 0 where
   pub written : List ℕ
   pub breaks : Breaks answer from octets written
@@ -92,7 +103,8 @@ pub record Finishes {State : Type 0} (answer : State → List ℕ → Option (St
   pub is : report_at answer true from [] ≡ wrote written finished
   pub appended : Appends old new written
 
-pub record FinishesBad {State : Type 0} (answer : State → List ℕ → Option (State × List ℕ)) (from : Place State) (number : ℕ)
+pub record FinishesBad {State : Type 0} (answer : State → List ℕ → Option (State × List ℕ)) (from : Place State)
+    (number : ℕ)
     (old new : Option (List ℕ)) : Type 0 where
   pub is : report_at answer true from [] ≡ stopped_at number
   pub kept : Keeps old new

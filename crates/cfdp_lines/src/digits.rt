@@ -27,7 +27,7 @@ static VALUES: [u8; 256] = [
     255, 255, 255,
 ];
 
-/// All of them.
+/// The table, lent.
 fn values() -> &'static [u8; 256]
     ensures { result.now ≡ VALUES }
 {

@@ -32,8 +32,8 @@ pub enum LinkFault {
     BadLine(u8, u64),
     /// The journal was full.
     JournalFull,
-    /// The receipts of the seats are not the journal, a worker did not take the messages of its file, or the entity has not
-    /// the configuration of the files.
+    /// The receipts of the seats are not the journal, a worker did not take the messages of its file, or the entity has
+    /// not the configuration of the files.
     ReceiptsDiffer,
 }
 
@@ -48,8 +48,8 @@ impl From<AllocError> for LinkFault {
     }
 }
 
-/// What the program ends with. Its text is that of [`EndLine`]: the line on standard error, empty where there is none. It takes
-/// no memory.
+/// What the program ends with. Its text is that of [`EndLine`]: the line on standard error, empty where there is none.
+/// It takes no memory.
 #[derive(Clone, Copy, Debug, PartialEq, Eq, Drop, Error)]
 #[error("{}", EndLine(*self))]
 pub enum ProgramEnd {
@@ -64,8 +64,8 @@ pub enum ProgramEnd {
 }
 
 impl ProgramEnd {
-    /// The exit status: 0 where the whole input was run, 1 for a read, a write or memory that failed, for a full journal and
-    /// for receipts that differ, 2 for unknown words, 3 for a bad line. It takes no memory.
+    /// The exit status: 0 where the whole input was run, 1 for a read, a write or memory that failed, for a full
+    /// journal and for receipts that differ, 2 for unknown words, 3 for a bad line. It takes no memory.
     pub fn status(&self) -> u8
         ensures { result ≡ status_of self.now }
     {

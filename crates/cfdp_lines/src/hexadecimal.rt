@@ -43,8 +43,8 @@ fn decode_spaced(line: &[u8], octets: &mut Vec<u8>) -> Result<(), LineFault>
     Ok(())
 }
 
-/// Puts the octets that a line of hexadecimal spells in the place of `octets`. A line that is one word is not gone through
-/// octet by octet for its spaces.
+/// Puts the octets that a line of hexadecimal spells in the place of `octets`. A line that is one word is not gone
+/// through octet by octet for its spaces.
 fn try_decode(line: &[u8], octets: &mut Vec<u8>) -> Result<(), LineFault>
     ensures octets { OnOk result (hex_octets line.now ≡ Some octets.new.items) }
     ensures bad { result ≡ Err Bad → hex_octets line.now ≡ None }
@@ -75,8 +75,8 @@ fn is_hexadecimal(line: &[u8]) -> bool
 ///
 /// # Errors
 ///
-/// `Bad` exactly if the line spells none, even where memory is refused: only then the line is looked at once more. A line
-/// that spells no octet takes no memory.
+/// `Bad` exactly if the line spells none, even where memory is refused: only then the line is looked at once more. A
+/// line that spells no octet takes no memory.
 pub fn decode_line(line: &[u8], octets: &mut Vec<u8>) -> Result<(), LineFault>
     ensures octets { OnOk result (hex_octets line.now ≡ Some octets.new.items) }
     ensures bad { (result ≡ Err Bad) ↔ (hex_octets line.now ≡ None) }
@@ -93,7 +93,8 @@ pub fn decode_line(line: &[u8], octets: &mut Vec<u8>) -> Result<(), LineFault>
 pub fn decode_within(line: &[u8], room: &mut [u8]) -> Option<usize>
     ensures some { IfSome result (λ len. hex_octets line.now ≡ Some (take len room.new)) }
     ensures within { IfSome result (λ len. len ≤ length room.new) }
-    ensures none { (octets : List ℕ) → result ≡ None → hex_octets line.now ≡ Some octets → length room.old < length octets }
+    ensures none { (octets : List ℕ) → result ≡ None → hex_octets line.now ≡ Some octets →
+        length room.old < length octets }
 {
     let mut len = 0;
     for word in line.split(|octet| *octet == SPACE) {

@@ -36,10 +36,11 @@ pub trait Script {
     // where it is bad.
     ghost answer: { State → List ℕ → Option (State × List ℕ) };
 
-    /// Answers a line, and appends its text to `out`: each line of it with a newline after it. A bad line is answered so
-    /// even where memory is refused.
+    /// Answers a line, and appends its text to `out`: each line of it with a newline after it. A bad line is answered
+    /// so even where memory is refused.
     fn line(&mut self, alloc: Global, line: &[u8], out: &mut Vec<u8>) -> Result<(), LineFault>
-        ensures ok { OnOk result (Answers answer (state self.old) (state self.new) line.now out.old.items out.new.items) }
+        ensures ok { OnOk result (Answers answer (state self.old)
+            (state self.new) line.now out.old.items out.new.items) }
         ensures bad { (result ≡ Err Bad) ↔ (answer (state self.old) line.now ≡ None) }
         ensures kept { OnErr result (out.new.items ≡ out.old.items) };
 }

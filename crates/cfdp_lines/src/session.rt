@@ -40,7 +40,7 @@ pub(crate) struct Session<S> {
     ghost within: { length line.items ≤ line_limit },
 }
 
-/// Runs a line, and appends its text. A line that is bad or too long is answered so even where memory is refused.
+/// Runs a line, and appends its text. A line that is bad or too long is reported even where memory is refused.
 fn answer_line<S: Script>(
     script: &mut S,
     alloc: Global,
@@ -120,7 +120,7 @@ impl<S: Script> Session<S> {
         Ok(())
     }
 
-    /// Takes some octets of the line that is being read. Too many are answered so even where memory is refused.
+    /// Takes some octets of the line that is being read. Too many are reported even where memory is refused.
     fn gather(&mut self, part: &[u8]) -> Result<(), LineFault>
         requires { IsOneLine part.now }
         ensures script { self.new.script ≡ self.old.script }
@@ -152,7 +152,7 @@ impl<S: Script> Session<S> {
         Ok(())
     }
 
-    /// Takes the next octets of the script up to the next newline, or all where there is none, and answers how many;
+    /// Takes the next octets of the script up to the next newline, or all where there is none, and returns how many;
     /// a line that ends is run. Only a line that did not come whole is copied.
     fn take(&mut self, alloc: Global, octets: &[u8]) -> Result<usize, LineFault>
         requires some { 0 < length octets.now }
@@ -163,7 +163,7 @@ impl<S: Script> Session<S> {
         ensures ok { IfOk result (λ n. Adds S.answer (place_of S.state self.old) (place_of S.state self.new)
             (take n octets.now) self.old.text.items self.new.text.items) }
         ensures bad { result ≡ Err Bad → StopsBad S.answer (place_of S.state self.old) octets.now [] self.old.number }
-        // Of a line that came whole, or is too long already, a bad one is answered so even where memory is refused.
+        // Of a line that came whole, or is too long already, a bad one is reported even where memory is refused.
         ensures refused { result ≡ Err LineFault.Memory → self.old.line.items ≡ []
             → StopsBad S.answer (place_of S.state self.old) octets.now [] self.old.number → ⊥ }
         ensures kept { OnErr result (self.new.text.items ≡ self.old.text.items) }
@@ -205,7 +205,8 @@ impl<S: Script> Session<S> {
         ensures script { self.new.script ≡ self.old.script }
         ensures line { self.new.line ≡ self.old.line }
         ensures number { self.new.number ≡ self.old.number }
-        ensures ok { OnOk result (Spills self.old.text.items self.new.text.items (W.contents writer.old) (W.contents writer.new)) }
+        ensures ok { OnOk result (Spills self.old.text.items self.new.text.items (W.contents writer.old)
+            (W.contents writer.new)) }
         ensures lost { OnErr result (LostWithin self.old.text.items (W.contents writer.old) (W.contents writer.new)) }
         ensures well { OnOk result (W.failed writer.new ≡ W.failed writer.old) }
         ensures fails { OnErr result (W.failed writer.new ≡ true) }
@@ -257,7 +258,7 @@ impl<S: Script> Session<S> {
         self.flush(writer)
     }
 
-    /// The script ends here. What came of a last line without a newline is a line.
+    /// The script ends here. A last line without a newline is a line, too.
     pub(crate) fn finish<W: ScriptOut>(
         &mut self,
         alloc: Global,

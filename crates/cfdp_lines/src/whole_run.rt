@@ -17,7 +17,7 @@ pub const INPUT_LIMIT: usize = 268_435_456;
 /// How much is read at once, in octets.
 const PIECE: usize = 65_536;
 
-/// How much to read where so many octets may still come: never nothing, since one octet more than there may
+/// How much to read where this many octets may still come: never nothing, since one octet more than there may
 /// be has to be seen.
 fn room_for(left: usize) -> usize
     ensures some { 0 < result }
@@ -38,13 +38,15 @@ pub fn run<S: Script, R: ScriptIn, W: ScriptOut>(
 where
     S: Drop,
     // The whole text was written, of a script within the limit without a bad line.
-    ensures ok { OnOk result (WholeRun S.answer (S.state script) (R.remaining reader.old) (W.contents writer.old) (W.contents writer.new)) }
+    ensures ok { OnOk result (WholeRun S.answer (S.state script) (R.remaining reader.old) (W.contents writer.old)
+        (W.contents writer.new)) }
     // Nothing is left unread.
     ensures all { OnOk result (IsAtEnd (R.remaining reader.new)) }
     // The text before the first bad line was written, and its number is right, of a line that is run.
     ensures bad { (n : ℕ) → result ≡ Err (BadLine n)
-        → BadRun S.answer (S.state script) n (R.remaining reader.old) (R.remaining reader.new) (W.contents writer.old) (W.contents writer.new) }
-    // What was written is a beginning of what is reported of the octets read, at most so many.
+        → BadRun S.answer (S.state script) n (R.remaining reader.old) (R.remaining reader.new) (W.contents writer.old)
+        (W.contents writer.new) }
+    // What was written is a beginning of what is reported of the octets read, at most this many.
     ensures begun { result ≡ Err Read → PartRun S.answer (S.state script) (input_limit + 1)
         (R.remaining reader.old) (R.remaining reader.new) (W.contents writer.old) (W.contents writer.new) }
     ensures begun_memory { result ≡ Err Memory → PartRun S.answer (S.state script) input_limit

@@ -72,7 +72,8 @@ pub fn number_of(word: &[u8]) -> Option<u64>
     Some(number)
 }
 
-/// The numbers that the words of a line write: none where a word writes no number, or there are more than a command has.
+/// The numbers that the words of a line write: none where a word writes no number, or there are more than a command
+/// has.
 pub fn numbers_of(line: &[u8]) -> Option<ArrayVec<u64, MOST_NUMBERS>>
     ensures some { IfSome result (λ numbers. numbers_of (words_of line.now) ≡ Some numbers.items) }
     ensures none { result ≡ None → (numbers_of (words_of line.now) ≡ None) ⊎ (5 < length (words_of line.now)) }
@@ -90,7 +91,8 @@ pub fn numbers_of(line: &[u8]) -> Option<ArrayVec<u64, MOST_NUMBERS>>
     Some(numbers)
 }
 
-/// The transaction that the words of a line name, if they are two numbers: its source entity ID, and its sequence number.
+/// The transaction that the words of a line name, if they are two numbers: its source entity ID, and its sequence
+/// number.
 pub fn id_in(line: &[u8]) -> Option<TransactionId>
     ensures { result ≡ id_by (numbers_of (words_of line.now)) }
 {

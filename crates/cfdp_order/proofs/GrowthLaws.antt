@@ -39,7 +39,8 @@ with_fresh node list fresh once n = elim (cases_eq node n) [
 ]
 
 -- the height of an order, one of whose parts may be higher now
-higher : (order a b more result : ℕ) → order ≡ max a b + 1 → AreNear a b → b ≤ more → more ≤ b + 1 → (AreNear a more → result ≡ max a more + 1) → max a more ≤ result → result ≤ max a more + 1
+higher : (order a b more result : ℕ) → order ≡ max a b + 1 → AreNear a b → b ≤ more → more ≤ b + 1 → (AreNear a more → result ≡ max a more + 1) →
+    max a more ≤ result → result ≤ max a more + 1
     → (order ≤ result) × (result ≤ order + 1)
 higher order a b more result high near least most same low top = elim (cases_lt (a + 1) more) [
   | inl far ↦ (omega (arith, far, near), omega (arith, far, near))
@@ -60,12 +61,19 @@ module _ (old : List Links) (node : ℕ) (order a b : Order) (is : IsOrder old o
   fresh_right = omega (arith, counted node, fresh)
 
 -- to the right
-module _ {old new : List Links} {node : ℕ} {order a b more : Order} (is : IsOrder old order) (o : Opened old order a b) (fresh : times node (nodes old order) ≡ 0) (grown : Grown old new node b more) where
+module _ {old new : List Links} {node : ℕ} {order a b more : Order} (is : IsOrder old order) (o : Opened old order a b) (fresh : times node (nodes old order)
+    ≡ 0) (grown : Grown old new node b more) where
   pub a_stays : Stays old new a
   a_stays = stays_apart old new a (node ∷ nodes old b) o.is_a grown.others (λ n. omega (arith, all_once old node order a b is o fresh n))
 
   pub right_counted : (n : ℕ) → times n (nodes new a ++ order.root ∷ nodes new more) ≡ one node n + times n (nodes old order)
-  right_counted n = omega (arith, times_middle n (nodes new a) order.root (nodes new more), ap (times n) a_stays.listed, grown.one_more n, counted old node order a b is o fresh n)
+  right_counted n = omega (
+    arith,
+    times_middle n (nodes new a) order.root (nodes new more),
+    ap (times n) a_stays.listed,
+    grown.one_more n,
+    counted old node order a b is o fresh n,
+  )
 
   pub right_can : CanJoin new a order.root more
   right_can = record {
@@ -77,17 +85,23 @@ module _ {old new : List Links} {node : ℕ} {order a b more : Order} (is : IsOr
 
   pub grown_right : {last : List Links} {result : Order} → Balanced new last a order.root more result → Grown old last node order result
   grown_right {result = result} balanced =
-      let heights = higher order.height a.height b.height more.height result.height o.high o.near grown.least grown.most balanced.near balanced.least balanced.most in
+      let heights = higher order.height a.height b.height more.height result.height o.high o.near grown.least grown.most balanced.near balanced.least
+      balanced.most in
       record {
         is = balanced.is;
         one_more = (λ n. ap (times n) balanced.listed ∙ right_counted n);
         least = heights.0;
         most = heights.1;
-        others = others_then grown.others balanced.others (λ n none. (omega (arith, none, counted old node order a b is o fresh n), omega (arith, none, right_counted n)));
+        others = others_then grown.others balanced.others (λ n none. (
+          omega (arith, none, counted old node order a b is o fresh n),
+          omega (arith, none, right_counted n),
+        ));
       }
 
-  pub placed_right : {last : List Links} {result : Order} → Balanced new last a order.root more result → (P Q : ℕ → Type 0) → (Q order.root → ⊥) → (before after : List ℕ)
-      → nodes old order ≡ before ++ after → All P before → All Q after → ((rest : List ℕ) → nodes old b ≡ rest ++ after → All P rest → nodes new more ≡ rest ++ node ∷ after)
+  pub placed_right : {last : List Links} {result : Order} → Balanced new last a order.root more result → (P Q : ℕ → Type 0) → (Q order.root → ⊥) →
+      (before after : List ℕ)
+      → nodes old order ≡ before ++ after → All P before → All Q after → ((rest : List ℕ) → nodes old b ≡ rest ++ after → All P rest → nodes new more ≡ rest
+      ++ node ∷ after)
       → nodes last result ≡ before ++ node ∷ after
   placed_right balanced P Q apart before after parted less rest place =
       let s = split_right P Q (nodes old a) order.root (nodes old b) before after (sym o.listed ∙ parted) less rest apart in
@@ -95,12 +109,19 @@ module _ {old new : List Links} {node : ℕ} {order a b more : Order} (is : IsOr
       ∙ sym (append_assoc (nodes old a) (order.root ∷ s.rest) (node ∷ after)) ∙ (λ i. sym s.before_is i ++ node ∷ after)
 
 -- to the left
-module _ {old new : List Links} {node : ℕ} {order a b more : Order} (is : IsOrder old order) (o : Opened old order a b) (fresh : times node (nodes old order) ≡ 0) (grown : Grown old new node a more) where
+module _ {old new : List Links} {node : ℕ} {order a b more : Order} (is : IsOrder old order) (o : Opened old order a b) (fresh : times node (nodes old order)
+    ≡ 0) (grown : Grown old new node a more) where
   pub b_stays : Stays old new b
   b_stays = stays_apart old new b (node ∷ nodes old a) o.is_b grown.others (λ n. omega (arith, all_once old node order a b is o fresh n))
 
   pub left_counted : (n : ℕ) → times n (nodes new more ++ order.root ∷ nodes new b) ≡ one node n + times n (nodes old order)
-  left_counted n = omega (arith, times_middle n (nodes new more) order.root (nodes new b), ap (times n) b_stays.listed, grown.one_more n, counted old node order a b is o fresh n)
+  left_counted n = omega (
+    arith,
+    times_middle n (nodes new more) order.root (nodes new b),
+    ap (times n) b_stays.listed,
+    grown.one_more n,
+    counted old node order a b is o fresh n,
+  )
 
   pub left_can : CanJoin new more order.root b
   left_can = record {
@@ -113,18 +134,26 @@ module _ {old new : List Links} {node : ℕ} {order a b more : Order} (is : IsOr
   pub grown_left : {last : List Links} {result : Order} → Balanced new last more order.root b result → Grown old last node order result
   grown_left {result = result} balanced =
       let turned = max_comm more.height b.height in
-      let heights = higher order.height b.height a.height more.height result.height (o.high ∙ ap (λ k. k + 1) (max_comm a.height b.height)) (o.near.1, o.near.0) grown.least grown.most
+      let heights = higher order.height b.height a.height more.height result.height (o.high ∙ ap (λ k. k + 1) (max_comm a.height b.height)) (
+        o.near.1,
+        o.near.0,
+      ) grown.least grown.most
       (λ near. balanced.near (near.1, near.0) ∙ ap (λ k. k + 1) turned) (omega (arith, balanced.least, turned)) (omega (arith, balanced.most, turned)) in
       record {
         is = balanced.is;
         one_more = (λ n. ap (times n) balanced.listed ∙ left_counted n);
         least = heights.0;
         most = heights.1;
-        others = others_then grown.others balanced.others (λ n none. (omega (arith, none, counted old node order a b is o fresh n), omega (arith, none, left_counted n)));
+        others = others_then grown.others balanced.others (λ n none. (
+          omega (arith, none, counted old node order a b is o fresh n),
+          omega (arith, none, left_counted n),
+        ));
       }
 
-  pub placed_left : {last : List Links} {result : Order} → Balanced new last more order.root b result → (P Q : ℕ → Type 0) → (P order.root → ⊥) → (before after : List ℕ)
-      → nodes old order ≡ before ++ after → All P before → All Q after → ((rest : List ℕ) → nodes old a ≡ before ++ rest → All Q rest → nodes new more ≡ before ++ node ∷ rest)
+  pub placed_left : {last : List Links} {result : Order} → Balanced new last more order.root b result → (P Q : ℕ → Type 0) → (P order.root → ⊥) →
+      (before after : List ℕ)
+      → nodes old order ≡ before ++ after → All P before → All Q after → ((rest : List ℕ) → nodes old a ≡ before ++ rest → All Q rest → nodes new more ≡ before
+      ++ node ∷ rest)
       → nodes last result ≡ before ++ node ∷ after
   placed_left balanced P Q apart before after parted less rest place =
       let s = split_left P Q (nodes old a) order.root (nodes old b) before after (sym o.listed ∙ parted) less rest apart in

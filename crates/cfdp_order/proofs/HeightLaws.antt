@@ -34,7 +34,8 @@ more_least (suc h) = omega (arith, next_least h)
 
 least_rises : (h m : ℕ) → least_nodes h ≤ least_nodes (m + h)
 least_rises h zero = let e : h ≡ 0 + h = omega arith in subst (λ k. least_nodes h ≤ least_nodes k) e (omega arith)
-least_rises h (suc m) = let e : suc m + h ≡ suc (m + h) = omega arith in subst (λ k. least_nodes h ≤ least_nodes k) (sym e) (omega (arith, least_rises h m, more_least (m + h)))
+least_rises h (suc m) = let e : suc m + h ≡ suc (m + h) = omega arith in
+    subst (λ k. least_nodes h ≤ least_nodes k) (sym e) (omega (arith, least_rises h m, more_least (m + h)))
 
 least_up : (h k : ℕ) → h ≤ k → least_nodes h ≤ least_nodes k
 least_up h k up = let e : (k - h) + h ≡ k = omega arith in subst (λ m. least_nodes h ≤ least_nodes m) e (least_rises h (k - h))
@@ -67,7 +68,8 @@ least_in {links} {order} (fork {before = before} {after = after} within left rig
     omega (arith, joined_least w.left_height w.right_height near order.height high, least_in left, least_in right, length-append before (order.root ∷ after))
 
 -- a node of a tree is at its top, to the left or to the right
-somewhere : (n root : ℕ) (before after : List ℕ) (P : ℕ → Type 0) → P root → (1 ≤ times n before → P n) → (1 ≤ times n after → P n) → 1 ≤ times n (before ++ root ∷ after) → P n
+somewhere : (n root : ℕ) (before after : List ℕ) (P : ℕ → Type 0) → P root → (1 ≤ times n before → P n) → (1 ≤ times n after → P n) →
+    1 ≤ times n (before ++ root ∷ after) → P n
 somewhere n root before after P top left right some = elim (cases_eq root n) [
   | inl e ↦ subst P e top
   | inr other ↦ elim (cases_eq (times n before) 0) [
@@ -88,7 +90,8 @@ all_within {links} {order} (fork {before = before} {after = after} within left r
     let P : ℕ → Type 0 = λ n. n < length links in
     All-append P before (order.root ∷ after) (all_within left) (All-cons P order.root after within (all_within right))
 
-pub known_of : (links : List Links) (order : Order) → IsOrder links order → {A : Type 0} (keys : List A) → length links ≡ length keys → All (λ n. n < length keys) (nodes links order)
+pub known_of : (links : List Links) (order : Order) → IsOrder links order → {A : Type 0} (keys : List A) → length links ≡ length keys →
+    All (λ n. n < length keys) (nodes links order)
 known_of links order is keys long = subst (λ m. All (λ n. n < m) (nodes links order)) long (all_within is.tree)
 
 -- each node once, as std says it
@@ -105,7 +108,8 @@ unfolding IsDistinct
 distinct [] once = tt
 distinct (m ∷ list) once = (none_equal m list (omega (arith, once m, one_self m)), distinct list (λ n. omega (arith, once n)))
 
-at_head : (n m : ℕ) (list : List ℕ) (b : Bool) → eqb n m ≡ b → (list_any (eqb n) list ≡ true → 1 ≤ times n list) → (b || list_any (eqb n) list) ≡ true → 1 ≤ times n (m ∷ list)
+at_head : (n m : ℕ) (list : List ℕ) (b : Bool) → eqb n m ≡ b → (list_any (eqb n) list ≡ true → 1 ≤ times n list) → (b || list_any (eqb n) list) ≡ true →
+    1 ≤ times n (m ∷ list)
 at_head n m list true e rest any = let same = eqb-true n m e in let here = subst (λ k. one k n ≡ 1) same (one_self n) in omega arith
 at_head n m list false e rest any = omega (arith, rest any)
 

@@ -28,14 +28,23 @@ or_none None = refl
 or_none (Some x) = refl
 
 pub reach_begin : (P Q : ℕ → Type 0) (list before after : List ℕ) → list ≡ before ++ after → All P before → All Q after → Reached P Q list None after
-reach_begin P Q list before after parted less rest = record { front = before; back = after; parted = parted; less = less; rest = rest; is = or_none (slice_get after 0) }
+reach_begin P Q list before after parted less rest = record {
+  front = before;
+  back = after;
+  parted = parted;
+  less = less;
+  rest = rest;
+  is = or_none (slice_get after 0);
+}
 
-pub reach_right : (P Q : ℕ → Type 0) (list l : List ℕ) (x : ℕ) (r : List ℕ) (found : Option ℕ) (after : List ℕ) → list ≡ l ++ x ∷ r → (Q x → ⊥) → Reached P Q list found after → Reached P Q r found after
+pub reach_right : (P Q : ℕ → Type 0) (list l : List ℕ) (x : ℕ) (r : List ℕ) (found : Option ℕ) (after : List ℕ) → list ≡ l ++ x ∷ r → (Q x → ⊥) →
+    Reached P Q list found after → Reached P Q r found after
 reach_right P Q list l x r found after listed apart reached =
     let s = split_right P Q l x r reached.front reached.back (sym listed ∙ reached.parted) reached.less reached.rest apart in
     record { front = s.rest; back = reached.back; parted = s.right_is; less = s.all; rest = reached.rest; is = reached.is }
 
-pub reach_left : (P Q : ℕ → Type 0) (list l : List ℕ) (x : ℕ) (r : List ℕ) (found : Option ℕ) (after : List ℕ) → list ≡ l ++ x ∷ r → (P x → ⊥) → Reached P Q list found after → Reached P Q l (Some x) after
+pub reach_left : (P Q : ℕ → Type 0) (list l : List ℕ) (x : ℕ) (r : List ℕ) (found : Option ℕ) (after : List ℕ) → list ≡ l ++ x ∷ r → (P x → ⊥) →
+    Reached P Q list found after → Reached P Q l (Some x) after
 reach_left P Q list l x r found after listed apart reached =
     let s = split_left P Q l x r reached.front reached.back (sym listed ∙ reached.parted) reached.less reached.rest apart in
     record {
@@ -52,4 +61,5 @@ no_back [] back e = sym e
 no_back (x ∷ front) back e = cc
 
 pub reach_end : (P Q : ℕ → Type 0) (list : List ℕ) (found : Option ℕ) (after : List ℕ) → list ≡ [] → Reached P Q list found after → found ≡ slice_get after 0
-reach_end P Q list found after none reached = ap (λ b. option_or (slice_get b 0) found) (sym (no_back reached.front reached.back (sym none ∙ reached.parted))) ∙ reached.is
+reach_end P Q list found after none reached = ap (λ b. option_or (slice_get b 0) found) (sym (no_back reached.front reached.back (sym none ∙ reached.parted)))
+    ∙ reached.is

@@ -30,7 +30,8 @@ pub record Shrunk (old new : List Links) (order result : Order) : Type 0 where
   pub others : OthersStay old new (nodes old order)
 
 -- the height of an order, one of whose parts may be lower now
-lower : (order a b less result : ℕ) → order ≡ max a b + 1 → AreNear a b → b ≤ less + 1 → less ≤ b → (AreNear a less → result ≡ max a less + 1) → max a less ≤ result → result ≤ max a less + 1
+lower : (order a b less result : ℕ) → order ≡ max a b + 1 → AreNear a b → b ≤ less + 1 → less ≤ b → (AreNear a less → result ≡ max a less + 1) →
+    max a less ≤ result → result ≤ max a less + 1
     → (order ≤ result + 1) × (result ≤ order)
 lower order a b less result high near least most same low top = elim (cases_lt (less + 1) a) [
   | inl far ↦ (omega (arith, far, near), omega (arith, far, near))
@@ -48,7 +49,8 @@ record Behind (Q : ℕ → Type 0) (node : ℕ) (rest l before after : List ℕ)
   left_is : l ≡ before ++ node ∷ back
   all : All Q back
 
-behind : (Q : ℕ → Type 0) (node root : ℕ) (rest l before after r : List ℕ) → root ≢ node → node ∷ after ≡ rest ++ root ∷ r → l ≡ before ++ rest → All Q after → Behind Q node rest l before after root r
+behind : (Q : ℕ → Type 0) (node root : ℕ) (rest l before after r : List ℕ) → root ≢ node → node ∷ after ≡ rest ++ root ∷ r → l ≡ before ++ rest → All Q after →
+    Behind Q node rest l before after root r
 behind Q node root [] l before after r other e left_is more = absurd (other (cc))
 behind Q node root (x ∷ rest) l before after r other e left_is more =
     let head : x ≡ node = cc in let tail : after ≡ rest ++ root ∷ r = cc in
@@ -67,32 +69,51 @@ module _ {old new : List Links} {order a b less : Order} (is : IsOrder old order
   a_stays = stays_apart old new a (nodes old b) o.is_a shrunk.others (λ n. omega (arith, all_once old order a b is o n))
 
   pub right_counted : (n : ℕ) → times n (nodes new a ++ order.root ∷ nodes new less) ≤ times n (nodes old order)
-  right_counted n = omega (arith, times_middle n (nodes new a) order.root (nodes new less), ap (times n) a_stays.listed, shrunk.fewer n, counted old order a b is o n)
+  right_counted n = omega (
+    arith,
+    times_middle n (nodes new a) order.root (nodes new less),
+    ap (times n) a_stays.listed,
+    shrunk.fewer n,
+    counted old order a b is o n,
+  )
 
   pub right_can : CanJoin new a order.root less
-  right_can = record { before = a_stays.is; after = shrunk.is; within = omega (arith, o.within, shrunk.others.long); once = (λ n. omega (arith, right_counted n, is.once n)) }
+  right_can = record {
+    before = a_stays.is;
+    after = shrunk.is;
+    within = omega (arith, o.within, shrunk.others.long);
+    once = (λ n. omega (arith, right_counted n, is.once n));
+  }
 
   pub shrunk_right : {last : List Links} {result : Order} → Balanced new last a order.root less result → Shrunk old last order result
   shrunk_right {result = result} balanced =
-      let heights = lower order.height a.height b.height less.height result.height o.high o.near shrunk.least shrunk.most balanced.near balanced.least balanced.most in
+      let heights = lower order.height a.height b.height less.height result.height o.high o.near shrunk.least shrunk.most balanced.near balanced.least
+      balanced.most in
       record {
         is = balanced.is;
         fewer = (λ n. subst (λ l. times n l ≤ times n (nodes old order)) (sym balanced.listed) (right_counted n));
         least = heights.0;
         most = heights.1;
-        others = others_then shrunk.others balanced.others (λ n none. (omega (arith, none, counted old order a b is o n), omega (arith, none, right_counted n)));
+        others = others_then shrunk.others balanced.others (λ n none. (
+          omega (arith, none, counted old order a b is o n),
+          omega (arith, none, right_counted n),
+        ));
       }
 
-  pub same_right : {last : List Links} {result : Order} → Balanced new last a order.root less result → nodes new less ≡ nodes old b → nodes last result ≡ nodes old order
+  pub same_right : {last : List Links} {result : Order} → Balanced new last a order.root less result → nodes new less ≡ nodes old b → nodes last result
+      ≡ nodes old order
   same_right balanced same = balanced.listed ∙ (λ i. a_stays.listed i ++ order.root ∷ same i) ∙ sym o.listed
 
-  pub rest_right : {last : List Links} {result : Order} → Balanced new last a order.root less result → (P Q : ℕ → Type 0) (node : ℕ) → order.root ≢ node → (Q order.root → ⊥) → (before after : List ℕ)
-      → nodes old order ≡ before ++ node ∷ after → All P before → All Q after → ((rest : List ℕ) → nodes old b ≡ rest ++ node ∷ after → All P rest → nodes new less ≡ rest ++ after)
+  pub rest_right : {last : List Links} {result : Order} → Balanced new last a order.root less result → (P Q : ℕ → Type 0) (node : ℕ) → order.root ≢ node →
+      (Q order.root → ⊥) → (before after : List ℕ)
+      → nodes old order ≡ before ++ node ∷ after → All P before → All Q after →
+      ((rest : List ℕ) → nodes old b ≡ rest ++ node ∷ after → All P rest → nodes new less ≡ rest ++ after)
       → nodes last result ≡ before ++ after
   rest_right balanced P Q node other apart before after parted front back removed =
       let R : ℕ → Type 0 = λ k. (k ≡ node) ⊎ Q k in
       let all = All-cons R node after (inl refl) (All-weaker Q R (λ k q. inr q) after back) in
-      let s = split_right P R (nodes old a) order.root (nodes old b) before (node ∷ after) (sym o.listed ∙ parted) front all (no_other Q node order.root other apart) in
+      let s = split_right P R (nodes old a) order.root (nodes old b) before (node ∷ after) (sym o.listed ∙ parted) front all
+      (no_other Q node order.root other apart) in
       balanced.listed ∙ (λ i. a_stays.listed i ++ order.root ∷ removed s.rest s.right_is s.all i)
       ∙ sym (append_assoc (nodes old a) (order.root ∷ s.rest) after) ∙ (λ i. sym s.before_is i ++ after)
 
@@ -102,15 +123,29 @@ module _ {old new : List Links} {order a b less : Order} (is : IsOrder old order
   b_stays = stays_apart old new b (nodes old a) o.is_b shrunk.others (λ n. omega (arith, all_once old order a b is o n))
 
   pub left_counted : (n : ℕ) → times n (nodes new less ++ order.root ∷ nodes new b) ≤ times n (nodes old order)
-  left_counted n = omega (arith, times_middle n (nodes new less) order.root (nodes new b), ap (times n) b_stays.listed, shrunk.fewer n, counted old order a b is o n)
+  left_counted n = omega (
+    arith,
+    times_middle n (nodes new less) order.root (nodes new b),
+    ap (times n) b_stays.listed,
+    shrunk.fewer n,
+    counted old order a b is o n,
+  )
 
   pub left_can : CanJoin new less order.root b
-  left_can = record { before = shrunk.is; after = b_stays.is; within = omega (arith, o.within, shrunk.others.long); once = (λ n. omega (arith, left_counted n, is.once n)) }
+  left_can = record {
+    before = shrunk.is;
+    after = b_stays.is;
+    within = omega (arith, o.within, shrunk.others.long);
+    once = (λ n. omega (arith, left_counted n, is.once n));
+  }
 
   pub shrunk_left : {last : List Links} {result : Order} → Balanced new last less order.root b result → Shrunk old last order result
   shrunk_left {result = result} balanced =
       let turned = max_comm less.height b.height in
-      let heights = lower order.height b.height a.height less.height result.height (o.high ∙ ap (λ k. k + 1) (max_comm a.height b.height)) (o.near.1, o.near.0) shrunk.least shrunk.most
+      let heights = lower order.height b.height a.height less.height result.height (o.high ∙ ap (λ k. k + 1) (max_comm a.height b.height)) (
+        o.near.1,
+        o.near.0,
+      ) shrunk.least shrunk.most
       (λ near. balanced.near (near.1, near.0) ∙ ap (λ k. k + 1) turned) (omega (arith, balanced.least, turned)) (omega (arith, balanced.most, turned)) in
       record {
         is = balanced.is;
@@ -120,14 +155,18 @@ module _ {old new : List Links} {order a b less : Order} (is : IsOrder old order
         others = others_then shrunk.others balanced.others (λ n none. (omega (arith, none, counted old order a b is o n), omega (arith, none, left_counted n)));
       }
 
-  pub left_listed : {last : List Links} {result : Order} → Balanced new last less order.root b result → nodes last result ≡ nodes new less ++ order.root ∷ nodes old b
+  pub left_listed : {last : List Links} {result : Order} → Balanced new last less order.root b result → nodes last result ≡ nodes new less
+      ++ order.root ∷ nodes old b
   left_listed balanced = balanced.listed ∙ (λ i. nodes new less ++ order.root ∷ b_stays.listed i)
 
-  pub same_left : {last : List Links} {result : Order} → Balanced new last less order.root b result → nodes new less ≡ nodes old a → nodes last result ≡ nodes old order
+  pub same_left : {last : List Links} {result : Order} → Balanced new last less order.root b result → nodes new less ≡ nodes old a → nodes last result
+      ≡ nodes old order
   same_left balanced same = left_listed balanced ∙ (λ i. same i ++ order.root ∷ nodes old b) ∙ sym o.listed
 
-  pub rest_left : {last : List Links} {result : Order} → Balanced new last less order.root b result → (P Q : ℕ → Type 0) (node : ℕ) → order.root ≢ node → (P order.root → ⊥) → (before after : List ℕ)
-      → nodes old order ≡ before ++ node ∷ after → All P before → All Q after → ((rest : List ℕ) → nodes old a ≡ before ++ node ∷ rest → All Q rest → nodes new less ≡ before ++ rest)
+  pub rest_left : {last : List Links} {result : Order} → Balanced new last less order.root b result → (P Q : ℕ → Type 0) (node : ℕ) → order.root ≢ node →
+      (P order.root → ⊥) → (before after : List ℕ)
+      → nodes old order ≡ before ++ node ∷ after → All P before → All Q after →
+      ((rest : List ℕ) → nodes old a ≡ before ++ node ∷ rest → All Q rest → nodes new less ≡ before ++ rest)
       → nodes last result ≡ before ++ after
   rest_left balanced P Q node other apart before after parted front back removed =
       let R : ℕ → Type 0 = λ k. (k ≡ node) ⊎ Q k in
@@ -151,7 +190,8 @@ unique_split (z ∷ l) x r (y ∷ before) after e once =
     ((λ i. head i ∷ rest.0 i), rest.1)
 
 -- an order that loses its first node
-pub taken : {old new : List Links} {order rest : Order} (node : ℕ) → nodes old order ≡ node ∷ nodes new rest → IsOrder new rest → order.height ≤ rest.height + 1 → rest.height ≤ order.height
+pub taken : {old new : List Links} {order rest : Order} (node : ℕ) → nodes old order ≡ node ∷ nodes new rest → IsOrder new rest → order.height ≤ rest.height
+    + 1 → rest.height ≤ order.height
     → OthersStay old new (nodes old order) → Shrunk old new order rest
 taken node is rest least most others = record { is = rest; fewer = (λ n. omega (arith, ap (times n) is)); least = least; most = most; others = others }
 
@@ -175,9 +215,14 @@ module _ {old new : List Links} {left right : Order} {node : ℕ} {rest : Order}
   merged_can = record {
     before = left_stays.is;
     after = f.is_rest;
-    within = (let here : 1 ≤ times node (nodes old right) = omega (arith, ap (times node) f.first, one_self node) in omega (arith, f.others.long, within_links f.is_right.tree node here));
+    within = (let here : 1 ≤ times node (nodes old right) = omega (arith, ap (times node) f.first, one_self node) in
+        omega (arith, f.others.long, within_links f.is_right.tree node here));
     once = (λ n. subst (λ l. times n l ≤ 1) (sym merged_listed) (f.once n));
   }
 
-  pub merged_others : {last : List Links} → OthersStay new last (nodes new left ++ node ∷ nodes new rest) → OthersStay old last (nodes old left ++ nodes old right)
-  merged_others next = others_then f.others next (λ n none. (omega (arith, none, times-append n (nodes old left) (nodes old right)), omega (arith, none, ap (times n) merged_listed)))
+  pub merged_others : {last : List Links} → OthersStay new last (nodes new left ++ node ∷ nodes new rest) →
+      OthersStay old last (nodes old left ++ nodes old right)
+  merged_others next = others_then f.others next (λ n none. (
+    omega (arith, none, times-append n (nodes old left) (nodes old right)),
+    omega (arith, none, ap (times n) merged_listed),
+  ))

@@ -18,19 +18,22 @@ head_pairs R x xs pairs k d less = pairs zero (suc k) d (omega arith) (omega ari
 pub tail_pairs : (R : ℕ → ℕ → Type 0) (x : ℕ) (xs : List ℕ) → AllPairs R (x ∷ xs) → AllPairs R xs
 tail_pairs R x xs pairs i j d rising less = pairs (suc i) (suc j) d (omega arith) (omega arith)
 
-pub pairs_with : (R : ℕ → ℕ → Type 0) (before : List ℕ) (node : ℕ) (after : List ℕ) → AllPairs R (before ++ after) → All (λ m. R m node) before → All (R node) after → AllPairs R (before ++ node ∷ after)
+pub pairs_with : (R : ℕ → ℕ → Type 0) (before : List ℕ) (node : ℕ) (after : List ℕ) → AllPairs R (before ++ after) → All (λ m. R m node) before →
+    All (R node) after → AllPairs R (before ++ node ∷ after)
 pairs_with R [] node after pairs front back = AllPairs-cons R node after back pairs
 pairs_with R (x ∷ before) node after pairs front back =
     let all = head_pairs R x (before ++ after) pairs in
     AllPairs-cons R x (before ++ node ∷ after)
-    (All-append (R x) before (node ∷ after) (All_front (R x) before after all) (All-cons (R x) node after (All-head (λ m. R m node) x before front) (All_back (R x) before after all)))
+    (All-append (R x) before (node ∷ after) (All_front (R x) before after all)
+    (All-cons (R x) node after (All-head (λ m. R m node) x before front) (All_back (R x) before after all)))
     (pairs_with R before node after (tail_pairs R x (before ++ after) pairs) (All-tail (λ m. R m node) x before front) back)
 
 pub pairs_without : (R : ℕ → ℕ → Type 0) (before : List ℕ) (node : ℕ) (after : List ℕ) → AllPairs R (before ++ node ∷ after) → AllPairs R (before ++ after)
 pairs_without R [] node after pairs = tail_pairs R node after pairs
 pairs_without R (x ∷ before) node after pairs =
     let all = head_pairs R x (before ++ node ∷ after) pairs in
-    AllPairs-cons R x (before ++ after) (All-append (R x) before after (All_left (R x) before node after all) (All_right (R x) before node after all)) (pairs_without R before node after (tail_pairs R x (before ++ node ∷ after) pairs))
+    AllPairs-cons R x (before ++ after) (All-append (R x) before after (All_left (R x) before node after all) (All_right (R x) before node after all))
+    (pairs_without R before node after (tail_pairs R x (before ++ node ∷ after) pairs))
 
 -- those that pass a test are the first ones
 split_where : (P : ℕ → Type 0) → ((n : ℕ) → P n ⊎ (P n → ⊥)) → (list : List ℕ) → AllPairs (λ m n. P n → P m) list
@@ -49,7 +52,8 @@ split_where P test (x ∷ list) pairs = go (test x)
       x ∷ list,
       refl,
       All-nil P,
-      All-cons (λ n. P n → ⊥) x list fails (All-weaker (λ n. P n → P x) (λ n. P n → ⊥) (λ n back p. fails (back p)) list (head_pairs (λ m n. P n → P m) x list pairs)),
+      All-cons (λ n. P n → ⊥) x list fails (All-weaker (λ n. P n → P x) (λ n. P n → ⊥) (λ n back p. fails (back p)) list
+          (head_pairs (λ m n. P n → P m) x list pairs)),
     )
 
 is_less : (o : Ordering) → (o ≡ Less) ⊎ (o ≢ Less)
@@ -67,7 +71,8 @@ not_other Less wrong = absurd (wrong (λ e. cc))
 not_other Equal wrong = absurd (wrong (λ e. cc))
 not_other Greater wrong = refl
 
-pub splits_from : (side : ℕ → Ordering) (list : List ℕ) → AllPairs (λ m n. side n ≡ Less → side m ≡ Less) list → (before : List ℕ) × (after : List ℕ) × (list ≡ before ++ after) × SplitsFrom side before after
+pub splits_from : (side : ℕ → Ordering) (list : List ℕ) → AllPairs (λ m n. side n ≡ Less → side m ≡ Less) list → (before : List ℕ) × (after : List ℕ)
+    × (list ≡ before ++ after) × SplitsFrom side before after
 splits_from side list pairs =
     let s = split_where (λ n. side n ≡ Less) (λ n. is_less (side n)) list pairs in
     (s.0, s.1, s.2, record { less = s.3; rest = s.4 })
@@ -76,5 +81,13 @@ pub splits_after : (side : ℕ → Ordering) (list : List ℕ) → AllPairs (λ 
     → (before : List ℕ) × (after : List ℕ) × (list ≡ before ++ after) × SplitsAfter side before after
 splits_after side list pairs =
     let back : AllPairs (λ m n. side n ≢ Greater → side m ≢ Greater) list = (λ i j d rising less other more. other (pairs i j d rising less more)) in
-    let s = split_where (λ n. side n ≢ Greater) (λ n. is_greater (side n)) list back in
-    (s.0, s.1, s.2, record { rest = s.3; greater = All-weaker (λ n. (side n ≢ Greater) → ⊥) (λ n. side n ≡ Greater) (λ n wrong. not_other (side n) wrong) s.1 s.4 })
+    let s = split_where (λ n. side n ≢ Greater) (λ n. is_greater (side n)) list back in (
+      s.0,
+      s.1,
+      s.2,
+      record {
+        rest = s.3;
+        greater = All-weaker (λ n. (side n ≢ Greater) → ⊥) (λ n. side n ≡ Greater)
+            (λ n wrong. not_other (side n) wrong) s.1 s.4;
+      },
+    )

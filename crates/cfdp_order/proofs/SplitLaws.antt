@@ -1,4 +1,4 @@
--- A list of two parts that are told apart, at a node of it.
+-- A list of two parts that are distinguished, at a node of it.
 --     split_right        a node of the first part: what comes after it
 --     split_left         a node of the second part: what comes before it
 use Rattle.std.proofs.Common.{◌≡◌, ℕ, List, [], ◌∷◌, ◌++◌, refl, sym, subst}
@@ -39,7 +39,8 @@ same_head e = cc
 same_tail : {x y : ℕ} {r s : List ℕ} → (x ∷ r) ≡ (y ∷ s) → r ≡ s
 same_tail e = cc
 
-pub split_right : (P Q : ℕ → Type 0) (l : List ℕ) (x : ℕ) (r before after : List ℕ) → l ++ x ∷ r ≡ before ++ after → All P before → All Q after → (Q x → ⊥) → SplitRight P l x r before after
+pub split_right : (P Q : ℕ → Type 0) (l : List ℕ) (x : ℕ) (r before after : List ℕ) → l ++ x ∷ r ≡ before ++ after → All P before → All Q after → (Q x → ⊥) →
+    SplitRight P l x r before after
 split_right P Q l x r [] after e less more apart = absurd (apart (All_middle Q l x r (subst (All Q) (sym e) more)))
 split_right P Q [] x r (y ∷ before) after e less more apart = record {
   rest = before;
@@ -57,7 +58,8 @@ pub record SplitLeft (Q : ℕ → Type 0) (l : List ℕ) (x : ℕ) (r before aft
   pub left_is : l ≡ before ++ rest
   pub all : All Q rest
 
-pub split_left : (P Q : ℕ → Type 0) (l : List ℕ) (x : ℕ) (r before after : List ℕ) → l ++ x ∷ r ≡ before ++ after → All P before → All Q after → (P x → ⊥) → SplitLeft Q l x r before after
+pub split_left : (P Q : ℕ → Type 0) (l : List ℕ) (x : ℕ) (r before after : List ℕ) → l ++ x ∷ r ≡ before ++ after → All P before → All Q after → (P x → ⊥) →
+    SplitLeft Q l x r before after
 split_left P Q l x r [] after e less more apart = record { rest = l; after_is = sym e; left_is = refl; all = All_left Q l x r (subst (All Q) (sym e) more) }
 split_left P Q [] x r (y ∷ before) after e less more apart = absurd (apart (subst P (sym (same_head e)) (All-head P y before less)))
 split_left P Q (z ∷ l) x r (y ∷ before) after e less more apart =

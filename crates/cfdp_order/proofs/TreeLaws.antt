@@ -87,7 +87,8 @@ pub parts : (links : List Links) (order : Order) → IsOrder links order → 0 <
 parts links order is some =
     let s = split is.tree some in
     let w = links_at links order.root in
-    let once : (n : ℕ) → times n s.before + (one order.root n + times n s.after) ≤ 1 = λ n. subst (λ m. m ≤ 1) (ap (times n) s.listed ∙ times_middle n s.before order.root s.after) (is.once n) in
+    let once : (n : ℕ) → times n s.before + (one order.root n + times n s.after) ≤ 1 =
+    λ n. subst (λ m. m ≤ 1) (ap (times n) s.listed ∙ times_middle n s.before order.root s.after) (is.once n) in
     record {
       within = s.within;
       left = order_of s.left (λ n. omega (arith, once n));
@@ -123,7 +124,8 @@ pub stays_apart : (old new : List Links) (order : Order) (list : List ℕ) → I
 stays_apart old new order list is others apart = stays old new order is others.long (λ n some. others.same n (omega (arith, some, apart n)))
 
 -- a node's links are written, and lead to two trees
-module _ (links : List Links) (left : Order) (node : ℕ) (right : Order) (around : Links) (can : CanJoin links left node right) (to_left : left_of around ≡ left) (to_right : right_of around ≡ right)
+module _ (links : List Links) (left : Order) (node : ℕ) (right : Order) (around : Links) (can : CanJoin links left node right) (to_left : left_of around ≡ left)
+    (to_right : right_of around ≡ right)
     (near : AreNear left.height right.height) (height : ℕ) (high : height ≡ max left.height right.height + 1) where
   written : List Links
   written = set links node around
@@ -136,7 +138,8 @@ module _ (links : List Links) (left : Order) (node : ℕ) (right : Order) (aroun
   unfolding written
   others = record {
     long = length-set links node around;
-    same = (λ n none. get_or-set_other links node n around no_links (λ e. absurd (let here = subst (λ k. one node k ≡ 1) (sym e) (one_self node) in omega arith)));
+    same = (λ n none. get_or-set_other links node n around no_links (λ e. absurd (let here = subst (λ k. one node k ≡ 1) (sym e) (one_self node) in
+        omega arith)));
   }
 
   apart : (n : ℕ) → times n (nodes links left) + (one node n + times n (nodes links right)) ≤ 1
@@ -194,5 +197,6 @@ opened {links} {order} is some n_is {a} {b} a_is b_is =
     }
 
 -- the same where its links alone were read
-pub opened_at : {links : List Links} {order : Order} → IsOrder links order → 0 < order.height → {n : ℕ} → n ≡ order.root → Opened links order (left_of (links_at links n)) (right_of (links_at links n))
+pub opened_at : {links : List Links} {order : Order} → IsOrder links order → 0 < order.height → {n : ℕ} → n ≡ order.root →
+    Opened links order (left_of (links_at links n)) (right_of (links_at links n))
 opened_at is some n_is = opened is some n_is refl refl

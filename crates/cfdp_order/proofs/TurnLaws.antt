@@ -7,7 +7,7 @@
 --     next_listed, next_can, next_others     after the first and the second one were joined
 --     Four                       four orders, and the nodes between them, of which the outer pairs are joined first
 --     first_pair, second_pair, both_pairs    what may be joined, and when
---     four_listed, four_others   what comes of it
+--     four_listed, four_others   what results from it
 --     three_right, three_left, four_right, four_left     the parts of an order on one side of a node
 use Rattle.std.proofs.Common.{◌≡◌, ℕ, ◌+◌, ◌<◌, ◌≤◌, List, [], ◌∷◌, ◌++◌, length, sym, ap, ◌∙◌, subst, arith, append_assoc}
 use Rattle.cfdp_order.specs.declared.links.Links.{Links}
@@ -40,19 +40,35 @@ pub record Three (links : List Links) (a : Order) (p : ℕ) (b : Order) (q : ℕ
 
 module _ (links : List Links) (a : Order) (p : ℕ) (b : Order) (q : ℕ) (d : Order) (whole : List ℕ) (t : Three links a p b q d whole) where
   counted : (n : ℕ) → times n whole ≡ times n (nodes links a) + (one p n + (times n (nodes links b) + (one q n + times n (nodes links d))))
-  counted n = ap (times n) t.is_whole ∙ omega (arith, times_middle n (nodes links a) p (nodes links b ++ q ∷ nodes links d), times_middle n (nodes links b) q (nodes links d))
+  counted n = ap (times n) t.is_whole ∙ omega (
+    arith,
+    times_middle n (nodes links a) p (nodes links b ++ q ∷ nodes links d),
+    times_middle n (nodes links b) q (nodes links d),
+  )
 
   each_once : (n : ℕ) → times n (nodes links a) + (one p n + (times n (nodes links b) + (one q n + times n (nodes links d)))) ≤ 1
   each_once n = omega (arith, counted n, t.once n)
 
 module _ {links : List Links} {a : Order} {p : ℕ} {b : Order} {q : ℕ} {d : Order} {whole : List ℕ} (t : Three links a p b q d whole) where
   pub right_pair : CanJoin links b q d
-  right_pair = record { before = t.is_b; after = t.is_d; within = t.q_in; once = (λ n. omega (arith, each_once links a p b q d whole t n, times_middle n (nodes links b) q (nodes links d))) }
+  right_pair = record {
+    before = t.is_b;
+    after = t.is_d;
+    within = t.q_in;
+    once = (λ n. omega (arith, each_once links a p b q d whole t n, times_middle n (nodes links b) q (nodes links d)));
+  }
 
   pub left_pair : CanJoin links a p b
-  left_pair = record { before = t.is_a; after = t.is_b; within = t.p_in; once = (λ n. omega (arith, each_once links a p b q d whole t n, times_middle n (nodes links a) p (nodes links b))) }
+  left_pair = record {
+    before = t.is_a;
+    after = t.is_b;
+    within = t.p_in;
+    once = (λ n.
+        omega (arith, each_once links a p b q d whole t n, times_middle n (nodes links a) p (nodes links b)));
+  }
 
-module _ {links then : List Links} {a : Order} {p : ℕ} {b : Order} {q : ℕ} {d right : Order} {whole : List ℕ} (t : Three links a p b q d whole) (joined : Joined links then b q d right) where
+module _ {links then : List Links} {a : Order} {p : ℕ} {b : Order} {q : ℕ} {d right : Order} {whole : List ℕ} (t : Three links a p b q d whole)
+    (joined : Joined links then b q d right) where
   pub then_stays : Stays links then a
   then_stays = stays_apart links then a (q ∷ []) t.is_a joined.others (λ n. omega (arith, each_once links a p b q d whole t n))
 
@@ -60,12 +76,19 @@ module _ {links then : List Links} {a : Order} {p : ℕ} {b : Order} {q : ℕ} {
   then_listed = (λ i. then_stays.listed i ++ p ∷ joined.listed i) ∙ sym t.is_whole
 
   pub then_can : CanJoin then a p right
-  then_can = record { before = then_stays.is; after = joined.is; within = omega (arith, t.p_in, joined.others.long); once = (λ n. subst (λ l. times n l ≤ 1) (sym then_listed) (t.once n)) }
+  then_can = record {
+    before = then_stays.is;
+    after = joined.is;
+    within = omega (arith, t.p_in, joined.others.long);
+    once = (λ n. subst (λ l. times n l ≤ 1) (sym then_listed) (t.once n));
+  }
 
   pub then_others : {last : List Links} → OthersStay then last (p ∷ []) → OthersStay links last whole
-  then_others others = let each = counted links a p b q d whole t in others_then joined.others others (λ n none. (omega (arith, each n, none), omega (arith, each n, none)))
+  then_others others = let each = counted links a p b q d whole t in others_then joined.others others
+      (λ n none. (omega (arith, each n, none), omega (arith, each n, none)))
 
-module _ {links then : List Links} {a : Order} {p : ℕ} {b : Order} {q : ℕ} {d left : Order} {whole : List ℕ} (t : Three links a p b q d whole) (joined : Joined links then a p b left) where
+module _ {links then : List Links} {a : Order} {p : ℕ} {b : Order} {q : ℕ} {d left : Order} {whole : List ℕ} (t : Three links a p b q d whole)
+    (joined : Joined links then a p b left) where
   pub next_stays : Stays links then d
   next_stays = stays_apart links then d (p ∷ []) t.is_d joined.others (λ n. omega (arith, each_once links a p b q d whole t n))
 
@@ -73,10 +96,16 @@ module _ {links then : List Links} {a : Order} {p : ℕ} {b : Order} {q : ℕ} {
   next_listed = (λ i. joined.listed i ++ q ∷ next_stays.listed i) ∙ append_assoc (nodes links a) (p ∷ nodes links b) (q ∷ nodes links d) ∙ sym t.is_whole
 
   pub next_can : CanJoin then left q d
-  next_can = record { before = joined.is; after = next_stays.is; within = omega (arith, t.q_in, joined.others.long); once = (λ n. subst (λ l. times n l ≤ 1) (sym next_listed) (t.once n)) }
+  next_can = record {
+    before = joined.is;
+    after = next_stays.is;
+    within = omega (arith, t.q_in, joined.others.long);
+    once = (λ n. subst (λ l. times n l ≤ 1) (sym next_listed) (t.once n));
+  }
 
   pub next_others : {last : List Links} → OthersStay then last (q ∷ []) → OthersStay links last whole
-  next_others others = let each = counted links a p b q d whole t in others_then joined.others others (λ n none. (omega (arith, each n, none), omega (arith, each n, none)))
+  next_others others = let each = counted links a p b q d whole t in others_then joined.others others
+      (λ n none. (omega (arith, each n, none), omega (arith, each n, none)))
 
 pub record Four (links : List Links) (a : Order) (p : ℕ) (b : Order) (q : ℕ) (d : Order) (r : ℕ) (e : Order) (whole : List ℕ) : Type 0 where
   pub is_a : IsOrder links a
@@ -89,20 +118,35 @@ pub record Four (links : List Links) (a : Order) (p : ℕ) (b : Order) (q : ℕ)
   pub is_whole : whole ≡ nodes links a ++ p ∷ (nodes links b ++ q ∷ (nodes links d ++ r ∷ nodes links e))
   pub once : (n : ℕ) → times n whole ≤ 1
 
-module _ (links : List Links) (a : Order) (p : ℕ) (b : Order) (q : ℕ) (d : Order) (r : ℕ) (e : Order) (whole : List ℕ) (f : Four links a p b q d r e whole) where
-  counted4 : (n : ℕ) → times n whole ≡ times n (nodes links a) + (one p n + (times n (nodes links b) + (one q n + (times n (nodes links d) + (one r n + times n (nodes links e))))))
+module _ (links : List Links) (a : Order) (p : ℕ) (b : Order) (q : ℕ) (d : Order) (r : ℕ) (e : Order) (whole : List ℕ)
+    (f : Four links a p b q d r e whole) where
+  counted4 : (n : ℕ) → times n whole ≡ times n (nodes links a) + (one p n
+      + (times n (nodes links b) + (one q n + (times n (nodes links d) + (one r n + times n (nodes links e))))))
   counted4 n =
       let back = nodes links d ++ r ∷ nodes links e in
-      ap (times n) f.is_whole ∙ omega (arith, times_middle n (nodes links a) p (nodes links b ++ q ∷ back), times_middle n (nodes links b) q back, times_middle n (nodes links d) r (nodes links e))
+      ap (times n) f.is_whole ∙ omega (
+        arith,
+        times_middle n (nodes links a) p (nodes links b ++ q ∷ back),
+        times_middle n (nodes links b) q back,
+        times_middle n (nodes links d) r (nodes links e),
+      )
 
-  each_once4 : (n : ℕ) → times n (nodes links a) + (one p n + (times n (nodes links b) + (one q n + (times n (nodes links d) + (one r n + times n (nodes links e)))))) ≤ 1
+  each_once4 : (n : ℕ) → times n (nodes links a) + (one p n + (times n (nodes links b)
+      + (one q n + (times n (nodes links d) + (one r n + times n (nodes links e)))))) ≤ 1
   each_once4 n = omega (arith, counted4 n, f.once n)
 
-module _ {links : List Links} {a : Order} {p : ℕ} {b : Order} {q : ℕ} {d : Order} {r : ℕ} {e : Order} {whole : List ℕ} (f : Four links a p b q d r e whole) where
+module _ {links : List Links} {a : Order} {p : ℕ} {b : Order} {q : ℕ} {d : Order} {r : ℕ} {e : Order} {whole : List ℕ}
+    (f : Four links a p b q d r e whole) where
   pub first_pair : CanJoin links a p b
-  first_pair = record { before = f.is_a; after = f.is_b; within = f.p_in; once = (λ n. omega (arith, each_once4 links a p b q d r e whole f n, times_middle n (nodes links a) p (nodes links b))) }
+  first_pair = record {
+    before = f.is_a;
+    after = f.is_b;
+    within = f.p_in;
+    once = (λ n. omega (arith, each_once4 links a p b q d r e whole f n, times_middle n (nodes links a) p (nodes links b)));
+  }
 
-module _ {links then : List Links} {a : Order} {p : ℕ} {b : Order} {q : ℕ} {d : Order} {r : ℕ} {e left : Order} {whole : List ℕ} (f : Four links a p b q d r e whole) (first : Joined links then a p b left) where
+module _ {links then : List Links} {a : Order} {p : ℕ} {b : Order} {q : ℕ} {d : Order} {r : ℕ} {e left : Order} {whole : List ℕ}
+    (f : Four links a p b q d r e whole) (first : Joined links then a p b left) where
   pub d_stays : Stays links then d
   d_stays = stays_apart links then d (p ∷ []) f.is_d first.others (λ n. omega (arith, each_once4 links a p b q d r e whole f n))
 
@@ -117,14 +161,20 @@ module _ {links then : List Links} {a : Order} {p : ℕ} {b : Order} {q : ℕ} {
     before = d_stays.is;
     after = e_stays.is;
     within = omega (arith, f.r_in, first.others.long);
-    once = (λ n. subst (λ l. times n l ≤ 1) (sym right_listed) (omega (arith, each_once4 links a p b q d r e whole f n, times_middle n (nodes links d) r (nodes links e))));
+    once = (λ n. subst (λ l. times n l ≤ 1) (sym right_listed) (omega (
+      arith,
+      each_once4 links a p b q d r e whole f n,
+      times_middle n (nodes links d) r (nodes links e),
+    )));
   }
 
-module _ {links then next : List Links} {a : Order} {p : ℕ} {b : Order} {q : ℕ} {d : Order} {r : ℕ} {e left right : Order} {whole : List ℕ} (f : Four links a p b q d r e whole)
+module _ {links then next : List Links} {a : Order} {p : ℕ} {b : Order} {q : ℕ} {d : Order} {r : ℕ} {e left right : Order} {whole : List ℕ}
+    (f : Four links a p b q d r e whole)
     (first : Joined links then a p b left) (second : Joined then next d r e right) where
   pub left_stays : Stays then next left
   left_stays = stays_apart then next left (r ∷ []) first.is second.others
-      (λ n. subst (λ l. times n l + times n (r ∷ []) ≤ 1) (sym first.listed) (omega (arith, each_once4 links a p b q d r e whole f n, times_middle n (nodes links a) p (nodes links b))))
+      (λ n. subst (λ l. times n l + times n (r ∷ []) ≤ 1) (sym first.listed)
+      (omega (arith, each_once4 links a p b q d r e whole f n, times_middle n (nodes links a) p (nodes links b))))
 
   pub four_listed : nodes next left ++ q ∷ nodes next right ≡ whole
   four_listed = (λ i. (left_stays.listed ∙ first.listed) i ++ q ∷ (second.listed ∙ right_listed f first) i)
@@ -145,7 +195,8 @@ module _ {links then next : List Links} {a : Order} {p : ℕ} {b : Order} {q : �
       others_then two others (λ n none. (omega (arith, each n, none), omega (arith, each n, none)))
 
 -- the parts of an order in front of a node
-opened_left : (links : List Links) (left a b : Order) (node : ℕ) (rest : List ℕ) → Opened links left a b → nodes links left ++ node ∷ rest ≡ nodes links a ++ left.root ∷ (nodes links b ++ node ∷ rest)
+opened_left : (links : List Links) (left a b : Order) (node : ℕ) (rest : List ℕ) → Opened links left a b → nodes links left ++ node ∷ rest ≡ nodes links a
+    ++ left.root ∷ (nodes links b ++ node ∷ rest)
 opened_left links left a b node rest o = (λ i. o.listed i ++ node ∷ rest) ∙ append_assoc (nodes links a) (left.root ∷ nodes links b) (node ∷ rest)
 
 pub three_right : {links : List Links} {left a b : Order} {node : ℕ} {right : Order} → CanJoin links left node right → Opened links left a b
@@ -172,7 +223,8 @@ three_left {links} {left} {node} can o = record {
   once = can.once;
 }
 
-pub four_right : {links : List Links} {left a m b d : Order} {node : ℕ} {right : Order} → CanJoin links left node right → Opened links left a m → Opened links m b d
+pub four_right : {links : List Links} {left a m b d : Order} {node : ℕ} {right : Order} → CanJoin links left node right → Opened links left a m →
+    Opened links m b d
     → Four links a left.root b m.root d node right (nodes links left ++ node ∷ nodes links right)
 four_right {links} {left} {a} {m} {b} {d} {node} {right} can o i = record {
   is_a = o.is_a;
@@ -186,7 +238,8 @@ four_right {links} {left} {a} {m} {b} {d} {node} {right} can o i = record {
   once = can.once;
 }
 
-pub four_left : {links : List Links} {left : Order} {node : ℕ} {right m e b d : Order} → CanJoin links left node right → Opened links right m e → Opened links m b d
+pub four_left : {links : List Links} {left : Order} {node : ℕ} {right m e b d : Order} → CanJoin links left node right → Opened links right m e →
+    Opened links m b d
     → Four links left node b m.root d right.root e (nodes links left ++ node ∷ nodes links right)
 four_left {links} {left} {node} {right} {m} {e} {b} {d} can o i = record {
   is_a = can.before;

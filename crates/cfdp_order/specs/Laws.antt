@@ -1,7 +1,7 @@
 -- Laws of orders, which follow from the definitions alone.
 --     NoLevels               each order of no levels is one of no nodes
---     FewLevels              an order has at least `least_nodes` nodes for its levels, and one of at most 65,536 nodes has
---                            at most 22 levels
+--     FewLevels              an order has at least `least_nodes` nodes for its levels, and one of at most 65,536 nodes
+--                            has at most 22 levels
 --     NodesWithin            each node of an order has links, and an order has no more nodes than there are links
 --     NodesOnce              no two nodes of an order are equal, and a node is in its list exactly if it is there once
 --     OtherOrdersStay        an order none of whose nodes is in a list stays, if only links of nodes in the list change
@@ -23,23 +23,30 @@ FewLevels = (links : List Links) (order : Order) → IsOrder links order →
 
 abbrev pub NodesWithin : Type 0
 NodesWithin = (links : List Links) (order : Order) → IsOrder links order →
-    ((node : ℕ) → 1 ≤ times node (nodes links order) → node < length links) × (length (nodes links order) ≤ length links)
+    ((node : ℕ) → 1 ≤ times node (nodes links order) → node < length links)
+    × (length (nodes links order) ≤ length links)
 
 abbrev pub NodesOnce : Type 0
 NodesOnce = (links : List Links) (order : Order) → IsOrder links order →
-    AllPairs (λ m n. m ≢ n) (nodes links order) × ((node : ℕ) → Contains (nodes links order) node ↔ (times node (nodes links order) ≡ 1))
+    AllPairs (λ m n. m ≢ n) (nodes links order) × ((node : ℕ) → Contains (nodes links order) node
+    ↔ (times node (nodes links order) ≡ 1))
 
 abbrev pub OtherOrdersStay : Type 0
 OtherOrdersStay = (old new : List Links) (order : Order) (list : List ℕ) → IsOrder old order → OthersStay old new list
-    → ((node : ℕ) → 1 ≤ times node (nodes old order) → times node list ≡ 0) → IsOrder new order × (nodes new order ≡ nodes old order)
+    → ((node : ℕ) → 1 ≤ times node (nodes old order) → times node list ≡ 0) → IsOrder new order
+    × (nodes new order ≡ nodes old order)
 
 abbrev pub SplitsOfSorted : Type 0
 SplitsOfSorted = (side : ℕ → Ordering) (list : List ℕ) →
-    (AllPairs (λ m n. side n ≡ Less → side m ≡ Less) list → (before : List ℕ) × (after : List ℕ) × (list ≡ before ++ after) × SplitsFrom side before after)
-    × (AllPairs (λ m n. side m ≡ Greater → side n ≡ Greater) list → (before : List ℕ) × (after : List ℕ) × (list ≡ before ++ after) × SplitsAfter side before after)
+    (AllPairs (λ m n. side n ≡ Less → side m ≡ Less) list → (before : List ℕ) × (after : List ℕ)
+    × (list ≡ before ++ after) × SplitsFrom side before after)
+    × (AllPairs (λ m n. side m ≡ Greater → side n ≡ Greater) list → (before : List ℕ) × (after : List ℕ)
+    × (list ≡ before ++ after) × SplitsAfter side before after)
 
 abbrev pub SortedStays : Type 0
 SortedStays = (compared : ℕ → ℕ → Ordering) (before : List ℕ) (node : ℕ) (after : List ℕ) →
-    (AllPairs (λ m n. compared m n ≡ Less) (before ++ after) → All (λ m. compared m node ≡ Less) before → All (λ n. compared node n ≡ Less) after
+    (AllPairs (λ m n. compared m n ≡ Less) (before ++ after) → All (λ m. compared m node ≡ Less) before →
+    All (λ n. compared node n ≡ Less) after
     → AllPairs (λ m n. compared m n ≡ Less) (before ++ node ∷ after))
-    × (AllPairs (λ m n. compared m n ≡ Less) (before ++ node ∷ after) → AllPairs (λ m n. compared m n ≡ Less) (before ++ after))
+    × (AllPairs (λ m n. compared m n ≡ Less) (before ++ node ∷ after) →
+    AllPairs (λ m n. compared m n ≡ Less) (before ++ after))

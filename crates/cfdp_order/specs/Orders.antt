@@ -47,7 +47,8 @@ pub data IsTree (links : List Links) : Order → List ℕ → Type 0 where
 abbrev pub nodes_within : List Links → ℕ → Order → List ℕ
 nodes_within links zero order = []
 nodes_within links (suc n) order = cond (order.height == 0) [] (
-    nodes_within links n (left_of (links_at links order.root)) ++ order.root ∷ nodes_within links n (right_of (links_at links order.root)))
+    nodes_within links n (left_of (links_at links order.root))
+    ++ order.root ∷ nodes_within links n (right_of (links_at links order.root)))
 
 unfoldable pub nodes : List Links → Order → List ℕ
 nodes links order = nodes_within links order.height order

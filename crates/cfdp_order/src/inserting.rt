@@ -7,8 +7,8 @@ use crate::links::{Links, Order};
 use crate::sought::Sought;
 use std::cmp::Ordering;
 
-/// Inserts a node into an order, where it comes after the nodes that come before what is sought, and before the rest. The
-/// node is in no order yet, and its index is within the array.
+/// Inserts a node into an order, where it comes after the nodes that come before what is sought, and before the rest.
+/// The node is in no order yet, and its index is within the array.
 ///
 /// Returns the new order; the old one means nothing then. By at most as many comparisons as the old order has levels,
 /// each in a call within the one before it.

@@ -7,8 +7,8 @@ pub fn no_levels()
     ensures { NoLevels }
 {}
 
-/// The least nodes that an order with some levels has: 0 for none, 1 for one, and for more levels 1 more than for one level
-/// less and for two levels less together. So an order of at most 65,536 nodes has at most 22 levels.
+/// The least nodes that an order with some levels has: 0 for none, 1 for one, and for more levels 1 more than for one
+/// level less and for two levels less together. So an order of at most 65,536 nodes has at most 22 levels.
 pub fn few_levels()
     ensures { FewLevels }
 {}
@@ -34,8 +34,8 @@ pub fn splits_of_sorted()
     ensures { SplitsOfSorted }
 {}
 
-/// A list whose nodes rise by a comparison of two nodes still does with one node more between the lesser and the greater
-/// ones, and with one node less.
+/// A list whose nodes rise by a comparison of two nodes still does with one node more between the lesser and the
+/// greater ones, and with one node less.
 pub fn sorted_stays()
     ensures { SortedStays }
 {}

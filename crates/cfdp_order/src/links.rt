@@ -11,8 +11,8 @@ pub struct Order {
     pub height: u8,
 }
 
-/// The links of a node: the orders of the nodes to its left and to its right. A height of 0 says that there are none. It
-/// takes 6 octets.
+/// The links of a node: the orders of the nodes to its left and to its right. A height of 0 says that there are none.
+/// It takes 6 octets.
 #[derive(Clone, Copy, Debug, PartialEq, Eq)]
 pub struct Links {
     /// The node at the top to the left.

@@ -14,8 +14,8 @@ struct Front {
     rest: Order,
 }
 
-/// Removes a node from an order. In the order, the nodes before it come before what is sought, and the nodes after it do
-/// not. An order without the node keeps its nodes.
+/// Removes a node from an order. In the order, the nodes before it come before what is sought, and the nodes after it
+/// do not. An order without the node keeps its nodes.
 ///
 /// Returns the new order; the old one means nothing then. By at most as many comparisons as the old order has levels,
 /// each in a call within the one before it.

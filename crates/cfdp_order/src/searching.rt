@@ -45,8 +45,8 @@ pub fn first_from<S: Sought>(links: &[Links], order: Order, sought: &S) -> Optio
     found
 }
 
-/// The first node of an order that comes after what is sought; `None` if none does. By at most as many comparisons as the
-/// order has levels.
+/// The first node of an order that comes after what is sought; `None` if none does. By at most as many comparisons as
+/// the order has levels.
 pub fn first_after<S: Sought>(links: &[Links], order: Order, sought: &S) -> Option<u16>
     requires order { IsOrder links.now order }
     requires small { length links.now ≤ 65536 }

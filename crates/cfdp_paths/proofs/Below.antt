@@ -6,7 +6,7 @@
 --     ancestors-push, ancestors-take, ancestors-Contains, below_ancestor, ancestor_from_below
 --     IsPath-take, IsPath-prefix, IsPath-rebased           paths made of paths
 --     rebased_depth                                        the depth of such a path
---     path_cmp-below                                       a path stands before what is below it
+--     path_cmp-below                                       a path is before what is below it
 use Rattle.std.proofs.Common.{◌≡◌, ◌≢◌, refl, sym, ◌∙◌, ap, subst, ℕ, zero, suc, ◌+◌, ◌-◌, ◌≤◌, ◌<◌, true, false, not, ◌⊎◌, ◌↔◌, inl, inr, List, [], ◌∷◌, ◌++◌, map, length, take, drop, arith, length-append, length-take, length-drop, take-append-drop, get_or, Some, None, Contains}
 use Rattle.std.specs.Bool.{Decides}
 use Rattle.std.specs.Cmp.{tied_itself}
@@ -104,7 +104,11 @@ is_below-Decides p q =
 
 pub parent_below : (p : Path) → 1 ≤ length p → is_below p (parent p) ≡ true
 parent_below p some =
-    (is_below-Decides p (parent p)).1 (parent_at_or_below p, λ e. let same : length p ≡ length (take (length p - 1) p) = ap length (e ∙ parent-take p) in omega (arith, length-take (length p - 1) p))
+    (is_below-Decides p (parent p)).1 (
+      parent_at_or_below p,
+      λ e. let same : length p ≡ length (take (length p - 1) p) = ap length (e ∙ parent-take p) in
+          omega (arith, length-take (length p - 1) p),
+    )
 
 other_rest : (m n : Name) (p q : Path) → m ≡ n → ◌≢◌ {A = Path} (m ∷ p) (n ∷ q) → p ≢ q
 other_rest m n p q same other e = other (ap (λ x. x ∷ p) same ∙ ap (λ x. n ∷ x) e)
@@ -200,7 +204,8 @@ IsPath-rebased p q x room above v w = record {
 }
 
 -- its depth, where the depths of the three are known
-pub rebased_depth : (own to from : ℕ) (x q p : Path) → length p ≤ length x → own ≡ length x → to ≡ length q → from ≡ length p → own + to - from ≡ length (rebased p q x)
+pub rebased_depth : (own to from : ℕ) (x q p : Path) → length p ≤ length x → own ≡ length x → to ≡ length q → from ≡ length p → own + to - from
+    ≡ length (rebased p q x)
 rebased_depth own to from x q p short own_is to_is from_is = omega (arith, length-rebased p q x, short, own_is, to_is, from_is)
 
 -- a prefix of a path, the root apart, is a path
@@ -256,7 +261,7 @@ length-at_or_below p q h =
 name_cmp-itself : (n : Name) → slice_cmp nat_cmp n n ≡ Equal
 name_cmp-itself = tied_itself nat_list_cmp_total
 
--- a path stands before all that is strictly below it
+-- a path is before all that is strictly below it
 pub path_cmp-below : (p q : Path) → is_at_or_below p q ≡ true → p ≢ q → path_cmp q p ≡ Less
 path_cmp-below [] [] h other = absurd (other refl)
 path_cmp-below (m ∷ p) [] h other = refl

@@ -1,5 +1,5 @@
 -- Comparisons of paths.
---     same_name-Decides, same_path-Decides      the tests tell whether two names, or two paths, are equal
+--     same_name-Decides, same_path-Decides      the tests say whether two names, or two paths, are equal
 use Rattle.std.proofs.Common.{◌≡◌, ◌∙◌, ap, Bool, nat_eq, subst}
 use Rattle.std.specs.Bool.{Decides}
 use Rattle.std.specs.Cmp.{IsTotalOrder}

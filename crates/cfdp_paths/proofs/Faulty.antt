@@ -51,23 +51,24 @@ pub name_from_no_fault : (n : Name) → LacksSlash n → fault_of_name n ≡ Non
 name_from_no_fault n lacks e =
     elim (chosen (length n == 0) (Some EmptyName) (fault_of_some n) None e) [
       | inl h ↦ absurd (none-some EmptyName (sym h.1))
-      | inr h ↦ elim (chosen (same_name n (dot ∷ []) || same_name n (dot ∷ dot ∷ []) || list_any (λ octet. octet == 0) n) (Some BadName) (fault_of_good n) None h.1) [
-        | inl bad ↦ absurd (none-some BadName (sym bad.1))
-        | inr good ↦ elim (chosen (nat_lt 96 (length n)) (Some NameTooLong) None None good.1) [
-          | inl long ↦ absurd (none-some NameTooLong (sym long.1))
-          | inr short ↦
-              let nonempty : length n ≢ 0 = eqb-false (length n) 0 h.0 in
-              let tests = or_parts (same_name n (dot ∷ []) || same_name n (dot ∷ dot ∷ [])) (list_any (λ octet. octet == 0) n) good.0 in
-              let dots = or_parts (same_name n (dot ∷ [])) (same_name n (dot ∷ dot ∷ [])) tests.0 in
-              record {
-                some = omega arith;
-                short = ltb-false 96 (length n) short.0;
-                octets = both n lacks (zero_free n tests.1);
-                not_dot = not_from_Decides (same_name n (dot ∷ [])) (same_name-Decides n (dot ∷ [])) dots.0;
-                not_dots = not_from_Decides (same_name n (dot ∷ dot ∷ [])) (same_name-Decides n (dot ∷ dot ∷ [])) dots.1;
-              }
-        ]
-      ]
+      | inr h ↦ elim (chosen (same_name n (dot ∷ []) || same_name n (dot ∷ dot ∷ []) || list_any (λ octet. octet == 0) n) (Some BadName)
+          (fault_of_good n) None h.1) [
+            | inl bad ↦ absurd (none-some BadName (sym bad.1))
+            | inr good ↦ elim (chosen (nat_lt 96 (length n)) (Some NameTooLong) None None good.1) [
+              | inl long ↦ absurd (none-some NameTooLong (sym long.1))
+              | inr short ↦
+                  let nonempty : length n ≢ 0 = eqb-false (length n) 0 h.0 in
+                  let tests = or_parts (same_name n (dot ∷ []) || same_name n (dot ∷ dot ∷ [])) (list_any (λ octet. octet == 0) n) good.0 in
+                  let dots = or_parts (same_name n (dot ∷ [])) (same_name n (dot ∷ dot ∷ [])) tests.0 in
+                  record {
+                    some = omega arith;
+                    short = ltb-false 96 (length n) short.0;
+                    octets = both n lacks (zero_free n tests.1);
+                    not_dot = not_from_Decides (same_name n (dot ∷ [])) (same_name-Decides n (dot ∷ [])) dots.0;
+                    not_dots = not_from_Decides (same_name n (dot ∷ dot ∷ [])) (same_name-Decides n (dot ∷ dot ∷ [])) dots.1;
+                  }
+            ]
+          ]
     ]
 
 pub no_fault_of_name : (n : Name) → IsName n → fault_of_name n ≡ None
@@ -111,7 +112,8 @@ lacks_onto_first octet (part ∷ parts) e h =
     (All-cons (λ o. is_slash o ≡ false) octet part e (All-head LacksSlash part parts h))
     (All-tail LacksSlash part parts h)
 
-lacks_split : (octet : ℕ) (parts : List Name) (b : Bool) → is_slash octet ≡ b → All LacksSlash parts → All LacksSlash (cond b ([] ∷ parts) (onto_first octet parts))
+lacks_split : (octet : ℕ) (parts : List Name) (b : Bool) → is_slash octet ≡ b → All LacksSlash parts →
+    All LacksSlash (cond b ([] ∷ parts) (onto_first octet parts))
 lacks_split octet parts true e h = All-cons LacksSlash [] parts (All-nil (λ o. is_slash o ≡ false)) h
 lacks_split octet parts false e h = lacks_onto_first octet parts e h
 
@@ -152,7 +154,8 @@ fault-unspelled octets p fault e h = none-some fault (sym (no_fault-spelled octe
 pub no_path_from_fault : (octets : List ℕ) (fault : PathFault) → fault_of octets ≡ Some fault → path_of octets ≡ None
 no_path_from_fault octets fault e =
     cond-false (is_path (names_in octets)) (Some (names_in octets)) None
-    (false_from_ne_true (is_path (names_in octets)) (λ h. fault-unspelled octets (names_in octets) fault e (spells_names_in octets ((is_path-Decides (names_in octets)).0 h))))
+    (false_from_ne_true (is_path (names_in octets)) (λ h. fault-unspelled octets (names_in octets) fault e
+    (spells_names_in octets ((is_path-Decides (names_in octets)).0 h))))
 
 -- an option is none, or it is some
 none_or_some : (o : Option PathFault) → (o ≡ None) ⊎ ((fault : PathFault) × (o ≡ Some fault))

@@ -1,10 +1,10 @@
--- Entries in path order, and the place of a path among them.
+-- Entries in path order, and the index of a path among them.
 --     path_antisym                 only a path ties with itself
 --     less_back, greater_back      a comparison the other way round
 --     prefix_len_of_point          what `partition_point` finds
---     ranks_parted                 the entries before a path stand at the front;  all_before: where the last is one
+--     ranks_parted                 the entries before a path are at the front;  all_before: where the last is one
 --     put-.., find-.., without-..  by the comparison with the first entry
---     there, found_there           what is found stands at its place
+--     there, found_there           what is found is at its index
 --     put-there, put-new, without_at  what a change of one entry does
 use Rattle.std.specs.List.{slice_get}
 use Rattle.std.proofs.lemmas.Option.{get_or_from_slice_get}
@@ -42,7 +42,7 @@ equal_back p q h = path_cmp-total.antisymm q p ∙ ap ordering_reverse h
 pub greater_back : (p q : Path) → path_cmp p q ≡ Greater → path_cmp q p ≡ Less
 greater_back p q h = path_cmp-total.antisymm q p ∙ ap ordering_reverse h
 
--- no path stands before itself
+-- no path is before itself
 pub less_itself : (k : Path) → path_cmp k k ≡ Less → ⊥
 less_itself k p = absurd (true≢false (sym (ap is_lt (sym (tied_itself path_cmp-total k) ∙ p))))
 
@@ -65,7 +65,10 @@ module _ {Y : Type 0} (test : Y → Bool) where
       rw no refl
   prefix_len_of_point (y ∷ ys) (suc i) h point =
       let yes : test y ≡ true = point.0 0 y (omega arith) (omega arith) in
-      let rest = prefix_len_of_point ys i (omega arith) ((λ j d a b. point.0 (suc j) d (omega arith) (omega arith)), (λ j d a b. point.1 (suc j) d (omega arith) (omega arith))) in
+      let rest = prefix_len_of_point ys i (omega arith) (
+        (λ j d a b. point.0 (suc j) d (omega arith) (omega arith)),
+        (λ j d a b. point.1 (suc j) d (omega arith) (omega arith)),
+      ) in
       rw yes (omega (arith, rest))
 
 module _ {X : Type 0} where
@@ -107,9 +110,9 @@ module _ {X : Type 0} where
   pub without-greater : (k : Path) (e : Path × X) (es : List (Path × X)) → path_cmp k e.0 ≡ Greater → without k (e ∷ es) ≡ e ∷ without k es
   without-greater k e es p = rw p refl
 
-  -- ---- what stands before all entries
+  -- ---- what is before all entries
 
-  -- k stands before x, and x before all entries
+  -- k is before x, and x before all entries
   pub below_before : (k x : Path) (es : List (Path × X)) → path_cmp k x ≡ Less → below_all path_cmp x es ≡ true → below_all path_cmp k es ≡ true
   below_before k x [] p h = refl
   below_before k x (e ∷ es) p h =
@@ -140,9 +143,9 @@ module _ {X : Type 0} where
   below_at k (e ∷ es) zero d h less = less_by (path_cmp k e.0) (and_parts (is_lt (path_cmp k e.0)) (below_all path_cmp k es) h).0
   below_at k (e ∷ es) (suc i) d h less = below_at k es i d (and_parts (is_lt (path_cmp k e.0)) (below_all path_cmp k es) h).1 (omega arith)
 
-  -- ---- the place of a path
+  -- ---- the index of a path
 
-  -- what stands before k stands at the front
+  -- what is before k is at the front
   pub ranks_parted : (k : Path) (es : List (Path × X)) → is_sorted path_cmp es ≡ true → IsPartitionedBy (λ e. is_lt (path_cmp e.0 k)) es
   ranks_parted k [] s i j d le less h = absurd (omega arith)
   ranks_parted k (e ∷ es) s zero zero d le less h = h
@@ -154,8 +157,9 @@ module _ {X : Type 0} where
   ranks_parted k (e ∷ es) s (suc i) (suc j) d le less h =
       ranks_parted k es (and_parts (below_all path_cmp e.0 es) (is_sorted path_cmp es) s).1 i j d (omega arith) (omega arith) h
 
-  -- where the last entry stands before k, all do
-  pub all_before : (k : Path) (es : List (Path × X)) (last : Path × X) → is_sorted path_cmp es ≡ true → slice_get es (length es - 1) ≡ Some last → is_lt (path_cmp last.0 k) ≡ true → length es ≡ rank k es
+  -- where the last entry is before k, all do
+  pub all_before : (k : Path) (es : List (Path × X)) (last : Path × X) → is_sorted path_cmp es ≡ true → slice_get es (length es - 1) ≡ Some last →
+      is_lt (path_cmp last.0 k) ≡ true → length es ≡ rank k es
   all_before k es last sorted is less =
       prefix_len_of_point (λ e. is_lt (path_cmp e.0 k)) es (length es) (omega arith) (
         (λ i d from within. ranks_parted k es sorted i (length es - 1) d (omega arith) (omega arith)
@@ -164,8 +168,9 @@ module _ {X : Type 0} where
       )
 
   module _ (k : Path) (d : Path × X) where
-    -- what ties with the path at its place is found, and nothing else
-    pub found_at : (es : List (Path × X)) → rank k es < length es → path_cmp (get_or es (rank k es) d).0 k ≡ Equal → find path_cmp k es ≡ Some (get_or es (rank k es) d).1
+    -- what ties with the path at its index is found, and nothing else
+    pub found_at : (es : List (Path × X)) → rank k es < length es → path_cmp (get_or es (rank k es) d).0 k ≡ Equal → find path_cmp k es
+        ≡ Some (get_or es (rank k es) d).1
     found_at [] h e = absurd (omega arith)
     found_at (f ∷ es) h e =
         elim (path_cmp k f.0) as (λ o. path_cmp k f.0 ≡ o → find path_cmp k (f ∷ es) ≡ Some (get_or (f ∷ es) (rank k (f ∷ es)) d).1) [
@@ -196,10 +201,12 @@ module _ {X : Type 0} where
               put-greater k v f es p ∙ ap (λ x. f ∷ x) (put-there v es less inner) ∙ ap (λ n. set (f ∷ es) n (k, v)) (sym more)
         ] refl
 
-    pub put-new : (v : X) (es : List (Path × X)) → (rank k es < length es → (get_or es (rank k es) d).0 ≢ k) → put path_cmp k v es ≡ take (rank k es) es ++ (k, v) ∷ drop (rank k es) es
+    pub put-new : (v : X) (es : List (Path × X)) → (rank k es < length es → (get_or es (rank k es) d).0 ≢ k) → put path_cmp k v es ≡ take (rank k es) es
+        ++ (k, v) ∷ drop (rank k es) es
     put-new v [] h = refl
     put-new v (f ∷ es) h =
-        elim (path_cmp k f.0) as (λ o. path_cmp k f.0 ≡ o → put path_cmp k v (f ∷ es) ≡ take (rank k (f ∷ es)) (f ∷ es) ++ (k, v) ∷ drop (rank k (f ∷ es)) (f ∷ es)) [
+        elim (path_cmp k f.0) as (λ o. path_cmp k f.0 ≡ o → put path_cmp k v (f ∷ es) ≡ take (rank k (f ∷ es)) (f ∷ es)
+        ++ (k, v) ∷ drop (rank k (f ∷ es)) (f ∷ es)) [
           | Less ↦ λ p. put-less k v f es p ∙ ap (λ n. take n (f ∷ es) ++ (k, v) ∷ drop n (f ∷ es)) (sym (rank-less k f es p))
           | Equal ↦ λ p.
               let first : rank k (f ∷ es) ≡ 0 = rank-equal k f es p in
@@ -212,8 +219,9 @@ module _ {X : Type 0} where
               ∙ ap (λ n. take n (f ∷ es) ++ (k, v) ∷ drop n (f ∷ es)) (sym more)
         ] refl
 
-    -- what is found stands at its place
-    pub there : (es : List (Path × X)) → is_sorted path_cmp es ≡ true → is_some (find path_cmp k es) ≡ true → (rank k es < length es) × ((get_or es (rank k es) d).0 ≡ k)
+    -- what is found is at its index
+    pub there : (es : List (Path × X)) → is_sorted path_cmp es ≡ true → is_some (find path_cmp k es) ≡ true → (rank k es < length es)
+        × ((get_or es (rank k es) d).0 ≡ k)
     there [] s h = absurd (true≢false (sym h))
     there (f ∷ es) s h =
         let parts = and_parts (below_all path_cmp f.0 es) (is_sorted path_cmp es) s in
@@ -226,14 +234,16 @@ module _ {X : Type 0} where
               rw more (omega (arith, inner.0), inner.1)
         ] refl
 
-    pub without_at : (es : List (Path × X)) → is_sorted path_cmp es ≡ true → is_some (find path_cmp k es) ≡ true → without k es ≡ take (rank k es) es ++ drop (suc (rank k es)) es
+    pub without_at : (es : List (Path × X)) → is_sorted path_cmp es ≡ true → is_some (find path_cmp k es) ≡ true → without k es ≡ take (rank k es) es
+        ++ drop (suc (rank k es)) es
     without_at [] s h = absurd (true≢false (sym h))
     without_at (f ∷ es) s h =
         let parts = and_parts (below_all path_cmp f.0 es) (is_sorted path_cmp es) s in
         elim (path_cmp k f.0) as (λ o. path_cmp k f.0 ≡ o → without k (f ∷ es) ≡ take (rank k (f ∷ es)) (f ∷ es) ++ drop (suc (rank k (f ∷ es))) (f ∷ es)) [
           | Less ↦ λ p. absurd (true≢false (sym (sym (ap is_some (find-less k f es p ∙ before_all k f.0 es p parts.0)) ∙ h)))
           | Equal ↦ λ p.
-              without-equal k f es p ∙ all_kept k es (below_same k f es p parts.0) ∙ ap (λ n. take n (f ∷ es) ++ drop (suc n) (f ∷ es)) (sym (rank-equal k f es p))
+              without-equal k f es p ∙ all_kept k es (below_same k f es p parts.0)
+              ∙ ap (λ n. take n (f ∷ es) ++ drop (suc n) (f ∷ es)) (sym (rank-equal k f es p))
           | Greater ↦ λ p.
               let inner = without_at es parts.1 (sym (ap is_some (find-greater k f es p)) ∙ h) in
               without-greater k f es p ∙ ap (λ x. f ∷ x) inner ∙ ap (λ n. take n (f ∷ es) ++ drop (suc n) (f ∷ es)) (sym (rank-greater k f es p))
@@ -251,7 +261,7 @@ module _ {X : Type 0} where
 
   -- ---- whether the path has an entry
 
-  -- no entry at or behind the path
+  -- no entry at or after the path
   pub none_behind : (k : Path) (es : List (Path × X)) → length es ≤ rank k es → find path_cmp k es ≡ None
   none_behind k [] h = refl
   none_behind k (f ∷ es) h =
@@ -261,8 +271,9 @@ module _ {X : Type 0} where
         | Greater ↦ λ p. find-greater k f es p ∙ none_behind k es (omega (arith, rank-greater k f es p))
       ] refl
 
-  -- another one at its place
-  pub none_other : (k : Path) (d : Path × X) (es : List (Path × X)) → is_sorted path_cmp es ≡ true → rank k es < length es → is_eq (path_cmp (get_or es (rank k es) d).0 k) ≡ false → find path_cmp k es ≡ None
+  -- another one at its index
+  pub none_other : (k : Path) (d : Path × X) (es : List (Path × X)) → is_sorted path_cmp es ≡ true → rank k es < length es →
+      is_eq (path_cmp (get_or es (rank k es) d).0 k) ≡ false → find path_cmp k es ≡ None
   none_other k d [] s h e = refl
   none_other k d (f ∷ es) s h e =
       let parts = and_parts (below_all path_cmp f.0 es) (is_sorted path_cmp es) s in
@@ -278,11 +289,13 @@ module _ {X : Type 0} where
             find-greater k f es p ∙ none_other k d es parts.1 (omega (arith, more)) inner
       ] refl
 
-  pub place_of : (k : Path) (es : List (Path × X)) (i : ℕ) (x : Path × X) (o : Ordering) → i ≡ rank k es → i < length es → o ≡ path_cmp (get_or es i x).0 k → is_eq o ≡ true → IsPlaceOf k es i
+  pub place_of : (k : Path) (es : List (Path × X)) (i : ℕ) (x : Path × X) (o : Ordering) → i ≡ rank k es → i < length es → o ≡ path_cmp (get_or es i x).0 k →
+      is_eq o ≡ true → IsPlaceOf k es i
   place_of k es i x o place within compared same = record {
     first = place;
     within = within;
-    path = λ d. ap (λ (y : Path × X). y.0) (get_or_default es i d x within) ∙ path_antisym (get_or es i x).0 k ((Equal-is (path_cmp (get_or es i x).0 k)).0 (ap is_eq (sym compared) ∙ same));
+    path = λ d. ap (λ (y : Path × X). y.0) (get_or_default es i d x within)
+        ∙ path_antisym (get_or es i x).0 k ((Equal-is (path_cmp (get_or es i x).0 k)).0 (ap is_eq (sym compared) ∙ same));
   }
 
   -- the path of the entry there
@@ -292,7 +305,7 @@ module _ {X : Type 0} where
   within_there : (k : Path) (es : List (Path × X)) (i : ℕ) → IsPlaceOf k es i → rank k es < length es
   within_there k es i at = omega (arith, at.first, at.within)
 
-  -- the value that stands at the place
+  -- the value that is at the index
   pub value_at : (k : Path) (es : List (Path × X)) (i : ℕ) (x : Path × X) → IsPlaceOf k es i → x ≡ get_or es i x → Some x.1 ≡ find path_cmp k es
   value_at k es i x at read =
       let there_is : path_cmp (get_or es (rank k es) x).0 k ≡ Equal = ap (λ p. path_cmp p k) (path_there k es i x at) ∙ tied_itself path_cmp-total k in
@@ -301,14 +314,15 @@ module _ {X : Type 0} where
   pub placed : (k p : Path) (es fs : List (Path × X)) (i : ℕ) → p ≡ k → fs ≡ es → IsPlaceOf p fs i → IsPlaceOf k es i
   placed k p es fs i sought same at = subst (λ q. IsPlaceOf q es i) sought (subst (λ ys. IsPlaceOf p ys i) same at)
 
-  -- ---- one entry changed at its place
+  -- ---- one entry changed at its index
 
   pub put_at : (k : Path) (v : X) (es : List (Path × X)) (i : ℕ) (x : Path × X) → IsPlaceOf k es i → x ≡ get_or es i x → set es i (x.0, v) ≡ put path_cmp k v es
   put_at k v es i x at read =
       ap (λ p. set es i (p, v)) (ap (λ (y : Path × X). y.0) read ∙ at.path x) ∙ ap (λ n. set es n (k, v)) at.first
       ∙ sym (put-there k x v es (within_there k es i at) (path_there k es i x at))
 
-  pub removed_at : (k : Path) (es : List (Path × X)) (i : ℕ) (x : Path × X) → is_sorted path_cmp es ≡ true → IsPlaceOf k es i → x ≡ get_or es i x → remove es i ≡ without k es
+  pub removed_at : (k : Path) (es : List (Path × X)) (i : ℕ) (x : Path × X) → is_sorted path_cmp es ≡ true → IsPlaceOf k es i → x ≡ get_or es i x → remove es i
+      ≡ without k es
   removed_at k es i x s at read =
       ap (λ n. take n es ++ drop (suc n) es) at.first ∙ sym (without_at k x es s (ap is_some (sym (value_at k es i x at read))))
 
@@ -318,7 +332,8 @@ module _ {X : Type 0} where
       ∙ sym (put-new k (k, v) v es (λ less same.
       true≢false (ap is_some (sym (found_at k (k, v) es less (ap (λ p. path_cmp p k) same ∙ tied_itself path_cmp-total k)) ∙ none))))
 
-  pub put_between : (k p : Path) (v : X) (es fs : List (Path × X)) (i : ℕ) → p ≡ k → fs ≡ es → find path_cmp p fs ≡ None → i ≡ rank p fs → insert es i (k, v) ≡ put path_cmp k v es
+  pub put_between : (k p : Path) (v : X) (es fs : List (Path × X)) (i : ℕ) → p ≡ k → fs ≡ es → find path_cmp p fs ≡ None → i ≡ rank p fs → insert es i (k, v)
+      ≡ put path_cmp k v es
   put_between k p v es fs i sought same none place =
       put_gap k v es i (place ∙ ap (λ q. rank q fs) sought ∙ ap (rank k) same) (sym (ap (λ q. find path_cmp q fs) sought ∙ ap (find path_cmp k) same) ∙ none)
 
@@ -327,5 +342,6 @@ module _ {X : Type 0} where
   pub ordered-put : (k : Path) (v : X) (es fs : List (Path × X)) → fs ≡ put path_cmp k v es → is_sorted path_cmp es ≡ true → is_sorted path_cmp fs ≡ true
   ordered-put k v es fs same s = ap (is_sorted path_cmp) same ∙ true_from_T _ (is_sorted-put path_cmp path_cmp-total k v es (T_from_true _ s))
 
-  pub ordered-where : (test : Path → Bool) (es fs : List (Path × X)) → fs ≡ where_key path_cmp test es → is_sorted path_cmp es ≡ true → is_sorted path_cmp fs ≡ true
+  pub ordered-where : (test : Path → Bool) (es fs : List (Path × X)) → fs ≡ where_key path_cmp test es → is_sorted path_cmp es ≡ true → is_sorted path_cmp fs
+      ≡ true
   ordered-where test es fs same s = ap (is_sorted path_cmp) same ∙ true_from_T _ (is_sorted-where_key path_cmp test es (T_from_true _ s))

@@ -127,7 +127,7 @@ pub last_some : (octets : List ℕ) (r : Option ℕ) → IsLastByte is_separator
 last_some octets None none some = absurd (omega (arith, some, none_counted octets (λ k less here. none k (omega arith) less here)))
 last_some octets (Some place) last some = refl
 
--- the place of the last separator
+-- the index of the last separator
 pub record Last (octets : List ℕ) (place : ℕ) : Type 0 where
   pub within : place < length octets
   pub here : get_or octets place 0 ≡ 0

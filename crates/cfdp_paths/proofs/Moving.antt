@@ -1,4 +1,4 @@
--- What stands at and below a path, moved to another.
+-- What is at and below a path, moved to another.
 --     taken_out, left_over       what a rotation and a cut take out and leave;  turned_back: and how it is undone
 --     put_in                     what two rotations put in
 --     rest_around                the entries round a piece
@@ -7,7 +7,7 @@
 --     with_paths-rebased         new paths are the rebased ones
 --     one_tree, one_read, one_rest, one_below, one_shallow, one_moved     where the piece is one entry
 --     moved_up_to, not_moved_yet, all_moved, length-moved, below_at, shallow_at    where entries move one after the other
---     puts_piece                 where nothing stands at or below the path, the entries go in as one piece
+--     puts_piece                 where nothing is at or below the path, the entries go in as one piece
 use Rattle.std.proofs.Common.{◌≡◌, ℕ, zero, suc, ◌+◌, ◌-◌, ◌<◌, ◌≤◌, Bool, true, false, not, Result, Ok, Err, OnOk, OnErr, List, [], ◌∷◌, ◌++◌, map, length, take, drop, get_or, refl, sym, ap, subst, ◌∙◌, arith, append_assoc, length-take, length-drop, length-append}
 use Rattle.std.specs.Cmp.{tied_itself}
 use Rattle.std.specs.Cmp.Lexicographic.{slice_cmp, nat_list_cmp_total}
@@ -30,7 +30,7 @@ use Rattle.cfdp_paths.proofs.Pieces.{false_by, between_below, below_not_before, 
 -- ---- rotations
 
 module _ {Y : Type 0} (ys : List Y) (start end : ℕ) (order : start ≤ end) (within : end ≤ length ys) where
-  -- the front up to end is that up to start and what stands between
+  -- the front up to end is that up to start and what is between
   front_parts : take end ys ≡ take start ys ++ between start end ys
   front_parts =
       sym (take-append-drop start (take end ys))
@@ -54,15 +54,31 @@ module _ {Y : Type 0} (ys : List Y) (start end : ℕ) (order : start ≤ end) (w
   pub left_over : (kept more : ℕ) (zs rest : List Y) → kept ≡ length ys - (end - start) → zs ≡ drop end ys ++ take end ys → rest ≡ take kept zs
       → more ≡ length rest - start → drop more rest ++ take more rest ≡ take start ys ++ drop end ys
   left_over kept more zs rest count same is turn =
-      let rest_is : rest ≡ drop end ys ++ take start ys = is ∙ ap (take kept) (same ∙ turned) ∙ take_at (drop end ys ++ take start ys) (between start end ys) kept (kept_long ∙ sym count) in
-      let long : length (drop end ys) ≡ more = omega (arith, turn, ap length rest_is, kept_long, length-drop end ys, length-append (drop end ys) (take start ys), length-take start ys) in
+      let rest_is : rest ≡ drop end ys ++ take start ys = is ∙ ap (take kept) (same ∙ turned)
+      ∙ take_at (drop end ys ++ take start ys) (between start end ys) kept (kept_long ∙ sym count) in
+      let long : length (drop end ys) ≡ more = omega (
+        arith,
+        turn,
+        ap length rest_is,
+        kept_long,
+        length-drop end ys,
+        length-append (drop end ys) (take start ys),
+        length-take start ys,
+      ) in
       ap (λ (xs : List Y). drop more xs ++ take more xs) rest_is
       ∙ ap (λ (xs : List Y). xs ++ take more (drop end ys ++ take start ys)) (drop_at (drop end ys) (take start ys) more long)
       ∙ ap (λ (xs : List Y). take start ys ++ xs) (take_at (drop end ys) (take start ys) more long)
 
   pub turned_back : (more : ℕ) (zs : List Y) → zs ≡ drop end ys ++ take end ys → more ≡ length zs - end → drop more zs ++ take more zs ≡ ys
   turned_back more zs same turn =
-      let long : length (drop end ys) ≡ more = omega (arith, turn, ap length same, length-append (drop end ys) (take end ys), length-drop end ys, length-take end ys) in
+      let long : length (drop end ys) ≡ more = omega (
+        arith,
+        turn,
+        ap length same,
+        length-append (drop end ys) (take end ys),
+        length-drop end ys,
+        length-take end ys,
+      ) in
       ap (λ (xs : List Y). drop more xs ++ take more xs) same
       ∙ ap (λ (xs : List Y). xs ++ take more (drop end ys ++ take end ys)) (drop_at (drop end ys) (take end ys) more long)
       ∙ ap (λ (xs : List Y). take end ys ++ xs) (take_at (drop end ys) (take end ys) more long)
@@ -96,7 +112,7 @@ true_by : (b : Bool) → (b ≡ false → ⊥) → b ≡ true
 true_by true h = refl
 true_by false h = absurd (h refl)
 
--- what is at or below q stands behind what stands before q
+-- what is at or below q is after what is before q
 first_before : (q m x : Path) → is_at_or_below m q ≡ true → is_lt (path_cmp x q) ≡ true → path_cmp m x ≡ Greater
 first_before q m x h is =
     less_back x m (elim (path_cmp q m) as (λ o. path_cmp q m ≡ o → path_cmp x m ≡ Less) [
@@ -122,7 +138,8 @@ module _ {X : Type 0} where
   moved_all p q [] = refl
   moved_all p q (e ∷ es) = let first : is_at_or_below (rebased p q e.0) q ≡ true = at_or_below-append q (drop (length p) e.0) in rw first (moved_all p q es)
 
-  below_moved : (p q : Path) (e : Path × X) (es : List (Path × X)) → is_at_or_below e.0 p ≡ true → list_all (λ e. is_at_or_below e.0 p) es ≡ true → below_all path_cmp e.0 es ≡ true
+  below_moved : (p q : Path) (e : Path × X) (es : List (Path × X)) → is_at_or_below e.0 p ≡ true → list_all (λ e. is_at_or_below e.0 p) es ≡ true →
+      below_all path_cmp e.0 es ≡ true
       → below_all path_cmp (rebased p q e.0) (moved_to p q es) ≡ true
   below_moved p q e [] h all below = refl
   below_moved p q e (f ∷ es) h all below =
@@ -131,7 +148,8 @@ module _ {X : Type 0} where
       let first : path_cmp (rebased p q e.0) (rebased p q f.0) ≡ Less = rebased_cmp p q e.0 f.0 h of_all.0 ∙ less_by _ parts.0 in
       rw first (below_moved p q e es h of_all.1 parts.1)
 
-  pub moved_ordered : (p q : Path) (es : List (Path × X)) → list_all (λ e. is_at_or_below e.0 p) es ≡ true → is_sorted path_cmp es ≡ true → is_sorted path_cmp (moved_to p q es) ≡ true
+  pub moved_ordered : (p q : Path) (es : List (Path × X)) → list_all (λ e. is_at_or_below e.0 p) es ≡ true → is_sorted path_cmp es ≡ true →
+      is_sorted path_cmp (moved_to p q es) ≡ true
   moved_ordered p q [] all s = refl
   moved_ordered p q (e ∷ es) all s =
       let parts = and_parts (below_all path_cmp e.0 es) (is_sorted path_cmp es) s in
@@ -139,7 +157,8 @@ module _ {X : Type 0} where
       let first = below_moved p q e es of_all.0 of_all.1 parts.0 in
       rw first (moved_ordered p q es of_all.1 parts.1)
 
-  pub rest_around : (p : Path) (es : List (Path × X)) (start end : ℕ) → is_sorted path_cmp es ≡ true → IsPieceOf p es start end → take start es ++ drop end es ≡ rest_in p es
+  pub rest_around : (p : Path) (es : List (Path × X)) (start end : ℕ) → is_sorted path_cmp es ≡ true → IsPieceOf p es start end → take start es ++ drop end es
+      ≡ rest_in p es
   rest_around p es start end s piece =
       ap (λ n. take start es ++ drop n es) piece.ends
       ∙ ap (λ ys. take start es ++ ys) (sym (drop-drop (spread p (drop start es)) start es))
@@ -148,12 +167,13 @@ module _ {X : Type 0} where
 
   -- ---- one piece
 
-  -- the entries stand before the path
+  -- the entries are before the path
   abbrev AllBefore : Path → List (Path × X) → Type 0
   AllBefore k [] = Unit {0}
   AllBefore k (a ∷ as') = (path_cmp k a.0 ≡ Greater) × AllBefore k as'
 
-  put_behind : (k : Path) (v : X) (front back : List (Path × X)) → AllBefore k front → below_all path_cmp k back ≡ true → put path_cmp k v (front ++ back) ≡ front ++ (k, v) ∷ back
+  put_behind : (k : Path) (v : X) (front back : List (Path × X)) → AllBefore k front → below_all path_cmp k back ≡ true → put path_cmp k v (front ++ back)
+      ≡ front ++ (k, v) ∷ back
   put_behind k v [] [] before below = refl
   put_behind k v [] (b ∷ back) before below = put-less k v b back (less_by _ (and_parts (is_lt (path_cmp k b.0)) (below_all path_cmp k back) below).0)
   put_behind k v (a ∷ front) back before below = put-greater k v a (front ++ back) before.0 ∙ ap (λ ys. a ∷ ys) (put_behind k v front back before.1 below)
@@ -196,7 +216,8 @@ module _ {X : Type 0} where
   some_spread : (q : Path) (e : Path × X) (es : List (Path × X)) → is_at_or_below e.0 q ≡ true → spread q (e ∷ es) ≡ 0 → ⊥
   some_spread q e es is none = let more : spread q (e ∷ es) ≡ suc (spread q es) = rw is (omega arith) in omega arith
 
-  back_behind : (q m : Path) (es : List (Path × X)) → is_sorted path_cmp es ≡ true → BeginsAt q es → spread q es ≡ 0 → is_at_or_below m q ≡ true → below_all path_cmp m es ≡ true
+  back_behind : (q m : Path) (es : List (Path × X)) → is_sorted path_cmp es ≡ true → BeginsAt q es → spread q es ≡ 0 → is_at_or_below m q ≡ true →
+      below_all path_cmp m es ≡ true
   back_behind q m [] s begins none h = refl
   back_behind q m (e ∷ es) s begins none h =
       let parts = and_parts (below_all path_cmp e.0 es) (is_sorted path_cmp es) s in
@@ -204,14 +225,19 @@ module _ {X : Type 0} where
       let less : is_lt (path_cmp m e.0) ≡ true = true_by (is_lt (path_cmp m e.0)) (λ isnt. true≢false (sym (between_below q e.0 m begins isnt h) ∙ out)) in
       rw less (below_before m e.0 es (less_by _ less) parts.0)
 
-  fits_all : (q : Path) (es ms : List (Path × X)) → is_sorted path_cmp es ≡ true → spread q (drop (rank q es) es) ≡ 0 → list_all (λ e. is_at_or_below e.0 q) ms ≡ true
+  fits_all : (q : Path) (es ms : List (Path × X)) → is_sorted path_cmp es ≡ true → spread q (drop (rank q es) es) ≡ 0 → list_all (λ e. is_at_or_below e.0 q) ms
+      ≡ true
       → Fit (take (rank q es) es) ms (drop (rank q es) es)
   fits_all q es [] s none all = tt
   fits_all q es (m ∷ ms) s none all =
-      let of_all = and_parts (is_at_or_below m.0 q) (list_all (λ e. is_at_or_below e.0 q) ms) all in
-      (front_before q m.0 es of_all.0, back_behind q m.0 (drop (rank q es) es) (sorted_behind q es (rank q es) s) (begins_at_rank q es) none of_all.0, fits_all q es ms s none of_all.1)
+      let of_all = and_parts (is_at_or_below m.0 q) (list_all (λ e. is_at_or_below e.0 q) ms) all in (
+        front_before q m.0 es of_all.0,
+        back_behind q m.0 (drop (rank q es) es) (sorted_behind q es (rank q es) s) (begins_at_rank q es) none of_all.0,
+        fits_all q es ms s none of_all.1,
+      )
 
-  pub puts_piece : (q : Path) (es ms : List (Path × X)) (start end : ℕ) → is_sorted path_cmp es ≡ true → is_sorted path_cmp ms ≡ true → list_all (λ e. is_at_or_below e.0 q) ms ≡ true
+  pub puts_piece : (q : Path) (es ms : List (Path × X)) (start end : ℕ) → is_sorted path_cmp es ≡ true → is_sorted path_cmp ms ≡ true →
+      list_all (λ e. is_at_or_below e.0 q) ms ≡ true
       → IsPieceOf q es start end → start ≡ end → take start es ++ (ms ++ drop start es) ≡ puts es ms
   puts_piece q es ms start end s t all piece empty =
       let none : spread q (drop (rank q es) es) ≡ 0 = ap (λ n. spread q (drop n es)) (sym piece.begins) ∙ omega (arith, piece.ends, empty) in
@@ -221,16 +247,20 @@ module _ {X : Type 0} where
 
   -- ---- all together
 
-  pub tree_of : (p : Path) (es fs gs : List (Path × X)) (start end : ℕ) → is_sorted path_cmp es ≡ true → fs ≡ es → gs ≡ es → IsPieceOf p fs start end → between start end gs ≡ tree_in p es
+  pub tree_of : (p : Path) (es fs gs : List (Path × X)) (start end : ℕ) → is_sorted path_cmp es ≡ true → fs ≡ es → gs ≡ es → IsPieceOf p fs start end →
+      between start end gs ≡ tree_in p es
   tree_of p es fs gs start end s same same' piece = ap (between start end) same' ∙ tree_between p es fs start end s same piece
 
-  pub rest_of : (p : Path) (es fs : List (Path × X)) (start end : ℕ) → is_sorted path_cmp es ≡ true → fs ≡ es → IsPieceOf p fs start end → take start es ++ drop end es ≡ rest_in p es
+  pub rest_of : (p : Path) (es fs : List (Path × X)) (start end : ℕ) → is_sorted path_cmp es ≡ true → fs ≡ es → IsPieceOf p fs start end → take start es
+      ++ drop end es ≡ rest_in p es
   rest_of p es fs start end s same piece = rest_around p es start end s (subst (λ ys. IsPieceOf p ys start end) same piece)
 
-  pub moved_is : (p q : Path) (es taken tree : List (Path × X)) (paths : List Path) → paths ≡ map (λ e. rebased p q e.0) tree → tree ≡ tree_in p es → taken ≡ tree_in p es
+  pub moved_is : (p q : Path) (es taken tree : List (Path × X)) (paths : List Path) → paths ≡ map (λ e. rebased p q e.0) tree → tree ≡ tree_in p es → taken
+      ≡ tree_in p es
       → with_paths paths taken ≡ moved_to p q (tree_in p es)
   moved_is p q es taken tree paths made same same' =
-      ap (λ ps. with_paths ps taken) (made ∙ ap (map (λ e. rebased p q e.0)) same) ∙ ap (with_paths (map (λ e. rebased p q e.0) (tree_in p es))) same' ∙ with_paths-rebased p q (tree_in p es)
+      ap (λ ps. with_paths ps taken) (made ∙ ap (map (λ e. rebased p q e.0)) same) ∙ ap (with_paths (map (λ e. rebased p q e.0) (tree_in p es))) same'
+      ∙ with_paths-rebased p q (tree_in p es)
 
   pub tree_ordered : (p q : Path) (es : List (Path × X)) → is_sorted path_cmp es ≡ true → is_sorted path_cmp (moved_to p q (tree_in p es)) ≡ true
   tree_ordered p q es s = moved_ordered p q (tree_in p es) (tree_all p es) (ordered-where (λ x. is_at_or_below x p) es (tree_in p es) refl s)
@@ -238,7 +268,8 @@ module _ {X : Type 0} where
   pub length-parts : (p q : Path) (es : List (Path × X)) → length (rest_in p es) + length (moved_to p q (tree_in p es)) ≡ length es
   length-parts p q [] = refl
   length-parts p q (e ∷ es) =
-      elim (is_at_or_below e.0 p) as (λ b. is_at_or_below e.0 p ≡ b → length (rest_in p (e ∷ es)) + length (moved_to p q (tree_in p (e ∷ es))) ≡ length (e ∷ es)) [
+      elim (is_at_or_below e.0 p) as (λ b. is_at_or_below e.0 p ≡ b → length (rest_in p (e ∷ es)) + length (moved_to p q (tree_in p (e ∷ es)))
+      ≡ length (e ∷ es)) [
         | true ↦ λ is. rw is (omega (arith, length-parts p q es))
         | false ↦ λ isnt. rw isnt (omega (arith, length-parts p q es))
       ] refl
@@ -250,7 +281,8 @@ module _ {X : Type 0} where
   pub ordered-relocated : (r : Result (Unit {0}) AllocError) (p q : Path) (es fs : List (Path × X)) → is_sorted path_cmp es ≡ true
       → OnOk r (fs ≡ puts (rest_in p es) (moved_to p q (tree_in p es))) → OnErr r (fs ≡ es) → is_sorted path_cmp fs ≡ true
   ordered-relocated (Ok done) p q es fs s ok err =
-      ap (is_sorted path_cmp) ok ∙ ordered-puts (rest_in p es) (moved_to p q (tree_in p es)) (ordered-where (λ x. not (is_at_or_below x p)) es (rest_in p es) refl s)
+      ap (is_sorted path_cmp) ok ∙ ordered-puts (rest_in p es) (moved_to p q (tree_in p es))
+      (ordered-where (λ x. not (is_at_or_below x p)) es (rest_in p es) refl s)
   ordered-relocated (Err want) p q es fs s ok err = ap (is_sorted path_cmp) err ∙ s
 
   -- ---- the piece is one entry
@@ -260,9 +292,11 @@ module _ {X : Type 0} where
   one_between (e ∷ es) zero x h = refl
   one_between (e ∷ es) (suc i) x h = one_between es i x (omega arith)
 
-  pub one_tree : (p : Path) (es : List (Path × X)) (i : ℕ) (x y : Path × X) → is_sorted path_cmp es ≡ true → IsPieceOf p es i (i + 1) → y ≡ get_or es i x → tree_in p es ≡ y ∷ []
+  pub one_tree : (p : Path) (es : List (Path × X)) (i : ℕ) (x y : Path × X) → is_sorted path_cmp es ≡ true → IsPieceOf p es i (i + 1) → y ≡ get_or es i x →
+      tree_in p es ≡ y ∷ []
   one_tree p es i x y s piece read =
-      sym (tree_between p es es i (i + 1) s refl piece) ∙ ap (λ n. take n (drop i es)) (one_more i) ∙ one_between es i x (omega (arith, piece.within)) ∙ ap (λ z. z ∷ []) (sym read)
+      sym (tree_between p es es i (i + 1) s refl piece) ∙ ap (λ n. take n (drop i es)) (one_more i) ∙ one_between es i x (omega (arith, piece.within))
+      ∙ ap (λ z. z ∷ []) (sym read)
     where
       one_more : (n : ℕ) → n + 1 - n ≡ 1
       one_more n = omega arith
@@ -279,12 +313,14 @@ module _ {X : Type 0} where
   pub one_below : (p : Path) (es : List (Path × X)) (e : Path × X) → tree_in p es ≡ e ∷ [] → is_at_or_below e.0 p ≡ true
   one_below p es e tree = (and_parts (is_at_or_below e.0 p) true (sym (ap (list_all (λ f. is_at_or_below f.0 p)) tree) ∙ tree_all p es)).0
 
-  pub one_shallow : (p q : Path) (es : List (Path × X)) (e : Path × X) → tree_in p es ≡ e ∷ [] → is_too_deep p q (tree_in p es) ≡ false → length e.0 + length q ≤ 8 + length p
+  pub one_shallow : (p q : Path) (es : List (Path × X)) (e : Path × X) → tree_in p es ≡ e ∷ [] → is_too_deep p q (tree_in p es) ≡ false → length e.0
+      + length q ≤ 8 + length p
   one_shallow p q es e tree shallow =
       let short : length (rebased p q e.0) ≤ 8 = ltb-false 8 (length (rebased p q e.0)) (or_parts _ false (sym (ap (is_too_deep p q) tree) ∙ shallow)).0 in
       omega (arith, short, length-append q (drop (length p) e.0), length-drop (length p) e.0)
 
-  pub one_moved : (p q : Path) (es : List (Path × X)) (e f : Path × X) (x : Path) → tree_in p es ≡ e ∷ [] → f ≡ e → x ≡ rebased p q e.0 → (rest : List (Path × X)) → rest ≡ rest_in p es
+  pub one_moved : (p q : Path) (es : List (Path × X)) (e f : Path × X) (x : Path) → tree_in p es ≡ e ∷ [] → f ≡ e → x ≡ rebased p q e.0 →
+      (rest : List (Path × X)) → rest ≡ rest_in p es
       → put path_cmp x f.1 rest ≡ puts (rest_in p es) (moved_to p q (tree_in p es))
   one_moved p q es e f x tree same made rest left =
       ap (λ ys. put path_cmp x f.1 ys) left ∙ ap (λ (g : Path × X). put path_cmp x g.1 (rest_in p es)) same
@@ -301,12 +337,14 @@ module _ {X : Type 0} where
   not_moved_yet p q (f ∷ es) zero e within = refl
   not_moved_yet p q (f ∷ es) (suc i) e within = not_moved_yet p q es i e (omega arith)
 
-  pub below_at : (p : Path) (es : List (Path × X)) (i : ℕ) (e : Path × X) → list_all (λ f. is_at_or_below f.0 p) es ≡ true → i < length es → is_at_or_below (get_or es i e).0 p ≡ true
+  pub below_at : (p : Path) (es : List (Path × X)) (i : ℕ) (e : Path × X) → list_all (λ f. is_at_or_below f.0 p) es ≡ true → i < length es →
+      is_at_or_below (get_or es i e).0 p ≡ true
   below_at p [] i e all within = absurd (omega arith)
   below_at p (f ∷ es) zero e all within = (and_parts (is_at_or_below f.0 p) (list_all (λ g. is_at_or_below g.0 p) es) all).0
   below_at p (f ∷ es) (suc i) e all within = below_at p es i e (and_parts (is_at_or_below f.0 p) (list_all (λ g. is_at_or_below g.0 p) es) all).1 (omega arith)
 
-  pub shallow_at : (p q : Path) (es : List (Path × X)) (i : ℕ) (e : Path × X) → is_too_deep p q es ≡ false → i < length es → length (get_or es i e).0 + length q ≤ 8 + length p
+  pub shallow_at : (p q : Path) (es : List (Path × X)) (i : ℕ) (e : Path × X) → is_too_deep p q es ≡ false → i < length es → length (get_or es i e).0
+      + length q ≤ 8 + length p
   shallow_at p q [] i e shallow within = absurd (omega arith)
   shallow_at p q (f ∷ es) zero e shallow within =
       let short : length (rebased p q f.0) ≤ 8 = ltb-false 8 (length (rebased p q f.0)) (or_parts _ (is_too_deep p q es) shallow).0 in

@@ -1,8 +1,8 @@
--- What stands at and below a path is one piece of the entries in path order.
---     between_below            what stands between a path and something at or below it is so too
---     below_not_before         what is at or below a path stands not before it
---     tree_split, rest_split   the entries at or below a path, and the others, by place
---     spreads_parted           of the entries from the place of a path on, those at or below it stand first
+-- What is at and below a path is one piece of the entries in path order.
+--     between_below            what is between a path and something at or below it is so too
+--     below_not_before         what is at or below a path is not before it
+--     tree_split, rest_split   the entries at or below a path, and the others, by index
+--     spreads_parted           of the entries from the index of a path on, those at or below it are first
 --     any_below-tree           whether a path of the piece is another one
 use Rattle.std.proofs.Common.{◌≡◌, ℕ, zero, suc, ◌+◌, ◌-◌, ◌≤◌, Bool, true, false, not, ◌&&◌, ◌||◌, List, [], ◌∷◌, ◌++◌, length, take, drop, get_or, refl, sym, ap, subst, ◌∙◌, arith, length-drop}
 use Rattle.std.specs.Cmp.{Equal-is}
@@ -29,7 +29,7 @@ pub false_by : (b : Bool) → (b ≡ true → ⊥) → b ≡ false
 false_by true h = absurd (h refl)
 false_by false h = refl
 
--- what stands not before another stands not before what stands before that
+-- what is not before another is not before what is before that
 pub not_before-trans : (p x y : Path) → is_lt (path_cmp x p) ≡ false → path_cmp x y ≡ Less → is_lt (path_cmp y p) ≡ false
 not_before-trans p x y h less =
     false_by (is_lt (path_cmp y p)) (λ before. true≢false (sym (ap is_lt (path_cmp-total.trans x y p less (less_by _ before))) ∙ h))
@@ -37,14 +37,15 @@ not_before-trans p x y h less =
 after_not_before : (x y : Path) → path_cmp x y ≡ Less → is_lt (path_cmp y x) ≡ false
 after_not_before x y less = ap is_lt (less_back x y less)
 
--- x stands not before p, and y not before x
+-- x is not before p, and y not before x
 pub between_below : (p x y : Path) → is_lt (path_cmp x p) ≡ false → is_lt (path_cmp y x) ≡ false → is_at_or_below y p ≡ true → is_at_or_below x p ≡ true
 between_below [] x y a b h = refl
 between_below (n ∷ p) [] y a b h = absurd (true≢false a)
 between_below (n ∷ p) (m ∷ x) [] a b h = absurd (true≢false (sym h))
 between_below (n ∷ p) (m ∷ x) (l ∷ y) a b h =
     let parts = and_parts (same_name l n) (is_at_or_below y p) h in
-    let turned : name_cmp l m ≡ ordering_reverse (name_cmp m n) = ap (λ z. name_cmp z m) ((same_name-Decides l n).0 parts.0) ∙ nat_list_cmp_total.antisymm n m in
+    let turned : name_cmp l m ≡ ordering_reverse (name_cmp m n) = ap (λ z. name_cmp z m) ((same_name-Decides l n).0 parts.0)
+    ∙ nat_list_cmp_total.antisymm n m in
     elim (name_cmp m n) as (λ o. name_cmp m n ≡ o → (same_name m n && is_at_or_below x p) ≡ true) [
       | Less ↦ λ q. absurd (true≢false (rw q at a))
       | Equal ↦ λ q.
@@ -67,12 +68,12 @@ below_not_before (m ∷ q) (n ∷ p) h =
     let same : name_cmp m n ≡ Equal = (Equal-is (name_cmp m n)).0 parts.0 in
     rw same (below_not_before q p parts.1)
 
--- behind what is not at or below p nothing is
+-- after what is not at or below p nothing is
 not_below_behind : (p x y : Path) → is_lt (path_cmp x p) ≡ false → is_at_or_below x p ≡ false → path_cmp x y ≡ Less → is_at_or_below y p ≡ false
 not_below_behind p x y a b less = false_by (is_at_or_below y p) (λ h. true≢false (sym (between_below p x y a (after_not_before x y less) h) ∙ b))
 
 module _ {X : Type 0} (p : Path) where
-  -- the first entry, if there is one, stands not before p
+  -- the first entry, if there is one, is not before p
   abbrev pub BeginsAt : List (Path × X) → Type 0
   BeginsAt [] = Unit {0}
   BeginsAt (e ∷ es) = is_lt (path_cmp e.0 p) ≡ false
@@ -81,7 +82,8 @@ module _ {X : Type 0} (p : Path) where
   begins_next e [] h below = tt
   begins_next e (f ∷ es) h below = not_before-trans p e.0 f.0 h (less_by _ (and_parts (is_lt (path_cmp e.0 f.0)) (below_all path_cmp e.0 es) below).0)
 
-  none_left : (x : Path) (es : List (Path × X)) → is_lt (path_cmp x p) ≡ false → is_at_or_below x p ≡ false → below_all path_cmp x es ≡ true → (tree_in p es ≡ []) × (rest_in p es ≡ es)
+  none_left : (x : Path) (es : List (Path × X)) → is_lt (path_cmp x p) ≡ false → is_at_or_below x p ≡ false → below_all path_cmp x es ≡ true →
+      (tree_in p es ≡ []) × (rest_in p es ≡ es)
   none_left x [] a b h = (refl, refl)
   none_left x (e ∷ es) a b h =
       let parts = and_parts (is_lt (path_cmp x e.0)) (below_all path_cmp x es) h in
@@ -98,23 +100,32 @@ module _ {X : Type 0} (p : Path) where
   tree-in : (e : Path × X) (es : List (Path × X)) → is_at_or_below e.0 p ≡ true → (tree_in p (e ∷ es) ≡ e ∷ tree_in p es) × (rest_in p (e ∷ es) ≡ rest_in p es)
   tree-in e es is = rw is (refl, refl)
 
-  tree-out : (e : Path × X) (es : List (Path × X)) → is_at_or_below e.0 p ≡ false → (tree_in p (e ∷ es) ≡ tree_in p es) × (rest_in p (e ∷ es) ≡ e ∷ rest_in p es)
+  tree-out : (e : Path × X) (es : List (Path × X)) → is_at_or_below e.0 p ≡ false → (tree_in p (e ∷ es) ≡ tree_in p es)
+      × (rest_in p (e ∷ es) ≡ e ∷ rest_in p es)
   tree-out e es isnt = rw isnt (refl, refl)
 
-  -- from the place of p on
-  tree_front : (es : List (Path × X)) → is_sorted path_cmp es ≡ true → BeginsAt es → (tree_in p es ≡ take (spread p es) es) × (rest_in p es ≡ drop (spread p es) es)
+  -- from the index of p on
+  tree_front : (es : List (Path × X)) → is_sorted path_cmp es ≡ true → BeginsAt es → (tree_in p es ≡ take (spread p es) es)
+      × (rest_in p es ≡ drop (spread p es) es)
   tree_front [] s h = (refl, refl)
   tree_front (e ∷ es) s h =
       let parts = and_parts (below_all path_cmp e.0 es) (is_sorted path_cmp es) s in
-      elim (is_at_or_below e.0 p) as (λ b. is_at_or_below e.0 p ≡ b → (tree_in p (e ∷ es) ≡ take (spread p (e ∷ es)) (e ∷ es)) × (rest_in p (e ∷ es) ≡ drop (spread p (e ∷ es)) (e ∷ es))) [
+      elim (is_at_or_below e.0 p) as (λ b. is_at_or_below e.0 p ≡ b → (tree_in p (e ∷ es) ≡ take (spread p (e ∷ es)) (e ∷ es))
+      × (rest_in p (e ∷ es) ≡ drop (spread p (e ∷ es)) (e ∷ es))) [
         | true ↦ λ is.
             let rest = tree_front es parts.1 (begins_next e es h parts.0) in
-            let more = spread-in e es is in
-            ((tree-in e es is).0 ∙ ap (λ ys. e ∷ ys) rest.0 ∙ ap (λ n. take n (e ∷ es)) (sym more), (tree-in e es is).1 ∙ rest.1 ∙ ap (λ n. drop n (e ∷ es)) (sym more))
+            let more = spread-in e es is in (
+              (tree-in e es is).0 ∙ ap (λ ys. e ∷ ys) rest.0 ∙ ap (λ n. take n (e ∷ es)) (sym more),
+              (tree-in e es is).1 ∙ rest.1
+                  ∙ ap (λ n. drop n (e ∷ es)) (sym more),
+            )
         | false ↦ λ isnt.
             let rest = none_left e.0 es h isnt parts.0 in
-            let none = spread-out e es isnt in
-            ((tree-out e es isnt).0 ∙ rest.0 ∙ ap (λ n. take n (e ∷ es)) (sym none), (tree-out e es isnt).1 ∙ ap (λ ys. e ∷ ys) rest.1 ∙ ap (λ n. drop n (e ∷ es)) (sym none))
+            let none = spread-out e es isnt in (
+              (tree-out e es isnt).0 ∙ rest.0 ∙ ap (λ n. take n (e ∷ es)) (sym none),
+              (tree-out e es isnt).1 ∙ ap (λ ys. e ∷ ys) rest.1
+                  ∙ ap (λ n. drop n (e ∷ es)) (sym none),
+            )
       ] refl
 
   rank-in : (e : Path × X) (es : List (Path × X)) → is_lt (path_cmp e.0 p) ≡ true → rank p (e ∷ es) ≡ suc (rank p es)
@@ -138,7 +149,8 @@ module _ {X : Type 0} (p : Path) where
   sorted_behind (e ∷ es) (suc n) s = sorted_behind es n (and_parts (below_all path_cmp e.0 es) (is_sorted path_cmp es) s).1
 
   pub tree_split : (es : List (Path × X)) → is_sorted path_cmp es ≡ true
-      → let behind = drop (rank p es) es in (tree_in p es ≡ take (spread p behind) behind) × (rest_in p es ≡ take (rank p es) es ++ drop (spread p behind) behind)
+      → let behind = drop (rank p es) es in (tree_in p es ≡ take (spread p behind) behind)
+      × (rest_in p es ≡ take (rank p es) es ++ drop (spread p behind) behind)
   tree_split [] s = (refl, refl)
   tree_split (e ∷ es) s =
       let parts = and_parts (below_all path_cmp e.0 es) (is_sorted path_cmp es) s in
@@ -173,10 +185,11 @@ module _ {X : Type 0} (p : Path) where
         | false ↦ λ isnt. ap (list_any (λ e. not (same_path e.0 p))) (tree-out e es isnt).0 ∙ rw isnt (any_below-tree es)
       ] refl
 
-  -- ---- by place
+  -- ---- by index
 
   pub piece_of : (q : Path) (es : List (Path × X)) (start count : ℕ) → q ≡ p → start ≡ rank q es → start ≤ length es
-      → count ≤ length (between start (length es) es) → IsPartitionPoint (λ e. is_at_or_below e.0 p ≡ true) (λ e. is_at_or_below e.0 p ≡ false) (between start (length es) es) count
+      → count ≤ length (between start (length es) es) → IsPartitionPoint (λ e. is_at_or_below e.0 p ≡ true) (λ e. is_at_or_below e.0 p ≡ false)
+      (between start (length es) es) count
       → IsPieceOf p es start (start + count)
   piece_of q es start count sought place within few point =
       let behind : between start (length es) es ≡ drop start es = between_to_end es start (length es) (omega arith) in
@@ -195,7 +208,8 @@ module _ {X : Type 0} (p : Path) where
       subst (IsPartitionedBy (λ e. is_at_or_below e.0 p)) behind
       (spreads_parted (drop start es) (sorted_behind es start s) (subst (λ m. BeginsAt (drop m es)) (sym begins) (begins_at_rank es)))
 
-  pub tree_between : (es fs : List (Path × X)) (start end : ℕ) → is_sorted path_cmp es ≡ true → fs ≡ es → IsPieceOf p fs start end → between start end es ≡ tree_in p es
+  pub tree_between : (es fs : List (Path × X)) (start end : ℕ) → is_sorted path_cmp es ≡ true → fs ≡ es → IsPieceOf p fs start end → between start end es
+      ≡ tree_in p es
   tree_between es fs start end s same piece =
       let at : IsPieceOf p es start end = subst (λ ys. IsPieceOf p ys start end) same piece in
       let count : end - start ≡ spread p (drop start es) = omega (arith, at.ends) in

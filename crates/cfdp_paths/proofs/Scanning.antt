@@ -53,7 +53,8 @@ scan_start octets names is some = record {
   order = omega arith;
   few = omega arith;
   same = front_none' ∙ ap (λ o. first_fault 8 (slice_split is_slash o)) is
-      ∙ sym (cond-false (length (without_slash octets) == 0) (Some Empty) (first_fault 8 (names_in octets)) (ne_eqb (length (without_slash octets)) 0 (λ none. some (ap length is ∙ none))));
+      ∙ sym (cond-false (length (without_slash octets) == 0) (Some Empty) (first_fault 8 (names_in octets))
+      (ne_eqb (length (without_slash octets)) 0 (λ none. some (ap length is ∙ none))));
   number = omega (arith, ap (λ o. length (slice_split is_slash o)) is);
   zeros = refl;
 }
@@ -62,7 +63,8 @@ scan_start octets names is some = record {
     front_none' = ap (first_fault 8) (front_none (slice_split is_slash names) (omega (arith, length-slice_split is_slash names)))
 
 -- the name that comes after `count` others has ended
-ends_faulty : (room count : ℕ) (cur : List ℕ) (rest : List Name) (fault : PathFault) (all : Option PathFault) → room ≡ 8 - count → count ≤ 8 → first_fault room (cur ∷ rest) ≡ all
+ends_faulty : (room count : ℕ) (cur : List ℕ) (rest : List Name) (fault : PathFault) (all : Option PathFault) → room ≡ 8 - count → count ≤ 8 →
+    first_fault room (cur ∷ rest) ≡ all
     → Some fault ≡ cond (count == 8) (Some TooDeep) (fault_of_name cur) → all ≡ Some fault
 ends_faulty zero count cur rest fault all is few same e =
     sym same ∙ sym (e ∙ ap (λ b. cond b (Some TooDeep) (fault_of_name cur)) (eq-eqb count 8 (omega (arith, is, few))))
@@ -94,7 +96,8 @@ module _ (octets names : List ℕ) (count start index : ℕ) (holds_zero : Bool)
       let on : suc index ≡ index + 1 = omega arith in
       drop-cons names index 0 within ∙ (λ i. sym read i ∷ drop (on i) names)
 
-  pub scan_octet : (x : ℕ) (next : Bool) → index < length names → x ≡ get_or names index 0 → is_slash x ≡ false → next ≡ (holds_zero || is_zero x) → Scan octets names count start (index + 1) next
+  pub scan_octet : (x : ℕ) (next : Bool) → index < length names → x ≡ get_or names index 0 → is_slash x ≡ false → next ≡ (holds_zero || is_zero x) →
+      Scan octets names count start (index + 1) next
   scan_octet x next within read other zero_too =
       let rest : slice_split is_slash (drop index names) ≡ onto_first x (slice_split is_slash (drop (index + 1) names)) =
       ap (slice_split is_slash) (at_index x within read) ∙ slice_split-cons_no is_slash x (drop (index + 1) names) other in
@@ -102,8 +105,16 @@ module _ (octets names : List ℕ) (count start index : ℕ) (holds_zero : Bool)
       record {
         order = omega (arith, h.order);
         few = h.few;
-        same = ap (first_fault (8 - count)) (ap (λ cur. front cur (slice_split is_slash (drop (index + 1) names))) longer ∙ sym (front_onto (so_far names start index) x (slice_split is_slash (drop (index + 1) names))) ∙ ap (front (so_far names start index)) (sym rest)) ∙ h.same;
-        number = omega (arith, h.number, ap length rest, length-onto x (slice_split is_slash (drop (index + 1) names)), length-slice_split is_slash (drop (index + 1) names));
+        same = ap (first_fault (8 - count)) (ap (λ cur. front cur (slice_split is_slash (drop (index + 1) names))) longer
+            ∙ sym (front_onto (so_far names start index) x (slice_split is_slash (drop (index + 1) names))) ∙ ap (front (so_far names start index)) (sym rest))
+            ∙ h.same;
+        number = omega (
+          arith,
+          h.number,
+          ap length rest,
+          length-onto x (slice_split is_slash (drop (index + 1) names)),
+          length-slice_split is_slash (drop (index + 1) names),
+        );
         zeros = zero_too ∙ ap (λ b. b || is_zero x) h.zeros ∙ or_end (list_any is_zero (so_far names start index)) (is_zero x)
             ∙ sym (ap (list_any is_zero) longer ∙ list_any-append is_zero (so_far names start index) (x ∷ []));
       }
@@ -118,12 +129,15 @@ module _ (octets names : List ℕ) (count start index : ℕ) (holds_zero : Bool)
       or_end false false = refl
 
   -- the names from this one on, where the `/` after it was found
-  at_slash : (x : ℕ) → index < length names → x ≡ get_or names index 0 → is_slash x ≡ true → slice_split is_slash (drop index names) ≡ [] ∷ slice_split is_slash (drop (index + 1) names)
+  at_slash : (x : ℕ) → index < length names → x ≡ get_or names index 0 → is_slash x ≡ true → slice_split is_slash (drop index names)
+      ≡ [] ∷ slice_split is_slash (drop (index + 1) names)
   at_slash x within read slashes = ap (slice_split is_slash) (at_index x within read) ∙ slice_split-cons_yes is_slash x (drop (index + 1) names) slashes
 
-  this_first : (rest : List Name) → slice_split is_slash (drop index names) ≡ [] ∷ rest → first_fault (8 - count) (so_far names start index ∷ rest) ≡ fault_of octets
+  this_first : (rest : List Name) → slice_split is_slash (drop index names) ≡ [] ∷ rest → first_fault (8 - count) (so_far names start index ∷ rest)
+      ≡ fault_of octets
   this_first rest are =
-      ap (λ n. first_fault (8 - count) (n ∷ rest)) (sym (append-nil (so_far names start index))) ∙ ap (λ ns. first_fault (8 - count) (front (so_far names start index) ns)) (sym are) ∙ h.same
+      ap (λ n. first_fault (8 - count) (n ∷ rest)) (sym (append-nil (so_far names start index)))
+      ∙ ap (λ ns. first_fault (8 - count) (front (so_far names start index) ns)) (sym are) ∙ h.same
 
   pub scan_fault : (x : ℕ) (fault : PathFault) → index < length names → x ≡ get_or names index 0 → is_slash x ≡ true
       → Some fault ≡ cond (count == 8) (Some TooDeep) (fault_of_name (so_far names start index)) → fault_of octets ≡ Some fault
@@ -142,7 +156,8 @@ module _ (octets names : List ℕ) (count start index : ℕ) (holds_zero : Bool)
       record {
         order = omega arith;
         few = omega (arith, well.0);
-        same = ap (first_fault (8 - (count + 1))) (ap (λ cur. front cur rest) empty ∙ front_none rest (omega (arith, length-slice_split is_slash (drop (index + 1) names)))) ∙ well.1;
+        same = ap (first_fault (8 - (count + 1))) (ap (λ cur. front cur rest) empty
+            ∙ front_none rest (omega (arith, length-slice_split is_slash (drop (index + 1) names)))) ∙ well.1;
         number = omega (arith, h.number, ap length are);
         zeros = sym (ap (list_any is_zero) empty);
       }
@@ -162,7 +177,8 @@ module _ (octets names : List ℕ) (count start index : ℕ) (holds_zero : Bool)
       ends_faulty (8 - count) count (so_far names start index) [] fault (fault_of octets) refl h.few (this_first [] (at_end past))
       (e ∙ ap (λ n. cond (count == 8) (Some TooDeep) (fault_of_name n)) (sym (last_name past)))
 
-  pub scan_all : length names ≤ index → None ≡ cond (count == 8) (Some TooDeep) (fault_of_name (so_far names start (length names))) → (fault_of octets ≡ None) × (count + 1 ≡ length (names_in octets))
+  pub scan_all : length names ≤ index → None ≡ cond (count == 8) (Some TooDeep) (fault_of_name (so_far names start (length names))) → (fault_of octets ≡ None)
+      × (count + 1 ≡ length (names_in octets))
   scan_all past e =
       let well = ends_well (8 - count) count (so_far names start index) [] (fault_of octets) refl h.few (this_first [] (at_end past))
       (e ∙ ap (λ n. cond (count == 8) (Some TooDeep) (fault_of_name n)) (sym (last_name past))) in

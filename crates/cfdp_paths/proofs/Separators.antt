@@ -2,14 +2,14 @@
 --     some_names, depth-names_of                       a buffer holds one name at least;  one more than it has separators
 --     path_cmp-names_of, same_path-names_of            the order by names is the order of the buffers
 --     at_or_below-names_of, begins_.., behind          what is at or below a path begins with its octets, up to a separator
---     names_of-cut, cut_there, cut_nowhere             the names before and behind a separator
+--     names_of-cut, cut_there, cut_nowhere             the names before and after a separator
 --     some_separator, cut_last                         two names have a separator;  the names before the last one
 --     names_of-next, names_of-last                     the first name, up to the first separator;  the last one, where there is none
 --     text-names_of, names_of-parsed                   octets with `/` in place of each separator, and the other way round
 --     length-joined                                    such octets are as many as the buffer has
 --     names_of-spelled                                 the names that octets spell, once each `/` between them was replaced
 --     replace_more                                     one more octet is replaced
---     rebased-names_of                                 what follows the octets of a path, behind those of another
+--     rebased-names_of                                 what follows the octets of a path, after those of another
 use Rattle.std.proofs.Common.{◌≡◌, ◌≢◌, refl, sym, ◌∙◌, ap, cond, ℕ, zero, suc, ◌+◌, ◌≤◌, ◌<◌, ◌==◌, nat_eq, Bool, true, false, ◌&&◌, List, [], ◌∷◌, ◌++◌, map, length, take, drop, get_or, set, add-one, arith, All, take-append-drop, length-take, length-drop, ◌-◌}
 use Rattle.std.specs.List.{slice_split, onto_first, count_by}
 use Rattle.std.specs.Cmp.{nat_cmp_is}
@@ -59,12 +59,15 @@ separator_first' x other = let some = eqb-false x 0 other in sym (nat_cmp_is x 0
 
 -- the buffers have one octet more, which are separators or not
 cmp_more : (x y : ℕ) (a b : List ℕ) (u v : Bool) → is_separator x ≡ u → is_separator y ≡ v → path_cmp (names_of a) (names_of b) ≡ slice_cmp nat_cmp a b
-    → path_cmp (cond u ([] ∷ names_of a) (onto_first x (names_of a))) (cond v ([] ∷ names_of b) (onto_first y (names_of b))) ≡ ordering_then (nat_cmp x y) (slice_cmp nat_cmp a b)
+    → path_cmp (cond u ([] ∷ names_of a) (onto_first x (names_of a))) (cond v ([] ∷ names_of b) (onto_first y (names_of b)))
+    ≡ ordering_then (nat_cmp x y) (slice_cmp nat_cmp a b)
 cmp_more x y a b true true ex ey h = rw (eqb-true x 0 ex, eqb-true y 0 ey) h
 cmp_more x y a b true false ex ey h =
-    cmp_none y (names_of a) (names_of b) (some_names b) ∙ sym (ap (λ o. ordering_then o (slice_cmp nat_cmp a b)) (ap (λ n. nat_cmp n y) (eqb-true x 0 ex) ∙ separator_first y ey))
+    cmp_none y (names_of a) (names_of b) (some_names b) ∙ sym (ap (λ o. ordering_then o (slice_cmp nat_cmp a b)) (ap (λ n. nat_cmp n y) (eqb-true x 0 ex)
+    ∙ separator_first y ey))
 cmp_more x y a b false true ex ey h =
-    cmp_none' x (names_of a) (names_of b) (some_names a) ∙ sym (ap (λ o. ordering_then o (slice_cmp nat_cmp a b)) (ap (λ n. nat_cmp x n) (eqb-true y 0 ey) ∙ separator_first' x ex))
+    cmp_none' x (names_of a) (names_of b) (some_names a) ∙ sym (ap (λ o. ordering_then o (slice_cmp nat_cmp a b)) (ap (λ n. nat_cmp x n) (eqb-true y 0 ey)
+    ∙ separator_first' x ex))
 cmp_more x y a b false false ex ey h = cmp_onto x y (names_of a) (names_of b) (some_names a) (some_names b) ∙ ap (ordering_then (nat_cmp x y)) h
 
 root_first : (q : Path) → 1 ≤ length q → path_cmp [] q ≡ Less
@@ -160,7 +163,8 @@ onto_append : (x : ℕ) (p q : Path) → 1 ≤ length p → onto_first x (p ++ q
 onto_append x [] q some = absurd (omega arith)
 onto_append x (n ∷ p) q some = refl
 
-cut_more : (x : ℕ) (a : List ℕ) (p q : Path) (u : Bool) → p ≡ names_of a ++ q → cond u ([] ∷ p) (onto_first x p) ≡ cond u ([] ∷ names_of a) (onto_first x (names_of a)) ++ q
+cut_more : (x : ℕ) (a : List ℕ) (p q : Path) (u : Bool) → p ≡ names_of a ++ q → cond u ([] ∷ p) (onto_first x p)
+    ≡ cond u ([] ∷ names_of a) (onto_first x (names_of a)) ++ q
 cut_more x a p q true h = ap (λ r. [] ∷ r) h
 cut_more x a p q false h = ap (onto_first x) h ∙ onto_append x (names_of a) q (some_names a)
 
@@ -179,7 +183,8 @@ joined_onto x [] some = absurd (omega arith)
 joined_onto x (n ∷ []) some = refl
 joined_onto x (n ∷ m ∷ p) some = refl
 
-text_more : (x : ℕ) (a : List ℕ) (text : List ℕ) (u : Bool) → text ≡ joined (names_of a) → (cond u slash x) ∷ text ≡ joined (cond u ([] ∷ names_of a) (onto_first x (names_of a)))
+text_more : (x : ℕ) (a : List ℕ) (text : List ℕ) (u : Bool) → text ≡ joined (names_of a) → (cond u slash x) ∷ text
+    ≡ joined (cond u ([] ∷ names_of a) (onto_first x (names_of a)))
 text_more x a text true h = ap (λ t. slash ∷ t) h ∙ sym (joined_first (names_of a) (some_names a))
 text_more x a text false h = ap (λ t. x ∷ t) h ∙ sym (joined_onto x (names_of a) (some_names a))
 
@@ -216,7 +221,8 @@ names_of-parsed [] lacks = refl
 names_of-parsed (x ∷ a) lacks = parsed_more x a (map (λ octet. cond (octet == slash) 0 octet) a) (is_slash x) (names_of-parsed a) lacks
 
 -- what was made of the octets has the names that they spell
-pub names_of-spelled : (octets front made : List ℕ) → IsPath (names_in octets) → front ≡ without_slash octets → made ≡ map (λ octet. cond (octet == slash) 0 octet) front → names_of made ≡ names_in octets
+pub names_of-spelled : (octets front made : List ℕ) → IsPath (names_in octets) → front ≡ without_slash octets → made
+    ≡ map (λ octet. cond (octet == slash) 0 octet) front → names_of made ≡ names_in octets
 names_of-spelled octets front made path stripped replaced =
     ap names_of (replaced ∙ ap (map (λ octet. cond (octet == slash) 0 octet)) stripped)
     ∙ names_of-parsed (without_slash octets) (names_lack_zero (names_in octets) path.names)
@@ -227,13 +233,15 @@ names_of-spelled octets front made path stripped replaced =
 abbrev pub replaced_to : (ℕ → ℕ) → ℕ → List ℕ → List ℕ
 replaced_to f i octets = map f (take i octets) ++ drop i octets
 
-replaced_next : (f : ℕ → ℕ) (octets : List ℕ) (i : ℕ) → i < length octets → set (replaced_to f i octets) i (f (get_or (replaced_to f i octets) i 0)) ≡ replaced_to f (i + 1) octets
+replaced_next : (f : ℕ → ℕ) (octets : List ℕ) (i : ℕ) → i < length octets → set (replaced_to f i octets) i (f (get_or (replaced_to f i octets) i 0))
+    ≡ replaced_to f (i + 1) octets
 replaced_next f [] i within = absurd (omega arith)
 replaced_next f (x ∷ octets) zero within = refl
 replaced_next f (x ∷ octets) (suc i) within =
     rw (add-one (suc i)) (ap (λ o. f x ∷ o) (rw (add-one i) at (replaced_next f octets i (omega arith))))
 
-pub replace_more : (f : ℕ → ℕ) (octets now next : List ℕ) (i y : ℕ) → now ≡ replaced_to f i octets → i < length octets → next ≡ set now i y → y ≡ f (get_or now i 0) → next ≡ replaced_to f (i + 1) octets
+pub replace_more : (f : ℕ → ℕ) (octets now next : List ℕ) (i y : ℕ) → now ≡ replaced_to f i octets → i < length octets → next ≡ set now i y → y
+    ≡ f (get_or now i 0) → next ≡ replaced_to f (i + 1) octets
 replace_more f octets now next i y e within written same =
     written ∙ ap (set now i) same ∙ ap (λ o. set o i (f (get_or o i 0))) e ∙ replaced_next f octets i within
 
@@ -242,16 +250,20 @@ replace_more f octets now next i y e within written same =
 pub depth-names_of : (octets : List ℕ) → length (names_of octets) ≡ 1 + count_by is_separator octets
 depth-names_of octets = omega (arith, length-slice_split is_separator octets)
 
-pub cut_there : (octets : List ℕ) (place count left : ℕ) → place < length octets → get_or octets place 0 ≡ 0 → count_by is_separator (take place octets) + left ≡ count → left ≡ 1
+pub cut_there : (octets : List ℕ) (place count left : ℕ) → place < length octets → get_or octets place 0 ≡ 0 → count_by is_separator (take place octets) + left
+    ≡ count → left ≡ 1
     → names_of (take place octets) ≡ take count (names_of octets)
 cut_there octets place count left within separates passed last =
     let whole : take place octets ++ 0 ∷ drop (suc place) octets ≡ octets =
-    ap (λ x. take place octets ++ x ∷ drop (suc place) octets) (sym separates) ∙ ap (λ o. take place octets ++ o) (sym (drop-cons octets place 0 within)) ∙ take-append-drop place octets in
+    ap (λ x. take place octets ++ x ∷ drop (suc place) octets) (sym separates) ∙ ap (λ o. take place octets ++ o) (sym (drop-cons octets place 0 within))
+    ∙ take-append-drop place octets in
     let parts : names_of octets ≡ names_of (take place octets) ++ names_of (drop (suc place) octets) =
     ap names_of (sym whole) ∙ names_of-cut (take place octets) (drop (suc place) octets) in
-    sym (ap (take count) parts ∙ take_at (names_of (take place octets)) (names_of (drop (suc place) octets)) count (omega (arith, depth-names_of (take place octets))))
+    sym (ap (take count) parts ∙ take_at (names_of (take place octets)) (names_of (drop (suc place) octets)) count
+    (omega (arith, depth-names_of (take place octets))))
 
-pub cut_nowhere : (octets : List ℕ) (place count left : ℕ) → length octets ≤ place → count_by is_separator (take place octets) + left ≡ count → 1 ≤ left → names_of octets ≡ take count (names_of octets)
+pub cut_nowhere : (octets : List ℕ) (place count left : ℕ) → length octets ≤ place → count_by is_separator (take place octets) + left ≡ count → 1 ≤ left →
+    names_of octets ≡ take count (names_of octets)
 cut_nowhere octets place count left past passed some =
     let all : count_by is_separator (take place octets) ≡ count_by is_separator octets = ap (count_by is_separator) (take_all place octets past) in
     sym (take_all count (names_of octets) (omega (arith, depth-names_of octets)))
@@ -283,30 +295,38 @@ pub names_of-next : (octets : List ℕ) (place behind : ℕ) → behind ≡ plac
     → names_of octets ≡ take place octets ∷ names_of (take (length octets - behind) (drop behind octets))
 names_of-next octets place behind e within none here =
     let whole : take place octets ++ 0 ∷ drop (suc place) octets ≡ octets =
-    ap (λ x. take place octets ++ x ∷ drop (suc place) octets) (sym (eqb-true (get_or octets place 0) 0 here)) ∙ ap (λ o. take place octets ++ o) (sym (drop-cons octets place 0 within)) ∙ take-append-drop place octets in
+    ap (λ x. take place octets ++ x ∷ drop (suc place) octets) (sym (eqb-true (get_or octets place 0) 0 here))
+    ∙ ap (λ o. take place octets ++ o) (sym (drop-cons octets place 0 within)) ∙ take-append-drop place octets in
     let alone = names_of-last (take place octets) (λ k low less at.
-    (let inside : k < place = omega (arith, less, length-take place octets) in none k low inside (ap is_separator (sym (get_or-take place octets k 0 inside)) ∙ at))) in
+    (let inside : k < place = omega (arith, less, length-take place octets) in
+    none k low inside (ap is_separator (sym (get_or-take place octets k 0 inside)) ∙ at))) in
     let rest : drop (suc place) octets ≡ take (length octets - behind) (drop behind octets) =
-    (let next : suc place ≡ behind = omega (arith, e) in ap (λ n. drop n octets) next ∙ sym (take_all (length octets - behind) (drop behind octets) (omega (arith, length-drop behind octets)))) in
-    ap names_of (sym whole) ∙ names_of-cut (take place octets) (drop (suc place) octets) ∙ ap (λ p. p ++ names_of (drop (suc place) octets)) alone ∙ ap (λ o. take place octets ∷ names_of o) rest
+    (let next : suc place ≡ behind = omega (arith, e) in ap (λ n. drop n octets) next
+    ∙ sym (take_all (length octets - behind) (drop behind octets) (omega (arith, length-drop behind octets)))) in
+    ap names_of (sym whole) ∙ names_of-cut (take place octets) (drop (suc place) octets) ∙ ap (λ p. p ++ names_of (drop (suc place) octets)) alone
+    ∙ ap (λ o. take place octets ∷ names_of o) rest
 
 -- ---- what follows the octets of a path
 
 -- octets that are fewer begin with none
 pub begins_short : (a b : List ℕ) → length a < length b → false ≡ is_at_or_below (names_of a) (names_of b)
 begins_short a b short =
-    sym (at_or_below-names_of a b ∙ ap (λ t. t && ends_name (drop (length b) a)) (unequal nat_eq (take (length b) a) b (λ e. omega (arith, length-take (length b) a, e))))
+    sym (at_or_below-names_of a b ∙ ap (λ t. t && ends_name (drop (length b) a))
+    (unequal nat_eq (take (length b) a) b (λ e. omega (arith, length-take (length b) a, e))))
 
 -- what comes after the front ends a name
-pub begins_ending : (a b head rest : List ℕ) (r : Bool) → r ≡ pointwise nat_eq head b → head ≡ take (length b) a → rest ≡ drop (length b) a → ends_name rest ≡ true → r ≡ is_at_or_below (names_of a) (names_of b)
+pub begins_ending : (a b head rest : List ℕ) (r : Bool) → r ≡ pointwise nat_eq head b → head ≡ take (length b) a → rest ≡ drop (length b) a → ends_name rest
+    ≡ true → r ≡ is_at_or_below (names_of a) (names_of b)
 begins_ending a b head rest r same front behind ends =
-    same ∙ ap (λ h. pointwise nat_eq h b) front ∙ sym (and_true (pointwise nat_eq (take (length b) a) b)) ∙ ap (λ e. pointwise nat_eq (take (length b) a) b && e) (sym ends ∙ ap ends_name behind)
+    same ∙ ap (λ h. pointwise nat_eq h b) front ∙ sym (and_true (pointwise nat_eq (take (length b) a) b))
+    ∙ ap (λ e. pointwise nat_eq (take (length b) a) b && e) (sym ends ∙ ap ends_name behind)
     ∙ sym (at_or_below-names_of a b)
 
 -- or goes on with it
 pub begins_going_on : (a b rest : List ℕ) → rest ≡ drop (length b) a → ends_name rest ≡ false → false ≡ is_at_or_below (names_of a) (names_of b)
 begins_going_on a b rest behind goes =
-    sym (and_false (pointwise nat_eq (take (length b) a) b)) ∙ ap (λ e. pointwise nat_eq (take (length b) a) b && e) (sym goes ∙ ap ends_name behind) ∙ sym (at_or_below-names_of a b)
+    sym (and_false (pointwise nat_eq (take (length b) a) b)) ∙ ap (λ e. pointwise nat_eq (take (length b) a) b && e) (sym goes ∙ ap ends_name behind)
+    ∙ sym (at_or_below-names_of a b)
 
 pub ends_nothing : (rest : List ℕ) → length rest < 1 → true ≡ ends_name rest
 ends_nothing [] none = refl
@@ -323,11 +343,14 @@ behind a b below =
 
 rebased_rest : (b t rest : List ℕ) → ends_name rest ≡ true → names_of (t ++ rest) ≡ rebased (names_of b) (names_of t) (names_of (b ++ rest))
 rebased_rest b t [] ends =
-    rw (append-nil t, append-nil b) (sym (ap (rebased (names_of b) (names_of t)) (sym (append-nil (names_of b))) ∙ rebased-append (names_of b) (names_of t) [] ∙ append-nil (names_of t)))
+    rw (append-nil t, append-nil b) (sym (ap (rebased (names_of b) (names_of t)) (sym (append-nil (names_of b))) ∙ rebased-append (names_of b) (names_of t) []
+    ∙ append-nil (names_of t)))
 rebased_rest b t (x ∷ rest) ends =
-    rw (eqb-true x 0 ends) (names_of-cut t rest ∙ sym (ap (rebased (names_of b) (names_of t)) (names_of-cut b rest) ∙ rebased-append (names_of b) (names_of t) (names_of rest)))
+    rw (eqb-true x 0 ends) (names_of-cut t rest ∙ sym (ap (rebased (names_of b) (names_of t)) (names_of-cut b rest)
+    ∙ rebased-append (names_of b) (names_of t) (names_of rest)))
 
-pub rebased-names_of : (a b t : List ℕ) → is_at_or_below (names_of a) (names_of b) ≡ true → names_of (t ++ drop (length b) a) ≡ rebased (names_of b) (names_of t) (names_of a)
+pub rebased-names_of : (a b t : List ℕ) → is_at_or_below (names_of a) (names_of b) ≡ true → names_of (t ++ drop (length b) a)
+    ≡ rebased (names_of b) (names_of t) (names_of a)
 rebased-names_of a b t below =
     let parts = behind a b below in
     rebased_rest b t (drop (length b) a) parts.1 ∙ ap (λ o. rebased (names_of b) (names_of t) (names_of o)) (sym parts.0)

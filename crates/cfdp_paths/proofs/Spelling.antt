@@ -1,6 +1,6 @@
 -- What octets spell: the names between the `/` are those of the one path, if any.
 --     split-joined, names_in-spelled, spelled_once, spells_names_in
---     is_name-Decides, is_path-Decides              the tests tell whether a name, or a path, is within the limits
+--     is_name-Decides, is_path-Decides              the tests say whether a name, or a path, is within the limits
 --     path_of_spelled, spelled_from_path_of         `path_of` is the path that is spelled
 use Rattle.std.proofs.Common.{◌≡◌, ◌≢◌, refl, sym, ◌∙◌, ap, ℕ, ◌≤◌, leb, ◌==◌, false, ◌&&◌, not, ◌⊎◌, inl, inr, List, [], ◌∷◌, ◌++◌, length, Some, None, arith, All}
 use Rattle.std.specs.List.{slice_split, list_all}
@@ -18,7 +18,8 @@ abbrev pub LacksSlash : Name → Type 0
 LacksSlash name = All (λ octet. is_slash octet ≡ false) name
 
 name_lacks_slash : (n : Name) → IsName n → LacksSlash n
-name_lacks_slash n w = All-weaker (λ octet. (octet ≢ slash) × (octet ≢ 0)) (λ octet. is_slash octet ≡ false) (λ octet good. ne_eqb octet slash good.0) n w.octets
+name_lacks_slash n w = All-weaker (λ octet. (octet ≢ slash) × (octet ≢ 0)) (λ octet. is_slash octet ≡ false)
+    (λ octet good. ne_eqb octet slash good.0) n w.octets
 
 -- the names of a path, joined and split again
 pub split-joined : (p : Path) → 1 ≤ length p → All IsName p → slice_split is_slash (joined p) ≡ p
@@ -72,7 +73,8 @@ spells_names_in octets w = (w, rw (joined-names_in octets) (slash_or_none octets
 
 octet_test : (octet : ℕ) → Decides (not (is_slash octet) && not (octet == 0)) ((octet ≢ slash) × (octet ≢ 0))
 octet_test octet =
-    Decides-and (not (is_slash octet)) (not (octet == 0)) (Decides-not (is_slash octet) (Decides-eqb octet slash)) (Decides-not (octet == 0) (Decides-eqb octet 0))
+    Decides-and (not (is_slash octet)) (not (octet == 0)) (Decides-not (is_slash octet) (Decides-eqb octet slash))
+    (Decides-not (octet == 0) (Decides-eqb octet 0))
 
 octets_test : (n : Name) → Decides (list_all (λ octet. not (is_slash octet) && not (octet == 0)) n) (All (λ octet. (octet ≢ slash) × (octet ≢ 0)) n)
 octets_test =
@@ -90,14 +92,16 @@ is_name-Decides n =
     Decides-like (is_name n)
     (λ h. record { some = h.0.0.0.0; short = h.0.0.0.1; octets = h.0.0.1; not_dot = h.0.1; not_dots = h.1 })
     (λ w. ((((w.some, w.short), w.octets), w.not_dot), w.not_dots))
-    (Decides-and _ _ (Decides-and _ _ (Decides-and _ _ (Decides-and _ _ (Decides-leb 1 (length n)) (Decides-leb (length n) 96)) (octets_test n)) (other_name_test n (dot ∷ []))) (other_name_test n (dot ∷ dot ∷ [])))
+    (Decides-and _ _ (Decides-and _ _ (Decides-and _ _ (Decides-and _ _ (Decides-leb 1 (length n)) (Decides-leb (length n) 96)) (octets_test n))
+    (other_name_test n (dot ∷ []))) (other_name_test n (dot ∷ dot ∷ [])))
 
 pub is_path-Decides : (p : Path) → Decides (is_path p) (IsPath p)
 is_path-Decides p =
     Decides-like (is_path p)
     (λ h. record { some = h.0.0; few = h.0.1; names = h.1 })
     (λ w. ((w.some, w.few), w.names))
-    (Decides-and _ _ (Decides-and _ _ (Decides-leb 1 (length p)) (Decides-leb (length p) 8)) (Decides-by_and is_name IsName (list_all is_name) is_name-Decides refl (λ _ _. refl) p))
+    (Decides-and _ _ (Decides-and _ _ (Decides-leb 1 (length p)) (Decides-leb (length p) 8))
+    (Decides-by_and is_name IsName (list_all is_name) is_name-Decides refl (λ _ _. refl) p))
 
 -- ---- the path that octets spell
 

@@ -1,4 +1,4 @@
--- Why the octets of a file name (CCSDS 727.0-B-5 §4.9 and §5.4) spell no path.
+-- Why the octets of a file name (CCSDS 727.0-B-5 §5.4, filestore procedures) spell no path.
 --     fault_of_name name        what is wrong with the name alone, if anything
 --     first_fault room names    the leftmost fault, where at most `room` names may come
 --     fault_of octets           the fault of the octets, if they have one
@@ -12,7 +12,8 @@ use Rattle.cfdp_paths.specs.Paths.{Name, dot, same_name, without_slash, names_in
 abbrev pub fault_of_name : Name → Option PathFault
 fault_of_name name =
     if length name == 0 then Some EmptyName
-    else if same_name name (dot ∷ []) || same_name name (dot ∷ dot ∷ []) || list_any (λ octet. octet == 0) name then Some BadName
+    else if same_name name (dot ∷ []) || same_name name (dot ∷ dot ∷ []) || list_any (λ octet. octet == 0) name
+    then Some BadName
     else if nat_lt 96 (length name) then Some NameTooLong
     else None
 

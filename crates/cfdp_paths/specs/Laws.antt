@@ -6,7 +6,7 @@
 --     IsReflexive, IsTransitive, IsAntisymmetric, PrefixesAreComparable      of at or below
 --     AncestorsAreAbove      the ancestors are what a path is strictly below, the root apart
 --     ParentIsAbove          a path is strictly below its parent, and whatever it is strictly below is at or above that
---     ComesFirst             a path stands before all that is strictly below it
+--     ComesFirst             a path is before all that is strictly below it
 --     RebasedStands          p/r, rebased from p to q, is q/r
 use Rattle.std.specs.Prelude.{◌≡◌, ◌≢◌, ℕ, ◌≤◌, ◌⊎◌, ◌↔◌, IsTrue, List, [], ◌++◌, Some, None, length, Contains}
 use Rattle.std.specs.declared.cmp.Ordering.TheVariants.{Less}
@@ -38,7 +38,8 @@ IsAntisymmetric = (p q : Path) → IsTrue (is_at_or_below p q) → IsTrue (is_at
 -- of two prefixes of one path one is a prefix of the other
 abbrev pub PrefixesAreComparable : Type 0
 PrefixesAreComparable =
-    (p q r : Path) → IsTrue (is_at_or_below p q) → IsTrue (is_at_or_below p r) → IsTrue (is_at_or_below q r) ⊎ IsTrue (is_at_or_below r q)
+    (p q r : Path) → IsTrue (is_at_or_below p q) → IsTrue (is_at_or_below p r) → IsTrue (is_at_or_below q r)
+    ⊎ IsTrue (is_at_or_below r q)
 
 -- a path is strictly below each of its ancestors, and whatever it is strictly below, the root apart, is one
 abbrev pub AncestorsAreAbove : Type 0
@@ -46,9 +47,10 @@ AncestorsAreAbove = (p q : Path) → Contains (ancestors p) q ↔ (IsTrue (is_be
 
 -- a path is strictly below its parent, and what it is strictly below is at or above the parent
 abbrev pub ParentIsAbove : Type 0
-ParentIsAbove = (p : Path) → 1 ≤ length p → IsTrue (is_below p (parent p)) × ((q : Path) → IsTrue (is_below p q) → IsTrue (is_at_or_below (parent p) q))
+ParentIsAbove = (p : Path) → 1 ≤ length p → IsTrue (is_below p (parent p))
+    × ((q : Path) → IsTrue (is_below p q) → IsTrue (is_at_or_below (parent p) q))
 
--- a path stands before all that is strictly below it
+-- a path is before all that is strictly below it
 abbrev pub ComesFirst : Type 0
 ComesFirst = (p q : Path) → IsTrue (is_below p q) → path_cmp q p ≡ Less
 

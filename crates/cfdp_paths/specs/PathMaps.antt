@@ -1,13 +1,13 @@
 -- Maps by path, as lists of entries in path order.
 --     IsOrdered es          the paths strictly rise
---     rank p es             how many entries stand before p
+--     rank p es             how many entries are before p
 --     spread p es           how many entries at the front are at or below p
---     IsPlaceOf p es place   the entry of p stands at the place
---     IsPieceOf p es start end    what is at and below p stands from start up to end
+--     IsPlaceOf p es place   the entry of p is at the index
+--     IsPieceOf p es start end    what is at and below p goes from start up to end
 --     without p es          the entries but for that of p
 --     tree_in, rest_in p es the entries at and below p;  the others
---     any_below p es        whether a path stands strictly below p
---     puts es more          more entries, each put into its place
+--     any_below p es        whether a path is strictly below p
+--     puts es more          more entries, each put at its index
 --     moved_to p q es       the entries at q/r in place of p/r
 --     with_paths paths es   the entries at other paths
 --     is_too_deep p q es    whether one of them would have more than 8 names there
@@ -27,13 +27,13 @@ rank p es = prefix_len (λ e. is_lt (path_cmp e.0 p)) es
 abbrev pub spread : {X : Type 0} → Path → List (Path × X) → ℕ
 spread p es = prefix_len (λ e. is_at_or_below e.0 p) es
 
--- the place of the entry of p
+-- the index of the entry of p
 pub record IsPlaceOf {X : Type 0} (p : Path) (es : List (Path × X)) (place : ℕ) : Type 0 where
   pub first : place ≡ rank p es
   pub within : place < length es
   pub path : (d : Path × X) → (slice_index_or es place d).0 ≡ p
 
--- what stands at and below p
+-- what is at and below p
 pub record IsPieceOf {X : Type 0} (p : Path) (es : List (Path × X)) (start end : ℕ) : Type 0 where
   pub begins : start ≡ rank p es
   pub ends : end ≡ start + spread p (drop start es)
@@ -51,7 +51,7 @@ rest_in p es = where_key path_cmp (λ q. not (is_at_or_below q p)) es
 abbrev pub any_below : {X : Type 0} → Path → List (Path × X) → Bool
 any_below p es = list_any (λ e. is_below e.0 p) es
 
--- each put into its place, in turn
+-- each put at its index, in turn
 abbrev pub puts : {X : Type 0} → List (Path × X) → List (Path × X) → List (Path × X)
 puts es [] = es
 puts es (e ∷ more) = puts (put path_cmp e.0 e.1 es) more

@@ -1,15 +1,17 @@
 -- Paths of the filestore, as lists of names, and what it is to spell one. The standard carries file names as octets
--- (CCSDS 727.0-B-5 §4.9 and §5.4) and leaves their form to the filestore: this is the form here.
+-- (CCSDS 727.0-B-5 §5.4, filestore procedures) and leaves their form to the filestore: this is the form here.
 --     Name, Path                          a list of octets, a list of names
 --     names_of octets                     the names that a buffer holds, with the octet 0 between them
 --     path_in buffer                      the path that a buffer holds, and the root for no buffer
 --     IsName, IsPath, is_name, is_path    within the limits, as a fact and as a test
---     path_cmp, same_name, same_path      the order by names, names by octets;  whether two names, or two paths, are one
+--     path_cmp, same_name, same_path      the order by names, names by octets;
+--                                         whether two names, or two paths, are one
 --     is_at_or_below p q, is_below p q    q is a prefix of p;  and is not p
 --     parent, unless_root                 the path without its last name;  a path, and none for the root
 --     ancestors                           the proper ones, the root apart, shortest first
 --     joined p, Spells octets p           the names with `/` between them;  with or without one more before them
---     names_in octets, path_of octets     the names between the `/`, one at the start apart;  the path that octets spell, if any
+--     names_in octets, path_of octets     the names between the `/`, one at the start apart;  the path that octets
+--                                         spell, if any
 --     rebased p q x                       what q/r is, where x is p/r
 use Rattle.std.specs.Prelude.{◌≡◌, ◌≢◌, ℕ, ◌≤◌, nat_le, ◌==◌, Bool, true, false, ◌&&◌, not, if◌then◌else◌, List, [], ◌∷◌, ◌++◌, ◌⊎◌, map, length, drop, All, Option, Some, None}
 use Rattle.std.specs.List.{list_all, slice_split, join_with_byte}
@@ -23,7 +25,7 @@ Name = List ℕ
 abbrev pub Path : Type 0
 Path = List Name
 
--- no name holds the octet 0: in a buffer it stands between the names
+-- no name holds the octet 0: in a buffer it is between the names
 abbrev pub is_separator : ℕ → Bool
 is_separator octet = octet == 0
 
@@ -31,7 +33,7 @@ is_separator octet = octet == 0
 abbrev pub names_of : List ℕ → Path
 names_of octets = slice_split is_separator octets
 
--- a path that is looked up: no buffer stands for the root
+-- a path that is looked up: no buffer means the root
 abbrev pub path_in : Option (List ℕ) → Path
 path_in None = []
 path_in (Some octets) = names_of octets
@@ -113,7 +115,8 @@ names_in octets = slice_split is_slash (without_slash octets)
 
 abbrev pub is_name : Name → Bool
 is_name name =
-    nat_le 1 (length name) && nat_le (length name) 96 && list_all (λ octet. not (is_slash octet) && not (octet == 0)) name
+    nat_le 1 (length name) && nat_le (length name) 96 && list_all (λ octet. not (is_slash octet)
+    && not (octet == 0)) name
     && not (same_name name (dot ∷ [])) && not (same_name name (dot ∷ dot ∷ []))
 
 abbrev pub is_path : Path → Bool

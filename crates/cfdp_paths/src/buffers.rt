@@ -8,7 +8,7 @@ use crate::octet_order::is_same;
 use crate::scan::last_separator;
 use std::alloc::{AllocError, Global};
 
-/// What stands between the names: no name holds it, and it comes before all that a name may hold.
+/// What is between the names: no name holds it, and it comes before all that a name may hold.
 pub(crate) const SEPARATOR: u8 = 0;
 
 /// A copy of the octets, with `new` in place of each `old`. Cost: one allocation, and two passes over the octets.

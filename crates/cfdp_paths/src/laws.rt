@@ -30,17 +30,17 @@ pub fn ancestors_are_above()
     ensures { AncestorsAreAbove }
 {}
 
-/// A path is strictly below its parent, and nothing stands between the two.
+/// A path is strictly below its parent, and nothing is between the two.
 pub fn parent_is_above()
     ensures { ParentIsAbove }
 {}
 
-/// A path stands before all that is strictly below it.
+/// A path is before all that is strictly below it.
 pub fn comes_first()
     ensures { ComesFirst }
 {}
 
-/// What stands at p/r stands at q/r once it is rebased from p to q.
+/// What is at p/r is at q/r once it is rebased from p to q.
 pub fn rebased_stands()
     ensures { RebasedStands }
 {}

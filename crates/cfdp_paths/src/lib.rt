@@ -1,7 +1,7 @@
 //! Paths of the filestore: lists of 1 to 8 names of 1 to 96 octets, read from octets and compared by
 //! their names. Contracts see a [`Path`] as its list of names, each a list of octets; `Rattle.cfdp_paths.specs.Paths`
 //! has the words. What is read is exactly what a path's names spell when they are joined by `/`
-//! (CCSDS 727.0-B-5 §4.9 and §5.4).
+//! (CCSDS 727.0-B-5 §5.4, filestore procedures).
 #![tactic(auto)]
 
 mod buffers;
@@ -22,7 +22,7 @@ pub use names::Names;
 pub use path_map::PathMap;
 pub use paths::Path;
 
-/// Want of memory: the one refusal of a call that only allocates.
+/// Out of memory: the one refusal of a call that only allocates.
 pub type Memory = std::alloc::AllocError;
 
 /// The greatest number of names of a path.

@@ -40,8 +40,8 @@ impl<'a> Names<'a> {
         Names { octets: None }
     }
 
-    /// Why octets spell no path, as [`Path::parse`] says; `None` where they spell one. Never [`PathFault::Memory`]. Takes no
-    /// memory, and changes nothing. Cost: one pass over the octets.
+    /// Why octets spell no path, as [`Path::parse`] says; `None` where they spell one. Never [`PathFault::Memory`].
+    /// Takes no memory, and changes nothing. Cost: one pass over the octets.
     ///
     /// [`Path::parse`]: crate::Path::parse
     pub fn fault_in(octets: &[u8]) -> Option<PathFault>
@@ -50,9 +50,9 @@ impl<'a> Names<'a> {
         find_fault(octets)
     }
 
-    /// The names of the path that the octets spell, as [`Path::parse`] reads them. They are lent out of the octets, which
-    /// change while they are lent. Needs octets that spell a path: [`Names::fault_in`] tells. Takes no memory. Cost: one
-    /// pass over the octets.
+    /// The names of the path that the octets spell, as [`Path::parse`] reads them. They are lent out of the octets,
+    /// which change while they are lent. Needs octets that spell a path: [`Names::fault_in`] says. Takes no memory.
+    /// Cost: one pass over the octets.
     ///
     /// [`Path::parse`]: crate::Path::parse
     pub fn lend(octets: &'a mut [u8]) -> Names<'a>

@@ -13,10 +13,10 @@ use std::alloc::Global;
 use std::marker::Model;
 use std::mem;
 
-/// A map from paths to values, in path order: what stands at and below a path is one piece of it.
+/// A map from paths to values, in path order: what is at and below a path is one piece of it.
 ///
 /// It is one vector. A look-up compares as many paths as the logarithm of the number of entries, and makes none. A
-/// change also shifts the entries behind its place.
+/// change also shifts the entries after its index.
 #[derive(Debug, Drop)]
 pub struct PathMap<T> {
     entries: Vec<(Path, T)>,
@@ -42,12 +42,12 @@ impl<T: Drop> PathMap<T> {
         let _ = self.exchange(path, value);
     }
 
-    /// Puts the value at the path, in the place of what stood there.
+    /// Puts the value at the path, in the place of what was there.
     ///
     /// # Errors
     ///
-    /// Want of memory; the map is then as before. Where the path has a value already none is taken. Cost: one search; the
-    /// entries behind are shifted.
+    /// Out of memory; the map is then as before. Where the path has a value already none is taken. Cost: one search;
+    /// the entries after it are shifted.
     pub fn insert(&mut self, path: Path, value: T) -> Result<(), Memory>
         ensures ok { OnOk result (self.new ≡ put path_cmp path value self.old) }
         ensures err { OnErr result (self.new ≡ self.old) }
@@ -101,7 +101,7 @@ impl<T: Drop> PathMap<T> {
         }
     }
 
-    /// Moves what stands at a path and below it: each path p/r becomes q/r. What stood there before is gone.
+    /// Moves what is at a path and below it: each path p/r becomes q/r. What was there before is gone.
     ///
     /// # Errors
     ///
@@ -121,7 +121,8 @@ impl<T: Drop> PathMap<T> {
 }
 
 impl<T> PathMap<T> {
-    /// Puts another value at a path that has one, and answers the one that stood there. Takes no memory. Cost: one search.
+    /// Puts another value at a path that has one, and returns the one that was there. Takes no memory. Cost: one
+    /// search.
     pub fn exchange(&mut self, path: &Path, value: T) -> T
         requires { IsSome (find path_cmp path.now self.old) }
         ensures old { find path_cmp path.now self.old ≡ Some result }
@@ -174,7 +175,7 @@ impl<T> PathMap<T> {
         Some(&self.entries[place].1)
     }
 
-    /// What stands at and below the path, in path order: one piece of the map. Takes no memory. Cost: two searches.
+    /// What is at and below the path, in path order: one piece of the map. Takes no memory. Cost: two searches.
     pub fn tree(&self, path: &Path) -> &[(Path, T)]
         ensures { result.now ≡ tree_in path.now self.now }
     {
@@ -182,15 +183,15 @@ impl<T> PathMap<T> {
         &self.entries[start..end]
     }
 
-    /// Whether anything stands strictly below the path. Takes no memory. Cost: two searches.
+    /// Whether anything is strictly below the path. Takes no memory. Cost: two searches.
     pub fn has_below(&self, path: &Path) -> bool
         ensures { result ≡ any_below path.now self.now }
     {
         has_other(self.tree(path), path)
     }
 
-    /// Takes the entry of the path out, and answers its value, if there is one. Takes no memory. Cost: one search; the
-    /// entries behind are shifted.
+    /// Takes the entry of the path out, and returns its value, if there is one. Takes no memory. Cost: one search; the
+    /// entries after are shifted.
     pub fn remove(&mut self, path: &Path) -> Option<T>
         ensures value { result ≡ find path_cmp path.now self.old }
         ensures removed { self.new ≡ without path.now self.old }
@@ -203,7 +204,7 @@ impl<T> PathMap<T> {
     }
 }
 
-/// How many entries stand before the path that is looked up. One comparison where all do, as where entries come in path
+/// How many entries are before the path that is looked up. One comparison where all do, as where entries come in path
 /// order.
 fn rank<T>(entries: &[(Path, T)], sought: Option<&[u8]>) -> usize
     requires { IsOrdered entries.now }
@@ -216,7 +217,7 @@ fn rank<T>(entries: &[(Path, T)], sought: Option<&[u8]>) -> usize
     }
 }
 
-/// The place of the entry at the path that is looked up; where there is none, the place at which it would stand.
+/// The index of the entry at the path that is looked up; where there is none, the index at which it would be.
 fn search<T>(entries: &[(Path, T)], sought: Option<&[u8]>) -> Result<usize, usize>
     requires { IsOrdered entries.now }
     ensures found { IfOk result (λ place. IsPlaceOf (path_in (option_copied sought.entry)) entries.now place) }
@@ -238,7 +239,7 @@ fn has_other<T>(entries: &[(Path, T)], path: &Path) -> bool
     entries.iter().any(|entry| entry.0 != *path)
 }
 
-/// Where what stands at and below the path begins and ends.
+/// Where what is at and below the path begins and ends.
 pub(crate) fn piece<T>(entries: &[(Path, T)], path: &Path) -> (usize, usize)
     requires { IsOrdered entries.now }
     ensures { IsPieceOf path.now entries.now result.0 result.1 }
@@ -249,7 +250,7 @@ pub(crate) fn piece<T>(entries: &[(Path, T)], path: &Path) -> (usize, usize)
     (start, start + count)
 }
 
-/// Puts the value at the path, in the place of what stood there. There is room for one more entry.
+/// Puts the value at the path, in the place of what was there. There is room for one more entry.
 pub(crate) fn put_reserved<T: Drop>(entries: &mut Vec<(Path, T)>, path: Path, value: T)
     requires ordered { IsOrdered entries.old.items }
     requires room { vec_len entries.old < vec_capacity entries.old }

@@ -27,7 +27,7 @@ use std::marker::Model;
 /// A path of the filestore: 1 to 8 names of 1 to 96 octets, none of which holds `/` or the octet 0, or is `.` or `..`.
 ///
 /// Filestore requests (CCSDS 727.0-B-5 §5.4) and Metadata PDUs carry the octets that spell one. Contracts see a
-/// path as the list of its names. Paths are ordered by their names, and names by their octets, so that a path stands
+/// path as the list of its names. Paths are ordered by their names, and names by their octets, so that a path is
 /// before all that is below it.
 #[derive(Drop)]
 pub struct Path {
@@ -46,7 +46,8 @@ impl Model for Path {
 
     ghost view = { λ path. names_of path.octets.items };
 
-    ghost invariant = { λ path. IsPath (names_of path.octets.items) × (path.depth ≡ length (names_of path.octets.items)) };
+    ghost invariant = { λ path. IsPath (names_of path.octets.items)
+        × (path.depth ≡ length (names_of path.octets.items)) };
 }
 
 impl Path {
@@ -55,14 +56,16 @@ impl Path {
     /// # Errors
     ///
     /// The leftmost faulty name decides; within a name [`PathFault::EmptyName`], [`PathFault::BadName`] and
-    /// [`PathFault::NameTooLong`] come in this order. A ninth name is [`PathFault::TooDeep`] before it is looked at. Octets
-    /// that spell no path are told so whether or not there is memory; [`PathFault::Memory`] comes only where a path is
-    /// spelled. Cost: one pass over the octets for their faults. Where they spell a path, also one allocation of their
-    /// length, a copy, and a pass over it.
+    /// [`PathFault::NameTooLong`] come in this order. A ninth name is [`PathFault::TooDeep`] before it is looked at.
+    /// Octets that spell no path are refused whether or not there is memory; [`PathFault::Memory`] comes only where a
+    /// path is spelled. Cost: one pass over the octets for their faults. Where they spell a path, also one allocation
+    /// of their length, a copy, and a pass over it.
     pub fn parse(alloc: Global, octets: &[u8]) -> Result<Path, PathFault>
         ensures path { IfOk result (λ path. Spells octets.now path) }
-        ensures only { (path : List Name) → Spells octets.now path → (result ≡ Ok path) ⊎ (result ≡ Err PathFault.Memory) }
-        ensures path_of { MatchResult result (λ path. path_of octets.now ≡ Some path) (λ fault. fault ≢ PathFault.Memory → path_of octets.now ≡ None) }
+        ensures only { (path : List Name) → Spells octets.now path → (result ≡ Ok path)
+            ⊎ (result ≡ Err PathFault.Memory) }
+        ensures path_of { MatchResult result (λ path. path_of octets.now ≡ Some path) (λ fault. fault
+            ≢ PathFault.Memory → path_of octets.now ≡ None) }
 
         // The fault is the first one, and octets with a fault are always refused by it.
         ensures fault { IfErr result (λ fault. fault ≢ PathFault.Memory → fault_of octets.now ≡ Some fault) }
@@ -139,8 +142,8 @@ impl Path {
         begins(&self.octets, &other.octets)
     }
 
-    /// Whether `other` is a prefix of this path, and not this path itself. Takes no memory. Cost: two comparisons of their
-    /// octets at most.
+    /// Whether `other` is a prefix of this path, and not this path itself. Takes no memory. Cost: two comparisons of
+    /// their octets at most.
     pub fn is_below(&self, other: &Path) -> bool
         ensures { result ≡ is_below self.now other.now }
     {
@@ -165,7 +168,7 @@ impl Path {
         hasher.finish()
     }
 
-    /// How this path stands to the path of these names. Takes no memory. Cost: one comparison.
+    /// How this path compares with the path of these names. Takes no memory. Cost: one comparison.
     pub fn cmp_names(&self, names: &Names<'_>) -> Ordering
         ensures { result ≡ path_cmp self.now names.now }
     {
@@ -204,7 +207,7 @@ impl Path {
         first_names(&self.octets, depth)
     }
 
-    /// How this path stands to the one that is looked up.
+    /// How this path compares with the one that is looked up.
     pub(crate) fn cmp_sought(&self, sought: Option<&[u8]>) -> Ordering
         ensures { result ≡ path_cmp self.now (path_in (option_copied sought.entry)) }
     {
@@ -252,8 +255,8 @@ impl Path {
     ///
     /// # Errors
     ///
-    /// [`Memory`] where there was none for a copy of one of them, or for the list: one allocation for each, and one for the
-    /// list.
+    /// [`Memory`] where there was none for a copy of one of them, or for the list: one allocation for each, and one for
+    /// the list.
     pub fn ancestors(&self, alloc: Global) -> Result<Vec<Path>, Memory>
         ensures ancestors { IfOk result (λ paths. paths.items ≡ ancestors self.now) }
         ensures none { ancestors self.now ≡ [] → IsOk result }
@@ -291,8 +294,8 @@ impl Path {
         Ok(octets)
     }
 
-    /// The path `to/r`, where this path is `from/r`: where what is at or below a directory stands once it is renamed
-    /// (CCSDS 727.0-B-5 §4.9).
+    /// The path `to/r`, where this path is `from/r`: where what is at or below a directory is once it is renamed
+    /// (CCSDS 727.0-B-5, filestore procedures).
     ///
     /// # Errors
     ///

@@ -52,7 +52,7 @@ fn all_may_stay<T>(entries: &[(Path, T)], from: &Path, to: &Path) -> bool
     to.is_no_longer_than(from)
 }
 
-/// Moves the entry at the place, which is the only one at or below the first path. Cost: one path at most, one
+/// Moves the entry at the index, which is the only one at or below the first path. Cost: one path at most, one
 /// search, and two shifts of the entries after it.
 fn relocate_entry<T: Drop>(
     entries: &mut Vec<(Path, T)>,
@@ -196,7 +196,7 @@ fn renamed<T: Drop>(
     moved
 }
 
-/// Puts entries at and below a path, which are in path order, each into its place. There is room for them.
+/// Puts entries at and below a path, which are in path order, each at its index. There is room for them.
 fn settle<T: Drop>(entries: &mut Vec<(Path, T)>, to: &Path, mut moved: Vec<(Path, T)>)
     requires ordered { IsOrdered entries.old.items }
     requires in_order { IsOrdered moved.items }

@@ -8,7 +8,7 @@ ghost use Rattle.cfdp_paths.specs.Paths.{is_separator};
 use crate::buffers::SEPARATOR;
 use std::simd::prelude::*;
 
-/// The place of the first separator, if there is one: what `memchr` of the separator returns. Takes no memory. Cost:
+/// The index of the first separator, if there is one: what `memchr` of the separator returns. Takes no memory. Cost:
 /// one step for each sixteen octets up to there, or one for all where there are fewer.
 pub(crate) fn first_separator(octets: &[u8]) -> Option<usize>
     ensures { IsFirstByte is_separator octets.now result }
@@ -55,7 +55,7 @@ fn first_of_few(octets: &[u8]) -> Option<usize>
     None
 }
 
-/// The place of the last separator, if there is one: what `memrchr` of the separator returns. Takes no memory. Cost:
+/// The index of the last separator, if there is one: what `memrchr` of the separator returns. Takes no memory. Cost:
 /// one step for each sixteen octets from the end down to there, or one for all where there are fewer.
 pub(crate) fn last_separator(octets: &[u8]) -> Option<usize>
     ensures { IsLastByte is_separator octets.now result }
@@ -101,7 +101,7 @@ fn last_of_few(octets: &[u8]) -> Option<usize>
     None
 }
 
-/// The place of the first separator of the sixteen octets from the index on, if there is one.
+/// The index of the first separator of the sixteen octets from the index on, if there is one.
 #[inline(always)]
 fn first_of_16(octets: &[u8], index: usize) -> Option<usize>
     requires { index + 16 ≤ length octets.now }
@@ -114,7 +114,7 @@ fn first_of_16(octets: &[u8], index: usize) -> Option<usize>
     Some(index + marks.trailing_zeros() as usize)
 }
 
-/// The place of the last one of them, if there is one.
+/// The index of the last one of them, if there is one.
 #[inline(always)]
 fn last_of_16(octets: &[u8], index: usize) -> Option<usize>
     requires { index + 16 ≤ length octets.now }
@@ -137,7 +137,7 @@ fn marks_of_16(octets: &[u8], index: usize) -> u64
     vector.simd_eq(u8x16::splat(SEPARATOR)).to_bitmask()
 }
 
-/// The place of the first separator of the eight octets from the index on, if there is one.
+/// The index of the first separator of the eight octets from the index on, if there is one.
 #[inline(always)]
 fn first_of_8(octets: &[u8], index: usize) -> Option<usize>
     requires { index + 8 ≤ length octets.now }
@@ -150,7 +150,7 @@ fn first_of_8(octets: &[u8], index: usize) -> Option<usize>
     Some(index + marks.trailing_zeros() as usize)
 }
 
-/// The place of the last one of them, if there is one.
+/// The index of the last one of them, if there is one.
 #[inline(always)]
 fn last_of_8(octets: &[u8], index: usize) -> Option<usize>
     requires { index + 8 ≤ length octets.now }
@@ -173,7 +173,7 @@ fn marks_of_8(octets: &[u8], index: usize) -> u64
     vector.simd_eq(u8x8::splat(SEPARATOR)).to_bitmask()
 }
 
-/// The place of the first separator of the four octets from the index on, if there is one.
+/// The index of the first separator of the four octets from the index on, if there is one.
 #[inline(always)]
 fn first_of_4(octets: &[u8], index: usize) -> Option<usize>
     requires { index + 4 ≤ length octets.now }
@@ -186,7 +186,7 @@ fn first_of_4(octets: &[u8], index: usize) -> Option<usize>
     Some(index + marks.trailing_zeros() as usize)
 }
 
-/// The place of the last one of them, if there is one.
+/// The index of the last one of them, if there is one.
 #[inline(always)]
 fn last_of_4(octets: &[u8], index: usize) -> Option<usize>
     requires { index + 4 ≤ length octets.now }

@@ -8,7 +8,7 @@ use crate::{Memory, Path, PathFault};
 use std::alloc::Global;
 use std::process::Abort;
 
-/// A file name of a worked transaction, and what the calls answer for it.
+/// A file name of a worked transaction, and what the calls return for it.
 struct Row {
     name: &'static str,
     /// The octets of the file name.
@@ -70,7 +70,7 @@ fn has_ancestors(alloc: Global, path: &Path, texts: &[&[u8]]) -> Result<bool, Me
     Ok(ancestors.len() == texts.len())
 }
 
-/// Each call answers for the file name as the row says.
+/// Each call returns for the file name as the row says.
 fn answers(rt: &impl Abort, alloc: Global, row: &Row) -> Result<(), PathFault> {
     let name = row.name;
     let path = Path::parse(alloc, row.octets)?;

@@ -34,7 +34,10 @@ abbrev first_of : (file_data toward_sender acknowledged large : Bool) → ℕ
 first_of file_data toward_sender acknowledged large = 32 + 16 * digit file_data + 8 * digit toward_sender + 4 * digit (not acknowledged) + digit large
 
 bits : (file_data toward_sender acknowledged large : Bool)
-    → (first_of file_data toward_sender acknowledged large / 32 ≡ 1) × (flag 1 (first_of file_data toward_sender acknowledged large) ≡ false) × (toward_sender ≡ flag 3 (first_of file_data toward_sender acknowledged large)) × (acknowledged ≡ not (flag 2 (first_of file_data toward_sender acknowledged large))) × (large ≡ flag 0 (first_of file_data toward_sender acknowledged large)) × (file_data ≡ flag 4 (first_of file_data toward_sender acknowledged large))
+    → (first_of file_data toward_sender acknowledged large / 32 ≡ 1) × (flag 1 (first_of file_data toward_sender acknowledged large) ≡ false)
+    × (toward_sender ≡ flag 3 (first_of file_data toward_sender acknowledged large))
+    × (acknowledged ≡ not (flag 2 (first_of file_data toward_sender acknowledged large)))
+    × (large ≡ flag 0 (first_of file_data toward_sender acknowledged large)) × (file_data ≡ flag 4 (first_of file_data toward_sender acknowledged large))
 bits false false false false = (refl, refl, refl, refl, refl, refl)
 bits false false false true = (refl, refl, refl, refl, refl, refl)
 bits false false true false = (refl, refl, refl, refl, refl, refl)
@@ -56,12 +59,14 @@ bits true true true true = (refl, refl, refl, refl, refl, refl)
 no_metadata : (a b : ℕ) → a ≤ 7 → b ≤ 7 → (16 * a + b) / 8 % 2 ≡ 0
 no_metadata a b p q = omega arith
 
-fourth_says : (header : Header) → IsHeader header → (header.id_len ≡ fourth_octet header / 16 % 8 + 1) × (header.number_len ≡ fourth_octet header % 8 + 1) × (flag 3 (fourth_octet header) ≡ false)
+fourth_says : (header : Header) → IsHeader header → (header.id_len ≡ fourth_octet header / 16 % 8 + 1) × (header.number_len ≡ fourth_octet header % 8 + 1)
+    × (flag 3 (fourth_octet header) ≡ false)
 fourth_says header is =
     let none = no_metadata (header.id_len - 1) (header.number_len - 1) (omega (arith, is.id_high)) (omega (arith, is.number_high)) in
     (omega (arith, is.id_low, is.id_high, is.number_low, is.number_high), omega (arith, is.id_low, is.id_high, is.number_low, is.number_high), rw none refl)
 
-header_spelled : (file_data : Bool) (header : Header) → IsHeader header → HasHeader (first_octet file_data header) (fourth_octet header) (names_octets header) header
+header_spelled : (file_data : Bool) (header : Header) → IsHeader header →
+    HasHeader (first_octet file_data header) (fourth_octet header) (names_octets header) header
 header_spelled file_data header is =
     let says = bits file_data header.toward_sender header.acknowledged header.large in
     let lens = fourth_says header is in
@@ -83,7 +88,8 @@ header_spelled file_data header is =
     }
 
 -- a header before a data field that is spelled so, of at most 65,535 octets
-pub pdu_spelled : (file_data : Bool) (pdu : Pdu) (field : List ℕ) → IsHeader (header_of pdu) → length field ≤ 65535 → SpellsField file_data false field pdu → SpellsPdu (pdu_octets file_data (header_of pdu) field) pdu
+pub pdu_spelled : (file_data : Bool) (pdu : Pdu) (field : List ℕ) → IsHeader (header_of pdu) → length field ≤ 65535 → SpellsField file_data false field pdu →
+    SpellsPdu (pdu_octets file_data (header_of pdu) field) pdu
 pdu_spelled file_data pdu field is short spelled =
     let header = header_of pdu in
     let says = bits file_data header.toward_sender header.acknowledged header.large in
@@ -123,14 +129,16 @@ located_octets : (id_len : ℕ) (fault : Option ℕ) → field_octets (located_f
 located_octets id_len None = refl
 located_octets id_len (Some entity) = append-nil (location id_len entity)
 
-told_octets : (responses : List ResponseFields) (others : List Field) → field_octets (told_fields responses ++ others) ≡ flat_map response_field responses ++ field_octets others
+told_octets : (responses : List ResponseFields) (others : List Field) → field_octets (told_fields responses ++ others) ≡ flat_map response_field responses
+    ++ field_octets others
 told_octets [] others = refl
 told_octets (response ∷ responses) others =
     ap (λ (t : List ℕ). response_field response ++ t) (told_octets responses others)
     ∙ sym (append_assoc (response_field response) (flat_map response_field responses) (field_octets others))
     ∙ ap (λ (t : List ℕ). t ++ field_octets others) (sym (flat_map-cons response_field response responses))
 
-told_ones : (responses : List ResponseFields) (id_len : ℕ) (fault : Option ℕ) → AllByRecursion IsResponse responses → EachTells (values_of 1 (told_fields responses ++ located_fields id_len fault)) responses
+told_ones : (responses : List ResponseFields) (id_len : ℕ) (fault : Option ℕ) → AllByRecursion IsResponse responses →
+    EachTells (values_of 1 (told_fields responses ++ located_fields id_len fault)) responses
 told_ones [] id_len None all = tt
 told_ones [] id_len (Some entity) all = tt
 told_ones (response ∷ responses) id_len fault all = (response_spelled response all.0, told_ones responses id_len fault all.1)
@@ -145,11 +153,13 @@ located_entities id_len (Some entity) low high =
     let len = length-bytes_high_first id_len entity in
     ((omega (arith, len, low), omega (arith, len, high)), tt)
 
-located_last : (id_len : ℕ) (fault : Option ℕ) → IfSome fault (λ entity. entity < 256 ^ id_len) → fault ≡ last_entity (values_of 6 (located_fields id_len fault))
+located_last : (id_len : ℕ) (fault : Option ℕ) → IfSome fault (λ entity. entity < 256 ^ id_len) → fault
+    ≡ last_entity (values_of 6 (located_fields id_len fault))
 located_last id_len None fits = refl
 located_last id_len (Some entity) fits =
     let number = number_spelled id_len entity fits in
-    let same : entity ≡ big_number (length (big_bytes id_len entity)) (big_bytes id_len entity) = number.spelled ∙ ap (λ (n : ℕ). big_number n (big_bytes id_len entity)) (sym number.len_is) in
+    let same : entity ≡ big_number (length (big_bytes id_len entity)) (big_bytes id_len entity) = number.spelled
+    ∙ ap (λ (n : ℕ). big_number n (big_bytes id_len entity)) (sym number.len_is) in
     ap (λ (n : ℕ). Some n) same
 
 -- ---- flags
@@ -167,14 +177,16 @@ closure_says closure checksum_type fits =
     let bit : (64 * digit closure + checksum_type) / 64 % 2 ≡ digit closure = omega (arith, digit_small closure) in
     rw bit (is_digit closure)
 
-incomplete_says : (condition : ℕ) (incomplete : Bool) (file_status : ℕ) → file_status < 4 → incomplete ≡ flag 2 (16 * condition + 4 * digit incomplete + file_status)
+incomplete_says : (condition : ℕ) (incomplete : Bool) (file_status : ℕ) → file_status < 4 → incomplete
+    ≡ flag 2 (16 * condition + 4 * digit incomplete + file_status)
 incomplete_says condition incomplete file_status fits =
     let bit : (16 * condition + 4 * digit incomplete + file_status) / 4 % 2 ≡ digit incomplete = omega (arith, digit_small incomplete) in
     rw bit (is_digit incomplete)
 
 -- ---- data fields
 
-pub metadata_spelled : (header : Header) (metadata : MetadataFields) → IsSizedMetadata header.large metadata → AllByRecursion IsAnswerable metadata.requests → SpellsField false false (metadata_field header.large metadata) (pdus.Metadata header metadata)
+pub metadata_spelled : (header : Header) (metadata : MetadataFields) → IsSizedMetadata header.large metadata → AllByRecursion IsAnswerable metadata.requests →
+    SpellsField false false (metadata_field header.large metadata) (pdus.Metadata header metadata)
 unfolding metadata_field
 metadata_spelled header metadata sized all = (
   refl,
@@ -190,7 +202,8 @@ metadata_spelled header metadata sized all = (
   },
 )
 
-pub file_data_spelled : (header : Header) (file_data : FileDataFields) → IsSizedFileData header.large file_data → SpellsField true false (file_data_field header.large file_data) (pdus.FileData header file_data)
+pub file_data_spelled : (header : Header) (file_data : FileDataFields) → IsSizedFileData header.large file_data →
+    SpellsField true false (file_data_field header.large file_data) (pdus.FileData header file_data)
 unfolding file_data_field
 file_data_spelled header file_data sized = record {
   segment = [];
@@ -208,7 +221,8 @@ eof_octets : (none : Bool) (id_len entity : ℕ) → field_octets (cond none [] 
 eof_octets true id_len entity = refl
 eof_octets false id_len entity = append-nil (location id_len entity)
 
-pub eof_spelled : (header : Header) (eof : Eof) → IsSizedEof header.large eof → eof.checksum < 256 ^ 4 → SpellsField false false (eof_field header eof) (pdus.Eof header eof)
+pub eof_spelled : (header : Header) (eof : Eof) → IsSizedEof header.large eof → eof.checksum < 256 ^ 4 →
+    SpellsField false false (eof_field header eof) (pdus.Eof header eof)
 unfolding eof_field
 eof_spelled header eof sized checksum = (
   refl,
@@ -224,11 +238,13 @@ eof_spelled header eof sized checksum = (
   },
 )
 
-pub finished_spelled : (header : Header) (finished : FinishedFields) → IsHeader header → IsSizedFinished header finished → AllByRecursion IsResponse finished.responses → SpellsField false false (finished_field header finished) (pdus.Finished header finished)
+pub finished_spelled : (header : Header) (finished : FinishedFields) → IsHeader header → IsSizedFinished header finished →
+    AllByRecursion IsResponse finished.responses → SpellsField false false (finished_field header finished) (pdus.Finished header finished)
 unfolding finished_field
 finished_spelled header finished is sized all =
     let others = located_fields header.id_len finished.fault in
-    let octets = told_octets finished.responses others ∙ ap (λ (t : List ℕ). flat_map response_field finished.responses ++ t) (located_octets header.id_len finished.fault) in
+    let octets = told_octets finished.responses others ∙ ap (λ (t : List ℕ). flat_map response_field finished.responses ++ t)
+    (located_octets header.id_len finished.fault) in
     let sixes = told_sixes finished.responses others in (
       refl,
       record {
@@ -277,4 +293,12 @@ eof_short header eof is =
     let size = length-bytes_high_first (fss header.large) eof.size in
     let location = eof_location_small (eqb eof.condition 0) header.id_len header.source is.id_high in
     let fss_len = fss_small header.large in
-    omega (arith, length-append (big_bytes 4 eof.checksum) (big_bytes (fss header.large) eof.size ++ eof_location header eof), length-append (big_bytes (fss header.large) eof.size) (eof_location header eof), checksum, size, location, fss_len)
+    omega (
+      arith,
+      length-append (big_bytes 4 eof.checksum) (big_bytes (fss header.large) eof.size ++ eof_location header eof),
+      length-append (big_bytes (fss header.large) eof.size) (eof_location header eof),
+      checksum,
+      size,
+      location,
+      fss_len,
+    )

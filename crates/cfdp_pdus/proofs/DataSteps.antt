@@ -29,21 +29,62 @@ name_again name rest = ap (mend LengthMismatch) (lv_again name rest)
 
 -- ---- Metadata
 
-pub metadata_takes : (large : Bool) (octets : List ℕ) (metadata : MetadataFields) → metadata_at large octets ≡ Ok metadata → SpellsMetadata large octets metadata
+pub metadata_takes : (large : Bool) (octets : List ℕ) (metadata : MetadataFields) → metadata_at large octets ≡ Ok metadata →
+    SpellsMetadata large octets metadata
 unfolding metadata_at
 metadata_takes large [] metadata e = absurd cc
 metadata_takes large (flags ∷ octets) metadata e =
-    let a = bind_ok (number_at LengthMismatch (fss large) octets) (λ size. name_at size.1 >>= λ source. name_at source.1 >>= λ destination. requests_of (fields_at destination.1) >>= λ requests. Ok (record { closure = flag 6 flags; checksum_type = flags % 16; size = size.0; source_name = source.0; destination_name = destination.0; requests = requests })) metadata e in
-    let b = bind_ok (name_at a.0.1) (λ source. name_at source.1 >>= λ destination. requests_of (fields_at destination.1) >>= λ requests. Ok (record { closure = flag 6 flags; checksum_type = flags % 16; size = a.0.0; source_name = source.0; destination_name = destination.0; requests = requests })) metadata a.2 in
-    let d = bind_ok (name_at b.0.1) (λ destination. requests_of (fields_at destination.1) >>= λ requests. Ok (record { closure = flag 6 flags; checksum_type = flags % 16; size = a.0.0; source_name = b.0.0; destination_name = destination.0; requests = requests })) metadata b.2 in
-    let r = bind_ok (requests_of (fields_at d.0.1)) (λ requests. Ok (record { closure = flag 6 flags; checksum_type = flags % 16; size = a.0.0; source_name = b.0.0; destination_name = d.0.0; requests = requests })) metadata d.2 in
-    let made : MetadataFields = record { closure = flag 6 flags; checksum_type = flags % 16; size = a.0.0; source_name = b.0.0; destination_name = d.0.0; requests = r.0 } in
+    let a = bind_ok (number_at LengthMismatch (fss large) octets) (λ size. name_at size.1 >>= λ source.
+    name_at source.1 >>= λ destination. requests_of (fields_at destination.1) >>= λ requests.
+    Ok (record {
+      closure = flag 6 flags;
+      checksum_type = flags % 16;
+      size = size.0;
+      source_name = source.0;
+      destination_name = destination.0;
+      requests = requests;
+    })) metadata e in
+    let b = bind_ok (name_at a.0.1) (λ source. name_at source.1 >>= λ destination. requests_of (fields_at destination.1) >>= λ requests.
+    Ok (record {
+      closure = flag 6 flags;
+      checksum_type = flags % 16;
+      size = a.0.0;
+      source_name = source.0;
+      destination_name = destination.0;
+      requests = requests;
+    })) metadata a.2 in
+    let d = bind_ok (name_at b.0.1) (λ destination. requests_of (fields_at destination.1) >>= λ requests.
+    Ok (record {
+      closure = flag 6 flags;
+      checksum_type = flags % 16;
+      size = a.0.0;
+      source_name = b.0.0;
+      destination_name = destination.0;
+      requests = requests;
+    })) metadata b.2 in
+    let r = bind_ok (requests_of (fields_at d.0.1)) (λ requests. Ok (record {
+      closure = flag 6 flags;
+      checksum_type = flags % 16;
+      size = a.0.0;
+      source_name = b.0.0;
+      destination_name = d.0.0;
+      requests = requests;
+    })) metadata d.2 in
+    let made : MetadataFields = record {
+      closure = flag 6 flags;
+      checksum_type = flags % 16;
+      size = a.0.0;
+      source_name = b.0.0;
+      destination_name = d.0.0;
+      requests = r.0;
+    } in
     let number = number_takes LengthMismatch (fss large) octets a.0.0 a.0.1 a.1 in
     let source : a.0.1 ≡ lv b.0.0 ++ b.0.1 = name_takes a.0.1 b.0.0 b.0.1 b.1 in
     let destination : b.0.1 ≡ lv d.0.0 ++ d.0.1 = name_takes b.0.1 d.0.0 d.0.1 d.1 in
     let asked = requests_take (fields_at d.0.1) r.0 r.1 in
     let options : d.0.1 ≡ field_octets asked.fields = fields_take d.0.1 asked.fields asked.whole in
-    let names : a.0.1 ≡ lv b.0.0 ++ (lv d.0.0 ++ field_octets asked.fields) = source ∙ ap (λ (t : List ℕ). lv b.0.0 ++ t) (destination ∙ ap (λ (t : List ℕ). lv d.0.0 ++ t) options) in
+    let names : a.0.1 ≡ lv b.0.0 ++ (lv d.0.0 ++ field_octets asked.fields) = source
+    ∙ ap (λ (t : List ℕ). lv b.0.0 ++ t) (destination ∙ ap (λ (t : List ℕ). lv d.0.0 ++ t) options) in
     let P : MetadataFields → Type 0 = λ m. SpellsMetadata large (flags ∷ octets) m in
     subst P (ok_is made metadata r.2) (record {
       flags = flags;
@@ -56,13 +97,16 @@ metadata_takes large (flags ∷ octets) metadata e =
       requests = asked.asks;
     })
 
-pub metadata_again : (large : Bool) (octets : List ℕ) (metadata : MetadataFields) → SpellsMetadata large octets metadata → metadata_at large octets ≡ Ok metadata
+pub metadata_again : (large : Bool) (octets : List ℕ) (metadata : MetadataFields) → SpellsMetadata large octets metadata → metadata_at large octets
+    ≡ Ok metadata
 unfolding metadata_at
 metadata_again large octets metadata spelled =
-    let requests : requests_of (fields_at (field_octets spelled.options)) ≡ Ok metadata.requests = ap requests_of (fields_again spelled.options) ∙ requests_again spelled.options metadata.requests spelled.requests in
+    let requests : requests_of (fields_at (field_octets spelled.options)) ≡ Ok metadata.requests = ap requests_of (fields_again spelled.options)
+    ∙ requests_again spelled.options metadata.requests spelled.requests in
     ap (metadata_at large) spelled.parts
     ∙ rw (
-      number_again LengthMismatch (fss large) spelled.size_octets metadata.size (lv metadata.source_name ++ (lv metadata.destination_name ++ field_octets spelled.options)) spelled.size,
+      number_again LengthMismatch (fss large) spelled.size_octets metadata.size (lv metadata.source_name
+          ++ (lv metadata.destination_name ++ field_octets spelled.options)) spelled.size,
       name_again metadata.source_name (lv metadata.destination_name ++ field_octets spelled.options),
       name_again metadata.destination_name (field_octets spelled.options),
       requests,
@@ -91,7 +135,8 @@ segment_takes true (state ∷ octets) rest e =
       is = omega (arith, length-take len octets);
     }
 
-segment_again : (segment_metadata : Bool) (segment rest : List ℕ) → IsSegment segment_metadata segment → behind_segment segment_metadata (segment ++ rest) ≡ Ok rest
+segment_again : (segment_metadata : Bool) (segment rest : List ℕ) → IsSegment segment_metadata segment → behind_segment segment_metadata (segment ++ rest)
+    ≡ Ok rest
 unfolding behind_segment
 segment_again false segment rest is = rw is refl
 segment_again true [] rest is = absurd is
@@ -99,10 +144,12 @@ segment_again true (state ∷ metadata) rest is =
     let long : ltb (length (metadata ++ rest)) (state % 64) ≡ false = le-ltb _ _ (omega (arith, length-append metadata rest, is)) in
     rw (long, drop_at metadata rest (state % 64) is) refl
 
-pub file_data_takes : (large segment_metadata : Bool) (octets : List ℕ) (file_data : FileDataFields) → file_data_at large segment_metadata octets ≡ Ok file_data → SpellsFileData large segment_metadata octets file_data
+pub file_data_takes : (large segment_metadata : Bool) (octets : List ℕ) (file_data : FileDataFields) → file_data_at large segment_metadata octets
+    ≡ Ok file_data → SpellsFileData large segment_metadata octets file_data
 unfolding file_data_at
 file_data_takes large segment_metadata octets file_data e =
-    let a = bind_ok (behind_segment segment_metadata octets) (λ segment. number_at LengthMismatch (fss large) segment >>= λ offset. Ok (record { offset = offset.0; octets = offset.1 })) file_data e in
+    let a = bind_ok (behind_segment segment_metadata octets) (λ segment. number_at LengthMismatch (fss large) segment >>= λ offset.
+    Ok (record { offset = offset.0; octets = offset.1 })) file_data e in
     let b = bind_ok (number_at LengthMismatch (fss large) a.0) (λ offset. Ok (record { offset = offset.0; octets = offset.1 })) file_data a.2 in
     let segment = segment_takes segment_metadata octets a.0 a.1 in
     let number = number_takes LengthMismatch (fss large) a.0 b.0.0 b.0.1 b.1 in
@@ -116,7 +163,8 @@ file_data_takes large segment_metadata octets file_data e =
       offset = number.spelled;
     })
 
-pub file_data_again : (large segment_metadata : Bool) (octets : List ℕ) (file_data : FileDataFields) → SpellsFileData large segment_metadata octets file_data → file_data_at large segment_metadata octets ≡ Ok file_data
+pub file_data_again : (large segment_metadata : Bool) (octets : List ℕ) (file_data : FileDataFields) → SpellsFileData large segment_metadata octets file_data →
+    file_data_at large segment_metadata octets ≡ Ok file_data
 unfolding file_data_at
 file_data_again large segment_metadata octets file_data spelled =
     ap (file_data_at large segment_metadata) spelled.parts
@@ -148,8 +196,10 @@ pub eof_takes : (large : Bool) (octets : List ℕ) (eof : Eof) → eof_at large 
 unfolding eof_at
 eof_takes large [] eof e = absurd cc
 eof_takes large (condition ∷ octets) eof e =
-    let a = bind_ok (number_at LengthMismatch 4 octets) (λ checksum. number_at LengthMismatch (fss large) checksum.1 >>= λ size. all_whole (fields_at size.1) >>= λ _. Ok (record { condition = condition / 16; checksum = checksum.0; size = size.0 })) eof e in
-    let b = bind_ok (number_at LengthMismatch (fss large) a.0.1) (λ size. all_whole (fields_at size.1) >>= λ _. Ok (record { condition = condition / 16; checksum = a.0.0; size = size.0 })) eof a.2 in
+    let a = bind_ok (number_at LengthMismatch 4 octets) (λ checksum. number_at LengthMismatch (fss large) checksum.1 >>= λ size.
+    all_whole (fields_at size.1) >>= λ _. Ok (record { condition = condition / 16; checksum = checksum.0; size = size.0 })) eof e in
+    let b = bind_ok (number_at LengthMismatch (fss large) a.0.1) (λ size. all_whole (fields_at size.1) >>= λ _.
+    Ok (record { condition = condition / 16; checksum = a.0.0; size = size.0 })) eof a.2 in
     let d = bind_ok (all_whole (fields_at b.0.1)) (λ _. Ok (record { condition = condition / 16; checksum = a.0.0; size = b.0.0 })) eof b.2 in
     let checksum = number_takes LengthMismatch 4 octets a.0.0 a.0.1 a.1 in
     let size = number_takes LengthMismatch (fss large) a.0.1 b.0.0 b.0.1 b.1 in
@@ -162,7 +212,8 @@ eof_takes large (condition ∷ octets) eof e =
       checksum_octets = checksum.front;
       size_octets = size.front;
       fields = whole.fields;
-      parts = ap (λ (t : List ℕ). condition ∷ t) (checksum.parts ∙ ap (λ (t : List ℕ). checksum.front ++ t) (size.parts ∙ ap (λ (t : List ℕ). size.front ++ t) fields));
+      parts = ap (λ (t : List ℕ). condition ∷ t) (checksum.parts ∙ ap (λ (t : List ℕ). checksum.front ++ t) (size.parts
+          ∙ ap (λ (t : List ℕ). size.front ++ t) fields));
       condition = refl;
       checksum = checksum.spelled;
       size = size.spelled;
@@ -186,7 +237,13 @@ pub finished_takes : (octets : List ℕ) (finished : FinishedFields) → finishe
 unfolding finished_at
 finished_takes [] finished e = absurd cc
 finished_takes (flags ∷ octets) finished e =
-    let a = bind_ok (outcome_of (fields_at octets)) (λ outcome. Ok (record { condition = flags / 16; incomplete = flag 2 flags; file_status = flags % 4; responses = outcome.0; fault = outcome.1 })) finished e in
+    let a = bind_ok (outcome_of (fields_at octets)) (λ outcome. Ok (record {
+      condition = flags / 16;
+      incomplete = flag 2 flags;
+      file_status = flags % 4;
+      responses = outcome.0;
+      fault = outcome.1;
+    })) finished e in
     let told = outcome_take (fields_at octets) a.0 a.1 in
     let fields : octets ≡ field_octets told.fields = fields_take octets told.fields told.whole in
     let made : FinishedFields = record { condition = flags / 16; incomplete = flag 2 flags; file_status = flags % 4; responses = a.0.0; fault = a.0.1 } in

@@ -11,13 +11,14 @@ abbrev pub all_of : List Field → List (Option Field)
 all_of [] = []
 all_of (field ∷ fields) = Some field ∷ all_of fields
 
--- what is known of the fields behind a first one that is whole
+-- what is known of the fields after a first one that is whole
 record Front (read : Result (ℕ × List ℕ × List ℕ) TlvFault) (next : List ℕ → List (Option Field)) (field : Field) (fields : List Field) : Type 0 where
   rest : List ℕ
   here : read ≡ Ok (field.0, field.1, rest)
   behind : next rest ≡ all_of fields
 
-front_is : (read : Result (ℕ × List ℕ × List ℕ) TlvFault) (next : List ℕ → List (Option Field)) (field : Field) (fields : List Field) → front_field read next ≡ Some field ∷ all_of fields → Front read next field fields
+front_is : (read : Result (ℕ × List ℕ × List ℕ) TlvFault) (next : List ℕ → List (Option Field)) (field : Field) (fields : List Field) → front_field read next
+    ≡ Some field ∷ all_of fields → Front read next field fields
 front_is (Ok found) next field fields e =
     let field-is : (found.0, found.1) ≡ field = cc in
     let behind-is : next found.2 ≡ all_of fields = cc in
@@ -28,7 +29,8 @@ never : (read : Result (ℕ × List ℕ × List ℕ) TlvFault) (next : List ℕ 
 never (Ok found) next e = cc
 never (Err fault) next e = cc
 
-some_fields_take : (count : ℕ) (octets : List ℕ) (fields : List Field) → length octets ≤ count → some_fields_at count octets ≡ all_of fields → octets ≡ field_octets fields
+some_fields_take : (count : ℕ) (octets : List ℕ) (fields : List Field) → length octets ≤ count → some_fields_at count octets ≡ all_of fields → octets
+    ≡ field_octets fields
 unfolding some_fields_at
 some_fields_take zero [] [] small e = refl
 some_fields_take zero [] (field ∷ fields) small e = absurd cc

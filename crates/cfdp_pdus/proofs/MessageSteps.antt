@@ -159,7 +159,8 @@ unfolding after_names
 names_again large octets metadata said =
     ap (after_names large) said.parts
     ∙ rw (
-      number_again LengthMismatch (fss large) said.size_octets metadata.size (lv metadata.source_name ++ (lv metadata.destination_name ++ field_octets said.options)) said.size,
+      number_again LengthMismatch (fss large) said.size_octets metadata.size (lv metadata.source_name
+          ++ (lv metadata.destination_name ++ field_octets said.options)) said.size,
       name_again metadata.source_name (lv metadata.destination_name ++ field_octets said.options),
       name_again metadata.destination_name (field_octets said.options),
     ) refl
@@ -176,12 +177,20 @@ record Read (large : Bool) (octets : List ℕ) : Type 0 where
   metadata : MetadataFields
   is : metadata_at large octets ≡ Ok metadata
 
-metadata_made : (large : Bool) (flags : ℕ) (octets : List ℕ) (size : ℕ) (after_size source after_source destination rest : List ℕ) (requests : List RequestFields)
+metadata_made : (large : Bool) (flags : ℕ) (octets : List ℕ) (size : ℕ) (after_size source after_source destination rest : List ℕ)
+    (requests : List RequestFields)
     → number_at LengthMismatch (fss large) octets ≡ Ok (size, after_size) → name_at after_size ≡ Ok (source, after_source)
     → name_at after_source ≡ Ok (destination, rest) → requests_of (fields_at rest) ≡ Ok requests → Read large (flags ∷ octets)
 unfolding metadata_at
 metadata_made large flags octets size after_size source after_source destination rest requests one two three four = record {
-  metadata = record { closure = flag 6 flags; checksum_type = flags % 16; size = size; source_name = source; destination_name = destination; requests = requests };
+  metadata = record {
+    closure = flag 6 flags;
+    checksum_type = flags % 16;
+    size = size;
+    source_name = source;
+    destination_name = destination;
+    requests = requests;
+  };
   is = rw (one, two, three, four) refl;
 }
 
@@ -199,7 +208,8 @@ record Named (large : Bool) (octets rest : List ℕ) : Type 0 where
 names_read : (large : Bool) (flags : ℕ) (octets rest : List ℕ) → after_names large (flags ∷ octets) ≡ Ok rest → Named large octets rest
 unfolding after_names
 names_read large flags octets rest e =
-    let a = bind_ok (number_at LengthMismatch (fss large) octets) (λ size. name_at size.1 >>= λ source. name_at source.1 >>= λ destination. Ok destination.1) rest e in
+    let a = bind_ok (number_at LengthMismatch (fss large) octets) (λ size. name_at size.1 >>= λ source. name_at source.1 >>= λ destination. Ok destination.1)
+    rest e in
     let b = bind_ok (name_at a.0.1) (λ source. name_at source.1 >>= λ destination. Ok destination.1) rest a.2 in
     let d = bind_ok (name_at b.0.1) (λ destination. Ok destination.1) rest b.2 in
     let last : name_at b.0.1 ≡ Ok (d.0.0, rest) = d.1 ∙ ap (λ (t : List ℕ). Ok (d.0.0, t)) (ok_is d.0.1 rest d.2) in
@@ -293,11 +303,13 @@ messages_are octets = found_from (start_at octets)
 
 -- ---- what the code learns
 
-counted_ok : (options : List ℕ) (count : ℕ) (read : Result (List RequestFields) PduFault) → Ok count ≡ count_of read → (read >>= λ requests. Ok options) ≡ Ok options
+counted_ok : (options : List ℕ) (count : ℕ) (read : Result (List RequestFields) PduFault) → Ok count ≡ count_of read → (read >>= λ requests. Ok options)
+    ≡ Ok options
 counted_ok options count (Ok requests) e = refl
 counted_ok options count (Err fault) e = absurd cc
 
-counted_err : (options : List ℕ) (fault : PduFault) (read : Result (List RequestFields) PduFault) → Err fault ≡ count_of read → (read >>= λ requests. Ok options) ≡ Err fault
+counted_err : (options : List ℕ) (fault : PduFault) (read : Result (List RequestFields) PduFault) → Err fault ≡ count_of read →
+    (read >>= λ requests. Ok options) ≡ Err fault
 counted_err options fault (Ok requests) e = absurd cc
 counted_err options fault (Err other) e = cc
 

@@ -9,7 +9,7 @@ use Rattle.cfdp_pdus.specs.Bits.{IsNumber}
 use Rattle.cfdp_pdus.specs.First.{number_at}
 use Rattle.cfdp_tlv.proofs.Steps.{guard_ok}
 
--- a number stands at the front
+-- a number is at the front
 pub record TakesNumber (octets : List ℕ) (len x : ℕ) (rest : List ℕ) : Type 0 where
   pub front : List ℕ
   pub parts : octets ≡ front ++ rest
@@ -19,7 +19,8 @@ pub record TakesNumber (octets : List ℕ) (len x : ℕ) (rest : List ℕ) : Typ
 same_number : (len : ℕ) (front rest : List ℕ) → length front ≡ len → big_number len (front ++ rest) ≡ big_number len front
 same_number len front rest e = big_from-append len front rest (omega arith)
 
-pub number_takes : (fault : PduFault) (len : ℕ) (octets : List ℕ) (x : ℕ) (rest : List ℕ) → number_at fault len octets ≡ Ok (x, rest) → TakesNumber octets len x rest
+pub number_takes : (fault : PduFault) (len : ℕ) (octets : List ℕ) (x : ℕ) (rest : List ℕ) → number_at fault len octets ≡ Ok (x, rest) →
+    TakesNumber octets len x rest
 unfolding number_at
 number_takes fault len octets x rest e =
     let g = guard_ok (ltb (length octets) len) fault (big_number len octets, drop len octets) (x, rest) e in
@@ -34,7 +35,8 @@ number_takes fault len octets x rest e =
       spelled = record { len_is = len-is; spelled = sym x-is ∙ ap (big_number len) parts ∙ same_number len (take len octets) rest len-is };
     }
 
-pub number_again : (fault : PduFault) (len : ℕ) (front : List ℕ) (x : ℕ) (rest : List ℕ) → IsNumber front len x → number_at fault len (front ++ rest) ≡ Ok (x, rest)
+pub number_again : (fault : PduFault) (len : ℕ) (front : List ℕ) (x : ℕ) (rest : List ℕ) → IsNumber front len x → number_at fault len (front ++ rest)
+    ≡ Ok (x, rest)
 unfolding number_at
 number_again fault len front x rest spelled =
     let len-is = spelled.len_is in

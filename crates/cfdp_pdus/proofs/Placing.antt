@@ -47,7 +47,8 @@ pub after : (buffer now new xs ys : List ℕ) (next : ℕ)
 after buffer now new xs ys next is_now is_new same =
     then buffer now new xs ys 0 next (omega arith) (is_now ∙ sym (at_front buffer xs)) is_new (omega (arith, same)) ∙ at_front buffer (xs ++ ys)
 
-pub length-header_octets : (file_data : Bool) (header : Header) (len : ℕ) → length (header_octets file_data header len) ≡ 4 + 2 * header.id_len + header.number_len
+pub length-header_octets : (file_data : Bool) (header : Header) (len : ℕ) → length (header_octets file_data header len) ≡ 4 + 2 * header.id_len
+    + header.number_len
 length-header_octets file_data header len =
     let source = big_bytes header.id_len header.source in
     let number = big_bytes header.number_len header.number in

@@ -1,4 +1,4 @@
--- What holds of each PDU that octets spell, holds of the one that a receiver is told; and where memory is wanting for it.
+-- What holds of each PDU that octets spell, holds of the one that a receiver learns of; and where memory is refused for it.
 use Rattle.std.proofs.Common.{◌≡◌, List, ℕ, Option, Some, None, Result, Ok, Err, refl, ap, subst, inl, inr}
 use Rattle.std.specs.Prelude.{IfOk, IfSome}
 use Rattle.cfdp_pdus.specs.declared.pdu.Pdu.{Pdu}
@@ -40,7 +40,7 @@ not_failed : (fault : PduFault) → (failed fault ≡ failed Memory → ⊥) →
 not_failed fault never (inl same) = let why : fault ≡ Memory = cc in never (ap failed why)
 not_failed fault never (inr ran_out) = never_both (received_in (failed fault)) fault refl ran_out.1
 
--- where memory is wanting, and no octets have that fault, the PDU is one that is copied
+-- where memory is refused, and no octets have that fault, the PDU is one that is copied
 pub copied : (read : Result Pdu PduFault) (result : Result (Option Pdu) PduFault) → result ≡ Err Memory → (read ≡ failed Memory → ⊥)
     → Gives Memory (λ (told : Option Pdu). told) result (received_in read) → (ReceivesLean read → result ≡ received_in read) → IsCopied read
 copied (Ok (pdus.Metadata header metadata)) result wanting never exact lean = tt
@@ -49,4 +49,5 @@ copied (Ok (pdus.Eof header eof)) result wanting never exact lean = absurd (not_
 copied (Ok (pdus.Finished header finished)) result wanting never exact lean = absurd (not_both None result wanting (lean tt))
 copied (Ok (pdus.NotOurs header code)) result wanting never exact lean = absurd (not_both (Some (pdus.NotOurs header code)) result wanting (lean tt))
 copied (Err fault) result wanting never exact lean =
-    absurd (not_failed fault never (subst (λ (r : Result (Option Pdu) PduFault). Gives Memory (λ (told : Option Pdu). told) r (received_in (failed fault))) wanting exact))
+    absurd (not_failed fault never (subst (λ (r : Result (Option Pdu) PduFault). Gives Memory (λ (told : Option Pdu). told) r (received_in (failed fault)))
+    wanting exact))

@@ -46,7 +46,8 @@ requests_take [] [] e = record { fields = []; whole = refl; asks = tt }
 requests_take [] (request ∷ requests) e = absurd (nothing_read request requests e)
 requests_take (None ∷ options) requests e = absurd cc
 requests_take (Some field ∷ options) requests e =
-    elim (chosen (eqb field.0 0) (asked_at field.1 >>= λ request. requests_of options >>= λ others. Ok (request ∷ others)) (requests_of options) (Ok requests) e) [
+    elim (chosen (eqb field.0 0) (asked_at field.1 >>= λ request. requests_of options >>= λ others. Ok (request ∷ others)) (requests_of options)
+    (Ok requests) e) [
       | inl here ↦
           let a = bind_ok (asked_at field.1) (λ request. requests_of options >>= λ others. Ok (request ∷ others)) requests here.1 in
           let b = bind_ok (requests_of options) (λ others. Ok (a.0 ∷ others)) requests a.2 in
@@ -72,8 +73,10 @@ requests_take (Some field ∷ options) requests e =
     ]
 
 -- one step, whichever way its test goes
-behind_field : (is_request : Bool) (value : List ℕ) (values : List (List ℕ)) (requests : List RequestFields) (read : Result (List RequestFields) PduFault) → ((others : List RequestFields) → EachAsks values others → read ≡ Ok others)
-    → EachAsks (cond is_request (value ∷ values) values) requests → cond is_request (asked_at value >>= λ request. read >>= λ others. Ok (request ∷ others)) read ≡ Ok requests
+behind_field : (is_request : Bool) (value : List ℕ) (values : List (List ℕ)) (requests : List RequestFields) (read : Result (List RequestFields) PduFault) →
+    ((others : List RequestFields) → EachAsks values others → read ≡ Ok others)
+    → EachAsks (cond is_request (value ∷ values) values) requests → cond is_request
+    (asked_at value >>= λ request. read >>= λ others. Ok (request ∷ others)) read ≡ Ok requests
 behind_field true value values [] read again asks = absurd asks
 behind_field true value values (request ∷ requests) read again asks = rw (asked_again value request asks.0 asks.1, again requests asks.2) refl
 behind_field false value values requests read again asks = again requests asks
@@ -82,4 +85,5 @@ pub requests_again : (fields : List Field) (requests : List RequestFields) → E
 unfolding requests_of
 requests_again [] [] asks = refl
 requests_again [] (request ∷ requests) asks = absurd asks
-requests_again (field ∷ fields) requests asks = behind_field (eqb field.0 0) field.1 (values_of 0 fields) requests (requests_of (all_of fields)) (requests_again fields) asks
+requests_again (field ∷ fields) requests asks = behind_field (eqb field.0 0) field.1 (values_of 0 fields) requests (requests_of (all_of fields))
+    (requests_again fields) asks

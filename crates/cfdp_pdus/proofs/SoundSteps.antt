@@ -41,7 +41,7 @@ behind : (a b : List ℕ) → AreOctets (a ++ b) → AreOctets b
 behind [] b are = are
 behind (octet ∷ a) b are = behind a b are.1
 
--- a number of so many octets fits them
+-- a number of this many octets fits them
 number_fits : (octets : List ℕ) (len x : ℕ) → AreOctets octets → IsNumber octets len x → x < 256 ^ len
 number_fits octets len x are number = subst (λ (n : ℕ). n < 256 ^ len) (sym number.spelled) (big_from-lt 0 len octets (below_from octets are))
 
@@ -89,7 +89,8 @@ all_answerable [] (request ∷ requests) asks = absurd asks
 all_answerable (value ∷ values) [] asks = absurd asks
 all_answerable (value ∷ values) (request ∷ requests) asks = (answerable value request asks.0 asks.1, all_answerable values requests asks.2)
 
-metadata_sound : (header : Header) (octets : List ℕ) (metadata : MetadataFields) → AreOctets octets → IsHeader header → SpellsMetadata header.large octets metadata → IsSoundMetadata header metadata
+metadata_sound : (header : Header) (octets : List ℕ) (metadata : MetadataFields) → AreOctets octets → IsHeader header →
+    SpellsMetadata header.large octets metadata → IsSoundMetadata header metadata
 metadata_sound header octets metadata are is spelled =
     let all = subst AreOctets spelled.parts are in
     let size = front spelled.size_octets (lv metadata.source_name ++ (lv metadata.destination_name ++ field_octets spelled.options)) all.1 in
@@ -102,7 +103,8 @@ metadata_sound header octets metadata are is spelled =
       answerable = all_answerable (values_of 0 spelled.options) metadata.requests spelled.requests;
     }
 
-file_data_sound : (header : Header) (segment_metadata : Bool) (octets : List ℕ) (file_data : FileDataFields) → AreOctets octets → SpellsFileData header.large segment_metadata octets file_data → IsSizedFileData header.large file_data
+file_data_sound : (header : Header) (segment_metadata : Bool) (octets : List ℕ) (file_data : FileDataFields) → AreOctets octets →
+    SpellsFileData header.large segment_metadata octets file_data → IsSizedFileData header.large file_data
 file_data_sound header segment_metadata octets file_data are spelled =
     let all = subst AreOctets spelled.parts are in
     let rest = behind spelled.segment (spelled.offset_octets ++ file_data.octets) all in
@@ -117,7 +119,8 @@ eof_sound header octets eof are spelled =
       size = number_fits spelled.size_octets (fss header.large) eof.size (front spelled.size_octets (field_octets spelled.fields) rest) spelled.size;
     }
 
-finished_sound : (header : Header) (octets : List ℕ) (finished : FinishedFields) → AreOctets octets → IsHeader header → SpellsFinished octets finished → IsSoundFinished header finished
+finished_sound : (header : Header) (octets : List ℕ) (finished : FinishedFields) → AreOctets octets → IsHeader header → SpellsFinished octets finished →
+    IsSoundFinished header finished
 finished_sound header octets finished are is spelled =
     let all = subst AreOctets spelled.parts are in
     record {
@@ -133,8 +136,10 @@ directive_sound code octets (pdus.Eof header eof) are is spelled = (is, eof_soun
 directive_sound code octets (pdus.Finished header finished) are is spelled = finished_sound header octets finished are is spelled.1
 directive_sound code octets (pdus.NotOurs header other) are is spelled = is
 
-field_sound : (file_data segment_metadata : Bool) (field : List ℕ) (pdu : Pdu) → AreOctets field → IsHeader (header_of pdu) → SpellsField file_data segment_metadata field pdu → IsSound pdu
-field_sound true segment_metadata field (pdus.FileData header file_data) are is spelled = (is, file_data_sound header segment_metadata field file_data are spelled)
+field_sound : (file_data segment_metadata : Bool) (field : List ℕ) (pdu : Pdu) → AreOctets field → IsHeader (header_of pdu) →
+    SpellsField file_data segment_metadata field pdu → IsSound pdu
+field_sound true segment_metadata field (pdus.FileData header file_data) are is spelled =
+    (is, file_data_sound header segment_metadata field file_data are spelled)
 field_sound true segment_metadata field (pdus.Metadata header metadata) are is spelled = absurd spelled
 field_sound true segment_metadata field (pdus.Eof header eof) are is spelled = absurd spelled
 field_sound true segment_metadata field (pdus.Finished header finished) are is spelled = absurd spelled
@@ -150,7 +155,8 @@ pdu_sound (first ∷ high ∷ low ∷ []) pdu are spelled = absurd spelled
 pdu_sound (first ∷ high ∷ low ∷ fourth ∷ rest) pdu are spelled =
     let all = subst AreOctets spelled.parts are.1.1.1.1 in
     let names = front spelled.names spelled.field all in
-    field_sound (flag 4 first) (flag 3 fourth) spelled.field pdu (behind spelled.names spelled.field all) (header_sound first fourth spelled.names (header_of pdu) names spelled.header) spelled.spelled
+    field_sound (flag 4 first) (flag 3 fourth) spelled.field pdu (behind spelled.names spelled.field all)
+    (header_sound first fourth spelled.names (header_of pdu) names spelled.header) spelled.spelled
 
 pub is_sound : (octets : List ℕ) (result : Result Pdu PduFault) → AreOctets octets → IfOk result (SpellsPdu octets) → IfOk result IsSound
 is_sound octets (Ok pdu) are found = pdu_sound octets pdu are found

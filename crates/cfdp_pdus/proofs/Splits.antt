@@ -8,13 +8,14 @@ use Rattle.cfdp_tlv.proofs.Fields.{tlv_takes}
 use Rattle.cfdp_pdus.specs.Grammar.{Field}
 use Rattle.cfdp_pdus.specs.First.{front_field, some_fields_at, fields_at}
 
--- what stands behind a field is shorter
+-- what is after a field is shorter
 pub shorter : (octets : List ℕ) (field : ℕ × List ℕ × List ℕ) → tlv_at octets ≡ Ok field → length field.2 + 2 ≤ length octets
 shorter octets field e =
     let parts : octets ≡ tlv field.0 field.1 ++ field.2 = tlv_takes octets field.0 field.1 field.2 e in
     omega (arith, ap length parts, length-append field.1 field.2)
 
-front_same : (read : Result (ℕ × List ℕ × List ℕ) TlvFault) (f g : List ℕ → List (Option Field)) → ((field : ℕ × List ℕ × List ℕ) → read ≡ Ok field → f field.2 ≡ g field.2) → front_field read f ≡ front_field read g
+front_same : (read : Result (ℕ × List ℕ × List ℕ) TlvFault) (f g : List ℕ → List (Option Field)) →
+    ((field : ℕ × List ℕ × List ℕ) → read ≡ Ok field → f field.2 ≡ g field.2) → front_field read f ≡ front_field read g
 front_same (Ok field) f g same = ap (λ (fields : List (Option Field)). Some (field.0, field.1) ∷ fields) (same field refl)
 front_same (Err fault) f g same = refl
 
@@ -31,12 +32,14 @@ enough (suc n) (suc m) (octet ∷ octets) p q =
     front_same (tlv_at (octet ∷ octets)) (some_fields_at n) (some_fields_at m)
     (λ field e. enough n m field.2 (omega (arith, shorter (octet ∷ octets) field e)) (omega (arith, shorter (octet ∷ octets) field e)))
 
-pub fields_at-step : (octets : List ℕ) (kind : ℕ) (value rest : List ℕ) → tlv_at octets ≡ Ok (kind, value, rest) → fields_at octets ≡ Some (kind, value) ∷ fields_at rest
+pub fields_at-step : (octets : List ℕ) (kind : ℕ) (value rest : List ℕ) → tlv_at octets ≡ Ok (kind, value, rest) → fields_at octets
+    ≡ Some (kind, value) ∷ fields_at rest
 unfolding fields_at some_fields_at tlv_at
 fields_at-step [] kind value rest e = absurd cc
 fields_at-step (octet ∷ octets) kind value rest e =
     let small : length rest ≤ length octets = omega (arith, shorter (octet ∷ octets) (kind, value, rest) e) in
-    let one : fields_at (octet ∷ octets) ≡ Some (kind, value) ∷ some_fields_at (length octets) rest = ap (λ r. front_field r (some_fields_at (length octets))) e in
+    let one : fields_at (octet ∷ octets) ≡ Some (kind, value) ∷ some_fields_at (length octets) rest =
+    ap (λ r. front_field r (some_fields_at (length octets))) e in
     one ∙ ap (λ (fields : List (Option Field)). Some (kind, value) ∷ fields) (enough (length octets) (length rest) rest small (omega arith))
 
 pub fields_at-cut : (octets : List ℕ) (fault : TlvFault) → (octets ≡ [] → ⊥) → tlv_at octets ≡ Err fault → fields_at octets ≡ None ∷ []

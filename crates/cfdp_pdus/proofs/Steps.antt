@@ -15,7 +15,8 @@ pub never_both : {A F : Type 0} (read : Result A F) (fault : F) → read ≡ Err
 never_both (Ok x) fault e good = cc
 never_both (Err other) fault e good = cc
 
-pub not_refused : {A B F G : Type 0} (part : Result A F) (whole : Result B G) (cause : F → G) → ((fault : F) → part ≡ Err fault → whole ≡ Err (cause fault)) → IsOk whole → IsOk part
+pub not_refused : {A B F G : Type 0} (part : Result A F) (whole : Result B G) (cause : F → G) → ((fault : F) → part ≡ Err fault → whole ≡ Err (cause fault)) →
+    IsOk whole → IsOk part
 not_refused (Ok x) whole cause refused good = refl
 not_refused (Err fault) whole cause refused good = absurd (never_both whole (cause fault) (refused fault refl) good)
 
@@ -28,7 +29,8 @@ last_is_ok : {A B F : Type 0} (read : Result A F) (last : A → B) → IsOk read
 last_is_ok (Ok x) last good = refl
 last_is_ok (Err fault) last good = absurd cc
 
-pub last_fails : {A B F : Type 0} (memory fault : F) (read : Result A F) (last : A → B) → Fails memory fault read → Fails memory fault (read >>= λ x. Ok (last x))
+pub last_fails : {A B F : Type 0} (memory fault : F) (read : Result A F) (last : A → B) → Fails memory fault read →
+    Fails memory fault (read >>= λ x. Ok (last x))
 last_fails memory fault read last (inl same) = inl (ap (λ r. r >>= λ x. Ok (last x)) same)
 last_fails memory fault read last (inr ran_out) = inr (ran_out.0, last_is_ok read last ran_out.1)
 

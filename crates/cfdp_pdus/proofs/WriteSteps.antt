@@ -20,8 +20,9 @@ passes_at p [] i d all lt = absurd (omega arith)
 passes_at p (x ∷ xs) zero d all lt = (and_true (p x) (list_all p xs) all).0
 passes_at p (x ∷ xs) (suc i) d all lt = passes_at p xs i d (and_true (p x) (list_all p xs) all).1 (omega arith)
 
--- what stands before a part, and the part, are no longer than the whole
-pub part_fits : {X : Type 0} (f : X → List ℕ) (xs : List X) (i : ℕ) (d : X) → i < length xs → length (flat_map f (take i xs)) + length (f (get_or xs i d)) ≤ length (flat_map f xs)
+-- what is before a part, and the part, are no longer than the whole
+pub part_fits : {X : Type 0} (f : X → List ℕ) (xs : List X) (i : ℕ) (d : X) → i < length xs → length (flat_map f (take i xs))
+    + length (f (get_or xs i d)) ≤ length (flat_map f xs)
 part_fits f [] i d lt = absurd (omega arith)
 part_fits f (x ∷ xs) zero d lt = omega (arith, length-append (f x) (flat_map f xs))
 part_fits f (x ∷ xs) (suc i) d lt =
@@ -31,7 +32,8 @@ part_fits f (x ∷ xs) (suc i) d lt =
 pub location_len : (id_len entity : ℕ) → length (fault_location id_len (Some entity)) ≡ id_len + 2
 location_len id_len entity = omega (arith, length-bytes_high_first id_len entity)
 
-pub finished_len : (header : Header) (finished : FinishedFields) → length (finished_field header finished) ≡ 2 + (length (flat_map response_field finished.responses) + length (fault_location header.id_len finished.fault))
+pub finished_len : (header : Header) (finished : FinishedFields) → length (finished_field header finished) ≡ 2
+    + (length (flat_map response_field finished.responses) + length (fault_location header.id_len finished.fault))
 unfolding finished_field
 finished_len header finished = omega (arith, length-append (flat_map response_field finished.responses) (fault_location header.id_len finished.fault))
 
@@ -39,7 +41,8 @@ finished_len header finished = omega (arith, length-append (flat_map response_fi
 pub item_passes : {X : Type 0} (p : X → Bool) (xs : List X) (i : ℕ) (x : X) → x ≡ get_or xs i x → list_all p xs ≡ true → i < length xs → p x ≡ true
 item_passes p xs i x is all lt = ap p is ∙ passes_at p xs i x all lt
 
-pub item_fits : {X : Type 0} (f : X → List ℕ) (xs : List X) (i : ℕ) (x : X) → x ≡ get_or xs i x → i < length xs → length (flat_map f (take i xs)) + length (f x) ≤ length (flat_map f xs)
+pub item_fits : {X : Type 0} (f : X → List ℕ) (xs : List X) (i : ℕ) (x : X) → x ≡ get_or xs i x → i < length xs → length (flat_map f (take i xs))
+    + length (f x) ≤ length (flat_map f xs)
 item_fits {X = X} f xs i x is lt =
     let same : length (f x) ≡ length (f (get_or xs i x)) = ap (λ (y : X). length (f y)) is in
     omega (arith, same, part_fits f xs i x lt)

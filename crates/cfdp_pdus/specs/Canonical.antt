@@ -1,7 +1,7 @@
 -- The one spelling in which a PDU is written: spare bits 0, and no TLV that a reader passes over but
 -- the fault location (CCSDS 727.0-B-5 §5.1 to §5.3).
 --   IsHeader header              the lengths are 1 to 8, and the numbers fit them
---   pdu_octets                   a header, and a data field behind it
+--   pdu_octets                   a header, and a data field after it
 --   metadata_field, file_data_field, eof_field, finished_field
 --                                the data fields
 --   AreSized ..                  the other numbers fit their fields
@@ -32,14 +32,16 @@ pub record IsHeader (header : Header) : Type 0 where
 
 abbrev pub first_octet : Bool → Header → ℕ
 first_octet file_data header =
-    32 + 16 * digit file_data + 8 * digit header.toward_sender + 4 * digit (not header.acknowledged) + digit header.large
+    32 + 16 * digit file_data + 8 * digit header.toward_sender + 4 * digit (not header.acknowledged)
+    + digit header.large
 
 abbrev pub fourth_octet : Header → ℕ
 fourth_octet header = 16 * (header.id_len - 1) + (header.number_len - 1)
 
 abbrev pub names_octets : Header → List ℕ
 names_octets header =
-    big_bytes header.id_len header.source ++ (big_bytes header.number_len header.number ++ big_bytes header.id_len header.destination)
+    big_bytes header.id_len header.source ++ (big_bytes header.number_len header.number
+    ++ big_bytes header.id_len header.destination)
 
 -- up to the data field, which has len octets
 abbrev pub header_octets : Bool → Header → ℕ → List ℕ
@@ -57,7 +59,8 @@ request_field request = tlv 0 (request_octets request)
 unfoldable pub metadata_field : Bool → MetadataFields → List ℕ
 metadata_field large metadata =
     7 ∷ (64 * digit metadata.closure + metadata.checksum_type)
-    ∷ (big_bytes (fss large) metadata.size ++ (lv metadata.source_name ++ (lv metadata.destination_name ++ flat_map request_field metadata.requests)))
+    ∷ (big_bytes (fss large) metadata.size ++ (lv metadata.source_name
+    ++ (lv metadata.destination_name ++ flat_map request_field metadata.requests)))
 
 pub record IsSizedMetadata (large : Bool) (metadata : MetadataFields) : Type 0 where
   pub checksum_type : metadata.checksum_type < 16
@@ -99,7 +102,8 @@ eof_location header eof = if eof.condition == 0 then [] else location header.id_
 
 unfoldable pub eof_field : Header → Eof → List ℕ
 eof_field header eof =
-    4 ∷ (16 * eof.condition) ∷ (big_bytes 4 eof.checksum ++ (big_bytes (fss header.large) eof.size ++ eof_location header eof))
+    4 ∷ (16 * eof.condition) ∷ (big_bytes 4 eof.checksum
+    ++ (big_bytes (fss header.large) eof.size ++ eof_location header eof))
 
 pub record IsSizedEof (large : Bool) (eof : Eof) : Type 0 where
   pub condition : eof.condition < 16

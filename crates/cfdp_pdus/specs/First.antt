@@ -1,5 +1,5 @@
 -- Reading PDUs from left to right, with the fault that comes first.
---   number_at fault len octets    the number in the first len octets, and what stands after them
+--   number_at fault len octets    the number in the first len octets, and what is after them
 --   fields_at octets              the TLV fields from the left, each as Some; None where one is cut
 --   requests_of fields            the requests among the fields of a Metadata PDU
 --   outcome_of fields             the responses and the last fault location of a Finished PDU
@@ -25,16 +25,17 @@ use Rattle.cfdp_pdus.specs.Reading.{mend}
 use Rattle.cfdp_pdus.specs.Grammar.{Field}
 
 unfoldable pub number_at : PduFault → ℕ → List ℕ → Result (ℕ × List ℕ) PduFault
-number_at fault len octets = if nat_lt (length octets) len then Err fault else Ok (big_number len octets, drop len octets)
+number_at fault len octets = if nat_lt (length octets) len then Err fault
+    else Ok (big_number len octets, drop len octets)
 
 -- ---- TLV fields
 
--- the field at the front, and those behind it
+-- the field at the front, and those after it
 abbrev pub front_field : Result (ℕ × List ℕ × List ℕ) TlvFault → (List ℕ → List (Option Field)) → List (Option Field)
 front_field (Ok field) next = Some (field.0, field.1) ∷ next field.2
 front_field (Err fault) next = None ∷ []
 
--- the first fields, of at most so many
+-- the first fields, of at most this many
 unfoldable pub some_fields_at : ℕ → List ℕ → List (Option Field)
 some_fields_at zero octets = []
 some_fields_at (suc count) [] = []
@@ -97,9 +98,16 @@ metadata_at large (flags ∷ octets) = do
   source ← name_at size.1
   destination ← name_at source.1
   requests ← requests_of (fields_at destination.1)
-  Ok (record { closure = flag 6 flags; checksum_type = flags % 16; size = size.0; source_name = source.0; destination_name = destination.0; requests = requests })
+  Ok (record {
+    closure = flag 6 flags;
+    checksum_type = flags % 16;
+    size = size.0;
+    source_name = source.0;
+    destination_name = destination.0;
+    requests = requests;
+  })
 
--- what stands behind the continuation state and the segment metadata, where there are any
+-- what is after the continuation state and the segment metadata, where there are any
 unfoldable pub behind_segment : Bool → List ℕ → Result (List ℕ) PduFault
 behind_segment false octets = Ok octets
 behind_segment true [] = Err LengthMismatch
@@ -124,7 +132,13 @@ unfoldable pub finished_at : List ℕ → Result FinishedFields PduFault
 finished_at [] = Err LengthMismatch
 finished_at (flags ∷ octets) = do
   outcome ← outcome_of (fields_at octets)
-  Ok (record { condition = flags / 16; incomplete = flag 2 flags; file_status = flags % 4; responses = outcome.0; fault = outcome.1 })
+  Ok (record {
+    condition = flags / 16;
+    incomplete = flag 2 flags;
+    file_status = flags % 4;
+    responses = outcome.0;
+    fault = outcome.1;
+  })
 
 -- ---- whole PDUs
 
@@ -135,7 +149,7 @@ pub record Start : Type 0 where
   pub header : Header
   pub field : List ℕ
 
--- behind the first octet
+-- after the first octet
 unfoldable pub header_at : ℕ → List ℕ → Result Start PduFault
 header_at first (high ∷ low ∷ fourth ∷ octets) = do
   source ← number_at Truncated (fourth / 16 % 8 + 1) octets
@@ -182,7 +196,8 @@ directive_at header (code ∷ octets) =
 unfoldable pub field_at : Start → Result Pdu PduFault
 field_at start =
     if start.file_data
-    then (file_data_at start.header.large start.segment_metadata start.field >>= λ file_data. Ok (pdus.FileData start.header file_data))
+    then (file_data_at start.header.large start.segment_metadata start.field >>= λ file_data.
+    Ok (pdus.FileData start.header file_data))
     else directive_at start.header start.field
 
 abbrev pub pdu_at : List ℕ → Result Pdu PduFault

@@ -8,7 +8,7 @@
 --   IsEntity value                       an entity ID of 1 to 8 octets
 --   last_entity values                   the number in the last value
 --   SpellsMetadata, SpellsFileData, SpellsEof, SpellsFinished
---                                        the octets of the data field, behind a directive code
+--                                        the octets of the data field, after a directive code
 --   IsOther code                         the directives that another entity makes and consumes:
 --                                        ACK, NAK, Prompt, Keep Alive
 --   SpellsField                          the whole data field
@@ -42,7 +42,8 @@ abbrev pub EachAsks : List (List ℕ) → List RequestFields → Type 0
 EachAsks [] [] = Unit {0}
 EachAsks [] (request ∷ requests) = ⊥
 EachAsks (value ∷ values) [] = ⊥
-EachAsks (value ∷ values) (request ∷ requests) = SpellsRequest value request × (length value < 255) × EachAsks values requests
+EachAsks (value ∷ values) (request ∷ requests) = SpellsRequest value request × (length value < 255)
+    × EachAsks values requests
 
 abbrev pub EachTells : List (List ℕ) → List ResponseFields → Type 0
 EachTells [] [] = Unit {0}
@@ -86,7 +87,8 @@ pub record SpellsMetadata (large : Bool) (octets : List ℕ) (metadata : Metadat
   pub flags : ℕ
   pub size_octets : List ℕ
   pub options : List Field
-  pub parts : octets ≡ flags ∷ (size_octets ++ (lv metadata.source_name ++ (lv metadata.destination_name ++ field_octets options)))
+  pub parts : octets ≡ flags ∷ (size_octets ++ (lv metadata.source_name
+      ++ (lv metadata.destination_name ++ field_octets options)))
   pub closure : metadata.closure ≡ flag 6 flags
   pub checksum_type : metadata.checksum_type ≡ flags % 16
   pub size : IsNumber size_octets (fss large) metadata.size
@@ -138,7 +140,7 @@ header_of (pdus.Eof header eof) = header
 header_of (pdus.Finished header finished) = header
 header_of (pdus.NotOurs header code) = header
 
--- behind a directive code
+-- after a directive code
 abbrev pub SpellsDirective : ℕ → List ℕ → Pdu → Type 0
 SpellsDirective code octets (pdus.Metadata header metadata) = (code ≡ 7) × SpellsMetadata header.large octets metadata
 SpellsDirective code octets (pdus.FileData header file_data) = ⊥
@@ -148,7 +150,8 @@ SpellsDirective code octets (pdus.NotOurs header other) = (code ≡ other) × Is
 
 -- file data, with segment metadata or not, or a directive
 abbrev pub SpellsField : Bool → Bool → List ℕ → Pdu → Type 0
-SpellsField true segment_metadata octets (pdus.FileData header file_data) = SpellsFileData header.large segment_metadata octets file_data
+SpellsField true segment_metadata octets (pdus.FileData header file_data) =
+    SpellsFileData header.large segment_metadata octets file_data
 SpellsField true segment_metadata octets pdu = ⊥
 SpellsField false segment_metadata [] pdu = ⊥
 SpellsField false segment_metadata (code ∷ octets) pdu = SpellsDirective code octets pdu

@@ -1,11 +1,14 @@
--- The messages to user of a Metadata PDU (CCSDS 727.0-B-5 §5.4.3): the values of its options of type 2, in the order in which they come.
+-- The messages to user of a Metadata PDU (CCSDS 727.0-B-5 §5.4.3): the values of its options of type 2, in the order in
+-- which they come.
 --   whole_fields fields             the TLV fields before the first that is cut
 --   messages_among octets           the values of type 2 among TLV fields
---   before_options large metadata   how many octets of the data field come before the options: the directive code, the flags, the
---                                   file size and the two names
---   messages_at octets              the messages of the Metadata PDU that the octets spell; none where they spell no Metadata PDU
+--   before_options large metadata   how many octets of the data field come before the options: the directive code, the
+--                                   flags, the file size and the two names
+--   messages_at octets              the messages of the Metadata PDU that the octets spell; none where they spell no
+--                                   Metadata PDU
 --   options_said ..                 the options that the grammar finds in the Metadata PDU that the octets spell
---   options_at octets               the octets of the options of a Metadata PDU, read from left to right; or the first fault
+--   options_at octets               the octets of the options of a Metadata PDU, read from left to right; or the first
+--                                   fault
 use Rattle.std.specs.Prelude.{ℕ, ◌+◌, ◌==◌, if◌then◌else◌, Bool, true, false, List, [], ◌∷◌, length, drop, Option, Some, None, Result, Ok, Err}
 use Rattle.cfdp_tlv.specs.Field.{lv}
 use Rattle.cfdp_tlv.specs.Reading.{◌>>=◌}
@@ -34,7 +37,8 @@ before_options large metadata = 2 + fss large + length (lv metadata.source_name)
 
 -- of a PDU and its data field
 abbrev pub messages_of : Result Pdu PduFault → List ℕ → List (List ℕ)
-messages_of (Ok (pdus.Metadata header metadata)) field = messages_among (drop (before_options header.large metadata) field)
+messages_of (Ok (pdus.Metadata header metadata)) field =
+    messages_among (drop (before_options header.large metadata) field)
 messages_of read field = []
 
 abbrev pub messages_from : Result Start PduFault → List (List ℕ)
@@ -47,13 +51,15 @@ messages_at octets = messages_from (start_at octets)
 -- ---- in the words of the grammar
 
 -- in the data field of a Metadata PDU
-abbrev pub options_told : (file_data segment_metadata : Bool) (field : List ℕ) (header : Header) (metadata : MetadataFields)
+abbrev pub options_told : (file_data segment_metadata : Bool) (field : List ℕ) (header : Header)
+    (metadata : MetadataFields)
     → SpellsField file_data segment_metadata field (pdus.Metadata header metadata) → List Field
 options_told true segment_metadata field header metadata spelled = absurd spelled
 options_told false segment_metadata [] header metadata spelled = absurd spelled
 options_told false segment_metadata (code ∷ octets) header metadata spelled = spelled.1.options
 
-abbrev pub options_said : (octets : List ℕ) (header : Header) (metadata : MetadataFields) → SpellsPdu octets (pdus.Metadata header metadata) → List Field
+abbrev pub options_said : (octets : List ℕ) (header : Header) (metadata : MetadataFields) →
+    SpellsPdu octets (pdus.Metadata header metadata) → List Field
 options_said [] header metadata spelled = absurd spelled
 options_said (first ∷ []) header metadata spelled = absurd spelled
 options_said (first ∷ high ∷ []) header metadata spelled = absurd spelled

@@ -27,8 +27,9 @@ pub fn put_number(out: &mut [u8], at: usize, number: u64, len: usize)
     BigEndian::write_uint(&mut out[at..], number, len);
 }
 
-/// Writes the header (CCSDS 727.0-B-5 §5.1) of a PDU whose data field has `len` octets to the front of a buffer: the version is
-/// 001, the CRC flag, the segmentation control bit and the segment metadata flag are 0. The rest of the buffer stays.
+/// Writes the header (CCSDS 727.0-B-5 §5.1) of a PDU whose data field has `len` octets to the front of a buffer: the
+/// version is 001, the CRC flag, the segmentation control bit and the segment metadata flag are 0. The rest of the
+/// buffer stays.
 pub fn put_header(out: &mut [u8], file_data: bool, header: &Header, len: u16)
     requires valid { IsHeader header.now }
     requires room { 4 + 2 * header.now.id_len + header.now.number_len ≤ length out.old }

@@ -25,7 +25,7 @@ pub struct Eof {
     pub size: u64,
 }
 
-/// An EOF PDU's data field behind its directive code.
+/// An EOF PDU's data field after its directive code.
 #[tactic(auto, unfolding(crate::specs::First::eof_at))]
 pub fn read_eof(large: bool, octets: &[u8]) -> Result<Eof, PduFault>
     ensures { Answers (λ eof. eof) result (eof_at large octets.now) }
@@ -64,11 +64,13 @@ fn fault_in(header: &Header, eof: &Eof) -> Option<u64>
 pub fn write_eof(header: &Header, eof: &Eof, out: &mut Vec<u8>) -> Result<(), WriteFault>
     requires header { IsHeader header.now }
     requires sized { IsSizedEof header.now.large eof.now }
-    ensures ok { OnOk result (out.new.items ≡ out.old.items ++ pdu_octets false header.now (eof_field header.now eof.now)) }
+    ensures ok { OnOk result (out.new.items ≡ out.old.items
+        ++ pdu_octets false header.now (eof_field header.now eof.now)) }
     ensures faults { IfErr result (λ fault. fault ≡ Memory) }
     ensures err { OnErr result (out.new.items ≡ out.old.items) }
     // Where there is room for it, memory isn't asked for.
-    ensures room { vec_len out.old + length (pdu_octets false header.now (eof_field header.now eof.now)) ≤ vec_capacity out.old → IsOk result }
+    ensures room { vec_len out.old + length (pdu_octets false header.now (eof_field header.now eof.now)) ≤ vec_capacity
+        out.old → IsOk result }
     ensures capacity { vec_capacity out.old ≤ vec_capacity out.new }
 {
     let size_len = size_len(header.large);

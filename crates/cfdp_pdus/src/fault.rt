@@ -15,7 +15,7 @@ pub enum PduFault {
     BadVersion,
     /// The PDU says that it has a CRC.
     CrcNotSupported,
-    /// Octets stand after the data field, or the data field is shorter than its fixed part.
+    /// Octets are after the data field, or the data field is shorter than its fixed part.
     LengthMismatch,
     /// No directive has this code.
     BadDirective,

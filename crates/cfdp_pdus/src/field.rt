@@ -23,7 +23,7 @@ pub const ENTITY_ID: u8 = 6;
 /// The longest entity ID, in octets.
 const MAX_ID_LEN: usize = 8;
 
-/// The LV field at the front, and what stands after it.
+/// The LV field at the front, and what is after it.
 pub fn read_name(octets: &[u8]) -> Result<(&[u8], &[u8]), PduFault>
     ensures { Answers (λ x. (x.0.now, x.1.now)) result (name_at octets.now) }
 {
@@ -64,7 +64,7 @@ pub fn count_requests(octets: &[u8]) -> Result<usize, PduFault>
     Ok(count)
 }
 
-/// The filestore requests, so many as were counted, among TLV fields that were found good.
+/// The filestore requests, as many as were counted, among TLV fields that were found good.
 fn copy_requests(
     alloc: Global,
     octets: &[u8],
@@ -136,7 +136,7 @@ pub fn count_responses(octets: &[u8]) -> Result<(usize, Option<u64>), PduFault>
     Ok((count, fault))
 }
 
-/// The filestore responses, so many as were counted, among TLV fields that were found good.
+/// The filestore responses, as many as were counted, among TLV fields that were found good.
 fn copy_responses(
     alloc: Global,
     octets: &[u8],

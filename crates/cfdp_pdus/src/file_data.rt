@@ -17,7 +17,7 @@ use std::marker::Model;
 /// A File Data PDU's data field (CCSDS 727.0-B-5 §5.3). A contract sees its octets as a list.
 #[derive(Debug, Drop)]
 pub struct FileData {
-    /// Where the octets stand in the file, from 0.
+    /// Where the octets are in the file, from 0.
     pub offset: u64,
     /// The octets, which may be none.
     pub octets: Vec<u8>,
@@ -49,11 +49,11 @@ impl Eq for FileData {
     ghost laws = { file_data_equiv };
 }
 
-/// A File Data PDU's data field (CCSDS 727.0-B-5 §5.3), whose octets lie where they were read. A contract sees the same of
-/// it as of [`FileData`].
+/// A File Data PDU's data field (CCSDS 727.0-B-5 §5.3), whose octets lie where they were read. A contract sees the same
+/// of it as of [`FileData`].
 #[derive(Debug, Drop)]
 pub struct Piece<'a> {
-    /// Where the octets stand in the file, from 0.
+    /// Where the octets are in the file, from 0.
     pub offset: u64,
     /// The octets, which may be none.
     pub octets: &'a [u8],
@@ -79,7 +79,7 @@ impl FileData {
     }
 }
 
-/// What stands behind the continuation state and the segment metadata, where there are any.
+/// What is after the continuation state and the segment metadata, where there are any.
 #[tactic(auto, unfolding(crate::specs::First::behind_segment))]
 fn skip_segment(segment_metadata: bool, octets: &[u8]) -> Result<&[u8], PduFault>
     ensures { Answers (λ rest. rest.now) result (behind_segment segment_metadata octets.now) }
@@ -135,12 +135,15 @@ pub fn write_file_data(
 ) -> Result<(), WriteFault>
     requires header { IsHeader header.now }
     requires sized { IsSizedFileData header.now.large file_data.now }
-    ensures ok { OnOk result (out.new.items ≡ out.old.items ++ pdu_octets true header.now (file_data_field header.now.large file_data.now)) }
+    ensures ok { OnOk result (out.new.items ≡ out.old.items
+        ++ pdu_octets true header.now (file_data_field header.now.large file_data.now)) }
     ensures too_long { IsErrOf result TooLong ↔ (file_data_fits header.now.large file_data.now ≡ false) }
     ensures faults { IfErr result (λ fault. (fault ≡ TooLong) ⊎ (fault ≡ Memory)) }
     ensures err { OnErr result (out.new.items ≡ out.old.items) }
     // Where there is room for it, memory isn't asked for.
-    ensures room { file_data_fits header.now.large file_data.now ≡ true → vec_len out.old + length (pdu_octets true header.now (file_data_field header.now.large file_data.now)) ≤ vec_capacity out.old → IsOk result }
+    ensures room { file_data_fits header.now.large file_data.now ≡ true → vec_len out.old
+        + length (pdu_octets true header.now (file_data_field header.now.large file_data.now)) ≤ vec_capacity out.old →
+        IsOk result }
     ensures capacity { vec_capacity out.old ≤ vec_capacity out.new }
 {
     let size_len = size_len(header.large);

@@ -1,4 +1,4 @@
-//! The Finished PDU, which tells the sender how a transaction went.
+//! The Finished PDU, which informs the sender how a transaction went.
 
 ghost use Rattle.std.specs.Prelude.{◌≡◌, ◌≤◌, ◌<◌, ◌+◌, ◌⊎◌, ◌↔◌, ◌++◌, length, vec_len, min, true, false, IfErr, OnOk, OnErr, IsErrOf, IsOk};
 ghost use Rattle.std.specs.List.{flat_map, list_all};
@@ -40,7 +40,13 @@ impl Model for Finished {
 
     ghost Value = { FinishedFields };
 
-    ghost view = { λ f. record { condition = f.condition; incomplete = f.incomplete; file_status = f.file_status; responses = f.responses.items; fault = f.fault } };
+    ghost view = { λ f. record {
+      condition = f.condition;
+      incomplete = f.incomplete;
+      file_status = f.file_status;
+      responses = f.responses.items;
+      fault = f.fault;
+    } };
 }
 
 impl PartialEq for Finished {
@@ -71,7 +77,7 @@ fn have_same_codes(a: &Finished, b: &Finished) -> bool
     a.condition == b.condition && a.incomplete == b.incomplete && a.file_status == b.file_status
 }
 
-/// A Finished PDU's data field behind its directive code.
+/// A Finished PDU's data field after its directive code.
 #[tactic(auto, unfolding(crate::specs::First::finished_at))]
 pub fn read_finished(alloc: Global, octets: &[u8]) -> Result<Finished, PduFault>
     ensures { Gives OutOfMemory (λ finished. finished) result (finished_at octets.now) }
@@ -89,7 +95,7 @@ pub fn read_finished(alloc: Global, octets: &[u8]) -> Result<Finished, PduFault>
     })
 }
 
-/// That the octets are a Finished PDU's data field behind its directive code. Takes no memory.
+/// That the octets are a Finished PDU's data field after its directive code. Takes no memory.
 #[tactic(auto, unfolding(crate::specs::First::finished_at))]
 pub fn check_finished(octets: &[u8]) -> Result<(), PduFault>
     ensures { Answers (λ good. good) result (judged (finished_at octets.now)) }
@@ -185,12 +191,15 @@ pub fn write_finished(
 ) -> Result<(), WriteFault>
     requires header { IsHeader header.now }
     requires sized { IsSizedFinished header.now finished.now }
-    ensures ok { OnOk result (out.new.items ≡ out.old.items ++ pdu_octets false header.now (finished_field header.now finished.now)) }
+    ensures ok { OnOk result (out.new.items ≡ out.old.items
+        ++ pdu_octets false header.now (finished_field header.now finished.now)) }
     ensures too_long { IsErrOf result TooLong ↔ (finished_fits header.now finished.now ≡ false) }
     ensures faults { IfErr result (λ fault. (fault ≡ TooLong) ⊎ (fault ≡ Memory)) }
     ensures err { OnErr result (out.new.items ≡ out.old.items) }
     // Where there is room for it, memory isn't asked for.
-    ensures room { finished_fits header.now finished.now ≡ true → vec_len out.old + length (pdu_octets false header.now (finished_field header.now finished.now)) ≤ vec_capacity out.old → IsOk result }
+    ensures room { finished_fits header.now finished.now ≡ true → vec_len out.old
+        + length (pdu_octets false header.now (finished_field header.now finished.now)) ≤ vec_capacity out.old →
+        IsOk result }
     ensures capacity { vec_capacity out.old ≤ vec_capacity out.new }
 {
     if !fits(header, finished) {

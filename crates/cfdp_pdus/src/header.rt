@@ -47,16 +47,21 @@ impl<'a> Model for Start<'a> {
 
     ghost Value = { StartFields };
 
-    ghost view = { λ s. record { file_data = s.file_data; segment_metadata = s.segment_metadata; header = s.header; field = s.field.now } };
+    ghost view = { λ s. record {
+      file_data = s.file_data;
+      segment_metadata = s.segment_metadata;
+      header = s.header;
+      field = s.field.now;
+    } };
 }
 
-/// Takes a PDU apart: its header (CCSDS 727.0-B-5 §5.1), and the data field that is lent. The data field is not looked at. Takes no memory.
-/// Cost: constant.
+/// Takes a PDU apart: its header (CCSDS 727.0-B-5 §5.1), and the data field that is lent. The data field is not looked
+/// at. Takes no memory. Cost: constant.
 ///
 /// # Errors
 ///
-/// The first of: Truncated (no octet), BadVersion, CrcNotSupported, Truncated (the header is cut, or the data field is shorter than the header
-/// says), LengthMismatch (it is longer).
+/// The first of: Truncated (no octet), BadVersion, CrcNotSupported, Truncated (the header is cut, or the data field is
+/// shorter than the header says), LengthMismatch (it is longer).
 #[tactic(auto, unfolding(crate::specs::First::start_at))]
 pub fn read_start(octets: &[u8]) -> Result<Start<'_>, PduFault>
     ensures { result ≡ start_at octets.now }
@@ -73,7 +78,7 @@ pub fn read_start(octets: &[u8]) -> Result<Start<'_>, PduFault>
     read_header(*first, rest)
 }
 
-/// The header behind its first octet.
+/// The header after its first octet.
 #[tactic(auto, unfolding(crate::specs::First::header_at))]
 fn read_header(first: u8, octets: &[u8]) -> Result<Start<'_>, PduFault>
     ensures { result ≡ header_at first octets.now }

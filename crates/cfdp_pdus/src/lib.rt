@@ -1,15 +1,15 @@
 //! The PDUs of CFDP that a file's receiver reads and writes (CCSDS 727.0-B-5 §5.1 to §5.3), and the
 //! modular checksum.
 //!
-//! [`read_pdu`] answers the PDU exactly where the octets spell one, and otherwise the first fault;
-//! `specs/Grammar.antt` says what spells what. It judges the whole PDU before it asks for memory; [`read_for_receiver`]
-//! copies nothing of a Finished PDU, and [`read_piece`] reads a File Data PDU where it lies. A writer appends the one canonical spelling of
-//! `specs/Canonical.antt`, or answers [`WriteFault::TooLong`] exactly where a length does not fit. It
-//! asks for room once, for the whole PDU, before it writes.
+//! [`read_pdu`] returns the PDU exactly where the octets spell one, and otherwise the first fault; `specs/Grammar.antt`
+//! says what spells what. It judges the whole PDU before it asks for memory; [`read_for_receiver`] copies nothing of a
+//! Finished PDU, and [`read_piece`] reads a File Data PDU where it lies. A writer appends the one canonical spelling of
+//! `specs/Canonical.antt`, or returns [`WriteFault::TooLong`] exactly where a length does not fit. It asks for room
+//! once, for the whole PDU, before it writes.
 //!
-//! What every PDU has in common is public too, for crates that read and write further PDUs: [`read_start`] reads a header,
-//! [`push_header`] appends one and [`put_header`] writes one into a buffer, [`read_number`], [`push_number`] and [`put_number`] do so with
-//! numbers, and [`directive`] has the directive codes.
+//! What every PDU has in common is public too, for crates that read and write further PDUs: [`read_start`] reads a
+//! header, [`push_header`] appends one and [`put_header`] writes one into a buffer, [`read_number`], [`push_number`]
+//! and [`put_number`] do so with numbers, and [`directive`] has the directive codes.
 #![tactic(auto)]
 
 mod buffer;

@@ -17,9 +17,9 @@ use crate::number::{read_number, size_len};
 use cfdp_tlv::read_tlv;
 use std::marker::Model;
 
-/// The messages to user of a Metadata PDU (CCSDS 727.0-B-5 §5.4.3) that are still to come, in the order in which they come in
-/// the PDU. Each has 0 to 255 octets, and is lent out of the PDU's octets. No call takes memory. A contract sees the list of
-/// them. [`read_messages`] makes it.
+/// The messages to user of a Metadata PDU (CCSDS 727.0-B-5 §5.4.3) that are still to come, in the order in which they
+/// come in the PDU. Each has 0 to 255 octets, and is lent out of the PDU's octets. No call takes memory. A contract
+/// sees the list of them. [`read_messages`] makes it.
 ///
 /// Cost: going through all of them is one pass over the PDU's options.
 #[derive(Debug, Drop)]
@@ -46,7 +46,8 @@ struct First<'a> {
 
 /// The first message among TLV fields.
 fn first_message(octets: &[u8]) -> Option<First<'_>>
-    ensures some { IfSome result (λ first. messages_among octets.now ≡ first.message.now ∷ messages_among first.rest.now) }
+    ensures some { IfSome result (λ first. messages_among octets.now
+        ≡ first.message.now ∷ messages_among first.rest.now) }
     ensures none { IfNone result (messages_among octets.now ≡ []) }
 {
     let mut rest = octets;
@@ -94,8 +95,8 @@ impl<'a> Messages<'a> {
         count_messages(self.options)
     }
 
-    /// The message of this number, counted from 0; `None` where there are not that many. Cost: a pass over the PDU's options
-    /// up to that message.
+    /// The message of this number, counted from 0; `None` where there are not that many. Cost: a pass over the PDU's
+    /// options up to that message.
     pub fn get(&self, n: usize) -> Option<&'a [u8]>
         ensures { option_map (λ message. message.now) result ≡ slice_get self.now n }
     {
@@ -160,9 +161,9 @@ fn find_options(octets: &[u8]) -> Result<&[u8], PduFault>
     find_in_field(start.header.large, start.field)
 }
 
-/// The messages to user of the Metadata PDU that the octets spell (CCSDS 727.0-B-5 §5.4.3): the values of its options of type
-/// 2, in the order in which they come. There are none where the octets spell no Metadata PDU: where [`read_pdu`] reads another
-/// PDU, or returns a fault. What a message says is not looked at. Takes no memory.
+/// The messages to user of the Metadata PDU that the octets spell (CCSDS 727.0-B-5 §5.4.3): the values of its options
+/// of type 2, in the order in which they come. There are none where the octets spell no Metadata PDU: where
+/// [`read_pdu`] reads another PDU, or returns a fault. What a message says is not looked at. Takes no memory.
 ///
 /// Cost: one pass over the octets, which judges the whole PDU.
 ///
@@ -170,9 +171,11 @@ fn find_options(octets: &[u8]) -> Result<&[u8], PduFault>
 pub fn read_messages(octets: &[u8]) -> Messages<'_>
     ensures exact { result ≡ messages_at octets.now }
     // What the grammar calls its options of type 2.
-    ensures spelled { (header : HeaderValue) (metadata : MetadataFields) (said : SpellsPdu octets.now (MetadataCame header metadata))
+    ensures spelled { (header : HeaderValue) (metadata : MetadataFields)
+        (said : SpellsPdu octets.now (MetadataCame header metadata))
         → result ≡ values_of 2 (options_said octets.now header metadata said) }
-    ensures none { ((header : HeaderValue) (metadata : MetadataFields) → SpellsPdu octets.now (MetadataCame header metadata) → ⊥) → result ≡ [] }
+    ensures none { ((header : HeaderValue) (metadata : MetadataFields) →
+        SpellsPdu octets.now (MetadataCame header metadata) → ⊥) → result ≡ [] }
 {
     match find_options(octets) {
         Ok(options) => Messages { options },

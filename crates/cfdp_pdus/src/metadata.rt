@@ -41,7 +41,14 @@ impl Model for Metadata {
 
     ghost Value = { MetadataFields };
 
-    ghost view = { λ m. record { closure = m.closure; checksum_type = m.checksum_type; size = m.size; source_name = m.source_name.items; destination_name = m.destination_name.items; requests = m.requests.items } };
+    ghost view = { λ m. record {
+      closure = m.closure;
+      checksum_type = m.checksum_type;
+      size = m.size;
+      source_name = m.source_name.items;
+      destination_name = m.destination_name.items;
+      requests = m.requests.items;
+    } };
 }
 
 impl PartialEq for Metadata {
@@ -80,7 +87,7 @@ fn have_same_names(a: &Metadata, b: &Metadata) -> bool
     a.source_name == b.source_name && a.destination_name == b.destination_name
 }
 
-/// A Metadata PDU's data field behind its directive code.
+/// A Metadata PDU's data field after its directive code.
 #[tactic(auto, unfolding(crate::specs::First::metadata_at))]
 pub fn read_metadata(alloc: Global, large: bool, octets: &[u8]) -> Result<Metadata, PduFault>
     ensures { Gives OutOfMemory (λ metadata. metadata) result (metadata_at large octets.now) }
@@ -191,12 +198,15 @@ pub fn write_metadata(
 ) -> Result<(), WriteFault>
     requires header { IsHeader header.now }
     requires sized { IsSizedMetadata header.now.large metadata.now }
-    ensures ok { OnOk result (out.new.items ≡ out.old.items ++ pdu_octets false header.now (metadata_field header.now.large metadata.now)) }
+    ensures ok { OnOk result (out.new.items ≡ out.old.items
+        ++ pdu_octets false header.now (metadata_field header.now.large metadata.now)) }
     ensures too_long { IsErrOf result TooLong ↔ (metadata_fits header.now.large metadata.now ≡ false) }
     ensures faults { IfErr result (λ fault. (fault ≡ TooLong) ⊎ (fault ≡ Memory)) }
     ensures err { OnErr result (out.new.items ≡ out.old.items) }
     // Where there is room for it, memory isn't asked for.
-    ensures room { metadata_fits header.now.large metadata.now ≡ true → vec_len out.old + length (pdu_octets false header.now (metadata_field header.now.large metadata.now)) ≤ vec_capacity out.old → IsOk result }
+    ensures room { metadata_fits header.now.large metadata.now ≡ true → vec_len out.old
+        + length (pdu_octets false header.now (metadata_field header.now.large metadata.now)) ≤ vec_capacity out.old →
+        IsOk result }
     ensures capacity { vec_capacity out.old ≤ vec_capacity out.new }
 {
     if !fits(header.large, metadata) {

@@ -8,7 +8,8 @@ ghost use Rattle.cfdp_pdus.specs.First.{number_at};
 use crate::PduFault;
 use byteorder::{BigEndian, ByteOrder};
 
-/// The number in the first `len` octets, the most significant first, and the octets after them; `fault` if there are fewer. Cost: constant.
+/// The number in the first `len` octets, the most significant first, and the octets after them; `fault` if there are
+/// fewer. Cost: constant.
 #[tactic(auto, unfolding(crate::specs::First::number_at))]
 pub fn read_number(octets: &[u8], len: usize, fault: PduFault) -> Result<(u64, &[u8]), PduFault>
     requires low { 1 ≤ len }

@@ -79,8 +79,9 @@ pub fn header_len(header: &Header) -> usize
     4 + 2 * usize::from(header.id_len) + usize::from(header.number_len)
 }
 
-/// Appends the header (CCSDS 727.0-B-5 §5.1) of a PDU whose data field has `len` octets: the version is 001, the CRC flag, the
-/// segmentation control bit and the segment metadata flag are 0. There is room for it, so no memory is asked for.
+/// Appends the header (CCSDS 727.0-B-5 §5.1) of a PDU whose data field has `len` octets: the version is 001, the CRC
+/// flag, the segmentation control bit and the segment metadata flag are 0. There is room for it, so no memory is asked
+/// for.
 pub fn push_header(out: &mut Vec<u8>, file_data: bool, header: &Header, len: u16)
     requires valid { IsHeader header.now }
     requires room { vec_len out.old + (4 + 2 * header.now.id_len + header.now.number_len) ≤ vec_capacity out.old }

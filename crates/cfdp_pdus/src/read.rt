@@ -52,8 +52,8 @@ fn read_field(alloc: Global, start: &Start<'_>) -> Result<Pdu, PduFault>
     read_directive(alloc, header, start.field)
 }
 
-/// The header and the data field of a File Data PDU, where its octets lie; `None` exactly where the octets spell another PDU,
-/// or none (CCSDS 727.0-B-5 §5.3). Takes no memory, and looks at no octet of the file.
+/// The header and the data field of a File Data PDU, where its octets lie; `None` exactly where the octets spell
+/// another PDU, or none (CCSDS 727.0-B-5 §5.3). Takes no memory, and looks at no octet of the file.
 #[tactic(auto, unfolding(crate::specs::First::field_at))]
 pub fn read_piece(octets: &[u8]) -> Option<(Header, Piece<'_>)>
     ensures found { IfSome result (λ found. pdu_at octets.now ≡ Ok (FileDataCame found.0 found.1)) }
@@ -71,7 +71,7 @@ pub fn read_piece(octets: &[u8]) -> Option<(Header, Piece<'_>)>
     }
 }
 
-/// What [`read_pdu`] answers.
+/// What [`read_pdu`] returns.
 fn read_whole(alloc: Global, octets: &[u8]) -> Result<Pdu, PduFault>
     ensures exact { Gives Memory (λ pdu. pdu) result (pdu_at octets.now) }
     ensures lean { GivesLean (pdu_at octets.now) → result ≡ pdu_at octets.now }
@@ -89,7 +89,7 @@ fn read_whole(alloc: Global, octets: &[u8]) -> Result<Pdu, PduFault>
 /// segment metadata or names past its end (`LengthMismatch`). Then the TLV fields from the left: one
 /// that is cut, a filestore request or response that is none, an entity ID of another length than 1
 /// to 8 (`BadTlv`), a request value of 255 octets (`RequestTooLong`). All of this is found before
-/// memory is asked for, so `Memory` stands only in place of a PDU, and of none of EOF or not ours.
+/// memory is asked for, so `Memory` is only in place of a PDU, and of none of EOF or not ours.
 ///
 /// It goes over the octets twice at most: once without memory, and, where they spell a PDU, once to
 /// copy what is handed out.
@@ -98,7 +98,7 @@ pub fn read_pdu(alloc: Global, octets: &[u8]) -> Result<Pdu, PduFault>
     ensures found { IfOk result (SpellsPdu octets.now) }
     // What is spelled so is read, unless memory runs out.
     ensures only { (pdu : PduValue) → SpellsPdu octets.now pdu → (result ≡ Ok pdu) ⊎ (result ≡ Err Memory) }
-    // Which fault it is: `Memory` stands only in place of a PDU.
+    // Which fault it is: `Memory` is only in place of a PDU.
     ensures exact { Gives Memory (λ pdu. pdu) result (pdu_at octets.now) }
     // An EOF PDU, and one that is not ours, are read without memory.
     ensures lean { (pdu : PduValue) → SpellsPdu octets.now pdu → IsLean pdu → result ≡ Ok pdu }
@@ -108,7 +108,7 @@ pub fn read_pdu(alloc: Global, octets: &[u8]) -> Result<Pdu, PduFault>
     read_whole(alloc, octets)
 }
 
-/// What a file's receiver is told of a directive.
+/// What a file's receiver is informed of a directive.
 #[tactic(auto, unfolding(crate::specs::First::directive_at))]
 fn receive_directive(alloc: Global, header: Header, field: &[u8]) -> Result<Option<Pdu>, PduFault>
     ensures exact { Gives Memory (λ told. told) result (received_in (directive_at header field.now)) }
@@ -120,7 +120,7 @@ fn receive_directive(alloc: Global, header: Header, field: &[u8]) -> Result<Opti
     read_directive(alloc, header, field).map(Some)
 }
 
-/// What [`read_for_receiver`] answers.
+/// What [`read_for_receiver`] returns.
 #[tactic(auto, unfolding(crate::specs::First::field_at))]
 fn receive_whole(alloc: Global, octets: &[u8]) -> Result<Option<Pdu>, PduFault>
     ensures exact { Gives Memory (λ told. told) result (received_in (pdu_at octets.now)) }
@@ -133,23 +133,23 @@ fn receive_whole(alloc: Global, octets: &[u8]) -> Result<Option<Pdu>, PduFault>
     receive_directive(alloc, start.header, start.field)
 }
 
-/// The PDU that the octets spell, as the receiver of a file takes it: `None` exactly where they spell a Finished PDU, which only
-/// the file's sender takes (CCSDS 727.0-B-5 §5.2.3). Its fields are judged as those of each other PDU.
+/// The PDU that the octets spell, as the receiver of a file takes it: `None` exactly where they spell a Finished PDU,
+/// which only the file's sender takes (CCSDS 727.0-B-5 §5.2.3). Its fields are judged as those of each other PDU.
 ///
-/// The faults are those of [`read_pdu`], in the same cases, but `Memory` stands only in place of a Metadata PDU or of a File
-/// Data PDU: the others are read without memory.
+/// The faults are those of [`read_pdu`], in the same cases, but `Memory` is only in place of a Metadata PDU or of a
+/// File Data PDU: the others are read without memory.
 ///
 /// Cost: that of [`read_pdu`], and of a Finished PDU one pass over its octets.
 pub fn read_for_receiver(alloc: Global, octets: &[u8]) -> Result<Option<Pdu>, PduFault>
     // What is read is spelled so.
     ensures found { IfOk result (λ told. IfSome told (SpellsPdu octets.now)) }
-    // What is spelled so is told, unless memory runs out.
+    // What is spelled so is reported, unless memory runs out.
     ensures only { (pdu : PduValue) → SpellsPdu octets.now pdu → (result ≡ Ok (received pdu)) ⊎ (result ≡ Err Memory) }
-    // Which fault it is: `Memory` stands only in place of a PDU.
+    // Which fault it is: `Memory` is only in place of a PDU.
     ensures exact { Gives Memory (λ told. told) result (received_in (pdu_at octets.now)) }
     // An EOF PDU, a Finished PDU, and one that is not ours, are read without memory.
     ensures lean { (pdu : PduValue) → SpellsPdu octets.now pdu → IsLeanToReceive pdu → result ≡ Ok (received pdu) }
-    // Memory is wanting only where a Metadata PDU or a File Data PDU is spelled.
+    // Memory is refused only where a Metadata PDU or a File Data PDU is spelled.
     ensures memory { result ≡ Err Memory → IsCopied (pdu_at octets.now) }
     // What is read can be written, and answered.
     ensures sound { IfOk result (λ told. IfSome told IsSound) }

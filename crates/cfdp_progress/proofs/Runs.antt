@@ -212,7 +212,8 @@ not_named id o h e = both_of (is_named id o) (not_true (is_named id o) h) (ap (i
 
 stays_one : NextIsSound → NextIsPromised → (R : State) (i : Input) (id : TransactionId) → Sound R.world → IsDelivered R.world id → is_work i ≡ false →
     is_same (touched R i) id ≡ false → IsDelivered (after R i).world id
-stays_one next_sound promised R i id sound d w other = delivered_same (after R i).world R.world id (others_keep_entries next_sound promised R i id sound w other) d
+stays_one next_sound promised R i id sound d w other = delivered_same (after R i).world R.world id
+    (others_keep_entries next_sound promised R i id sound w other) d
 
 stays_step : NextIsSound → NextIsPromised → (R : State) (i : Input) (id : TransactionId) → Sound R.world → IsDelivered R.world id →
     is_kept_apart R id i ≡ true → IsDelivered (after R i).world id
@@ -224,7 +225,8 @@ stays_step next_sound promised R (DataPdu now h piece) id sound d apart = elim (
   | inr other ↦ stays_one next_sound promised R (DataPdu now h piece) id sound d refl other
 ]
 stays_step next_sound promised R (Work now) id sound d apart =
-    delivered_same (after R (Work now)).world R.world id (work_keeps_others next_sound promised R now id sound (not_named id (next_runnable R.world.table) apart)) d
+    delivered_same (after R (Work now)).world R.world id (work_keeps_others next_sound promised R now id sound
+    (not_named id (next_runnable R.world.table) apart)) d
 stays_step next_sound promised R (MetadataPdu now h m) id sound d apart =
     stays_one next_sound promised R (MetadataPdu now h m) id sound d refl (not_true (is_same (touched R (MetadataPdu now h m)) id) apart)
 stays_step next_sound promised R (EofPdu now h eof) id sound d apart =

@@ -1,4 +1,5 @@
--- A transaction in acknowledged mode that waits for octets, and what comes to the receiver (CCSDS 727.0-B-5 §4.6.4).
+-- A transaction in acknowledged mode that waits for octets, and what comes to the receiver (CCSDS 727.0-B-5, lost
+-- segment procedures).
 --     awaits_octets R id        the core's entry is in Awaiting
 --     EntryAwaits W id e eof    its EOF PDU came, octets below that size are missing, and its file may have that size
 --     TransactionAwaits         its session is known too, and in acknowledged mode

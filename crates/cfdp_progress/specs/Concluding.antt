@@ -1,11 +1,12 @@
 -- What follows once the file of a transaction was delivered: its items are performed, and its outcome is handed out
--- (CCSDS 727.0-B-5 §4.6.1 and §4.9).
+-- (CCSDS 727.0-B-5, copy file and filestore procedures).
 --     has_nothing_left R        no transaction has an item to be performed, and of none is the outcome to be handed out
 --     WasConcluded R inputs id  one of the inputs hands out the transaction's outcome
 --     ConcludedWhenDone         so it is when nothing is left, whatever came
 --     IsSentAndWaits R moment s o       its Finished PDU, with this outcome, is sent then, and its session waits
 --     FinishedIsSent            so it is in acknowledged mode
---     FinishedIsSentAlone       the same of a transaction that the core does not know: it ended while its EOF PDU was held
+--     FinishedIsSentAlone       the same of a transaction that the core does not know: it ended while its EOF PDU was
+--                               held
 use Rattle.std.specs.Prelude.{◌≡◌, ℕ, Bool, true, false, not, ◌&&◌, List, [], ◌∷◌, ◌++◌, Some, None, is_some}
 use Rattle.cfdp_status.specs.declared.transaction.TransactionId.{TransactionId}
 use Rattle.cfdp_sessions.specs.Sessions.{SessionFields, name_of, AreDistinct}

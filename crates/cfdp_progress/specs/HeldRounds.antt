@@ -1,5 +1,5 @@
 -- Rounds of a receiver's turns while an EOF PDU is held: it came before its Metadata PDU, for which the NAK PDUs ask
--- (CCSDS 727.0-B-5 §4.6.4, the lost segment procedures). File data that comes before the Metadata PDU is not kept.
+-- (CCSDS 727.0-B-5, lost segment procedures). File data that comes before the Metadata PDU is not kept.
 --     holds_eof R id            the session of the transaction holds its EOF PDU
 --     EofHolds R id header eof  the EOF PDU comes and begins such a session
 --     Begins R id is_at_limit i a round begins: the EOF PDU comes so, or the NAK timer of the session is served

@@ -87,7 +87,7 @@ abbrev pub total_lost : List EitherRound → ℕ
 total_lost [] = 0
 total_lost (round ∷ rounds) = lost_of round.exchange + one_if round.is_lost + total_lost rounds
 
--- with the first round, of which `is_lost` tells the same
+-- with the first round, of which `is_lost` says the same
 abbrev pub lost_in_all : FirstRound → Bool → List EitherRound → ℕ
 lost_in_all first is_lost rounds = lost_of first.exchange + one_if is_lost + total_lost rounds
 

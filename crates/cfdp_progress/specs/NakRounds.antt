@@ -1,5 +1,5 @@
 -- Rounds of a receiver's turns: it asks for what is missing, a sender answers in the order of the requests, and a
--- channel loses pieces and NAK PDUs (CCSDS 727.0-B-5 §4.6.4, the lost segment procedures).
+-- channel loses pieces and NAK PDUs (CCSDS 727.0-B-5, lost segment procedures).
 --     asks_again R id i         the NAK timer of its session is served below the limit, so NAK PDUs are sent
 --     IsAskedOnce R id inputs   this does not happen, as long as it waits
 --     requests_of_each naks     the requests of each of several NAK PDUs

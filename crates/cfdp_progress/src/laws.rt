@@ -80,8 +80,8 @@ pub fn finished_is_sent()
     ensures { FinishedIsSent }
 {}
 
-/// So it is of a transaction that ended while its EOF PDU was held, by a limit, a cancel or an EOF PDU with a condition,
-/// and of which the core kept no entry.
+/// So it is of a transaction that ended while its EOF PDU was held, by a limit, a cancel or an EOF PDU with a
+/// condition, and of which the core kept no entry.
 pub fn finished_is_sent_alone()
     ensures { FinishedIsSentAlone }
 {}
@@ -96,10 +96,10 @@ pub fn closed_after_losses()
 
 /// From the EOF PDU until the session is closed, where octets are missing when it comes. A round begins with the EOF
 /// PDU, or when the timer of the session expires; all items are performed, and all outcomes handed out, before it ends.
-/// The sender answers NAK PDUs in the order of their requests, and acknowledges Finished PDUs. The channel loses pieces,
-/// NAK PDUs, Finished PDUs and acknowledgements; NAK PDUs that it loses in one round count as 1. If both limits are
-/// above what is lost in all, the session is closed after one round more than that, at the latest. One round more is
-/// needed where 32 parts are there without the octet at offset 0.
+/// The sender answers NAK PDUs in the order of their requests, and acknowledges Finished PDUs. The channel loses
+/// pieces, NAK PDUs, Finished PDUs and acknowledgements; NAK PDUs that it loses in one round count as 1. If both limits
+/// are above what is lost in all, the session is closed after one round more than that, at the latest. One round more
+/// is needed where 32 parts are there without the octet at offset 0.
 pub fn closed_in_all()
     ensures { ClosedInAll }
 {

@@ -25,7 +25,8 @@ impl Model for Quota {
 
     ghost view = { λ q. record { capacity = q.capacity; free = q.capacity - q.used; reserves = q.reserves } };
 
-    ghost invariant = { λ q. (q.used + (q.spare + sum_by reserve_of q.reserves) ≡ q.capacity) × (length q.reserves ≡ 64) };
+    ghost invariant = { λ q. (q.used + (q.spare + sum_by reserve_of q.reserves) ≡ q.capacity)
+        × (length q.reserves ≡ 64) };
 }
 
 impl Quota {

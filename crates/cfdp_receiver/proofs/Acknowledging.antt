@@ -42,7 +42,8 @@ not_found R id n none same f = no_some f.0 (sym none ∙ ap (found R.sessions) (
 none_in : (R : State) (i : Input) (id : TransactionId) (sent : List (List ℕ)) → session_of R id ≡ None → touched_in R i ≡ id → Sent R i sent → length sent ≡ 0
 none_in R i id sent none same (None_sent e) = ap length e
 none_in R i id sent none same (First_sent now s is over e) =
-    absurd (not_found R id (name_of s) none (sym (ap (touched_in R) is ∙ ap session_name over) ∙ same) (subst (IsOverOf R.sessions) over (over_is R.world R.sessions)))
+    absurd (not_found R id (name_of s) none (sym (ap (touched_in R) is ∙ ap session_name over) ∙ same)
+    (subst (IsOverOf R.sessions) over (over_is R.world R.sessions)))
 none_in R i id sent none same (Sent_again now s is due waits e) =
     absurd (not_found R id (name_of s) none (sym (ap (touched_in R) is ∙ ap due_name due) ∙ same) (subst (IsDueOf R.sessions) due (due_is R R.sessions)))
 

@@ -46,7 +46,8 @@ whole_where_all size rs fits all =
       | inl short ↦ absurd (never_both (is_some (octet_at rs (length rs))) (all (length rs) short) (past rs (length rs) (omega arith)))
       | inr enough ↦ enough
     ] in
-    and_from (length rs == size) (list_all is_some rs) (eq-eqb (length rs) size (omega (arith, fits, long))) (all_there rs (λ i low. all i (omega (arith, low, fits))))
+    and_from (length rs == size) (list_all is_some rs) (eq-eqb (length rs) size (omega (arith, fits, long)))
+    (all_there rs (λ i low. all i (omega (arith, low, fits))))
 
 there_or_not : (o : Option ℕ) → (o ≡ None → ⊥) → is_some o ≡ true
 there_or_not None h = absurd (h refl)
@@ -78,7 +79,8 @@ idle_rest W h (p ∷ ps) d =
     subst (λ (V : World). Delivered (run V (data_events h ps)) h) (sym same) (idle_rest W h ps d)
 
 -- an entry that is put in its place
-pub placed : (W V : World) (h : Header) (e new : Entry) → entry_of W (id_of h) ≡ Some e → Entries.name_of new ≡ id_of h → V.table ≡ slice_set W.table (index_of W (id_of h)) new → entry_of V (id_of h) ≡ Some new
+pub placed : (W V : World) (h : Header) (e new : Entry) → entry_of W (id_of h) ≡ Some e → Entries.name_of new ≡ id_of h → V.table
+    ≡ slice_set W.table (index_of W (id_of h)) new → entry_of V (id_of h) ≡ Some new
 placed W V h e new here name table = ap (λ (t : List Entry). slice_get t (place_of (id_of h) t)) table ∙ set_own W.table (id_of h) e new name here
 
 -- ---- an entry that waits for octets
@@ -93,21 +95,25 @@ record Awaits (W : World) (h : Header) (eof : Eof) (made : ℕ) (e : Entry) : Ty
 
 -- it goes on waiting, with what came; or the file is delivered
 data Comes (W V : World) (h : Header) (eof : Eof) (made : ℕ) (e : Entry) (received : Received) : Type 0 where
-  Waits : (now : Entry) → (awaits : Awaits V h eof made now) → (kept : now.received ≡ received) → (same : bound V.config now.metadata ≡ bound W.config e.metadata) → Comes W V h eof made e received
+  Waits : (now : Entry) → (awaits : Awaits V h eof made now) → (kept : now.received ≡ received) →
+      (same : bound V.config now.metadata ≡ bound W.config e.metadata) → Comes W V h eof made e received
   Over : (delivered : Delivered V h) → Comes W V h eof made e received
 
 pub own_name : (W : World) (h : Header) (e : Entry) → entry_of W (id_of h) ≡ Some e → Entries.name_of e ≡ id_of h
 own_name W h e here = entry_name W.table (id_of h) e here
 
 -- all octets are there
-whole_comes : (W V : World) (h : Header) (eof : Eof) (made : ℕ) (e new : Entry) (received : Received) → entry_of W (id_of h) ≡ Some e → Entries.name_of new ≡ id_of h →
+whole_comes : (W V : World) (h : Header) (eof : Eof) (made : ℕ) (e new : Entry) (received : Received) → entry_of W (id_of h) ≡ Some e → Entries.name_of new
+    ≡ id_of h →
     V.table ≡ slice_set W.table (index_of W (id_of h)) new → Comes W (whole V (index_of W (id_of h)) new eof.checksum).0 h eof made e received
 whole_comes W V h eof made e new received here name table =
     let k = index_of W (id_of h) in
     let right : Entry = turned new (Executing 0) new.eof true in
     let wrong : Entry = ended V.filestore new 5 in
-    let again : (other : Entry) → slice_set V.table k other ≡ slice_set W.table k other = λ other. ap (λ (t : List Entry). slice_set t k other) table ∙ set_set_same W.table k new other in
-    cond_both (is_right_checksum new eof.checksum) (turns V k new (Executing 0) new.eof true, _) (ends V k new 5, _) (λ (a : World × Reply). Comes W a.0 h eof made e received)
+    let again : (other : Entry) → slice_set V.table k other ≡ slice_set W.table k other = λ other. ap (λ (t : List Entry). slice_set t k other) table
+    ∙ set_set_same W.table k new other in
+    cond_both (is_right_checksum new eof.checksum) (turns V k new (Executing 0) new.eof true, _) (ends V k new 5, _)
+    (λ (a : World × Reply). Comes W a.0 h eof made e received)
     (λ r. Over (right, placed W (turns V k new (Executing 0) new.eof true) h e right here name (again right), inl refl))
     (λ r. Over (wrong, placed W (ends V k new 5) h e wrong here name (again wrong), inr refl))
 
@@ -119,7 +125,8 @@ stored_comes W h eof made e received a fits =
     let new : Entry = storing W.filestore e received in
     let name : Entries.name_of new ≡ id_of h = own_name W h e a.here in
     let waits : is_whole eof.size received ≡ false → Comes W V h eof made e received =
-    λ short. Waits new (record { ours = a.ours; here = placed W V h e new a.here name refl; phase = a.phase; eof_is = a.eof_is; fits = fits; short = short }) refl refl in
+    λ short. Waits new (record { ours = a.ours; here = placed W V h e new a.here name refl; phase = a.phase; eof_is = a.eof_is; fits = fits; short = short })
+    refl refl in
     let both : Comes W (after_eof (Some eof) V k new).0 h eof made e received =
     cond_both (is_whole eof.size received) (whole V k new eof.checksum) (V, _) (λ (b : World × Reply). Comes W b.0 h eof made e received)
     (λ w. whole_comes W V h eof made e new received a.here name refl) waits in
@@ -135,8 +142,10 @@ empty_comes : (W : World) (h : Header) (eof : Eof) (made : ℕ) (e : Entry) (at 
 empty_comes W h eof made e at a = Waits e a refl refl
 
 -- some
-some_comes : (W : World) (h : Header) (eof : Eof) (made : ℕ) (e : Entry) (at x : ℕ) (xs : List ℕ) → Awaits W h eof made e → at + length (x ∷ xs) ≤ min (bound W.config e.metadata) eof.size →
-    pieces (kept_with e.received at (x ∷ xs)) ≤ 32 → Comes W (data_at W (index_of W (id_of h)) e (record { offset = at; octets = x ∷ xs })).0 h eof made e (kept_with e.received at (x ∷ xs))
+some_comes : (W : World) (h : Header) (eof : Eof) (made : ℕ) (e : Entry) (at x : ℕ) (xs : List ℕ) → Awaits W h eof made e → at
+    + length (x ∷ xs) ≤ min (bound W.config e.metadata) eof.size →
+    pieces (kept_with e.received at (x ∷ xs)) ≤ 32 → Comes W (data_at W (index_of W (id_of h)) e (record { offset = at; octets = x ∷ xs })).0 h eof made e
+    (kept_with e.received at (x ∷ xs))
 some_comes W h eof made e at x xs a within few =
     let k = index_of W (id_of h) in
     let received = kept_with e.received at (x ∷ xs) in
@@ -147,18 +156,23 @@ some_comes W h eof made e at x xs a within few =
     let last = stored e.phase (stores W k e received) k (storing W.filestore e received) in
     let fits : length received ≤ eof.size = kept_len e.received at (x ∷ xs) eof.size a.fits (omega (arith, within)) in
     subst P (sym (cond-false (length (x ∷ xs) == 0) (W, _) _ (ne_eqb (length (x ∷ xs)) 0 (λ z. absurd (omega (arith, z)))))) (
-    subst P (sym (cond-false (nat_lt (limit e.phase W.config e) end) (ends W k e 6, _) _ (le-ltb (limit e.phase W.config e) end (omega (arith, top, within))))) (
+    subst P (sym (cond-false (nat_lt (limit e.phase W.config e) end) (ends W k e 6, _) _ (le-ltb (limit e.phase W.config e) end (omega (arith, top, within)))))
+    (
     subst P (sym (cond-false (nat_lt 32 (pieces received)) (W, _) last (le-ltb 32 (pieces received) few))) (stored_comes W h eof made e received a fits)
     )
     )
 
-data_by : (W : World) (h : Header) (eof : Eof) (made : ℕ) (e : Entry) (at : ℕ) (xs : List ℕ) → Awaits W h eof made e → at + length xs ≤ min (bound W.config e.metadata) eof.size →
-    pieces (kept_with e.received at xs) ≤ 32 → Comes W (data_at W (index_of W (id_of h)) e (record { offset = at; octets = xs })).0 h eof made e (kept_with e.received at xs)
+data_by : (W : World) (h : Header) (eof : Eof) (made : ℕ) (e : Entry) (at : ℕ) (xs : List ℕ) → Awaits W h eof made e → at
+    + length xs ≤ min (bound W.config e.metadata) eof.size →
+    pieces (kept_with e.received at xs) ≤ 32 → Comes W (data_at W (index_of W (id_of h)) e (record { offset = at; octets = xs })).0 h eof made e
+    (kept_with e.received at xs)
 data_by W h eof made e at [] a within few = empty_comes W h eof made e at a
 data_by W h eof made e at (x ∷ xs) a within few = some_comes W h eof made e at x xs a within few
 
-data_comes : (W : World) (h : Header) (eof : Eof) (made : ℕ) (e : Entry) (p : Piece) → Awaits W h eof made e → p.0 + length p.1 ≤ min (bound W.config e.metadata) eof.size →
-    pieces (kept_with e.received p.0 p.1) ≤ 32 → Comes W (data_at W (index_of W (id_of h)) e (record { offset = p.0; octets = p.1 })).0 h eof made e (kept_with e.received p.0 p.1)
+data_comes : (W : World) (h : Header) (eof : Eof) (made : ℕ) (e : Entry) (p : Piece) → Awaits W h eof made e → p.0
+    + length p.1 ≤ min (bound W.config e.metadata) eof.size →
+    pieces (kept_with e.received p.0 p.1) ≤ 32 → Comes W (data_at W (index_of W (id_of h)) e (record { offset = p.0; octets = p.1 })).0 h eof made e
+    (kept_with e.received p.0 p.1)
 data_comes W h eof made e p a within few = data_by W h eof made e p.0 p.1 a within few
 
 pub neither : (o q : Option ℕ) → or_else o q ≡ None → (o ≡ None) × (q ≡ None)
@@ -169,16 +183,20 @@ never_brought : false ≡ true → ⊥
 never_brought e = absurd cc
 
 -- a piece that is not passed over, and does not end after the file
-comes : (W : World) (h : Header) (eof : Eof) (made : ℕ) (e : Entry) (p : Piece) → Awaits W h eof made e → p.0 + length p.1 ≤ min (bound W.config e.metadata) eof.size →
-    pieces (kept_with e.received p.0 p.1) ≤ 32 → Comes W (next W (DataCame h (record { offset = p.0; octets = p.1 }))).0 h eof made e (kept_with e.received p.0 p.1)
+comes : (W : World) (h : Header) (eof : Eof) (made : ℕ) (e : Entry) (p : Piece) → Awaits W h eof made e → p.0
+    + length p.1 ≤ min (bound W.config e.metadata) eof.size →
+    pieces (kept_with e.received p.0 p.1) ≤ 32 → Comes W (next W (DataCame h (record { offset = p.0; octets = p.1 }))).0 h eof made e
+    (kept_with e.received p.0 p.1)
 comes W h eof made e p a within few =
     let k = index_of W (id_of h) in
     let piece : FileDataFields = record { offset = p.0; octets = p.1 } in
     let received = kept_with e.received p.0 p.1 in
     let taken : takes_data e.phase ≡ true = ap takes_data a.phase in
     let known : Comes W (data_came W k piece (Some e)).0 h eof made e received =
-    subst (λ (b : World × Reply). Comes W b.0 h eof made e received) (sym (cond-true (takes_data e.phase) (data_at W k e piece) (W, _) taken)) (data_comes W h eof made e p a within few) in
-    subst (λ (b : World × Reply). Comes W b.0 h eof made e received) (sym (cond-true (h.destination == W.config.entity) (data_came W k piece (entry_of W (id_of h))) (W, _) (eq-eqb h.destination W.config.entity a.ours)))
+    subst (λ (b : World × Reply). Comes W b.0 h eof made e received) (sym (cond-true (takes_data e.phase) (data_at W k e piece) (W, _) taken))
+    (data_comes W h eof made e p a within few) in
+    subst (λ (b : World × Reply). Comes W b.0 h eof made e received) (sym (cond-true (h.destination == W.config.entity)
+    (data_came W k piece (entry_of W (id_of h))) (W, _) (eq-eqb h.destination W.config.entity a.ours)))
     (subst (λ (o : Option Entry). Comes W (data_came W k piece o).0 h eof made e received) (sym a.here) known)
 
 -- ---- all of them
@@ -192,7 +210,8 @@ answered_later size rs p ps answers i low missing =
     let parts = neither (octet_at rs i) (brought p.0 p.1 i) both in
     sym (cond-false (is_some (brought p.0 p.1 i)) true (brings ps i) (ap is_some parts.1)) ∙ answers i low parts.0
 
-delivers : (W : World) (h : Header) (eof : Eof) (made : ℕ) (e : Entry) (ps : List Piece) → Awaits W h eof made e → Within W e eof.size ps → AreKept e.received ps → Answers eof.size e.received ps →
+delivers : (W : World) (h : Header) (eof : Eof) (made : ℕ) (e : Entry) (ps : List Piece) → Awaits W h eof made e → Within W e eof.size ps →
+    AreKept e.received ps → Answers eof.size e.received ps →
     Delivered (run W (data_events h ps)) h
 delivers W h eof made e [] a within kept answers =
     absurd (never_both (is_whole eof.size e.received)

@@ -40,7 +40,8 @@ apart_by R t p (Closes a was e) apart = subst (λ (q : Turning.Parts). Apart q.s
   ];
 })
 apart_by R t p (Forgets a e) apart =
-    subst (λ (q : Turning.Parts). Apart q.sessions q.closed.names) (sym e) (record { distinct = apart.distinct; over = λ id closed. absurd (none_of_none closed) })
+    subst (λ (q : Turning.Parts). Apart q.sessions q.closed.names) (sym e)
+    (record { distinct = apart.distinct; over = λ id closed. absurd (none_of_none closed) })
 
 distinct_by : (R : State) (t : TransactionId) (p : Turning.Parts) → Shape R t p → AreDistinct R.sessions → AreDistinct p.sessions
 distinct_by R t p (Keeps a e) d = subst (λ (q : Turning.Parts). AreDistinct q.sessions) (sym e) d
@@ -50,7 +51,8 @@ distinct_by R t p (Adds s a name free new e) d =
 distinct_by R t p (Closes a was e) d = subst (λ (q : Turning.Parts). AreDistinct q.sessions) (sym e) (without_distinct R.sessions t d)
 distinct_by R t p (Forgets a e) d = subst (λ (q : Turning.Parts). AreDistinct q.sessions) (sym e) d
 
-apart_all : (R : State) (inputs : List Input) → Apart R.sessions R.closed.names → Apart (Turning.after_all R inputs).sessions (Turning.after_all R inputs).closed.names
+apart_all : (R : State) (inputs : List Input) → Apart R.sessions R.closed.names →
+    Apart (Turning.after_all R inputs).sessions (Turning.after_all R inputs).closed.names
 apart_all R [] apart = apart
 apart_all R (i ∷ is) apart = apart_all (Turning.after R i) is (apart_by (Handing.later (now_of i) R) (touched R i) (Turning.parts R i) (shape R i) apart)
 

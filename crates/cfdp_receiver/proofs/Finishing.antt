@@ -33,21 +33,25 @@ quiet_if : (b : Bool) (p q : Turning.Parts) → Quiet p → Quiet q → Quiet (i
 quiet_if true p q hp hq = hp
 quiet_if false p q hp hq = hq
 
-quiet_metadata_stage : (R : State) (V : World) (rs : List Reply) (h : Header) (m : MetadataFields) (s : SessionFields) (stage : Stage) → Quiet (Turning.metadata_stage R V rs h m s stage)
+quiet_metadata_stage : (R : State) (V : World) (rs : List Reply) (h : Header) (m : MetadataFields) (s : SessionFields) (stage : Stage) →
+    Quiet (Turning.metadata_stage R V rs h m s stage)
 quiet_metadata_stage R V rs h m s (Held eof) = quiet_if h.acknowledged _ _ refl refl
 quiet_metadata_stage R V rs h m s Known = refl
 quiet_metadata_stage R V rs h m s (Over ending) = refl
 quiet_metadata_stage R V rs h m s Waiting = refl
 
-quiet_metadata : (R : State) (V : World) (rs : List Reply) (h : Header) (m : MetadataFields) (s : Option SessionFields) → Quiet (Turning.metadata_parts R V rs h m s)
+quiet_metadata : (R : State) (V : World) (rs : List Reply) (h : Header) (m : MetadataFields) (s : Option SessionFields) →
+    Quiet (Turning.metadata_parts R V rs h m s)
 quiet_metadata R V rs h m None = quiet_if (is_closed R (id_of h) || is_full R) _ _ refl refl
 quiet_metadata R V rs h m (Some s) = quiet_metadata_stage R V rs h m s s.stage
 
-quiet_data : (R : State) (V : World) (rs : List Reply) (h : Header) (piece : FileDataFields) (s : Option SessionFields) → Quiet (Turning.data_parts R V rs h piece s)
+quiet_data : (R : State) (V : World) (rs : List Reply) (h : Header) (piece : FileDataFields) (s : Option SessionFields) →
+    Quiet (Turning.data_parts R V rs h piece s)
 quiet_data R V rs h piece None = refl
 quiet_data R V rs h piece (Some s) = quiet_if (Turning.is_known s.stage) _ _ refl refl
 
-quiet_eof_stage : (R : State) (V : World) (rs : List Reply) (h : Header) (eof : Eof) (s : SessionFields) (stage : Stage) → Quiet (Turning.eof_stage R V rs h eof s stage)
+quiet_eof_stage : (R : State) (V : World) (rs : List Reply) (h : Header) (eof : Eof) (s : SessionFields) (stage : Stage) →
+    Quiet (Turning.eof_stage R V rs h eof s stage)
 quiet_eof_stage R V rs h eof s (Held kept) = quiet_if (eof.condition == 0) _ _ refl refl
 quiet_eof_stage R V rs h eof s Known = refl
 quiet_eof_stage R V rs h eof s (Over ending) = refl
@@ -136,7 +140,8 @@ repeats_at R V s (At_awaiting made) e = inl (asked_quiet s.header.acknowledged _
 repeats_at R V s At_executing e = inl (asked_quiet s.header.acknowledged _ _ refl refl)
 repeats_at R V s At_over e = inl (asked_quiet s.header.acknowledged _ _ refl refl)
 
-sent_due : (R : State) (V : World) (now : ℕ) (due : Due.Due) → Due.first_due R R.sessions ≡ due → Sent R (Expire now) (Turning.due_parts R V due).answer.finished
+sent_due : (R : State) (V : World) (now : ℕ) (due : Due.Due) → Due.first_due R R.sessions ≡ due →
+    Sent R (Expire now) (Turning.due_parts R V due).answer.finished
 sent_due R V now Due.Nothing_due e = None_sent refl
 sent_due R V now (Due.Alive_due s) e = None_sent refl
 sent_due R V now (Due.Stage_due s false) e = elim (repeats_at R V s (at_of R.world s) refl) [
@@ -157,7 +162,8 @@ of_outcome : (R : State) (s : SessionFields) (o : Outcome) → OfOutcome o (Turn
 of_outcome R s o =
     outcome_if o s.is_abandoned _ _ (inl refl) (outcome_if o (not o.send) _ _ (inl refl) (outcome_if o (not s.header.acknowledged) _ _ (inr refl) (inr refl)))
 
-sent_finish : (R : State) (now : ℕ) (s : Option SessionFields) → Due.first_over R.world R.sessions ≡ s → Sent R (Finish now) (Turning.finish_parts R s).answer.finished
+sent_finish : (R : State) (now : ℕ) (s : Option SessionFields) → Due.first_over R.world R.sessions ≡ s →
+    Sent R (Finish now) (Turning.finish_parts R s).answer.finished
 sent_finish R now None e = None_sent refl
 sent_finish R now (Some s) e = elim (of_outcome R s (Turning.outcome_for s (entry_of R.world (name_of s)))) [
   | inl quiet ↦ None_sent quiet

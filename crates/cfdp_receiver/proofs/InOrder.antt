@@ -22,7 +22,7 @@ use Rattle.cfdp_receiver.specs.Machine.{MachineFields, AnswerParts, Turns, answe
 use Rattle.cfdp_receiver.specs.Turning.{asks_at_once, asks_stage, progress_at, data_parts, foreign, is_immediate, is_kept_by, is_known, keeps, quiet, takes_data}
 use Rattle.cfdp_receiver.proofs.Turned.{turns_by}
 
--- what the user is told of it
+-- what the user is notified of
 abbrev pub told_of : Reply → Header → FileDataFields → List Indication
 told_of reply h p = if is_kept_by reply then FileSegmentRecv (id_of h) p.offset (length p.octets) ∷ [] else []
 
@@ -64,4 +64,5 @@ none_if false acknowledged receiving some naks e = refl
 -- nothing is asked for at once where gaps are asked for after the EOF PDU
 pub none_deferred : (R : State) (V : World) (s : SessionFields) → is_immediate R.mib.nak_mode ≡ false → asks_at_once R V s ≡ []
 none_deferred R V s deferred =
-    none_if (is_immediate R.mib.nak_mode) s.header.acknowledged (is_receiving_at (at_of V s)) _ (asks_stage R.mib s.header (progress_at (entry_of R.world (name_of s))) s.stage (entry_of V (name_of s))) deferred
+    none_if (is_immediate R.mib.nak_mode) s.header.acknowledged (is_receiving_at (at_of V s)) _
+    (asks_stage R.mib s.header (progress_at (entry_of R.world (name_of s))) s.stage (entry_of V (name_of s))) deferred

@@ -25,7 +25,8 @@ pub no_news : (U : World) (M : MachineFields) (i : ℕ) (s : SessionFields) → 
     is_news U M.state.world s ≡ false → M ≡ heard_in U M s
 no_news U M i s distinct at quiet =
     sym (
-    ap (λ (t : SessionFields). put M (replaced M.state.sessions t)) (cond-false (is_news U M.state.world s) (record s { timer = restarted M.state.now }) s quiet)
+    ap (λ (t : SessionFields). put M (replaced M.state.sessions t)) (cond-false (is_news U M.state.world s)
+    (record s { timer = restarted M.state.now }) s quiet)
     ∙ ap (put M) (kept M.state.sessions i s distinct at)
     )
 

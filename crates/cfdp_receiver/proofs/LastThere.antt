@@ -295,5 +295,6 @@ pub next_joined : (W : World) (h : Header) (piece : FileDataFields) (e : Entry) 
     JoinedIn (id_of h) low (next W (DataCame h piece))
 next_joined W h piece e low here joined =
     cond_both (h.destination == W.config.entity) _ _ (JoinedIn (id_of h) low)
-    (λ _. subst (λ (o : Option Entry). JoinedIn (id_of h) low (data_came W (index_of W (id_of h)) piece o)) (sym here) (data_joined W (id_of h) e here low joined piece))
+    (λ _. subst (λ (o : Option Entry). JoinedIn (id_of h) low (data_came W (index_of W (id_of h)) piece o)) (sym here)
+    (data_joined W (id_of h) e here low joined piece))
     (λ _. same_joined W (id_of h) e here low joined replies.NotForUs)

@@ -62,14 +62,16 @@ due_by_alive Limit alive x later t e = absurd cc
 due_by_alive NotDue true x later t e = inl (ap (due_session x) e, refl)
 due_by_alive NotDue false x later t e = inr e
 
-pub stage_due : (R : State) (ss : List SessionFields) (t : SessionFields) (b : Bool) → Dues.first_due R ss ≡ Dues.Stage_due t b → IsMember t ss × (Dues.expiry_of R t ≡ expiry_told b)
+pub stage_due : (R : State) (ss : List SessionFields) (t : SessionFields) (b : Bool) → Dues.first_due R ss ≡ Dues.Stage_due t b → IsMember t ss
+    × (Dues.expiry_of R t ≡ expiry_told b)
 stage_due R [] t b e = absurd cc
 stage_due R (x ∷ xs) t b e = elim (due_by_stage (Dues.expiry_of R x) (Dues.is_alive_due R x) x (Dues.first_due R xs) t b e) [
   | inl here ↦ (inl here.0, ap (Dues.expiry_of R) (sym here.0) ∙ here.1)
   | inr there ↦ let rest = stage_due R xs t b there in (inr rest.0, rest.1)
 ]
 
-pub alive_due : (R : State) (ss : List SessionFields) (t : SessionFields) → Dues.first_due R ss ≡ Dues.Alive_due t → IsMember t ss × (Dues.is_alive_due R t ≡ true)
+pub alive_due : (R : State) (ss : List SessionFields) (t : SessionFields) → Dues.first_due R ss ≡ Dues.Alive_due t → IsMember t ss
+    × (Dues.is_alive_due R t ≡ true)
 alive_due R [] t e = absurd cc
 alive_due R (x ∷ xs) t e = elim (due_by_alive (Dues.expiry_of R x) (Dues.is_alive_due R x) x (Dues.first_due R xs) t e) [
   | inl here ↦ (inl here.0, ap (Dues.is_alive_due R) (sym here.0) ∙ here.1)
@@ -80,11 +82,13 @@ abbrev pub of_some : SessionFields → Option SessionFields → SessionFields
 of_some s None = s
 of_some s (Some t) = t
 
-over_by : (b : Bool) (x : SessionFields) (later : Option SessionFields) (t : SessionFields) → (if b then Some x else later) ≡ Some t → ((x ≡ t) × (b ≡ true)) ⊎ (later ≡ Some t)
+over_by : (b : Bool) (x : SessionFields) (later : Option SessionFields) (t : SessionFields) → (if b then Some x else later) ≡ Some t → ((x ≡ t) × (b ≡ true))
+    ⊎ (later ≡ Some t)
 over_by true x later t e = inl (ap (of_some x) e, refl)
 over_by false x later t e = inr e
 
-pub first_over_is : (W : World) (ss : List SessionFields) (t : SessionFields) → Dues.first_over W ss ≡ Some t → IsMember t ss × (Dues.is_over (at_of W t) ≡ true)
+pub first_over_is : (W : World) (ss : List SessionFields) (t : SessionFields) → Dues.first_over W ss ≡ Some t → IsMember t ss
+    × (Dues.is_over (at_of W t) ≡ true)
 first_over_is W [] t e = absurd cc
 first_over_is W (x ∷ xs) t e = elim (over_by (Dues.is_over (at_of W x)) x (Dues.first_over W xs) t e) [
   | inl here ↦ (inl here.0, ap (λ (y : SessionFields). Dues.is_over (at_of W y)) (sym here.0) ∙ here.1)
@@ -99,11 +103,13 @@ data Waits (R : State) (id : TransactionId) (s : SessionFields) (p : Turning.Par
       (room : s.timer.count + 1 < R.mib.ack.limit) → (one : length p.answer.finished ≡ 1) → Waits R id s p
   Gone : (here : found p.sessions id ≡ None) → (quiet : p.answer.finished ≡ []) → Waits R id s p
 
-waits_if : (R : State) (id : TransactionId) (s : SessionFields) (b : Bool) (p q : Turning.Parts) → Waits R id s p → Waits R id s q → Waits R id s (if b then p else q)
+waits_if : (R : State) (id : TransactionId) (s : SessionFields) (b : Bool) (p q : Turning.Parts) → Waits R id s p → Waits R id s q →
+    Waits R id s (if b then p else q)
 waits_if R id s true p q hp hq = hp
 waits_if R id s false p q hp hq = hq
 
-same_keeps : (R : State) (id : TransactionId) (s : SessionFields) (a : AnswerFields) → found R.sessions id ≡ Some s → a.finished ≡ [] → Waits R id s (Turning.keeps R a)
+same_keeps : (R : State) (id : TransactionId) (s : SessionFields) (a : AnswerFields) → found R.sessions id ≡ Some s → a.finished ≡ [] →
+    Waits R id s (Turning.keeps R a)
 same_keeps R id s a e q = Same e q
 
 -- a PDU of this transaction, where its session waits
@@ -111,7 +117,8 @@ ours_waits : (R : State) (h : Header) (s : SessionFields) (p : Turning.Parts) �
     Waits R (id_of h) s (Turning.where_ours R h p)
 ours_waits R h s p e w = waits_if R (id_of h) s (Handing.is_ours R h) p (Turning.keeps R (Turning.quiet (Turning.foreign h))) w (Same e refl)
 
-waits_metadata : (R : State) (V : World) (rs : List Reply) (h : Header) (m : MetadataFields) (s : SessionFields) (stage : Stage) → found R.sessions (id_of h) ≡ Some s → stage ≡ Waiting →
+waits_metadata : (R : State) (V : World) (rs : List Reply) (h : Header) (m : MetadataFields) (s : SessionFields) (stage : Stage) → found R.sessions (id_of h)
+    ≡ Some s → stage ≡ Waiting →
     Waits R (id_of h) s (Turning.metadata_stage R V rs h m s stage)
 waits_metadata R V rs h m s (Held eof) e w = absurd cc
 waits_metadata R V rs h m s Known e w = absurd cc
@@ -124,13 +131,16 @@ waits_known Known w = absurd cc
 waits_known (OverStage ending) w = absurd cc
 waits_known Waiting w = refl
 
-waits_data : (R : State) (V : World) (rs : List Reply) (h : Header) (piece : FileDataFields) (s : SessionFields) → found R.sessions (id_of h) ≡ Some s → s.stage ≡ Waiting →
+waits_data : (R : State) (V : World) (rs : List Reply) (h : Header) (piece : FileDataFields) (s : SessionFields) → found R.sessions (id_of h) ≡ Some s → s.stage
+    ≡ Waiting →
     Waits R (id_of h) s (Turning.data_parts R V rs h piece (Some s))
 waits_data R V rs h piece s e w =
-    subst (Waits R (id_of h) s) (sym (cond-false (Turning.is_known s.stage) (Turning.takes_data R V rs h piece s) (Turning.keeps R (Turning.said s _)) (waits_known s.stage w)))
+    subst (Waits R (id_of h) s) (sym (cond-false (Turning.is_known s.stage) (Turning.takes_data R V rs h piece s) (Turning.keeps R (Turning.said s _))
+    (waits_known s.stage w)))
     (Same e refl)
 
-waits_eof : (R : State) (V : World) (rs : List Reply) (h : Header) (eof : Eof) (s : SessionFields) (stage : Stage) → found R.sessions (id_of h) ≡ Some s → stage ≡ Waiting →
+waits_eof : (R : State) (V : World) (rs : List Reply) (h : Header) (eof : Eof) (s : SessionFields) (stage : Stage) → found R.sessions (id_of h) ≡ Some s → stage
+    ≡ Waiting →
     Waits R (id_of h) s (Turning.eof_stage R V rs h eof s stage)
 waits_eof R V rs h eof s (Held kept) e w = absurd cc
 waits_eof R V rs h eof s Known e w = absurd cc
@@ -142,13 +152,15 @@ closes_it : (R : State) (id : TransactionId) (s : SessionFields) (a : AnswerFiel
     Waits R id s (Turning.closes R (name_of s) a)
 closes_it R id s a d name q = Gone (ap (λ (n : TransactionId). found (without R.sessions n) id) name ∙ gone R.sessions id d) q
 
-waits_ack : (R : State) (h : Header) (ack : Ack) (s : SessionFields) (stage : Stage) → AreDistinct R.sessions → found R.sessions (id_of h) ≡ Some s → name_of s ≡ id_of h → stage ≡ Waiting →
+waits_ack : (R : State) (h : Header) (ack : Ack) (s : SessionFields) (stage : Stage) → AreDistinct R.sessions → found R.sessions (id_of h) ≡ Some s → name_of s
+    ≡ id_of h → stage ≡ Waiting →
     Waits R (id_of h) s (Turning.ack_stage R h ack s stage)
 waits_ack R h ack s (Held eof) d e name w = absurd cc
 waits_ack R h ack s Known d e name w = absurd cc
 waits_ack R h ack s (OverStage ending) d e name w = absurd cc
 waits_ack R h ack s Waiting d e name w =
-    waits_if R (id_of h) s _ (Turning.closes R (name_of s) (Turning.said_of h _)) (Turning.keeps R (Turning.said_of h _)) (closes_it R (id_of h) s _ d name refl) (Same e refl)
+    waits_if R (id_of h) s _ (Turning.closes R (name_of s) (Turning.said_of h _)) (Turning.keeps R (Turning.said_of h _))
+    (closes_it R (id_of h) s _ d name refl) (Same e refl)
 
 pub at_waiting : (W : World) (s : SessionFields) → s.stage ≡ Waiting → at_of W s ≡ At_waiting
 at_waiting W s w = ap (λ (stage : Stage). at_stage stage (entry_of W (name_of s))) w
@@ -161,10 +173,12 @@ waits_prompt : (R : State) (h : Header) (prompt : Prompt) (s : SessionFields) �
 waits_prompt R h prompt s e w =
     let takes : Turning.takes_prompts (at_of R.world s) ≡ false = ap Turning.takes_prompts (at_waiting R.world s w) in
     elim (cases_Bool (s.header.acknowledged && Turning.takes_prompts (at_of R.world s))) [
-      | inl both ↦ absurd (not_both (Turning.takes_prompts (at_of R.world s)) (and_parts s.header.acknowledged (Turning.takes_prompts (at_of R.world s)) both).1 takes)
+      | inl both ↦ absurd (not_both (Turning.takes_prompts (at_of R.world s))
+          (and_parts s.header.acknowledged (Turning.takes_prompts (at_of R.world s)) both).1 takes)
       | inr neither ↦
           subst (Waits R (id_of h) s)
-          (sym (cond-false (s.header.acknowledged && Turning.takes_prompts (at_of R.world s)) (Turning.puts R (Turning.roused R s) (Turning.prompted R h s prompt)) (Turning.keeps R (Turning.said_of h words.Idle)) neither))
+          (sym (cond-false (s.header.acknowledged && Turning.takes_prompts (at_of R.world s))
+          (Turning.puts R (Turning.roused R s) (Turning.prompted R h s prompt)) (Turning.keeps R (Turning.said_of h words.Idle)) neither))
           (Same e refl)
     ]
 
@@ -205,26 +219,32 @@ waits_again R V id s e name w again =
     Sent t (replaced_self R.sessions t id (s, e) name) w refl (room_of R s (sym (expiry_waiting R s w) ∙ again))
     (ap (λ (at : At). length (Turning.repeats R V s at).finished) (at_waiting R.world s w))
 
-gives_waiting : (R : State) (id : TransactionId) (s : SessionFields) (condition : ℕ) (how : Handler) → AreDistinct R.sessions → name_of s ≡ id → how ≢ handlers.Ignore →
+gives_waiting : (R : State) (id : TransactionId) (s : SessionFields) (condition : ℕ) (how : Handler) → AreDistinct R.sessions → name_of s ≡ id → how
+    ≢ handlers.Ignore →
     Waits R id s (Turning.gives_up R s condition how At_waiting)
 gives_waiting R id s condition handlers.Ignore d name ne = absurd (ne refl)
 gives_waiting R id s condition handlers.Cancel d name ne = closes_it R id s _ d name refl
 gives_waiting R id s condition handlers.Abandon d name ne = closes_it R id s _ d name refl
 
-waits_limit : (R : State) (V : World) (id : TransactionId) (s : SessionFields) → AreDistinct R.sessions → name_of s ≡ id → s.stage ≡ Waiting → R.mib.ack.at_limit ≢ handlers.Ignore →
+waits_limit : (R : State) (V : World) (id : TransactionId) (s : SessionFields) → AreDistinct R.sessions → name_of s ≡ id → s.stage ≡ Waiting →
+    R.mib.ack.at_limit ≢ handlers.Ignore →
     Waits R id s (Turning.due_parts R V (Dues.Stage_due s true))
 waits_limit R V id s d name w ne =
-    subst (λ (at : At). Waits R id s (Turning.gives_up R s (Dues.fault_at s.header.acknowledged at) (Dues.handler_at R.mib s.header.acknowledged at) at)) (sym (at_waiting R.world s w)) (
-    subst (λ (how : Handler). Waits R id s (Turning.gives_up R s (Dues.fault_at s.header.acknowledged At_waiting) how At_waiting)) (sym (handler_waiting R s.header.acknowledged))
+    subst (λ (at : At). Waits R id s (Turning.gives_up R s (Dues.fault_at s.header.acknowledged at) (Dues.handler_at R.mib s.header.acknowledged at) at))
+    (sym (at_waiting R.world s w)) (
+    subst (λ (how : Handler). Waits R id s (Turning.gives_up R s (Dues.fault_at s.header.acknowledged At_waiting) how At_waiting))
+    (sym (handler_waiting R s.header.acknowledged))
     (gives_waiting R id s _ R.mib.ack.at_limit d name ne)
     )
 
 -- a member of that name is the session
-pub is_it : (R : State) (id : TransactionId) (s t : SessionFields) → AreDistinct R.sessions → found R.sessions id ≡ Some s → IsMember t R.sessions → is_same (name_of t) id ≡ true → s ≡ t
+pub is_it : (R : State) (id : TransactionId) (s t : SessionFields) → AreDistinct R.sessions → found R.sessions id ≡ Some s → IsMember t R.sessions →
+    is_same (name_of t) id ≡ true → s ≡ t
 is_it R id s t d e member same =
     ap (of_some s) (sym e ∙ ap (found R.sessions) (sym (same_is (name_of t) id same)) ∙ member_found R.sessions t d member)
 
-waits_due : (R : State) (V : World) (id : TransactionId) (s : SessionFields) (due : Dues.Due) → AreDistinct R.sessions → found R.sessions id ≡ Some s → name_of s ≡ id → s.stage ≡ Waiting →
+waits_due : (R : State) (V : World) (id : TransactionId) (s : SessionFields) (due : Dues.Due) → AreDistinct R.sessions → found R.sessions id ≡ Some s →
+    name_of s ≡ id → s.stage ≡ Waiting →
     R.mib.ack.at_limit ≢ handlers.Ignore → Dues.first_due R R.sessions ≡ due → is_same (due_name due) id ≡ true → Waits R id s (Turning.due_parts R V due)
 waits_due R V id s Dues.Nothing_due d e name w ne is same = Same e refl
 waits_due R V id s (Dues.Alive_due t) d e name w ne is same =
@@ -238,25 +258,29 @@ waits_due R V id s (Dues.Alive_due t) d e name w ne is same =
 waits_due R V id s (Dues.Stage_due t false) d e name w ne is same =
     let due = stage_due R R.sessions t false is in
     let it : s ≡ t = is_it R id s t d e due.0 same in
-    subst (λ (y : SessionFields). Waits R id s (Turning.due_parts R V (Dues.Stage_due y false))) it (waits_again R V id s e name w (ap (Dues.expiry_of R) it ∙ due.1))
+    subst (λ (y : SessionFields). Waits R id s (Turning.due_parts R V (Dues.Stage_due y false))) it
+    (waits_again R V id s e name w (ap (Dues.expiry_of R) it ∙ due.1))
 waits_due R V id s (Dues.Stage_due t true) d e name w ne is same =
     let due = stage_due R R.sessions t true is in
     let it : s ≡ t = is_it R id s t d e due.0 same in
     subst (λ (y : SessionFields). Waits R id s (Turning.due_parts R V (Dues.Stage_due y true))) it (waits_limit R V id s d name w ne)
 
-waits_finish : (R : State) (id : TransactionId) (s : SessionFields) (o : Option SessionFields) → AreDistinct R.sessions → found R.sessions id ≡ Some s → s.stage ≡ Waiting →
+waits_finish : (R : State) (id : TransactionId) (s : SessionFields) (o : Option SessionFields) → AreDistinct R.sessions → found R.sessions id ≡ Some s → s.stage
+    ≡ Waiting →
     Dues.first_over R.world R.sessions ≡ o → is_same (session_name o) id ≡ true → Waits R id s (Turning.finish_parts R o)
 waits_finish R id s None d e w is same = Same e refl
 waits_finish R id s (Some t) d e w is same =
     let over = first_over_is R.world R.sessions t is in
     let it : s ≡ t = is_it R id s t d e over.0 same in
-    let waiting : Dues.is_over (at_of R.world t) ≡ false = ap (λ (y : SessionFields). Dues.is_over (at_of R.world y)) (sym it) ∙ ap Dues.is_over (at_waiting R.world s w) in
+    let waiting : Dues.is_over (at_of R.world t) ≡ false = ap (λ (y : SessionFields). Dues.is_over (at_of R.world y)) (sym it)
+    ∙ ap Dues.is_over (at_waiting R.world s w) in
     absurd (not_both (Dues.is_over (at_of R.world t)) over.1 waiting)
 
 -- ---- each input
 
 -- a PDU of the transaction
-waits_pdu : (R : State) (h : Header) (id : TransactionId) (s : SessionFields) (parts : Option SessionFields → Turning.Parts) → found R.sessions id ≡ Some s → is_same (id_of h) id ≡ true →
+waits_pdu : (R : State) (h : Header) (id : TransactionId) (s : SessionFields) (parts : Option SessionFields → Turning.Parts) → found R.sessions id ≡ Some s →
+    is_same (id_of h) id ≡ true →
     (found R.sessions (id_of h) ≡ Some s → Waits R (id_of h) s (parts (Some s))) → Waits R id s (Turning.where_ours R h (parts (session_of R (id_of h))))
 waits_pdu R h id s parts e same w =
     let it = same_is (id_of h) id same in
@@ -265,16 +289,22 @@ waits_pdu R h id s parts e same w =
     subst (λ (o : Option SessionFields). Waits R (id_of h) s (Turning.where_ours R h (parts o))) (sym here) (ours_waits R h s (parts (Some s)) here (w here))
     )
 
-waits_of : (R : State) (V : World) (rs : List Reply) (i : Input) (id : TransactionId) (s : SessionFields) → AreDistinct R.sessions → found R.sessions id ≡ Some s → s.stage ≡ Waiting →
+waits_of : (R : State) (V : World) (rs : List Reply) (i : Input) (id : TransactionId) (s : SessionFields) → AreDistinct R.sessions → found R.sessions id
+    ≡ Some s → s.stage ≡ Waiting →
     R.mib.ack.at_limit ≢ handlers.Ignore → is_same (touched_in R i) id ≡ true → Waits R id s (Turning.parts_of R V rs i)
-waits_of R V rs (MetadataPdu now h m) id s d e w ne same = waits_pdu R h id s (Turning.metadata_parts R V rs h m) e same (λ here. waits_metadata R V rs h m s s.stage here w)
-waits_of R V rs (DataPdu now h piece) id s d e w ne same = waits_pdu R h id s (Turning.data_parts R V rs h piece) e same (λ here. waits_data R V rs h piece s here w)
-waits_of R V rs (EofPdu now h eof) id s d e w ne same = waits_pdu R h id s (Turning.eof_parts R V rs h eof) e same (λ here. waits_eof R V rs h eof s s.stage here w)
+waits_of R V rs (MetadataPdu now h m) id s d e w ne same = waits_pdu R h id s (Turning.metadata_parts R V rs h m) e same
+    (λ here. waits_metadata R V rs h m s s.stage here w)
+waits_of R V rs (DataPdu now h piece) id s d e w ne same = waits_pdu R h id s (Turning.data_parts R V rs h piece) e same
+    (λ here. waits_data R V rs h piece s here w)
+waits_of R V rs (EofPdu now h eof) id s d e w ne same = waits_pdu R h id s (Turning.eof_parts R V rs h eof) e same
+    (λ here. waits_eof R V rs h eof s s.stage here w)
 waits_of R V rs (AckPdu now h ack) id s d e w ne same =
     waits_pdu R h id s (Turning.ack_parts R h ack) e same (λ here. waits_ack R h ack s s.stage d here (found_name R.sessions (id_of h) s here) w)
-waits_of R V rs (PromptPdu now h prompt) id s d e w ne same = waits_pdu R h id s (Turning.prompt_parts R h prompt) e same (λ here. waits_prompt R h prompt s here w)
+waits_of R V rs (PromptPdu now h prompt) id s d e w ne same = waits_pdu R h id s (Turning.prompt_parts R h prompt) e same
+    (λ here. waits_prompt R h prompt s here w)
 waits_of R V rs (OtherPdu now h) id s d e w ne same =
-    waits_if R id s (Handing.is_ours R h) (Turning.keeps R (Turning.quiet became.NotOurs)) (Turning.keeps R (Turning.quiet (Turning.foreign h))) (Same e refl) (Same e refl)
+    waits_if R id s (Handing.is_ours R h) (Turning.keeps R (Turning.quiet became.NotOurs)) (Turning.keeps R (Turning.quiet (Turning.foreign h))) (Same e refl)
+    (Same e refl)
 waits_of R V rs (Expire now) id s d e w ne same =
     waits_due R V id s (Dues.first_due R R.sessions) d e (found_name R.sessions id s e) w ne refl same
 waits_of R V rs (Work now) id s d e w ne same = Same e refl

@@ -140,7 +140,8 @@ none_if true true naks e = refl
 none_if false true naks e = refl
 none_if b false naks e = absurd cc
 
-pub none_from_there : (R : State) (s : SessionFields) (h : Header) (p : FileDataFields) (e : Entry) → name_of s ≡ id_of h → entry_of R.world (id_of h) ≡ Some e →
+pub none_from_there : (R : State) (s : SessionFields) (h : Header) (p : FileDataFields) (e : Entry) → name_of s ≡ id_of h → entry_of R.world (id_of h)
+    ≡ Some e →
     e.phase ≡ Receiving → p.offset ≤ progress e → asks_at_once R (next R.world (DataCame h p)).0 s ≡ []
 none_from_there R s h p e named here phase from =
     let V = (next R.world (DataCame h p)).0 in

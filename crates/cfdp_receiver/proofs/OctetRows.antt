@@ -47,18 +47,21 @@ long_keep_alive = refl
 
 metadata_with_crc : heard 0 (0x22 ∷ 0 ∷ 0xc ∷ 0 ∷ 1 ∷ 5 ∷ 2 ∷ 7 ∷ 0x40 ∷ 0 ∷ 0 ∷ 0 ∷ 0xf ∷ 1 ∷ 0x73 ∷ 1 ∷ 0x66 ∷ 0x63 ∷ 0xcb ∷ []) ≡
     Ok (MetadataPdu 0 (header 5) M)
-unfolding sealed_at pdu_first.start_at pdu_first.header_at pdu_first.number_at pdu_first.field_at pdu_first.directive_at pdu_first.metadata_at pdu_first.requests_of pdu_first.fields_at pdu_first.some_fields_at lv_at
+unfolding sealed_at pdu_first.start_at pdu_first.header_at pdu_first.number_at pdu_first.field_at pdu_first.directive_at pdu_first.metadata_at
+    pdu_first.requests_of pdu_first.fields_at pdu_first.some_fields_at lv_at
 metadata_with_crc = refl
 
 -- the last octet of its CRC is 0 in place of 0x7e
-data_with_another_crc : heard 0 (0x32 ∷ 0 ∷ 0x15 ∷ 0 ∷ 1 ∷ 5 ∷ 2 ∷ 0 ∷ 0 ∷ 0 ∷ 0 ∷ 0 ∷ 1 ∷ 2 ∷ 3 ∷ 4 ∷ 5 ∷ 6 ∷ 7 ∷ 8 ∷ 9 ∷ 0xa ∷ 0xb ∷ 0xc ∷ 0xd ∷ 0xe ∷ 0x55 ∷ 0 ∷ []) ≡
+data_with_another_crc : heard 0 (0x32 ∷ 0 ∷ 0x15 ∷ 0 ∷ 1 ∷ 5 ∷ 2 ∷ 0 ∷ 0 ∷ 0 ∷ 0 ∷ 0 ∷ 1 ∷ 2 ∷ 3 ∷ 4 ∷ 5 ∷ 6 ∷ 7 ∷ 8 ∷ 9 ∷ 0xa ∷ 0xb ∷ 0xc ∷ 0xd ∷ 0xe ∷ 0x55 ∷
+    0 ∷ []) ≡
     Err (dropped.Crc crc_fault.BadCrc)
 unfolding sealed_at
 data_with_another_crc = refl
 
 eof_with_crc : heard 0 (0x22 ∷ 0 ∷ 0xc ∷ 0 ∷ 1 ∷ 5 ∷ 2 ∷ 4 ∷ 0 ∷ 0x18 ∷ 0x1c ∷ 0x20 ∷ 0x15 ∷ 0 ∷ 0 ∷ 0 ∷ 0xf ∷ 0x85 ∷ 0xd ∷ []) ≡
     Ok (EofPdu 0 (header 5) E)
-unfolding sealed_at pdu_first.start_at pdu_first.header_at pdu_first.number_at pdu_first.field_at pdu_first.directive_at pdu_first.eof_at pdu_first.all_whole pdu_first.fields_at pdu_first.some_fields_at
+unfolding sealed_at pdu_first.start_at pdu_first.header_at pdu_first.number_at pdu_first.field_at pdu_first.directive_at pdu_first.eof_at pdu_first.all_whole
+    pdu_first.fields_at pdu_first.some_fields_at
 eof_with_crc = refl
 
 abbrev with_crc : Mib

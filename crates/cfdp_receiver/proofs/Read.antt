@@ -81,10 +81,12 @@ by_directive h (code ∷ octets) =
 by_start : (start : Start) → HasHeader start.header (field_at start)
 unfolding field_at
 by_start start =
-    by_if start.file_data start.header _ _ (by_data start.header (file_data_at start.header.large start.segment_metadata start.field)) (by_directive start.header start.field)
+    by_if start.file_data start.header _ _ (by_data start.header (file_data_at start.header.large start.segment_metadata start.field))
+    (by_directive start.header start.field)
 
 -- what is read of a Finished PDU is its header
-as_other : (h : Header) (read : Result Pdu PduFault) (now : ℕ) (octets : List ℕ) → HasHeader h read → received_in read ≡ Ok None → pdu_input now octets read ≡ Ok (OtherPdu now h)
+as_other : (h : Header) (read : Result Pdu PduFault) (now : ℕ) (octets : List ℕ) → HasHeader h read → received_in read ≡ Ok None → pdu_input now octets read
+    ≡ Ok (OtherPdu now h)
 as_other h (Ok (pdus.Metadata k m)) now octets same none = absurd cc
 as_other h (Ok (pdus.FileData k d)) now octets same none = absurd cc
 as_other h (Ok (pdus.Eof k eof)) now octets same none = absurd cc
@@ -92,7 +94,8 @@ as_other h (Ok (pdus.Finished k finished)) now octets same none = ap (λ (x : He
 as_other h (Ok (pdus.NotOurs k code)) now octets same none = absurd cc
 as_other h (Err fault) now octets same none = absurd cc
 
-pub finished_input : (octets : List ℕ) (start : Start) (now : ℕ) → start_at octets ≡ Ok start → received_in (pdu_at octets) ≡ Ok None → input_at now octets ≡ Ok (OtherPdu now start.header)
+pub finished_input : (octets : List ℕ) (start : Start) (now : ℕ) → start_at octets ≡ Ok start → received_in (pdu_at octets) ≡ Ok None → input_at now octets
+    ≡ Ok (OtherPdu now start.header)
 finished_input octets start now began none =
     as_other start.header (pdu_at octets) now octets
     (subst (λ (read : Result Start PduFault). HasHeader start.header (read >>= field_at)) (sym began) (by_start start)) none

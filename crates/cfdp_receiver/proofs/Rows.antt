@@ -71,11 +71,13 @@ abbrev live_un : State
 live_un = after_on (fresh mib) (MetadataPdu 0 (header_un 7) M) [] (with_entry (header_un 7), Reply.Admitted 2 2)
 
 first : (m : Mib) (inputs : List Input) →
-    all_answers (fresh m) (MetadataPdu 0 (header 5) M ∷ inputs) ≡ record (replies 5 (Reply.Admitted 2 2)) { indications = described 5 ∷ [] } ∷ all_answers (live m) inputs
+    all_answers (fresh m) (MetadataPdu 0 (header 5) M ∷ inputs) ≡ record (replies 5 (Reply.Admitted 2 2)) { indications = described 5 ∷ [] } ∷ all_answers
+    (live m) inputs
 first m inputs = ap (all_on (fresh m) (MetadataPdu 0 (header 5) M) [] inputs) admitted
 
 first_un : (inputs : List Input) →
-    all_answers (fresh mib) (MetadataPdu 0 (header_un 7) M ∷ inputs) ≡ record (replies 7 (Reply.Admitted 2 2)) { indications = described 7 ∷ [] } ∷ all_answers live_un inputs
+    all_answers (fresh mib) (MetadataPdu 0 (header_un 7) M ∷ inputs) ≡ record
+    (replies 7 (Reply.Admitted 2 2)) { indications = described 7 ∷ [] } ∷ all_answers live_un inputs
 first_un inputs = ap (all_on (fresh mib) (MetadataPdu 0 (header_un 7) M) [] inputs) admitted_un
 
 -- ---- each row after its Metadata PDU
@@ -179,7 +181,8 @@ asked = record (says 5 words.Expired) { naks = nak 5 0 15 ((0, 15) ∷ []) ∷ [
 abbrev failed : ℕ → List ℕ
 failed condition = pdu_of 5 ((16 * condition + 4) ∷ 6 ∷ 1 ∷ 2 ∷ [])
 
-nothing_comes : all_answers (live mib) (EofPdu 1 (header 5) E ∷ Expire 10 ∷ Expire 11 ∷ Expire 21 ∷ Expire 31 ∷ Finish 31 ∷ Expire 41 ∷ Expire 51 ∷ Expire 61 ∷ Expire 71 ∷ []) ≡
+nothing_comes : all_answers (live mib) (EofPdu 1 (header 5) E ∷ Expire 10 ∷ Expire 11 ∷ Expire 21 ∷ Expire 31 ∷ Finish 31 ∷ Expire 41 ∷ Expire 51 ∷ Expire 61 ∷
+    Expire 71 ∷ []) ≡
     record (replies 5 Reply.Waiting) { acks = ack 5 0 Active ∷ []; naks = nak 5 0 15 ((0, 15) ∷ []) ∷ []; indications = tells.EofRecv (id 5) ∷ [] }
     ∷ nothing
     ∷ asked
@@ -203,7 +206,8 @@ held_eof = record (says 5 words.Held) {
 }
 
 -- an octet that was missing begins the timer and its count anew; one that was there does not
-progress_counts : all_answers (live mib) (EofPdu 1 (header 5) E ∷ Expire 11 ∷ data_at 12 0 4 ∷ Expire 21 ∷ Expire 22 ∷ data_at 23 0 4 ∷ Expire 32 ∷ Expire 42 ∷ []) ≡
+progress_counts : all_answers (live mib) (EofPdu 1 (header 5) E ∷ Expire 11 ∷ data_at 12 0 4 ∷ Expire 21 ∷ Expire 22 ∷ data_at 23 0 4 ∷ Expire 32 ∷ Expire 42 ∷
+    []) ≡
     record (replies 5 Reply.Waiting) { acks = ack 5 0 Active ∷ []; naks = nak 5 0 15 ((0, 15) ∷ []) ∷ []; indications = tells.EofRecv (id 5) ∷ [] }
     ∷ asked
     ∷ stored 0 4
@@ -238,7 +242,10 @@ kept_alive = refl
 
 -- inactivity is ignored, and the NAK limit abandons
 abbrev patient : Mib
-patient = record mib { inactivity = record { interval = 5; at_limit = handlers.Ignore }; nak = record { interval = 10; limit = 3; at_limit = handlers.Abandon } }
+patient = record mib {
+  inactivity = record { interval = 5; at_limit = handlers.Ignore };
+  nak = record { interval = 10; limit = 3; at_limit = handlers.Abandon };
+}
 
 abandoned : all_answers (live patient) (Expire 5 ∷ EofPdu 6 (header 5) E ∷ Expire 16 ∷ Expire 26 ∷ Expire 36 ∷ Finish 36 ∷ EofPdu 36 (header 5) E ∷ []) ≡
     record (says 5 words.Ignored) { indications = tells.Fault (id 5) 8 ∷ [] }
@@ -277,7 +284,8 @@ abbrev cancelled_eof : Eof
 cancelled_eof = record { condition = 15; checksum = 0; size = 0 }
 
 ended_by_its_sender :
-    all_answers (fresh mib) (EofPdu 0 (header 5) (record E { checksum = 0; size = 0 }) ∷ EofPdu 0 (header 6) cancelled_eof ∷ EofPdu 0 (header 5) cancelled_eof ∷ Finish 0 ∷ []) ≡
+    all_answers (fresh mib) (EofPdu 0 (header 5) (record E { checksum = 0; size = 0 }) ∷ EofPdu 0 (header 6) cancelled_eof ∷ EofPdu 0
+    (header 5) cancelled_eof ∷ Finish 0 ∷ []) ≡
     record held_eof { naks = nak 5 0 0 ((0, 0) ∷ []) ∷ [] }
     ∷ record (says 6 words.Unknown) { acks = ack 6 15 Unrecognized ∷ [] }
     ∷ record (says 5 words.Faulted) { acks = ack 5 15 Active ∷ [] }
@@ -328,7 +336,8 @@ first_with : (inputs : List Input) →
 first_with inputs = ap (all_on (fresh mib) (MetadataPdu 0 (header 5) with_request) [] inputs) admitted_with
 
 not_again :
-    all_answers listed (CancelAsked 0 (id 5) ∷ Finish 0 ∷ AckPdu 0 (header 5) (record finished_ack { directive = 4 }) ∷ AckPdu 0 (header 5) finished_ack ∷ MetadataPdu 0 (header 5) with_request ∷ []) ≡
+    all_answers listed (CancelAsked 0 (id 5) ∷ Finish 0 ∷ AckPdu 0 (header 5) (record finished_ack { directive = 4 }) ∷ AckPdu 0
+    (header 5) finished_ack ∷ MetadataPdu 0 (header 5) with_request ∷ []) ≡
     replies 5 Reply.Cancelled
     ∷ record (says 5 words.Finished) { finished = pdu_of 5 (0xf4 ∷ 1 ∷ 4 ∷ 0x0f ∷ 1 ∷ 0x67 ∷ 0 ∷ 6 ∷ 1 ∷ 2 ∷ []) ∷ []; indications = ended 5 15 true 0 ∷ [] }
     ∷ says 5 words.Idle

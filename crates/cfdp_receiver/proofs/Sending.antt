@@ -51,21 +51,25 @@ none = (omega arith, omega arith)
 one_ack : (h : Header) (condition : ℕ) (status : TransactionStatus) → length (Turning.acked h condition status) ≤ 1
 one_ack h condition status = cond_both h.acknowledged _ [] (λ (xs : List (Header × Ack)). length xs ≤ 1) (λ e. omega arith) (λ e. omega arith)
 
-few_metadata_stage : (R : State) (V : World) (rs : List Reply) (h : Header) (m : MetadataFields) (s : SessionFields) (stage : Stage) → FewIn (Turning.metadata_stage R V rs h m s stage)
+few_metadata_stage : (R : State) (V : World) (rs : List Reply) (h : Header) (m : MetadataFields) (s : SessionFields) (stage : Stage) →
+    FewIn (Turning.metadata_stage R V rs h m s stage)
 few_metadata_stage R V rs h m s (Held eof) = if_parts h.acknowledged _ _ none none
 few_metadata_stage R V rs h m s Known = none
 few_metadata_stage R V rs h m s (Over ending) = none
 few_metadata_stage R V rs h m s Waiting = none
 
-few_metadata : (R : State) (V : World) (rs : List Reply) (h : Header) (m : MetadataFields) (s : Option SessionFields) → FewIn (Turning.metadata_parts R V rs h m s)
+few_metadata : (R : State) (V : World) (rs : List Reply) (h : Header) (m : MetadataFields) (s : Option SessionFields) →
+    FewIn (Turning.metadata_parts R V rs h m s)
 few_metadata R V rs h m None = if_parts (is_closed R (id_of h) || is_full R) _ _ none none
 few_metadata R V rs h m (Some s) = few_metadata_stage R V rs h m s s.stage
 
-few_data : (R : State) (V : World) (rs : List Reply) (h : Header) (piece : FileDataFields) (s : Option SessionFields) → FewIn (Turning.data_parts R V rs h piece s)
+few_data : (R : State) (V : World) (rs : List Reply) (h : Header) (piece : FileDataFields) (s : Option SessionFields) →
+    FewIn (Turning.data_parts R V rs h piece s)
 few_data R V rs h piece None = none
 few_data R V rs h piece (Some s) = if_parts (Turning.is_known s.stage) _ _ none none
 
-few_eof_stage : (R : State) (V : World) (rs : List Reply) (h : Header) (eof : Eof) (s : SessionFields) (stage : Stage) → FewIn (Turning.eof_stage R V rs h eof s stage)
+few_eof_stage : (R : State) (V : World) (rs : List Reply) (h : Header) (eof : Eof) (s : SessionFields) (stage : Stage) →
+    FewIn (Turning.eof_stage R V rs h eof s stage)
 few_eof_stage R V rs h eof s (Held kept) =
     if_parts (eof.condition == 0) _ _ (one_ack h eof.condition Active, omega arith) (one_ack h eof.condition Active, omega arith)
 few_eof_stage R V rs h eof s Known = (one_ack h eof.condition Active, omega arith)
@@ -174,9 +178,11 @@ abbrev Acked : State → Header → Eof → Turning.Parts → Type 0
 Acked R h eof p = (p.answer.acks ≡ Turning.acked h eof.condition (status_in p (id_of h))) ⊎ ((p.answer.acks ≡ []) × FindsNoRoom R h eof)
 
 -- what is active is said to be
-acked_active : (R : State) (h : Header) (eof : Eof) (p : Turning.Parts) → p.answer.acks ≡ Turning.acked h eof.condition Active → IsFound p.sessions (id_of h) → Acked R h eof p
+acked_active : (R : State) (h : Header) (eof : Eof) (p : Turning.Parts) → p.answer.acks ≡ Turning.acked h eof.condition Active → IsFound p.sessions (id_of h) →
+    Acked R h eof p
 acked_active R h eof p acks f =
-    inl (acks ∙ ap (λ (o : Option SessionFields). Turning.acked h eof.condition (session_status o (list_any (λ name. is_same name (id_of h)) p.closed.names) p.closed.forgot)) (sym f.1))
+    inl (acks ∙ ap (λ (o : Option SessionFields). Turning.acked h eof.condition
+    (session_status o (list_any (λ name. is_same name (id_of h)) p.closed.names) p.closed.forgot)) (sym f.1))
 
 pub heard_name : (R : State) (V : World) (s : SessionFields) → name_of (Turning.heard R V s) ≡ name_of s
 heard_name R V s = cond_both (Turning.is_news R.world V s) _ s (λ (t : SessionFields). name_of t ≡ name_of s) (λ e. refl) (λ e. refl)
@@ -217,18 +223,22 @@ is_first R h eof e =
     let first = or_parts (is_closed R (id_of h)) (not (eof.condition == 0)) both.0 in
     record { unclosed = first.0; faultless = eqb-true eof.condition 0 (not_false (eof.condition == 0) first.1) }
 
-acked_full : (R : State) (h : Header) (eof : Eof) (p q : Turning.Parts) → session_of R (id_of h) ≡ None → IsFirst R h eof → p.answer.acks ≡ [] → Acked R h eof q →
+acked_full : (R : State) (h : Header) (eof : Eof) (p q : Turning.Parts) → session_of R (id_of h) ≡ None → IsFirst R h eof → p.answer.acks ≡ [] →
+    Acked R h eof q →
     Acked R h eof (if is_full R then p else q)
 acked_full R h eof p q none new quiet hq =
-    cond_both (is_full R) p q (Acked R h eof) (λ full. inr (quiet, record { none = none; unclosed = new.unclosed; faultless = new.faultless; full = full })) (λ free. hq)
+    cond_both (is_full R) p q (Acked R h eof) (λ full. inr (quiet, record { none = none; unclosed = new.unclosed; faultless = new.faultless; full = full }))
+    (λ free. hq)
 
-acked_eof : (R : State) (V : World) (rs : List Reply) (h : Header) (eof : Eof) (s : Option SessionFields) → session_of R (id_of h) ≡ s → Acked R h eof (Turning.eof_parts R V rs h eof s)
+acked_eof : (R : State) (V : World) (rs : List Reply) (h : Header) (eof : Eof) (s : Option SessionFields) → session_of R (id_of h) ≡ s →
+    Acked R h eof (Turning.eof_parts R V rs h eof s)
 acked_eof R V rs h eof None e =
     let new = Turning.begun R h (Held eof) in
     let full = Turning.keeps R (Turning.said_of h words.TableFull) in
     let holds = Turning.holds R h eof in
     let kept = Turning.keeps R (Turning.acks_only h eof (status_of R (id_of h)) (Turning.absent R (id_of h))) in
-    cond_both (is_closed R (id_of h) || not (eof.condition == 0) || not h.acknowledged) kept (if is_full R then full else holds) (Acked R h eof) (λ b. inl refl) (λ b.
+    cond_both (is_closed R (id_of h) || not (eof.condition == 0) || not h.acknowledged) kept (if is_full R then full else holds) (Acked R h eof) (λ b. inl refl)
+    (λ b.
     acked_full R h eof full holds e (is_first R h eof b) refl (acked_active R h eof holds refl (found_added R.sessions new (id_of h) (same_self (id_of h)))))
 acked_eof R V rs h eof (Some s) e = acked_stage R V rs h eof s s.stage e
 
@@ -238,7 +248,8 @@ acknowledged_once R now h eof mode ours =
     let i = EofPdu now h eof in
     let V = run R.world (Handing.handed R i) in
     let rs = replies R.world (Handing.handed R i) in
-    elim (subst (Acked L h eof) (sym (cond-true (Handing.is_ours L h) (Turning.eof_parts L V rs h eof (session_of L (id_of h))) (Turning.keeps L (Turning.quiet (Turning.foreign h))) ours))
+    elim (subst (Acked L h eof) (sym (cond-true (Handing.is_ours L h) (Turning.eof_parts L V rs h eof (session_of L (id_of h)))
+    (Turning.keeps L (Turning.quiet (Turning.foreign h))) ours))
     (acked_eof L V rs h eof (session_of L (id_of h)) refl)) [
       | inl once ↦ inl once
       | inr none ↦ inr (none.0, record { none = none.1.none; unclosed = none.1.unclosed; faultless = none.1.faultless; full = none.1.full })

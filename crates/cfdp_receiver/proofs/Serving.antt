@@ -49,7 +49,8 @@ abbrev AlikeBut : State → State → SessionFields → List SessionFields → T
 AlikeBut N R s ss = (t : SessionFields) → IsMember t ss → is_same (name_of t) (name_of s) ≡ false → due_of N t ≡ due_of R t
 
 -- none of these has the name
-none_named : (ss : List SessionFields) (t s : SessionFields) → AreDistinct ss → found ss (name_of s) ≡ None → IsMember t ss → is_same (name_of t) (name_of s) ≡ false
+none_named : (ss : List SessionFields) (t s : SessionFields) → AreDistinct ss → found ss (name_of s) ≡ None → IsMember t ss → is_same (name_of t) (name_of s)
+    ≡ false
 none_named ss t s d none member = elim (cases_Bool (is_same (name_of t) (name_of s))) [
   | inl same ↦ absurd (no_some t (sym none ∙ ap (found ss) (sym (same_is (name_of t) (name_of s) same)) ∙ member_found ss t d member))
   | inr other ↦ other
@@ -60,16 +61,19 @@ sum_alike N R [] alike = refl
 sum_alike N R (x ∷ xs) alike = omega (arith, alike x (inl refl), sum_alike N R xs (λ t m. alike t (inr m)))
 
 -- the first of that name is the member
-first_is : (x : SessionFields) (xs : List SessionFields) (s : SessionFields) → AreDistinct (x ∷ xs) → IsMember s (x ∷ xs) → is_same (name_of x) (name_of s) ≡ true → x ≡ s
+first_is : (x : SessionFields) (xs : List SessionFields) (s : SessionFields) → AreDistinct (x ∷ xs) → IsMember s (x ∷ xs) → is_same (name_of x) (name_of s)
+    ≡ true → x ≡ s
 first_is x xs s d (inl e) same = e
 first_is x xs s d (inr m) same =
     absurd (no_some s (sym d.0 ∙ ap (found xs) (same_is (name_of x) (name_of s) same) ∙ member_found xs s d.1 m))
 
 later_is : (x : SessionFields) (xs : List SessionFields) (s : SessionFields) → IsMember s (x ∷ xs) → is_same (name_of x) (name_of s) ≡ false → IsMember s xs
-later_is x xs s (inl e) other = absurd (both_of (is_same (name_of x) (name_of s)) other (ap (λ (y : SessionFields). is_same (name_of y) (name_of s)) e ∙ same_self (name_of s)))
+later_is x xs s (inl e) other = absurd (both_of (is_same (name_of x) (name_of s)) other (ap (λ (y : SessionFields). is_same (name_of y) (name_of s)) e
+    ∙ same_self (name_of s)))
 later_is x xs s (inr m) other = m
 
-rest_alike : (N R : State) (x : SessionFields) (xs : List SessionFields) (s : SessionFields) → AreDistinct (x ∷ xs) → is_same (name_of x) (name_of s) ≡ true → AlikeBut N R s (x ∷ xs) →
+rest_alike : (N R : State) (x : SessionFields) (xs : List SessionFields) (s : SessionFields) → AreDistinct (x ∷ xs) → is_same (name_of x) (name_of s) ≡ true →
+    AlikeBut N R s (x ∷ xs) →
     timers_due N xs ≡ timers_due R xs
 rest_alike N R x xs s d same alike =
     let none : found xs (name_of s) ≡ None = ap (found xs) (sym (same_is (name_of x) (name_of s) same)) ∙ d.0 in
@@ -98,7 +102,8 @@ sum_without N R [] s d m alike = elim m [ ]
 sum_without N R (x ∷ xs) s d m alike = elim (cases_Bool (is_same (name_of x) (name_of s))) [
   | inl here ↦
       let it : due_of R x ≡ due_of R s = ap (due_of R) (first_is x xs s d m here) in
-      let now : timers_due N (without (x ∷ xs) (name_of s)) ≡ timers_due N xs = ap (timers_due N) (cond-true (is_same (name_of x) (name_of s)) xs (x ∷ without xs (name_of s)) here) in
+      let now : timers_due N (without (x ∷ xs) (name_of s)) ≡ timers_due N xs =
+      ap (timers_due N) (cond-true (is_same (name_of x) (name_of s)) xs (x ∷ without xs (name_of s)) here) in
       omega (arith, now, it, rest_alike N R x xs s d here alike)
   | inr there ↦
       let now : timers_due N (without (x ∷ xs) (name_of s)) ≡ due_of N x + timers_due N (without xs (name_of s)) =
@@ -111,7 +116,8 @@ sum_without N R (x ∷ xs) s d m alike = elim (cases_Bool (is_same (name_of x) (
 fresh_by : (now interval limit : ℕ) (timer : Timer) → timer.since ≡ now → 1 ≤ interval → expiry interval limit now timer ≡ NotDue
 fresh_by now interval limit timer e some = rw (lt-ltb now (timer.since + interval) (omega (arith, e, some))) refl
 
-fresh : (mib : Mib) (checks now : ℕ) (acknowledged : Bool) (timer : Timer) (at : At) → IsSet mib → timer.since ≡ now → Dues.expiry_by now timer (Dues.terms_at mib checks acknowledged timer at) ≡ NotDue
+fresh : (mib : Mib) (checks now : ℕ) (acknowledged : Bool) (timer : Timer) (at : At) → IsSet mib → timer.since ≡ now →
+    Dues.expiry_by now timer (Dues.terms_at mib checks acknowledged timer at) ≡ NotDue
 fresh mib checks now true timer At_held h e = fresh_by now mib.nak.interval mib.nak.limit timer e h.nak
 fresh mib checks now false timer At_held h e = fresh_by now mib.nak.interval mib.nak.limit timer e h.nak
 fresh mib checks now true timer At_receiving h e = fresh_by now mib.inactivity.interval 1 timer e h.inactivity
@@ -187,7 +193,8 @@ config_cancelled W k (Some e) = cond_both (is_live e.phase) (ends W k e 15, _) (
 
 config_checked_at : (phase : Phase) (W : World) (k : ℕ) (e : Entry) → (check_at phase W k e).0.config ≡ W.config
 config_checked_at Receiving W k e = refl
-config_checked_at (Awaiting made) W k e = cond_both (nat_le W.config.checks (made + 1)) (ends W k e 10, _) _ (λ (a : World × Reply). a.0.config ≡ W.config) (λ h. refl) (λ h. refl)
+config_checked_at (Awaiting made) W k e = cond_both (nat_le W.config.checks (made + 1)) (ends W k e 10, _) _ (λ (a : World × Reply). a.0.config ≡ W.config)
+    (λ h. refl) (λ h. refl)
 config_checked_at (Executing n) W k e = refl
 config_checked_at Refused W k e = refl
 config_checked_at Done W k e = refl
@@ -207,19 +214,23 @@ due_at R t checks at =
     is_due (Dues.expiry_by R.now t.timer (Dues.terms_at R.mib checks t.header.acknowledged t.timer at))
     + one_if (t.header.acknowledged && Dues.is_receiving_at at && Dues.has_passed R.mib.keep_alive R.now t.alive_at)
 
-alike_by : (R : State) (V : World) (t : SessionFields) → V.config ≡ R.world.config → entry_of V (name_of t) ≡ entry_of R.world (name_of t) → due_of (in_world R V) t ≡ due_of R t
+alike_by : (R : State) (V : World) (t : SessionFields) → V.config ≡ R.world.config → entry_of V (name_of t) ≡ entry_of R.world (name_of t) →
+    due_of (in_world R V) t ≡ due_of R t
 alike_by R V t config entry =
     ap (λ (c : Config). due_at R t c.checks (at_of V t)) config ∙ ap (λ (o : Option Entry). due_at R t R.world.config.checks (at_stage t.stage o)) entry
 
 other_name : (t s : SessionFields) → is_same (name_of t) (name_of s) ≡ false → name_of t ≢ name_of s
 other_name t s other e = both_of (is_same (name_of t) (name_of s)) other (ap (λ (n : TransactionId). is_same n (name_of s)) e ∙ same_self (name_of s))
 
-alike_own : NextIsPromised → (R : State) (s : SessionFields) (es : List Event) → Sound R.world → Own es (name_of s) → AlikeBut (in_world R (run R.world es)) R s R.sessions
-alike_own promised R s es sound (None_own e) t m other = alike_by R (run R.world es) t (ap (λ (vs : List Event). (run R.world vs).config) e) (ap (λ (vs : List Event). entry_of (run R.world vs) (name_of t)) e)
+alike_own : NextIsPromised → (R : State) (s : SessionFields) (es : List Event) → Sound R.world → Own es (name_of s) →
+    AlikeBut (in_world R (run R.world es)) R s R.sessions
+alike_own promised R s es sound (None_own e) t m other = alike_by R (run R.world es) t (ap (λ (vs : List Event). (run R.world vs).config) e)
+    (ap (λ (vs : List Event). entry_of (run R.world vs) (name_of t)) e)
 alike_own promised R s es sound (Cancel_own e) t m other =
     alike_by R (run R.world es) t
     (ap (λ (vs : List Event). (run R.world vs).config) e ∙ config_cancelled R.world (index_of R.world (name_of s)) (entry_of R.world (name_of s)))
-    (ap (λ (vs : List Event). entry_of (run R.world vs) (name_of t)) e ∙ (promised R.world (Cancel (name_of s)) sound).others (name_of t) (other_name t s other))
+    (ap (λ (vs : List Event). entry_of (run R.world vs) (name_of t)) e ∙ (promised R.world (Cancel (name_of s)) sound).others (name_of t)
+    (other_name t s other))
 alike_own promised R s es sound (Check_own e) t m other =
     alike_by R (run R.world es) t
     (ap (λ (vs : List Event). (run R.world vs).config) e ∙ config_checked R.world (index_of R.world (name_of s)) (entry_of R.world (name_of s)))
@@ -245,7 +256,8 @@ over_cancelled W s e known here live =
     ∙ ap (λ (a : World × Reply). at_of a.0 s) (cond-true (is_live e.phase) (ends W k e 15, _) (W, _) live)
     ∙ over_ended W s e 15 known here
 
-over_checked : (W : World) (s : SessionFields) (e : Entry) (made : ℕ) → s.stage ≡ Known → entry_of W (name_of s) ≡ Some e → e.phase ≡ Awaiting made → nat_le W.config.checks (made + 1) ≡ true →
+over_checked : (W : World) (s : SessionFields) (e : Entry) (made : ℕ) → s.stage ≡ Known → entry_of W (name_of s) ≡ Some e → e.phase ≡ Awaiting made →
+    nat_le W.config.checks (made + 1) ≡ true →
     at_of (next W (Check (name_of s))).0 s ≡ At_over
 over_checked W s e made known here phase all =
     let k = index_of W (name_of s) in
@@ -281,14 +293,16 @@ phase_awaiting Refused made e = absurd cc
 phase_awaiting Done made e = absurd cc
 phase_awaiting (Ended condition) made e = absurd cc
 
-takes_receiving : (W : World) (s : SessionFields) (stage : Stage) (o : Option Entry) → s.stage ≡ stage → entry_of W (name_of s) ≡ o → at_stage stage o ≡ At_receiving → Takes W s Receiving
+takes_receiving : (W : World) (s : SessionFields) (stage : Stage) (o : Option Entry) → s.stage ≡ stage → entry_of W (name_of s) ≡ o → at_stage stage o
+    ≡ At_receiving → Takes W s Receiving
 takes_receiving W s (Held eof) o known here at = absurd cc
 takes_receiving W s Known None known here at = absurd cc
 takes_receiving W s Known (Some e) known here at = record { known = known; entry = e; here = here; is = phase_receiving e.phase at }
 takes_receiving W s (OverStage ending) o known here at = absurd cc
 takes_receiving W s Waiting o known here at = absurd cc
 
-takes_awaiting : (W : World) (s : SessionFields) (stage : Stage) (o : Option Entry) (made : ℕ) → s.stage ≡ stage → entry_of W (name_of s) ≡ o → at_stage stage o ≡ At_awaiting made → Takes W s (Awaiting made)
+takes_awaiting : (W : World) (s : SessionFields) (stage : Stage) (o : Option Entry) (made : ℕ) → s.stage ≡ stage → entry_of W (name_of s) ≡ o → at_stage stage o
+    ≡ At_awaiting made → Takes W s (Awaiting made)
 takes_awaiting W s (Held eof) o made known here at = absurd cc
 takes_awaiting W s Known None made known here at = absurd cc
 takes_awaiting W s Known (Some e) made known here at = record { known = known; entry = e; here = here; is = phase_awaiting e.phase made at }
@@ -321,11 +335,13 @@ expiry_at R s acknowledged at mode is =
 abbrev Fewer : State → World → Turning.Parts → Type 0
 Fewer R V p = timers_due (in_world R V) p.sessions + 1 ≤ timers_due R R.sessions
 
-fewer_put : (R : State) (V : World) (s new : SessionFields) (a : AnswerFields) → AreDistinct R.sessions → IsMember s R.sessions → name_of new ≡ name_of s → AlikeBut (in_world R V) R s R.sessions →
+fewer_put : (R : State) (V : World) (s new : SessionFields) (a : AnswerFields) → AreDistinct R.sessions → IsMember s R.sessions → name_of new ≡ name_of s →
+    AlikeBut (in_world R V) R s R.sessions →
     due_of (in_world R V) new + 1 ≤ due_of R s → Fewer R V (Turning.puts R new a)
 fewer_put R V s new a d m name alike less = omega (arith, sum_replaced (in_world R V) R R.sessions s new d m name alike, less)
 
-fewer_closed : (R : State) (V : World) (s : SessionFields) (a : AnswerFields) → AreDistinct R.sessions → IsMember s R.sessions → AlikeBut (in_world R V) R s R.sessions →
+fewer_closed : (R : State) (V : World) (s : SessionFields) (a : AnswerFields) → AreDistinct R.sessions → IsMember s R.sessions →
+    AlikeBut (in_world R V) R s R.sessions →
     1 ≤ due_of R s → Fewer R V (Turning.closes R (name_of s) a)
 fewer_closed R V s a d m alike some = omega (arith, sum_without (in_world R V) R R.sessions s d m alike, some)
 
@@ -339,7 +355,8 @@ none_known (OverStage ending) = refl
 none_known Waiting = refl
 
 -- a timer that begins anew, in a world in which Keep Alive is not due where it was not
-renewed : (R : State) (V : World) (s new : SessionFields) → IsSet R.mib → new.timer.since ≡ R.now → alive_part (in_world R V) new ≤ alive_part R s → 1 ≤ is_due (Dues.expiry_of R s) →
+renewed : (R : State) (V : World) (s new : SessionFields) → IsSet R.mib → new.timer.since ≡ R.now → alive_part (in_world R V) new ≤ alive_part R s →
+    1 ≤ is_due (Dues.expiry_of R s) →
     due_of (in_world R V) new + 1 ≤ due_of R s
 renewed R V s new set begun alive due =
     omega (arith, ap is_due (fresh R.mib V.config.checks R.now new.header.acknowledged new.timer (at_of V new) set begun), alive, due)
@@ -358,13 +375,16 @@ alive_un R s mode =
     ∙ ap one_if (un_alive (Dues.is_receiving_at (at_of R.world s)) (Dues.has_passed R.mib.keep_alive R.now s.alive_at))
 
 -- below the limit
-serves_again : NextIsPromised → (R : State) (s : SessionFields) (acknowledged : Bool) → IsSet R.mib → Sound R.world → AreDistinct R.sessions → IsMember s R.sessions → s.header.acknowledged ≡ acknowledged →
-    1 ≤ is_due (Dues.expiry_of R s) → Fewer R (run R.world (Handing.due_events R (Dues.Stage_due s false))) (Turning.due_parts R (run R.world (Handing.due_events R (Dues.Stage_due s false))) (Dues.Stage_due s false))
+serves_again : NextIsPromised → (R : State) (s : SessionFields) (acknowledged : Bool) → IsSet R.mib → Sound R.world → AreDistinct R.sessions →
+    IsMember s R.sessions → s.header.acknowledged ≡ acknowledged →
+    1 ≤ is_due (Dues.expiry_of R s) → Fewer R (run R.world (Handing.due_events R (Dues.Stage_due s false)))
+    (Turning.due_parts R (run R.world (Handing.due_events R (Dues.Stage_due s false))) (Dues.Stage_due s false))
 serves_again promised R s true set sound d m mode due =
     let es = Handing.due_events R (Dues.Stage_due s false) in
     let new : SessionFields = record s { timer = passed R.now s.timer Again } in
     let none : es ≡ [] =
-    ap (λ (b : Bool). Handing.where_known s.stage (if Handing.makes_checks b (at_of R.world s) then Check (name_of s) ∷ [] else [])) mode ∙ none_known s.stage in
+    ap (λ (b : Bool). Handing.where_known s.stage (if Handing.makes_checks b (at_of R.world s) then Check (name_of s) ∷ [] else [])) mode
+    ∙ none_known s.stage in
     let alike = alike_own promised R s es sound (None_own none) in
     let same : alive_part (in_world R (run R.world es)) new ≡ alive_part R s = ap (λ (vs : List Event). alive_part (in_world R (run R.world vs)) new) none in
     fewer_put R (run R.world es) s new (Turning.repeats R (run R.world es) s (at_of R.world s)) d m refl alike
@@ -386,7 +406,8 @@ Gives R s acknowledged at how =
     Fewer R V (Turning.gives_up R s (Dues.fault_at acknowledged at) how at)
 
 -- a change of the session after which it is over
-over_put : NextIsPromised → (R : State) (s new : SessionFields) (acknowledged : Bool) (at : At) (how : Handler) (a : AnswerFields) → Sound R.world → AreDistinct R.sessions → IsMember s R.sessions →
+over_put : NextIsPromised → (R : State) (s new : SessionFields) (acknowledged : Bool) (at : At) (how : Handler) (a : AnswerFields) → Sound R.world →
+    AreDistinct R.sessions → IsMember s R.sessions →
     name_of new ≡ name_of s → at_of (run R.world (limit_events_of R s acknowledged at how)) new ≡ At_over → 1 ≤ is_due (Dues.expiry_of R s) →
     Fewer R (run R.world (limit_events_of R s acknowledged at how)) (Turning.puts R new a)
 over_put promised R s new acknowledged at how a sound d m name over due =
@@ -394,24 +415,29 @@ over_put promised R s new acknowledged at how a sound d m name over due =
     let own : Own es (name_of s) = own_known s.stage _ (name_of s) (own_limit (name_of s) (Handing.makes_checks acknowledged at) how) in
     fewer_put R (run R.world es) s new a d m name (alike_own promised R s es sound own) (omega (arith, over_none (in_world R (run R.world es)) new over, due))
 
-gives_closed : NextIsPromised → (R : State) (s : SessionFields) (acknowledged : Bool) (at : At) (how : Handler) (a : AnswerFields) → Sound R.world → AreDistinct R.sessions → IsMember s R.sessions →
+gives_closed : NextIsPromised → (R : State) (s : SessionFields) (acknowledged : Bool) (at : At) (how : Handler) (a : AnswerFields) → Sound R.world →
+    AreDistinct R.sessions → IsMember s R.sessions →
     1 ≤ is_due (Dues.expiry_of R s) → Fewer R (run R.world (limit_events_of R s acknowledged at how)) (Turning.closes R (name_of s) a)
 gives_closed promised R s acknowledged at how a sound d m due =
     let es = limit_events_of R s acknowledged at how in
     let own : Own es (name_of s) = own_known s.stage _ (name_of s) (own_limit (name_of s) (Handing.makes_checks acknowledged at) how) in
     fewer_closed R (run R.world es) s a d m (alike_own promised R s es sound own) (omega (arith, due))
 
-gives_ignored : NextIsPromised → (R : State) (s : SessionFields) (acknowledged : Bool) (at : At) (a : AnswerFields) → IsSet R.mib → Sound R.world → AreDistinct R.sessions → IsMember s R.sessions →
-    1 ≤ is_due (Dues.expiry_of R s) → Fewer R (run R.world (limit_events_of R s acknowledged at handlers.Ignore)) (Turning.puts R (record s { timer = restarted R.now }) a)
+gives_ignored : NextIsPromised → (R : State) (s : SessionFields) (acknowledged : Bool) (at : At) (a : AnswerFields) → IsSet R.mib → Sound R.world →
+    AreDistinct R.sessions → IsMember s R.sessions →
+    1 ≤ is_due (Dues.expiry_of R s) → Fewer R (run R.world (limit_events_of R s acknowledged at handlers.Ignore))
+    (Turning.puts R (record s { timer = restarted R.now }) a)
 gives_ignored promised R s acknowledged at a set sound d m due =
     let es = limit_events_of R s acknowledged at handlers.Ignore in
     let new : SessionFields = record s { timer = restarted R.now } in
     let none : es ≡ [] = none_known s.stage in
     let same : alive_part (in_world R (run R.world es)) new ≡ alive_part R s = ap (λ (vs : List Event). alive_part (in_world R (run R.world vs)) new) none in
-    fewer_put R (run R.world es) s new a d m refl (alike_own promised R s es sound (None_own none)) (renewed R (run R.world es) s new set refl (omega (arith, same)) due)
+    fewer_put R (run R.world es) s new a d m refl (alike_own promised R s es sound (None_own none))
+    (renewed R (run R.world es) s new set refl (omega (arith, same)) due)
 
 -- the event that ends it, where the session is known
-ended_by_cancel : (R : State) (s : SessionFields) (phase : Phase) → Takes R.world s phase → is_live phase ≡ true → at_of (run R.world (Handing.where_known s.stage (Cancel (name_of s) ∷ []))) s ≡ At_over
+ended_by_cancel : (R : State) (s : SessionFields) (phase : Phase) → Takes R.world s phase → is_live phase ≡ true →
+    at_of (run R.world (Handing.where_known s.stage (Cancel (name_of s) ∷ []))) s ≡ At_over
 ended_by_cancel R s phase takes live =
     ap (λ (stage : Stage). at_of (run R.world (Handing.where_known stage (Cancel (name_of s) ∷ []))) s) takes.known
     ∙ over_cancelled R.world s takes.entry takes.known takes.here (ap is_live takes.is ∙ live)
@@ -429,14 +455,18 @@ silent = Turning.quiet became.Nothing
 never_due : (e : Expiry) → e ≡ NotDue → 1 ≤ is_due e → ⊥
 never_due e h due = absurd (omega (arith, ap is_due h, due))
 
-gives : NextIsPromised → (R : State) (s : SessionFields) (acknowledged : Bool) (at : At) (how : Handler) → IsSet R.mib → Sound R.world → AreDistinct R.sessions → IsMember s R.sessions →
+gives : NextIsPromised → (R : State) (s : SessionFields) (acknowledged : Bool) (at : At) (how : Handler) → IsSet R.mib → Sound R.world →
+    AreDistinct R.sessions → IsMember s R.sessions →
     s.header.acknowledged ≡ acknowledged → at_of R.world s ≡ at → Dues.expiry_of R s ≡ Limit → 1 ≤ is_due (Dues.expiry_of R s) → Gives R s acknowledged at how
 gives promised R s acknowledged at handlers.Ignore set sound d m mode is limited due = gives_ignored promised R s acknowledged at silent set sound d m due
-gives promised R s acknowledged At_waiting handlers.Cancel set sound d m mode is limited due = gives_closed promised R s acknowledged At_waiting handlers.Cancel silent sound d m due
-gives promised R s acknowledged At_waiting handlers.Abandon set sound d m mode is limited due = gives_closed promised R s acknowledged At_waiting handlers.Abandon silent sound d m due
+gives promised R s acknowledged At_waiting handlers.Cancel set sound d m mode is limited due =
+    gives_closed promised R s acknowledged At_waiting handlers.Cancel silent sound d m due
+gives promised R s acknowledged At_waiting handlers.Abandon set sound d m mode is limited due =
+    gives_closed promised R s acknowledged At_waiting handlers.Abandon silent sound d m due
 gives promised R s acknowledged At_held handlers.Cancel set sound d m mode is limited due =
     over_put promised R s (Turning.over_here R s (Dues.fault_at acknowledged At_held)) acknowledged At_held handlers.Cancel silent sound d m refl refl due
-gives promised R s acknowledged At_held handlers.Abandon set sound d m mode is limited due = gives_closed promised R s acknowledged At_held handlers.Abandon silent sound d m due
+gives promised R s acknowledged At_held handlers.Abandon set sound d m mode is limited due =
+    gives_closed promised R s acknowledged At_held handlers.Abandon silent sound d m due
 gives promised R s true At_receiving handlers.Cancel set sound d m mode is limited due =
     over_put promised R s (record s { cause = Some (Dues.fault_at true At_receiving) }) true At_receiving handlers.Cancel silent sound d m refl
     (ended_by_cancel R s Receiving (takes_receiving R.world s s.stage (entry_of R.world (name_of s)) refl refl is) refl) due
@@ -460,17 +490,21 @@ gives promised R s false (At_awaiting made) handlers.Abandon set sound d m mode 
     (ended_by_cancel R s (Awaiting made) (takes_awaiting R.world s s.stage (entry_of R.world (name_of s)) made refl refl is) refl) due
 gives promised R s false (At_awaiting made) handlers.Cancel set sound d m mode is limited due =
     let told = sym (expiry_at R s false (At_awaiting made) mode is) ∙ limited in
-    let all = all_checks R.world.config.checks made s.timer (full_of R.mib.check.interval (Dues.check_limit R.world.config.checks made s.timer) R.now s.timer told) in
+    let all = all_checks R.world.config.checks made s.timer (full_of R.mib.check.interval
+    (Dues.check_limit R.world.config.checks made s.timer) R.now s.timer told) in
     over_put promised R s (record s { cause = Some (Dues.fault_at false (At_awaiting made)) }) false (At_awaiting made) handlers.Cancel silent sound d m refl
     (ended_by_check R s made (takes_awaiting R.world s s.stage (entry_of R.world (name_of s)) made refl refl is) all) due
-gives promised R s true At_executing how set sound d m mode is limited due = absurd (never_due (Dues.expiry_of R s) (expiry_at R s true At_executing mode is) due)
-gives promised R s false At_executing how set sound d m mode is limited due = absurd (never_due (Dues.expiry_of R s) (expiry_at R s false At_executing mode is) due)
+gives promised R s true At_executing how set sound d m mode is limited due =
+    absurd (never_due (Dues.expiry_of R s) (expiry_at R s true At_executing mode is) due)
+gives promised R s false At_executing how set sound d m mode is limited due =
+    absurd (never_due (Dues.expiry_of R s) (expiry_at R s false At_executing mode is) due)
 gives promised R s true At_over how set sound d m mode is limited due = absurd (never_due (Dues.expiry_of R s) (expiry_at R s true At_over mode is) due)
 gives promised R s false At_over how set sound d m mode is limited due = absurd (never_due (Dues.expiry_of R s) (expiry_at R s false At_over mode is) due)
 
 -- ---- nothing is due
 
-none_by : (e : Expiry) (alive : Bool) (x : SessionFields) (later : Dues.Due) → Dues.due_by e alive x later ≡ Dues.Nothing_due → (is_due e + one_if alive ≡ 0) × (later ≡ Dues.Nothing_due)
+none_by : (e : Expiry) (alive : Bool) (x : SessionFields) (later : Dues.Due) → Dues.due_by e alive x later ≡ Dues.Nothing_due → (is_due e + one_if alive ≡ 0)
+    × (later ≡ Dues.Nothing_due)
 none_by Again alive x later e = absurd cc
 none_by Limit alive x later e = absurd cc
 none_by NotDue true x later e = absurd cc
@@ -481,7 +515,8 @@ none_due R [] e = refl
 none_due R (x ∷ xs) e = let both = none_by (Dues.expiry_of R x) (Dues.is_alive_due R x) x (Dues.first_due R xs) e in omega (arith, both.0, none_due R xs both.1)
 
 serves : NextIsPromised → (R : State) (due : Dues.Due) → IsSet R.mib → Sound R.world → AreDistinct R.sessions → Dues.first_due R R.sessions ≡ due →
-    timers_due (in_world R (run R.world (Handing.due_events R due))) (Turning.due_parts R (run R.world (Handing.due_events R due)) due).sessions ≤ timers_due R R.sessions - 1
+    timers_due (in_world R (run R.world (Handing.due_events R due))) (Turning.due_parts R (run R.world (Handing.due_events R due)) due).sessions ≤ timers_due R
+    R.sessions - 1
 serves promised R Dues.Nothing_due set sound d is = omega (arith, none_due R R.sessions is)
 serves promised R (Dues.Alive_due s) set sound d is =
     let alive = alive_due R R.sessions s is in
@@ -498,7 +533,8 @@ serves promised R (Dues.Stage_due s true) set sound d is =
     let due = stage_due R R.sessions s true is in
     omega (
       arith,
-      gives promised R s s.header.acknowledged (at_of R.world s) (Dues.handler_at R.mib s.header.acknowledged (at_of R.world s)) set sound d due.0 refl refl due.1 (again_due true (Dues.expiry_of R s) due.1),
+      gives promised R s s.header.acknowledged (at_of R.world s) (Dues.handler_at R.mib s.header.acknowledged (at_of R.world s)) set sound d due.0 refl refl
+          due.1 (again_due true (Dues.expiry_of R s) due.1),
     )
 
 pub served_once : NextIsSound → NextIsPromised → ServedOnce

@@ -40,7 +40,8 @@ use Rattle.cfdp_receiver.proofs.Sending.{heard_name}
 pub data Shape (R : State) (t : TransactionId) (p : Turning.Parts) : Type 0 where
   Keeps : (a : AnswerFields) → (e : p ≡ Turning.keeps R a) → Shape R t p
   Puts : (s : SessionFields) → (a : AnswerFields) → (name : name_of s ≡ t) → (e : p ≡ Turning.puts R s a) → Shape R t p
-  Adds : (s : SessionFields) → (a : AnswerFields) → (name : name_of s ≡ t) → (free : found R.sessions t ≡ None) → (new : is_closed R t ≡ false) → (e : p ≡ Turning.adds R s a) → Shape R t p
+  Adds : (s : SessionFields) → (a : AnswerFields) → (name : name_of s ≡ t) → (free : found R.sessions t ≡ None) → (new : is_closed R t ≡ false) →
+      (e : p ≡ Turning.adds R s a) → Shape R t p
   Closes : (a : AnswerFields) → (was : IsFound R.sessions t) → (e : p ≡ Turning.closes R t a) → Shape R t p
   Forgets : (a : AnswerFields) → (e : p ≡ Turning.forgets R a) → Shape R t p
 
@@ -57,7 +58,8 @@ own_keeps R t s word = Keeps (Turning.said s word) refl
 shape_metadata_stage : (R : State) (V : World) (rs : List Reply) (h : Header) (m : MetadataFields) (s : SessionFields) (stage : Stage) → name_of s ≡ id_of h →
     Shape R (id_of h) (Turning.metadata_stage R V rs h m s stage)
 shape_metadata_stage R V rs h m s (Held eof) name =
-    shape_if R (id_of h) h.acknowledged (Turning.joins R V rs h m) (Turning.keeps R (Turning.said s words.Idle)) (Puts _ _ refl refl) (own_keeps R (id_of h) s words.Idle)
+    shape_if R (id_of h) h.acknowledged (Turning.joins R V rs h m) (Turning.keeps R (Turning.said s words.Idle)) (Puts _ _ refl refl)
+    (own_keeps R (id_of h) s words.Idle)
 shape_metadata_stage R V rs h m s Known name = Puts (Turning.heard R V s) (Turning.quiet (Turning.replied (id_of h) rs)) (heard_name R V s ∙ name) refl
 shape_metadata_stage R V rs h m s (Over ending) name = own_keeps R (id_of h) s words.Duplicate
 shape_metadata_stage R V rs h m s Waiting name = own_keeps R (id_of h) s words.Duplicate
@@ -82,7 +84,8 @@ shape_eof_stage : (R : State) (V : World) (rs : List Reply) (h : Header) (eof : 
 shape_eof_stage R V rs h eof s (Held kept) name =
     let again = Turning.acks_only h eof Active words.Duplicate in
     let over = Turning.acks_only h eof Active words.Faulted in
-    shape_if R (id_of h) (eof.condition == 0) (Turning.keeps R again) (Turning.puts R (Turning.ended_by h eof s) over) (Keeps again refl) (Puts (Turning.ended_by h eof s) over name refl)
+    shape_if R (id_of h) (eof.condition == 0) (Turning.keeps R again) (Turning.puts R (Turning.ended_by h eof s) over) (Keeps again refl)
+    (Puts (Turning.ended_by h eof s) over name refl)
 shape_eof_stage R V rs h eof s Known name = Puts (Turning.heard R V s) _ (heard_name R V s ∙ name) refl
 shape_eof_stage R V rs h eof s (Over ending) name = Keeps (Turning.acks_only h eof Active words.Idle) refl
 shape_eof_stage R V rs h eof s Waiting name = Keeps (Turning.acks_only h eof Active words.Idle) refl
@@ -93,7 +96,8 @@ shape_eof R V rs h eof None e =
     let kept = Turning.acks_only h eof (status_of R (id_of h)) (Turning.absent R (id_of h)) in
     let full = Turning.keeps R (Turning.said_of h words.TableFull) in
     let holds = Turning.holds R h eof in
-    cond_both (is_closed R (id_of h) || not (eof.condition == 0) || not h.acknowledged) (Turning.keeps R kept) (if is_full R then full else holds) (Shape R (id_of h)) (λ b. Keeps kept refl)
+    cond_both (is_closed R (id_of h) || not (eof.condition == 0) || not h.acknowledged) (Turning.keeps R kept) (if is_full R then full else holds)
+    (Shape R (id_of h)) (λ b. Keeps kept refl)
     (λ b.
     let both = or_parts (is_closed R (id_of h) || not (eof.condition == 0)) (not h.acknowledged) b in
     let unclosed = (or_parts (is_closed R (id_of h)) (not (eof.condition == 0)) both.0).0 in
@@ -101,7 +105,8 @@ shape_eof R V rs h eof None e =
 shape_eof R V rs h eof (Some s) e = shape_eof_stage R V rs h eof s s.stage (found_name R.sessions (id_of h) s e)
 
 -- what closes a session of that name
-closes_name : (R : State) (s : SessionFields) (t : TransactionId) (a : AnswerFields) → name_of s ≡ t → IsFound R.sessions t → Shape R t (Turning.closes R (name_of s) a)
+closes_name : (R : State) (s : SessionFields) (t : TransactionId) (a : AnswerFields) → name_of s ≡ t → IsFound R.sessions t →
+    Shape R t (Turning.closes R (name_of s) a)
 closes_name R s t a name was = Closes a was (ap (λ (id : TransactionId). Turning.closes R id a) name)
 
 shape_ack_stage : (R : State) (h : Header) (ack : Ack) (s : SessionFields) (stage : Stage) → name_of s ≡ id_of h → IsFound R.sessions (id_of h) →
@@ -111,22 +116,28 @@ shape_ack_stage R h ack s Known name was = said_keeps R (id_of h) h words.Idle
 shape_ack_stage R h ack s (Over ending) name was = said_keeps R (id_of h) h words.Idle
 shape_ack_stage R h ack s Waiting name was =
     let over = Turning.said_of h words.Acknowledged in
-    shape_if R (id_of h) (ack.directive == 5) (Turning.closes R (name_of s) over) (Turning.keeps R (Turning.said_of h words.Idle)) (closes_name R s (id_of h) over name was) (said_keeps R (id_of h) h words.Idle)
+    shape_if R (id_of h) (ack.directive == 5) (Turning.closes R (name_of s) over) (Turning.keeps R (Turning.said_of h words.Idle))
+    (closes_name R s (id_of h) over name was) (said_keeps R (id_of h) h words.Idle)
 
 shape_ack : (R : State) (h : Header) (ack : Ack) (s : Option SessionFields) → session_of R (id_of h) ≡ s → Shape R (id_of h) (Turning.ack_parts R h ack s)
 shape_ack R h ack None e = said_keeps R (id_of h) h words.Idle
 shape_ack R h ack (Some s) e = shape_ack_stage R h ack s s.stage (found_name R.sessions (id_of h) s e) (s, e)
 
 roused_name : (R : State) (s : SessionFields) → name_of (Turning.roused R s) ≡ name_of s
-roused_name R s = cond_both (Due.is_receiving_at (at_of R.world s)) (record s { timer = restarted R.now }) s (λ (t : SessionFields). name_of t ≡ name_of s) (λ e. refl) (λ e. refl)
+roused_name R s = cond_both (Due.is_receiving_at (at_of R.world s)) (record s { timer = restarted R.now }) s (λ (t : SessionFields). name_of t ≡ name_of s)
+    (λ e. refl) (λ e. refl)
 
-shape_prompt : (R : State) (h : Header) (prompt : Prompt) (s : Option SessionFields) → session_of R (id_of h) ≡ s → Shape R (id_of h) (Turning.prompt_parts R h prompt s)
+shape_prompt : (R : State) (h : Header) (prompt : Prompt) (s : Option SessionFields) → session_of R (id_of h) ≡ s →
+    Shape R (id_of h) (Turning.prompt_parts R h prompt s)
 shape_prompt R h prompt None e = said_keeps R (id_of h) h words.Idle
 shape_prompt R h prompt (Some s) e =
-    shape_if R (id_of h) (s.header.acknowledged && Turning.takes_prompts (at_of R.world s)) (Turning.puts R (Turning.roused R s) (Turning.prompted R h s prompt)) (Turning.keeps R (Turning.said_of h words.Idle))
-    (Puts (Turning.roused R s) (Turning.prompted R h s prompt) (roused_name R s ∙ found_name R.sessions (id_of h) s e) refl) (said_keeps R (id_of h) h words.Idle)
+    shape_if R (id_of h) (s.header.acknowledged && Turning.takes_prompts (at_of R.world s))
+    (Turning.puts R (Turning.roused R s) (Turning.prompted R h s prompt)) (Turning.keeps R (Turning.said_of h words.Idle))
+    (Puts (Turning.roused R s) (Turning.prompted R h s prompt) (roused_name R s ∙ found_name R.sessions (id_of h) s e) refl)
+    (said_keeps R (id_of h) h words.Idle)
 
-shape_gives_up : (R : State) (s : SessionFields) (condition : ℕ) (how : Handler) (at : At) → IsFound R.sessions (name_of s) → Shape R (name_of s) (Turning.gives_up R s condition how at)
+shape_gives_up : (R : State) (s : SessionFields) (condition : ℕ) (how : Handler) (at : At) → IsFound R.sessions (name_of s) →
+    Shape R (name_of s) (Turning.gives_up R s condition how at)
 shape_gives_up R s condition handlers.Ignore at was = Puts _ _ refl refl
 shape_gives_up R s condition handlers.Cancel At_waiting was = Closes _ was refl
 shape_gives_up R s condition handlers.Cancel At_held was = Puts _ _ refl refl
@@ -155,7 +166,8 @@ due_later x xs Due.Nothing_due d = tt
 due_later x xs (Due.Alive_due s) d = found_either x xs (name_of s) d
 due_later x xs (Due.Stage_due s limit) d = found_either x xs (name_of s) d
 
-due_by_is : (expiry : Expiry) (alive : Bool) (x : SessionFields) (xs : List SessionFields) (later : Due.Due) → IsDueOf xs later → IsDueOf (x ∷ xs) (Due.due_by expiry alive x later)
+due_by_is : (expiry : Expiry) (alive : Bool) (x : SessionFields) (xs : List SessionFields) (later : Due.Due) → IsDueOf xs later →
+    IsDueOf (x ∷ xs) (Due.due_by expiry alive x later)
 due_by_is Again alive x xs later d = found_self x xs
 due_by_is Limit alive x xs later d = found_self x xs
 due_by_is NotDue true x xs later d = found_self x xs
@@ -177,7 +189,8 @@ over_later x xs (Some s) d = found_either x xs (name_of s) d
 pub over_is : (W : World) (ss : List SessionFields) → IsOverOf ss (Due.first_over W ss)
 over_is W [] = tt
 over_is W (x ∷ xs) =
-    cond_both (Due.is_over (at_of W x)) (Some x) (Due.first_over W xs) (IsOverOf (x ∷ xs)) (λ e. found_self x xs) (λ e. over_later x xs (Due.first_over W xs) (over_is W xs))
+    cond_both (Due.is_over (at_of W x)) (Some x) (Due.first_over W xs) (IsOverOf (x ∷ xs)) (λ e. found_self x xs)
+    (λ e. over_later x xs (Due.first_over W xs) (over_is W xs))
 
 shape_due : (R : State) (V : World) (due : Due.Due) → IsDueOf R.sessions due → Shape R (due_name due) (Turning.due_parts R V due)
 shape_due R V Due.Nothing_due d = Keeps (Turning.quiet Became.Nothing) refl
@@ -204,7 +217,8 @@ shape_finish : (R : State) (s : Option SessionFields) → IsOverOf R.sessions s 
 shape_finish R None d = Keeps (Turning.quiet Became.Nothing) refl
 shape_finish R (Some s) d = shape_session R s (Turning.outcome_for s (entry_of R.world (name_of s))) d
 
-shape_cancel_stage : (R : State) (rs : List Reply) (t : TransactionId) (s : SessionFields) (stage : Stage) → name_of s ≡ t → Shape R t (Turning.cancel_stage R rs s stage)
+shape_cancel_stage : (R : State) (rs : List Reply) (t : TransactionId) (s : SessionFields) (stage : Stage) → name_of s ≡ t →
+    Shape R t (Turning.cancel_stage R rs s stage)
 shape_cancel_stage R rs t s (Held eof) name = Puts (Turning.over_here R s 15) (Turning.said s words.Cancelled) name refl
 shape_cancel_stage R rs t s Known name = Keeps (Turning.quiet (Turning.replied (name_of s) rs)) refl
 shape_cancel_stage R rs t s (Over ending) name = own_keeps R t s words.Idle
@@ -220,11 +234,15 @@ shape_ours R h p hp =
     shape_if R (id_of h) (Handing.is_ours R h) p (Turning.keeps R away) hp (Keeps away refl)
 
 shape_of : (R : State) (V : World) (rs : List Reply) (i : Input) → Shape R (touched_in R i) (Turning.parts_of R V rs i)
-shape_of R V rs (MetadataPdu now h m) = shape_ours R h (Turning.metadata_parts R V rs h m (session_of R (id_of h))) (shape_metadata R V rs h m (session_of R (id_of h)) refl)
-shape_of R V rs (DataPdu now h piece) = shape_ours R h (Turning.data_parts R V rs h piece (session_of R (id_of h))) (shape_data R V rs h piece (session_of R (id_of h)) refl)
-shape_of R V rs (EofPdu now h eof) = shape_ours R h (Turning.eof_parts R V rs h eof (session_of R (id_of h))) (shape_eof R V rs h eof (session_of R (id_of h)) refl)
+shape_of R V rs (MetadataPdu now h m) = shape_ours R h (Turning.metadata_parts R V rs h m (session_of R (id_of h)))
+    (shape_metadata R V rs h m (session_of R (id_of h)) refl)
+shape_of R V rs (DataPdu now h piece) = shape_ours R h (Turning.data_parts R V rs h piece (session_of R (id_of h)))
+    (shape_data R V rs h piece (session_of R (id_of h)) refl)
+shape_of R V rs (EofPdu now h eof) = shape_ours R h (Turning.eof_parts R V rs h eof (session_of R (id_of h)))
+    (shape_eof R V rs h eof (session_of R (id_of h)) refl)
 shape_of R V rs (AckPdu now h ack) = shape_ours R h (Turning.ack_parts R h ack (session_of R (id_of h))) (shape_ack R h ack (session_of R (id_of h)) refl)
-shape_of R V rs (PromptPdu now h prompt) = shape_ours R h (Turning.prompt_parts R h prompt (session_of R (id_of h))) (shape_prompt R h prompt (session_of R (id_of h)) refl)
+shape_of R V rs (PromptPdu now h prompt) = shape_ours R h (Turning.prompt_parts R h prompt (session_of R (id_of h)))
+    (shape_prompt R h prompt (session_of R (id_of h)) refl)
 shape_of R V rs (OtherPdu now h) = shape_ours R h (Turning.keeps R (Turning.quiet Became.NotOurs)) (Keeps (Turning.quiet Became.NotOurs) refl)
 shape_of R V rs (Expire now) = shape_due R V (Due.first_due R R.sessions) (due_is R R.sessions)
 shape_of R V rs (Work now) = Keeps _ refl
@@ -238,7 +256,8 @@ shape R i = shape_of (Handing.later (now_of i) R) (run R.world (Handing.handed R
 
 -- the others ---------------------------------------------------------------------------
 
-others_by : (R : State) (t : TransactionId) (p : Turning.Parts) → Shape R t p → (id : TransactionId) → is_same t id ≡ false → found p.sessions id ≡ found R.sessions id
+others_by : (R : State) (t : TransactionId) (p : Turning.Parts) → Shape R t p → (id : TransactionId) → is_same t id ≡ false → found p.sessions id
+    ≡ found R.sessions id
 others_by R t p (Keeps a e) id h = ap (λ (q : Turning.Parts). found q.sessions id) e
 others_by R t p (Puts s a name e) id h =
     ap (λ (q : Turning.Parts). found q.sessions id) e ∙ replaced_other R.sessions s id (ap (λ (n : TransactionId). is_same n id) name ∙ h)
@@ -259,7 +278,8 @@ closed_in names id = list_any (λ name. is_same name id) names
 abbrev Tracked : List SessionFields → List TransactionId → Bool → TransactionId → Type 0
 Tracked sessions closed forgot id = IsFound sessions id ⊎ ((closed_in closed id ≡ true) ⊎ (forgot ≡ true))
 
-kept_or_full : (n : ℕ) (names : List TransactionId) (id : TransactionId) → closed_in names id ≡ true → (closed_in (take n names) id ≡ true) ⊎ (suc n ≤ length names)
+kept_or_full : (n : ℕ) (names : List TransactionId) (id : TransactionId) → closed_in names id ≡ true → (closed_in (take n names) id ≡ true)
+    ⊎ (suc n ≤ length names)
 kept_or_full n [] id h = absurd cc
 kept_or_full zero (x ∷ xs) id h = inr (omega arith)
 kept_or_full (suc n) (x ∷ xs) id h = elim (or_cases (is_same x id) (closed_in xs id) h) [
@@ -286,7 +306,8 @@ tracked_closing R t id a tracked = elim (cases_Bool (is_same t id)) [
   ]
 ]
 
-tracked_by : (R : State) (t : TransactionId) (p : Turning.Parts) → Shape R t p → (id : TransactionId) → Tracked R.sessions R.closed.names R.closed.forgot id → Tracked p.sessions p.closed.names p.closed.forgot id
+tracked_by : (R : State) (t : TransactionId) (p : Turning.Parts) → Shape R t p → (id : TransactionId) → Tracked R.sessions R.closed.names R.closed.forgot id →
+    Tracked p.sessions p.closed.names p.closed.forgot id
 tracked_by R t p (Keeps a e) id tracked = subst (λ (q : Turning.Parts). Tracked q.sessions q.closed.names q.closed.forgot id) (sym e) tracked
 tracked_by R t p (Puts s a name e) id tracked = subst (λ (q : Turning.Parts). Tracked q.sessions q.closed.names q.closed.forgot id) (sym e) (
     elim tracked [ inl f ↦ inl (found_replaced R.sessions s id f) | inr rest ↦ inr rest ]
@@ -305,7 +326,8 @@ tracked_all R id (i ∷ is) tracked =
     tracked_all (Turning.after R i) id is (tracked_by (Handing.later (now_of i) R) (touched R i) (Turning.parts R i) (shape R i) id tracked)
 
 -- the status of what is tracked
-not_unrecognized : (o : Option SessionFields) (closed forgot : Bool) → ((t : SessionFields) × (o ≡ Some t)) ⊎ ((closed ≡ true) ⊎ (forgot ≡ true)) → session_status o closed forgot ≡ Unrecognized → ⊥
+not_unrecognized : (o : Option SessionFields) (closed forgot : Bool) → ((t : SessionFields) × (o ≡ Some t)) ⊎ ((closed ≡ true) ⊎ (forgot ≡ true)) →
+    session_status o closed forgot ≡ Unrecognized → ⊥
 not_unrecognized (Some t) closed forgot h e = absurd cc
 not_unrecognized None true forgot h e = absurd cc
 not_unrecognized None false true h e = absurd cc
@@ -372,13 +394,15 @@ had_by R0 R inputs i t p same (Closes a was e) had id closed =
 had_by R0 R inputs i t p same (Forgets a e) had id closed =
     absurd (none_of_none (sym (ap (λ (q : Turning.Parts). closed_in q.closed.names id) e) ∙ closed))
 
-had_all : (R0 : State) (done inputs : List Input) → Had R0 done (Turning.after_all R0 done).closed.names → Had R0 (done ++ inputs) (Turning.after_all R0 (done ++ inputs)).closed.names
+had_all : (R0 : State) (done inputs : List Input) → Had R0 done (Turning.after_all R0 done).closed.names →
+    Had R0 (done ++ inputs) (Turning.after_all R0 (done ++ inputs)).closed.names
 had_all R0 done [] had = subst (λ (xs : List Input). Had R0 xs (Turning.after_all R0 xs).closed.names) (sym (append-nil done)) had
 had_all R0 done (i ∷ is) had =
     let R = Turning.after_all R0 done in
     let step : Had R0 (done ++ i ∷ []) (Turning.parts R i).closed.names =
     had_by R0 (Handing.later (now_of i) R) done i (touched R i) (Turning.parts R i) refl (shape R i) had in
-    let same : (Turning.after_all R0 (done ++ i ∷ [])).closed.names ≡ (Turning.parts R i).closed.names = ap (λ (x : State). x.closed.names) (after_append R0 done i) in
+    let same : (Turning.after_all R0 (done ++ i ∷ [])).closed.names ≡ (Turning.parts R i).closed.names =
+    ap (λ (x : State). x.closed.names) (after_append R0 done i) in
     let next = had_all R0 (done ++ i ∷ []) is (subst (Had R0 (done ++ i ∷ [])) (sym same) step) in
     subst (λ (xs : List Input). Had R0 xs (Turning.after_all R0 xs).closed.names) (append_assoc done (i ∷ []) is) next
 

@@ -19,7 +19,11 @@ use Rattle.cfdp_receiver.proofs.Shapes.{shape}
 use Rattle.cfdp_receiver.proofs.Turned.{turned}
 
 pub whole_begin : (mib : Mib) (W : World) → W.table ≡ [] → IsWhole (begin mib W)
-whole_begin mib W none = record { known = λ id. ap (λ (t : List Entry). is_some (slice_get t (place_of id t))) none; over = λ id closed. refl; ends = none_listed W none }
+whole_begin mib W none = record {
+  known = λ id. ap (λ (t : List Entry). is_some (slice_get t (place_of id t))) none;
+  over = λ id closed. refl;
+  ends = none_listed W none;
+}
 
 pub whole_after : Laws → NextIsSound → NextIsPromised → (R : State) (i : Input) → Sound R.world → AreDistinct R.sessions → IsWhole R →
     IsWhole (Turning.after R i)

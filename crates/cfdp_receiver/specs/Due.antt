@@ -2,7 +2,8 @@
 --     terms_at mib checks acknowledged timer at    the interval and the limit of a stage's timer, where it has one
 --     expiry_of R s             whether the timer of a session's stage has expired
 --     is_alive_due R s          a Keep Alive PDU is due
---     Due, first_due R ss       the first session with a timer that is due, and which timer: that of its stage comes before Keep Alive
+--     Due, first_due R ss       the first session with a timer that is due, and which timer: that of its stage comes
+--                               before Keep Alive
 --     first_over W ss           the first session that is over
 --     IsSet mib                 each interval is at least one tick
 --     fault_at, handler_at      the condition code of a stage's timer at its limit (§5.2.2), and what is done then
@@ -43,7 +44,8 @@ expiry_by now timer None = NotDue
 expiry_by now timer (Some terms) = expiry terms.0 terms.1 now timer
 
 abbrev pub expiry_of : State → SessionFields → Expiry
-expiry_of R s = expiry_by R.now s.timer (terms_at R.mib R.world.config.checks s.header.acknowledged s.timer (at_of R.world s))
+expiry_of R s = expiry_by R.now s.timer (terms_at R.mib R.world.config.checks s.header.acknowledged s.timer
+    (at_of R.world s))
 
 abbrev pub is_receiving_at : At → Bool
 is_receiving_at At_receiving = true
@@ -54,7 +56,8 @@ has_passed None now since = false
 has_passed (Some interval) now since = nat_le (since + interval) now
 
 abbrev pub is_alive_due : State → SessionFields → Bool
-is_alive_due R s = s.header.acknowledged && is_receiving_at (at_of R.world s) && has_passed R.mib.keep_alive R.now s.alive_at
+is_alive_due R s = s.header.acknowledged && is_receiving_at (at_of R.world s)
+    && has_passed R.mib.keep_alive R.now s.alive_at
 
 pub data Due : Type 0 where
   Nothing_due : Due

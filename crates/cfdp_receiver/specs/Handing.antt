@@ -58,9 +58,11 @@ limit_events id checks handlers.Abandon = Cancel id ∷ []
 abbrev pub due_events : State → Due → List Event
 due_events R Nothing_due = []
 due_events R (Alive_due s) = []
-due_events R (Stage_due s false) = where_known s.stage (if makes_checks s.header.acknowledged (at_of R.world s) then Check (name_of s) ∷ [] else [])
+due_events R (Stage_due s false) = where_known s.stage (if makes_checks s.header.acknowledged (at_of R.world s)
+    then Check (name_of s) ∷ [] else [])
 due_events R (Stage_due s true) =
-    where_known s.stage (limit_events (name_of s) (makes_checks s.header.acknowledged (at_of R.world s)) (handler_at R.mib s.header.acknowledged (at_of R.world s)))
+    where_known s.stage (limit_events (name_of s) (makes_checks s.header.acknowledged (at_of R.world s))
+    (handler_at R.mib s.header.acknowledged (at_of R.world s)))
 
 abbrev pub step_of : Option TransactionId → List Event
 step_of None = []
@@ -73,7 +75,8 @@ take_of (Some s) = where_known s.stage (Take (name_of s) ∷ [])
 -- R is as late as the input
 abbrev pub events_of : State → Input → List Event
 events_of R (MetadataPdu now h m) = if is_ours R h then metadata_events R h m (session_of R (id_of h)) else []
-events_of R (DataPdu now h piece) = if is_ours R h then of_session (session_of R (id_of h)) (DataCame h piece ∷ []) else []
+events_of R (DataPdu now h piece) = if is_ours R h then of_session (session_of R (id_of h)) (DataCame h piece ∷ [])
+    else []
 events_of R (EofPdu now h eof) = if is_ours R h then of_session (session_of R (id_of h)) (EofCame h eof ∷ []) else []
 events_of R (AckPdu now h ack) = []
 events_of R (PromptPdu now h prompt) = []

@@ -3,7 +3,8 @@
 --     heard now octets          the same, of octets that may have a CRC
 --     input_of now directed     the input that a PDU is that was read and is no File Data PDU
 --     IsHearable directed       what is read can be handed in
---     IsDropped now octets why  why octets were dropped: by their first fault, or out of memory for a Metadata PDU;  IsUnread: without a CRC
+--     IsDropped now octets why  why octets were dropped: by their first fault, or out of memory for a Metadata
+--                               PDU;  IsUnread: without a CRC
 use Rattle.std.specs.Prelude.{◌≡◌, ◌⊎◌, ⊤, ℕ, ◌==◌, if◌then◌else◌, List, Result, Ok, Err}
 use Rattle.cfdp_crc.specs.Seal.{unsealed}
 use Rattle.cfdp_crc.specs.declared.sealing.CrcFault.{CrcFault}
@@ -38,7 +39,8 @@ directive_input now (Err fault) = Err (dropped.Pdu fault)
 
 -- those of code 8, NAK, and of the codes 6, 9 and 12: ACK, Prompt and Keep Alive
 abbrev pub other_input : ℕ → Header → ℕ → List ℕ → Result Input Dropped
-other_input now h code octets = if code == 8 then nak_input now h (nak_at octets) else directive_input now (directive_at octets)
+other_input now h code octets = if code == 8 then nak_input now h (nak_at octets)
+    else directive_input now (directive_at octets)
 
 abbrev pub pdu_input : ℕ → List ℕ → Result Pdu PduFault → Result Input Dropped
 pdu_input now octets (Ok (pdus.Metadata h m)) = Ok (MetadataPdu now h m)

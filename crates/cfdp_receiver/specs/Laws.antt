@@ -14,8 +14,10 @@
 --     ExactlyMissing            each missing offset once, and no other
 --     asks_metadata requests    how often the Metadata PDU is asked for
 --     asks_from, IsAsked        from where on octets are asked for;  the octet at an offset is missing there
---     AsksOnce, AsksOnceIn, NaksAskOnce      of the NAK PDUs of an answer: each missing octet once, and the Metadata PDU exactly where none came
---     EndsThere W, EndsStayThere      the octet before the end of what was received of each transaction is there;  and stays so
+--     AsksOnce, AsksOnceIn, NaksAskOnce      of the NAK PDUs of an answer: each missing octet once, and the Metadata
+--                                            PDU exactly where none came
+--     EndsThere W, EndsStayThere      the octet before the end of what was received of each transaction is there;  and
+--                                     stays so
 --     NaksAskOnceIn             the same as NaksAskOnce, of a state
 --     FewNakPdus, FewRequests   how many NAK PDUs they are at most;  how many requests
 --     due_of, timers_due        how many timers are due, of a session and of several
@@ -30,11 +32,14 @@
 --     NoneAfterAck              an ACK PDU of a Finished PDU closes the transaction, and then none is sent
 --     EntriesStay               events of others leave a transaction's entry in the core as it is
 --     OthersKeepEntries         so does an input that is about another
---     WorkKeepsOthers           an item that is performed for one transaction leaves the entries of all others as they are
---     IsPast R id, NoneAgain    a Metadata PDU of a transaction that is closed and remembered, is over or waits, is not handed on
+--     WorkKeepsOthers           an item that is performed for one transaction leaves the entries of all others as they
+--                               are
+--     IsPast R id, NoneAgain    a Metadata PDU of a transaction that is closed and remembered, is over or waits, is not
+--                               handed on
 --     NotBegunAnew              one of a transaction that the core knows leaves the core as it is
 --     is_remembered R id        it is closed and remembered, or has a session that holds no EOF PDU
---     RememberedStays           the same of a state: a Metadata PDU of a transaction that is remembered leaves the core as it is
+--     RememberedStays           the same of a state: a Metadata PDU of a transaction that is remembered leaves the core
+--                               as it is
 --     AtMostOnce                while a transaction is remembered, no Metadata PDU of it changes the core
 use Rattle.std.specs.Prelude.{◌≡◌, ◌≢◌, ◌⊎◌, ℕ, ◌+◌, ◌-◌, ◌*◌, ◌≤◌, ◌<◌, ◌==◌, ◌&&◌, Bool, true, false, ◌||◌, if◌then◌else◌, List, [], ◌∷◌, ◌++◌, map, min, length, Option, Some, None, is_some}
 use Rattle.std.specs.List.{AllByRecursion, flat_map}
@@ -82,7 +87,8 @@ abbrev pub FewEvents : Type 0
 FewEvents = (R : State) (i : Input) → length (handed R i) ≤ 2
 
 abbrev pub FewPdus : Type 0
-FewPdus = (R : State) (i : Input) → (length (parts R i).answer.acks ≤ 1) × (length (parts R i).answer.keep_alives + length (parts R i).answer.finished ≤ 1)
+FewPdus = (R : State) (i : Input) → (length (parts R i).answer.acks ≤ 1)
+    × (length (parts R i).answer.keep_alives + length (parts R i).answer.finished ≤ 1)
 
 -- an EOF PDU without a fault would begin a transaction, for which there is no room
 pub record FindsNoRoom (R : State) (h : Header) (eof : Eof) : Type 0 where
@@ -95,7 +101,8 @@ pub record FindsNoRoom (R : State) (h : Header) (eof : Eof) : Type 0 where
 abbrev pub AcknowledgedOnce : Type 0
 AcknowledgedOnce =
     (R : State) (now : ℕ) (h : Header) (eof : Eof) → h.acknowledged ≡ true → is_ours R h ≡ true →
-    ((parts R (EofPdu now h eof)).answer.acks ≡ acked h eof.condition (status_of (after R (EofPdu now h eof)) (id_of h)))
+    ((parts R (EofPdu now h eof)).answer.acks ≡ acked h eof.condition
+    (status_of (after R (EofPdu now h eof)) (id_of h)))
     ⊎ (((parts R (EofPdu now h eof)).answer.acks ≡ []) × FindsNoRoom R h eof)
 
 -- of an input that is about no transaction; then the name does not matter
@@ -128,11 +135,13 @@ abbrev pub touched : State → Input → TransactionId
 touched R i = touched_in (later (now_of i) R) i
 
 abbrev pub OthersStay : Type 0
-OthersStay = (R : State) (i : Input) (id : TransactionId) → is_same (touched R i) id ≡ false → session_of (after R i) id ≡ session_of R id
+OthersStay = (R : State) (i : Input) (id : TransactionId) → is_same (touched R i) id ≡ false → session_of (after R i) id
+    ≡ session_of R id
 
 abbrev pub UnrecognizedIsTrue : Type 0
 UnrecognizedIsTrue =
-    (R : State) (s : SessionFields) (id : TransactionId) (inputs : List Input) → session_of R id ≡ Some s → status_of (after_all R inputs) id ≢ Unrecognized
+    (R : State) (s : SessionFields) (id : TransactionId) (inputs : List Input) → session_of R id ≡ Some s →
+    status_of (after_all R inputs) id ≢ Unrecognized
 
 abbrev pub is_known : Stage → Bool
 is_known Known = true
@@ -148,15 +157,18 @@ AreKnown R = (id : TransactionId) → is_some (entry_of R.world id) ≡ knows (s
 -- it is closed; or it is over, and was never in the core; or its outcome was taken, and the acknowledgement is awaited
 pub data IsPast (R : State) (id : TransactionId) : Type 0 where
   Past_closed : (none : session_of R id ≡ None) → (closed : is_closed R id ≡ true) → IsPast R id
-  Past_over : (s : SessionFields) → (ending : Ending) → (here : session_of R id ≡ Some s) → (over : s.stage ≡ Over ending) → IsPast R id
+  Past_over : (s : SessionFields) → (ending : Ending) → (here : session_of R id ≡ Some s) →
+      (over : s.stage ≡ Over ending) → IsPast R id
   Past_waiting : (s : SessionFields) → (here : session_of R id ≡ Some s) → (waits : s.stage ≡ Waiting) → IsPast R id
 
 abbrev pub NoneAgain : Type 0
-NoneAgain = (R : State) (now : ℕ) (h : Header) (m : MetadataFields) → IsPast R (id_of h) → handed R (MetadataPdu now h m) ≡ []
+NoneAgain = (R : State) (now : ℕ) (h : Header) (m : MetadataFields) → IsPast R (id_of h) →
+    handed R (MetadataPdu now h m) ≡ []
 
 abbrev pub NotBegunAnew : Type 0
 NotBegunAnew =
-    (R : State) (now : ℕ) (h : Header) (m : MetadataFields) (s : SessionFields) (entry : Entry) → session_of R (id_of h) ≡ Some s → s.stage ≡ Known →
+    (R : State) (now : ℕ) (h : Header) (m : MetadataFields) (s : SessionFields) (entry : Entry) → session_of R (id_of h)
+    ≡ Some s → s.stage ≡ Known →
     entry_of R.world (id_of h) ≡ Some entry → (after R (MetadataPdu now h m)).world ≡ R.world
 
 -- where an EOF PDU is held, the first Metadata PDU is still to come
@@ -174,7 +186,8 @@ is_remembered R id = is_closed R id || is_begun (session_of R id)
 -- of a state as each is that a receiver comes to
 abbrev pub RememberedStays : Type 0
 RememberedStays =
-    (R : State) (now : ℕ) (h : Header) (m : MetadataFields) → AreKnown R → (is_closed R (id_of h) ≡ true → session_of R (id_of h) ≡ None) →
+    (R : State) (now : ℕ) (h : Header) (m : MetadataFields) → AreKnown R →
+    (is_closed R (id_of h) ≡ true → session_of R (id_of h) ≡ None) →
     is_remembered R (id_of h) ≡ true → (after R (MetadataPdu now h m)).world ≡ R.world
 
 abbrev pub AtMostOnce : Type 0
@@ -200,30 +213,38 @@ ClosedIsOver =
     (mib : Mib) (W : World) (inputs : List Input) (id : TransactionId) →
     is_closed (after_all (begin mib W) inputs) id ≡ true → session_of (after_all (begin mib W) inputs) id ≡ None
 
--- of a state that is as late as the input: none; or the outcome of the first session that is over; or what was sent before, of the session
--- whose acknowledgement timer expired below its limit
+-- of a state that is as late as the input: none; or the outcome of the first session that is over; or what was sent
+-- before, of the session whose acknowledgement timer expired below its limit
 pub data Sent (R : State) (i : Input) (sent : List (List ℕ)) : Type 0 where
   None_sent : (e : sent ≡ []) → Sent R i sent
-  First_sent : (now : ℕ) → (s : SessionFields) → (is : i ≡ Finish now) → (over : first_over R.world R.sessions ≡ Some s) →
+  First_sent : (now : ℕ) → (s : SessionFields) → (is : i ≡ Finish now) →
+      (over : first_over R.world R.sessions ≡ Some s) →
       (e : sent ≡ finished_octets (outcome_for s (entry_of R.world (name_of s))) ∷ []) → Sent R i sent
-  Sent_again : (now : ℕ) → (s : SessionFields) → (is : i ≡ Expire now) → (due : first_due R R.sessions ≡ Stage_due s false) →
+  Sent_again : (now : ℕ) → (s : SessionFields) → (is : i ≡ Expire now) →
+      (due : first_due R R.sessions ≡ Stage_due s false) →
       (waits : s.stage ≡ Waiting) → (e : sent ≡ s.finished ∷ []) → Sent R i sent
 
 abbrev pub FinishedOnly : Type 0
 FinishedOnly = (R : State) (i : Input) → Sent (later (now_of i) R) i (parts R i).answer.finished
 
--- what the NAK PDUs of one answer ask for: U is the world before the input, N the state after it, id the transaction that it is about. None; or,
--- in acknowledged mode, of its session that holds an EOF PDU, the Metadata PDU and the whole file; or of one that the core knows, all gaps; or,
--- after a File Data PDU, the gaps that began after all that was there before, of which there is one at least
+-- what the NAK PDUs of one answer ask for: U is the world before the input, N the state after it, id the transaction
+-- that it is about. None; or, in acknowledged mode, of its session that holds an EOF PDU, the Metadata PDU and the
+-- whole file; or of one that the core knows, all gaps; or, after a File Data PDU, the gaps that began after all that
+-- was there before, of which there is one at least
 pub data Asked (U : World) (data_came : Bool) (N : State) (id : TransactionId) (sent : List NakFields) : Type 0 where
   Asks_none : (e : sent ≡ []) → Asked U data_came N id sent
-  Asks_all : (s : SessionFields) → (eof : Eof) → (here : session_of N id ≡ Some s) → (mode : s.header.acknowledged ≡ true) → (held : s.stage ≡ Held eof) →
+  Asks_all : (s : SessionFields) → (eof : Eof) → (here : session_of N id ≡ Some s) →
+      (mode : s.header.acknowledged ≡ true) → (held : s.stage ≡ Held eof) →
       (e : sent ≡ sequence N.mib s.header 0 eof.size (all_of eof.size)) → Asked U data_came N id sent
-  Asks_gaps : (s : SessionFields) → (entry : Entry) → (here : session_of N id ≡ Some s) → (mode : s.header.acknowledged ≡ true) → (known : s.stage ≡ Known) →
-      (there : entry_of N.world id ≡ Some entry) → (other : data_came ≡ false) → (e : sent ≡ sequence N.mib s.header 0 (reach entry) (gaps entry)) →
+  Asks_gaps : (s : SessionFields) → (entry : Entry) → (here : session_of N id ≡ Some s) →
+      (mode : s.header.acknowledged ≡ true) → (known : s.stage ≡ Known) →
+      (there : entry_of N.world id ≡ Some entry) → (other : data_came ≡ false) →
+      (e : sent ≡ sequence N.mib s.header 0 (reach entry) (gaps entry)) →
       Asked U data_came N id sent
-  Asks_new : (s : SessionFields) → (entry : Entry) → (low : ℕ) → (here : session_of N id ≡ Some s) → (mode : s.header.acknowledged ≡ true) →
-      (known : s.stage ≡ Known) → (there : entry_of N.world id ≡ Some entry) → (came : data_came ≡ true) → (immediate : is_immediate N.mib.nak_mode ≡ true) →
+  Asks_new : (s : SessionFields) → (entry : Entry) → (low : ℕ) → (here : session_of N id ≡ Some s) →
+      (mode : s.header.acknowledged ≡ true) →
+      (known : s.stage ≡ Known) → (there : entry_of N.world id ≡ Some entry) → (came : data_came ≡ true) →
+      (immediate : is_immediate N.mib.nak_mode ≡ true) →
       (from : low ≡ progress_at (entry_of U id)) → (some : 1 ≤ length (gaps_after low entry)) →
       (e : sent ≡ sequence N.mib s.header low (reach entry) (gaps_after low entry)) → Asked U data_came N id sent
 
@@ -241,8 +262,10 @@ requests_of naks = flat_map (λ nak. nak.requests) naks
 abbrev pub ExactlyMissing : Type 0
 ExactlyMissing =
     (mib : Mib) (h : Header) (entry : Entry) (low i : ℕ) → 1 ≤ most_requests mib → continues entry.received low ≡ true →
-    (low ≤ i → i < reach entry → octet_at entry.received i ≡ None → covers i (requests_of (sequence mib h low (reach entry) (gaps_after low entry))) ≡ 1)
-    × ((low ≤ i → i < reach entry → octet_at entry.received i ≡ None → ⊥) → covers i (requests_of (sequence mib h low (reach entry) (gaps_after low entry))) ≡ 0)
+    (low ≤ i → i < reach entry → octet_at entry.received i ≡ None →
+    covers i (requests_of (sequence mib h low (reach entry) (gaps_after low entry))) ≡ 1)
+    × ((low ≤ i → i < reach entry → octet_at entry.received i ≡ None → ⊥) →
+    covers i (requests_of (sequence mib h low (reach entry) (gaps_after low entry))) ≡ 0)
 
 -- how often the Metadata PDU is among the requests
 abbrev pub asks_metadata : List (ℕ × ℕ) → ℕ
@@ -258,19 +281,25 @@ asks_from U false id = 0
 abbrev pub IsAsked : Entry → ℕ → ℕ → Type 0
 IsAsked entry low at = (low ≤ at) × (at < reach entry) × (octet_at entry.received at ≡ None)
 
--- of all requests of an answer with NAK PDUs. Where the EOF PDU is held: the Metadata PDU once, and each octet of the file once. Where the core
--- knows the transaction: never the Metadata PDU, each missing octet once, and no other
-pub data AsksOnce (U : World) (data_came : Bool) (N : State) (id : TransactionId) (at : ℕ) (requests : List (ℕ × ℕ)) : Type 0 where
-  Once_held : (s : SessionFields) → (eof : Eof) → (here : session_of N id ≡ Some s) → (held : s.stage ≡ Held eof) → (metadata : asks_metadata requests ≡ 1) →
-      (inside : at < eof.size → covers at requests ≡ 1) → (outside : eof.size ≤ at → covers at requests ≡ 0) → AsksOnce U data_came N id at requests
-  Once_known : (s : SessionFields) → (entry : Entry) → (here : session_of N id ≡ Some s) → (known : s.stage ≡ Known) → (there : entry_of N.world id ≡ Some entry) →
+-- of all requests of an answer with NAK PDUs. Where the EOF PDU is held: the Metadata PDU once, and each octet of the
+-- file once. Where the core knows the transaction: never the Metadata PDU, each missing octet once, and no other
+pub data AsksOnce (U : World) (data_came : Bool) (N : State) (id : TransactionId) (at : ℕ)
+    (requests : List (ℕ × ℕ)) : Type 0 where
+  Once_held : (s : SessionFields) → (eof : Eof) → (here : session_of N id ≡ Some s) → (held : s.stage ≡ Held eof) →
+      (metadata : asks_metadata requests ≡ 1) →
+      (inside : at < eof.size → covers at requests ≡ 1) → (outside : eof.size ≤ at → covers at requests ≡ 0) →
+      AsksOnce U data_came N id at requests
+  Once_known : (s : SessionFields) → (entry : Entry) → (here : session_of N id ≡ Some s) → (known : s.stage ≡ Known) →
+      (there : entry_of N.world id ≡ Some entry) →
       (metadata : asks_metadata requests ≡ 0) →
       (inside : IsAsked entry (asks_from U data_came id) at → covers at requests ≡ 1) →
-      (outside : (IsAsked entry (asks_from U data_came id) at → ⊥) → covers at requests ≡ 0) → AsksOnce U data_came N id at requests
+      (outside : (IsAsked entry (asks_from U data_came id) at → ⊥) → covers at requests ≡ 0) →
+      AsksOnce U data_came N id at requests
 
 abbrev pub AsksOnceIn : State → Input → ℕ → Type 0
 AsksOnceIn R i at =
-    ((parts R i).answer.naks ≡ []) ⊎ AsksOnce R.world (is_data i) (after R i) (touched R i) at (requests_of (parts R i).answer.naks)
+    ((parts R i).answer.naks ≡ []) ⊎ AsksOnce R.world (is_data i) (after R i) (touched R i) at
+    (requests_of (parts R i).answer.naks)
 
 -- the octet before the end of all that was received of each transaction is there
 abbrev pub EndsThere : World → Type 0
@@ -280,11 +309,13 @@ abbrev pub EndsStayThere : Type 0
 EndsStayThere = (R : State) (i : Input) → EndsThere R.world → EndsThere (after R i).world
 
 abbrev pub NaksAskOnceIn : Type 0
-NaksAskOnceIn = (R : State) (i : Input) (at : ℕ) → 1 ≤ most_requests R.mib → (is_data i ≡ true → EndsThere R.world) → AsksOnceIn R i at
+NaksAskOnceIn = (R : State) (i : Input) (at : ℕ) → 1 ≤ most_requests R.mib → (is_data i ≡ true → EndsThere R.world) →
+    AsksOnceIn R i at
 
 abbrev pub NaksAskOnce : Type 0
 NaksAskOnce =
-    (mib : Mib) (W : World) (inputs : List Input) (i : Input) (at : ℕ) → W.table ≡ [] → 1 ≤ most_requests mib → AsksOnceIn (after_all (begin mib W) inputs) i at
+    (mib : Mib) (W : World) (inputs : List Input) (i : Input) (at : ℕ) → W.table ≡ [] → 1 ≤ most_requests mib →
+    AsksOnceIn (after_all (begin mib W) inputs) i at
 
 abbrev pub FewNakPdus : Type 0
 FewNakPdus =
@@ -292,7 +323,8 @@ FewNakPdus =
     most_requests mib * length (sequence mib h low high requests) < 1 + most_requests mib + length requests
 
 abbrev pub FewRequests : Type 0
-FewRequests = (W : World) (id : TransactionId) (entry : Entry) (low : ℕ) → Sound W → entry_of W id ≡ Some entry → length (gaps_after low entry) ≤ 33
+FewRequests = (W : World) (id : TransactionId) (entry : Entry) (low : ℕ) → Sound W → entry_of W id ≡ Some entry →
+    length (gaps_after low entry) ≤ 33
 
 abbrev pub is_due : Expiry → ℕ
 is_due NotDue = 0
@@ -314,7 +346,8 @@ ServedOnce =
     timers_due (after R (Expire now)) (after R (Expire now)).sessions ≤ timers_due (later now R) R.sessions - 1
 
 abbrev pub KnownIsEntry : Type 0
-KnownIsEntry = (mib : Mib) (W : World) (inputs : List Input) → Sound W → W.table ≡ [] → AreKnown (after_all (begin mib W) inputs)
+KnownIsEntry = (mib : Mib) (W : World) (inputs : List Input) → Sound W → W.table ≡ [] →
+    AreKnown (after_all (begin mib W) inputs)
 
 abbrev pub data_events : Header → List Piece → List Event
 data_events h ps = map (λ p. DataCame h (record { offset = p.0; octets = p.1 })) ps
@@ -322,10 +355,13 @@ data_events h ps = map (λ p. DataCame h (record { offset = p.0; octets = p.1 })
 -- in Awaiting; none of the pieces is passed over, and none ends after the file does
 abbrev pub AnsweredIsDelivered : Type 0
 AnsweredIsDelivered =
-    (W : World) (h : Header) (e : Entry) (eof : Eof) (made : ℕ) (ps : List Piece) → h.destination ≡ W.config.entity → entry_of W (id_of h) ≡ Some e →
+    (W : World) (h : Header) (e : Entry) (eof : Eof) (made : ℕ) (ps : List Piece) → h.destination ≡ W.config.entity →
+    entry_of W (id_of h) ≡ Some e →
     e.phase ≡ Awaiting made → e.eof ≡ Some eof → length e.received ≤ eof.size → is_whole eof.size e.received ≡ false →
-    AllByRecursion (λ p. p.0 + length p.1 ≤ min (bound W.config e.metadata) eof.size) ps → AreKept e.received ps → Answers eof.size e.received ps →
-    (now : Entry) × (entry_of (run W (data_events h ps)) (id_of h) ≡ Some now) × ((now.phase ≡ Executing 0) ⊎ (now.phase ≡ Ended 5))
+    AllByRecursion (λ p. p.0 + length p.1 ≤ min (bound W.config e.metadata) eof.size) ps → AreKept e.received ps →
+    Answers eof.size e.received ps →
+    (now : Entry) × (entry_of (run W (data_events h ps)) (id_of h) ≡ Some now)
+    × ((now.phase ≡ Executing 0) ⊎ (now.phase ≡ Ended 5))
 
 abbrev pub AreApart : Type 0
 AreApart = (mib : Mib) (W : World) (inputs : List Input) → AreDistinct (after_all (begin mib W) inputs).sessions
@@ -348,12 +384,15 @@ sent_while R (i ∷ is) id = if waits_in (session_of R id) then sent_for R i id 
 -- a session begins to wait, with a count of 0, when its Finished PDU is sent first
 abbrev pub SentAtMost : Type 0
 SentAtMost =
-    (R : State) (inputs : List Input) (id : TransactionId) (s : SessionFields) → AreDistinct R.sessions → session_of R id ≡ Some s → s.stage ≡ Waiting →
-    R.mib.ack.at_limit ≢ Ignore → s.timer.count < R.mib.ack.limit → 1 + s.timer.count + sent_while R inputs id ≤ R.mib.ack.limit
+    (R : State) (inputs : List Input) (id : TransactionId) (s : SessionFields) → AreDistinct R.sessions →
+    session_of R id ≡ Some s → s.stage ≡ Waiting →
+    R.mib.ack.at_limit ≢ Ignore → s.timer.count < R.mib.ack.limit → 1 + s.timer.count
+    + sent_while R inputs id ≤ R.mib.ack.limit
 
 abbrev pub EntriesStay : Type 0
 EntriesStay =
-    (W : World) (events : List Event) (id : TransactionId) → Sound W → AllByRecursion (λ v. id ≢ about v) events → entry_of (run W events) id ≡ entry_of W id
+    (W : World) (events : List Event) (id : TransactionId) → Sound W → AllByRecursion (λ v. id ≢ about v) events →
+    entry_of (run W events) id ≡ entry_of W id
 
 -- of the entry, Work is about the transaction whose item is next
 abbrev pub is_work : Input → Bool
@@ -362,7 +401,8 @@ is_work i = false
 
 abbrev pub OthersKeepEntries : Type 0
 OthersKeepEntries =
-    (R : State) (i : Input) (id : TransactionId) → Sound R.world → is_work i ≡ false → is_same (touched R i) id ≡ false →
+    (R : State) (i : Input) (id : TransactionId) → Sound R.world → is_work i ≡ false → is_same (touched R i) id
+    ≡ false →
     entry_of (after R i).world id ≡ entry_of R.world id
 
 abbrev pub WorkKeepsOthers : Type 0
@@ -378,7 +418,9 @@ sent_closed R (i ∷ is) id = if is_closed R id then sent_for R i id + sent_clos
 -- the ACK PDU of a Finished PDU has directive code 5
 abbrev pub NoneAfterAck : Type 0
 NoneAfterAck =
-    (R : State) (now : ℕ) (h : Header) (ack : Ack) (s : SessionFields) (inputs : List Input) → AreDistinct R.sessions → is_ours R h ≡ true → ack.directive ≡ 5 →
+    (R : State) (now : ℕ) (h : Header) (ack : Ack) (s : SessionFields) (inputs : List Input) → AreDistinct R.sessions →
+    is_ours R h ≡ true → ack.directive ≡ 5 →
     session_of R (id_of h) ≡ Some s → s.stage ≡ Waiting →
-    (session_of (after R (AckPdu now h ack)) (id_of h) ≡ None) × (is_closed (after R (AckPdu now h ack)) (id_of h) ≡ true)
+    (session_of (after R (AckPdu now h ack)) (id_of h) ≡ None)
+    × (is_closed (after R (AckPdu now h ack)) (id_of h) ≡ true)
     × (sent_closed (after R (AckPdu now h ack)) inputs (id_of h) ≡ 0)

@@ -1,6 +1,8 @@
 -- What the code keeps and answers, and a turn of a state that is as late as its input.
---     MachineFields             the state, and the Finished PDU of the transaction that was closed last when its outcome was taken
---     AnswerParts               an answer, with the name of the transaction whose Finished PDU is sent in place of its octets
+--     MachineFields             the state, and the Finished PDU of the transaction that was closed last when its
+--                               outcome was taken
+--     AnswerParts               an answer, with the name of the transaction whose Finished PDU is sent in place of its
+--                               octets
 --     finished_for M id         these octets: they are kept with the session, or where the session is closed, beside
 --     answer_in M a             the answer with them
 --     listed option             the list of what is there
@@ -9,9 +11,11 @@
 --     IsSessionAt R id index    the session of this name has this index
 --     in_world V M              the machine in another world
 --     timer_in ss due           the timer that is due, with its session in place of its index
---     is_expired, is_any_due, has_come      whether a timer has expired;  whether one is due;  whether a moment has come
+--     is_expired, is_any_due, has_come      whether a timer has expired;  whether one is due;
+--                                           whether a moment has come
 --     Turns M N a i             from M to N with the answer a is the turn of the input i; M is as late as i
---     first_fault mib           what is wrong with a management information base, in the order of tests;  IsMib mib: nothing
+--     first_fault mib           what is wrong with a management information base, in the order of tests;  IsMib mib:
+--                               nothing
 --     IsNotMade mib W why       why a receiver was not made
 --     IsWhole R                 what is true of a receiver at all times
 --     IsAsking, IsSendable      what is sent fits its PDUs
@@ -77,7 +81,8 @@ joined None = []
 joined (Some naks) = naks
 
 abbrev pub sequence_of : Header → ℕ → ℕ → ℕ → List Range → List NakFields
-sequence_of h most low high requests = map (λ nak. record { header = h; scope = nak.scope; requests = nak.requests }) (naks most low high requests)
+sequence_of h most low high requests = map (λ nak. record { header = h; scope = nak.scope; requests = nak.requests })
+    (naks most low high requests)
 
 abbrev pub finished_by : MachineFields → Option SessionFields → List ℕ
 finished_by M None = M.concluded
@@ -159,7 +164,8 @@ is_no_time (Some interval) = interval == 0
 
 abbrev pub lacks_time : Mib → Bool
 lacks_time mib =
-    (mib.ack.interval == 0) || (mib.nak.interval == 0) || (mib.check.interval == 0) || (mib.inactivity.interval == 0) || is_no_time mib.keep_alive
+    (mib.ack.interval == 0) || (mib.nak.interval == 0) || (mib.check.interval == 0) || (mib.inactivity.interval == 0)
+    || is_no_time mib.keep_alive
 
 abbrev pub is_limit : ℕ → Bool
 is_limit limit = nat_le 1 limit && nat_le limit 1000

@@ -17,7 +17,8 @@ abbrev pub nak_octets : NakFields → List ℕ
 nak_octets nak = nak_pdu nak.header nak.scope nak.requests
 
 abbrev pub after_naks : MachineFields → AnswerParts → List (List ℕ)
-after_naks M a = map (λ keep_alive. keep_alive_pdu keep_alive.0 keep_alive.1) a.keep_alives ++ map (finished_for M) a.finished
+after_naks M a = map (λ keep_alive. keep_alive_pdu keep_alive.0 keep_alive.1) a.keep_alives
+    ++ map (finished_for M) a.finished
 
 abbrev pub after_ack : MachineFields → AnswerParts → List (List ℕ)
 after_ack M a = map nak_octets a.naks ++ after_naks M a

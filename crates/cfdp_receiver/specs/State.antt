@@ -1,7 +1,9 @@
--- A receiving entity: its core, and what it keeps, hears and answers beside it (CCSDS 727.0-B-5, the procedures at the receiving entity).
---     State, begin mib W        the core's world, the sessions in order of beginning, the names closed last;  with no session
+-- A receiving entity: its core, and what it keeps, hears and answers beside it (CCSDS 727.0-B-5, the procedures at the
+-- receiving entity).
+--     State, begin mib W        the core's world, the sessions in order of beginning, the names closed last;  with no
+--                               session
 --     Input, now_of             what comes;  the moment at which it comes
---     AnswerFields              what is sent, what the user is told, and what became of the input
+--     AnswerFields              what is sent, what the user is notified of, and what became of the input
 --     session_of R id           the session of this name, if there is one
 --     is_closed R id            the name is one of those closed last
 --     is_full R                 there are 64 sessions

@@ -4,7 +4,8 @@
 --     keeps, puts, adds, closes     the sessions stay;  one is replaced;  one more begins;  one is closed
 --     most_requests mib         how many segment requests a NAK PDU has at most (§5.2.6)
 --     asks mib V s              the NAK sequence for a session, in the world V
---     parts_of R V replies i    by the input: R is as late as it, V the world after what was handed on, and these were the replies
+--     parts_of R V replies i    by the input: R is as late as it, V the world after what was handed on, and these were
+--                               the replies
 --     turn R i                  the state after an input, and its answer;  after R i, parts R i
 --     after_all, all_answers    the state after several inputs;  the answers to them
 --     all_handed                all events that they hand to the core
@@ -89,14 +90,16 @@ replied id (reply ∷ more) = Replied id reply
 
 -- ---- what is asked for
 
--- a header of 28 octets, the directive code, a scope of 16, requests of 16 each, and a CRC of 2; there are 33 gaps at most, and the Metadata
+-- a header of 28 octets, the directive code, a scope of 16, requests of 16 each, and a CRC of 2; there are 33 gaps at
+-- most, and the Metadata
 abbrev pub most_requests : Mib → ℕ
 most_requests mib = min 34 ((mib.longest_nak - 47) / 16)
 
 -- from one offset up to another
 abbrev pub sequence : Mib → Header → ℕ → ℕ → List Range → List NakFields
 sequence mib h low high requests =
-    map (λ nak. record { header = turned h; scope = nak.scope; requests = nak.requests }) (naks (most_requests mib) low high requests)
+    map (λ nak. record { header = turned h; scope = nak.scope; requests = nak.requests })
+    (naks (most_requests mib) low high requests)
 
 -- the Metadata PDU, and all of the file
 abbrev pub all_of : ℕ → List Range
@@ -151,7 +154,15 @@ heard R V s = if is_news R.world V s then record s { timer = restarted R.now } e
 
 abbrev pub begun : State → Header → Stage → SessionFields
 begun R h stage =
-    record { header = h; stage = stage; timer = restarted R.now; alive_at = R.now; cause = None; is_abandoned = false; finished = [] }
+    record {
+      header = h;
+      stage = stage;
+      timer = restarted R.now;
+      alive_at = R.now;
+      cause = None;
+      is_abandoned = false;
+      finished = [];
+    }
 
 -- of a list with too many requests the core keeps no entry (§5.2.2: 4, filestore rejection)
 abbrev pub stage_in : Option Entry → Bool → ℕ → Stage
@@ -165,7 +176,10 @@ described id m = tells.MetadataRecv id (record { size = m.size; closure = m.clos
 abbrev pub joins : State → World → List Reply → Header → MetadataFields → Parts
 joins R V replies h m =
     let new = begun R h (stage_in (entry_of V (id_of h)) true h.destination) in
-    puts R new (record (quiet (replied (id_of h) replies)) { naks = asks_where_awaiting R.mib V new; indications = described (id_of h) m ∷ [] })
+    puts R new (record (quiet (replied (id_of h) replies)) {
+      naks = asks_where_awaiting R.mib V new;
+      indications = described (id_of h) m ∷ [];
+    })
 
 -- a new transaction
 abbrev pub begins : State → World → List Reply → Header → MetadataFields → Parts
@@ -174,7 +188,8 @@ begins R V replies h m =
     (record (quiet (replied (id_of h) replies)) { indications = described (id_of h) m ∷ [] })
 
 abbrev pub metadata_stage : State → World → List Reply → Header → MetadataFields → SessionFields → Stage → Parts
-metadata_stage R V replies h m s (Held eof) = if h.acknowledged then joins R V replies h m else keeps R (said s words.Idle)
+metadata_stage R V replies h m s (Held eof) = if h.acknowledged then joins R V replies h m
+    else keeps R (said s words.Idle)
 metadata_stage R V replies h m s Known = puts R (heard R V s) (quiet (replied (id_of h) replies))
 metadata_stage R V replies h m s (Over ending) = keeps R (said s words.Duplicate)
 metadata_stage R V replies h m s Waiting = keeps R (said s words.Duplicate)
@@ -223,7 +238,8 @@ abbrev pub takes_data : State → World → List Reply → Header → FileDataFi
 takes_data R V replies h piece s =
     puts R (heard R V s) (record (quiet (replied (id_of h) replies)) {
       naks = asks_at_once R V s;
-      indications = if is_kept replies then tells.FileSegmentRecv (id_of h) piece.offset (length piece.octets) ∷ [] else [];
+      indications = if is_kept replies then tells.FileSegmentRecv (id_of h) piece.offset (length piece.octets) ∷ []
+          else [];
     })
 
 -- a name without a session
@@ -232,13 +248,17 @@ absent R id = if is_closed R id then words.Idle else words.Unknown
 
 abbrev pub data_parts : State → World → List Reply → Header → FileDataFields → Option SessionFields → Parts
 data_parts R V replies h piece None = keeps R (said_of h (absent R (id_of h)))
-data_parts R V replies h piece (Some s) = if is_known s.stage then takes_data R V replies h piece s else keeps R (said s words.Idle)
+data_parts R V replies h piece (Some s) = if is_known s.stage then takes_data R V replies h piece s
+    else keeps R (said s words.Idle)
 
 -- ---- EOF
 
 -- an EOF PDU of directive code 4, in acknowledged mode
 abbrev pub acked : Header → ℕ → TransactionStatus → List (Header × Ack)
-acked h condition status = if h.acknowledged then (turned h, record { directive = 4; condition = condition; status = status }) ∷ [] else []
+acked h condition status = if h.acknowledged then (
+  turned h,
+  record { directive = 4; condition = condition; status = status },
+) ∷ [] else []
 
 -- it is acknowledged, and no more
 abbrev pub acks_only : Header → Eof → TransactionStatus → Word → AnswerFields
@@ -253,7 +273,8 @@ ended_by h eof s = record s { stage = Over (record { condition = eof.condition; 
 
 abbrev pub eof_stage : State → World → List Reply → Header → Eof → SessionFields → Stage → Parts
 eof_stage R V replies h eof s (Held kept) =
-    if eof.condition == 0 then keeps R (acks_only h eof Active words.Duplicate) else puts R (ended_by h eof s) (acks_only h eof Active words.Faulted)
+    if eof.condition == 0 then keeps R (acks_only h eof Active words.Duplicate)
+    else puts R (ended_by h eof s) (acks_only h eof Active words.Faulted)
 eof_stage R V replies h eof s Known =
     puts R (heard R V s) (record (quiet (replied (id_of h) replies)) {
       acks = acked h eof.condition Active;
@@ -281,7 +302,8 @@ eof_parts R V replies h eof (Some s) = eof_stage R V replies h eof s s.stage
 -- ---- ACK and Prompt
 
 abbrev pub ack_stage : State → Header → Ack → SessionFields → Stage → Parts
-ack_stage R h ack s Waiting = if ack.directive == 5 then closes R (name_of s) (said_of h words.Acknowledged) else keeps R (said_of h words.Idle)
+ack_stage R h ack s Waiting = if ack.directive == 5 then closes R (name_of s) (said_of h words.Acknowledged)
+    else keeps R (said_of h words.Idle)
 ack_stage R h ack s stage = keeps R (said_of h words.Idle)
 
 abbrev pub ack_parts : State → Header → Ack → Option SessionFields → Parts
@@ -297,7 +319,12 @@ takes_prompts at = false
 abbrev pub prompted : State → Header → SessionFields → Prompt → AnswerFields
 prompted R h s prompts.Nak = record (said_of h words.Answered) { naks = asks R.mib R.world s }
 prompted R h s prompts.KeepAlive =
-    record (said_of h words.Answered) { keep_alives = (turned s.header, record { progress = progress_at (entry_of R.world (name_of s)) }) ∷ [] }
+    record (said_of h words.Answered) {
+      keep_alives = (
+        turned s.header,
+        record { progress = progress_at (entry_of R.world (name_of s)) },
+      ) ∷ [];
+    }
 
 abbrev pub roused : State → SessionFields → SessionFields
 roused R s = if is_receiving_at (at_of R.world s) then record s { timer = restarted R.now } else s
@@ -305,14 +332,16 @@ roused R s = if is_receiving_at (at_of R.world s) then record s { timer = restar
 abbrev pub prompt_parts : State → Header → Prompt → Option SessionFields → Parts
 prompt_parts R h prompt None = keeps R (said_of h words.Idle)
 prompt_parts R h prompt (Some s) =
-    if s.header.acknowledged && takes_prompts (at_of R.world s) then puts R (roused R s) (prompted R h s prompt) else keeps R (said_of h words.Idle)
+    if s.header.acknowledged && takes_prompts (at_of R.world s) then puts R (roused R s) (prompted R h s prompt)
+    else keeps R (said_of h words.Idle)
 
 -- ---- timers
 
 -- below the limit: Finished again, or a NAK sequence in acknowledged mode
 abbrev pub repeats : State → World → SessionFields → At → AnswerFields
 repeats R V s At_waiting = record (said s words.Expired) { finished = s.finished ∷ [] }
-repeats R V s at = if s.header.acknowledged then record (said s words.Expired) { naks = asks R.mib V s } else said s words.Expired
+repeats R V s at = if s.header.acknowledged then record (said s words.Expired) { naks = asks R.mib V s }
+    else said s words.Expired
 
 abbrev pub fault_told : SessionFields → ℕ → Word → AnswerFields
 fault_told s condition word = record (said s word) { indications = tells.Fault (name_of s) condition ∷ [] }
@@ -322,10 +351,17 @@ abandoned_told s condition = record (said s words.Faulted) { indications = tells
 
 -- this entity, which is the destination, is at fault
 abbrev pub over_here : State → SessionFields → ℕ → SessionFields
-over_here R s condition = record s { stage = Over (record { condition = condition; is_sent = true; at_fault = s.header.destination }) }
+over_here R s condition = record s {
+  stage = Over (record {
+    condition = condition;
+    is_sent = true;
+    at_fault = s.header.destination;
+  });
+}
 
 abbrev pub gives_up : State → SessionFields → ℕ → Handler → At → Parts
-gives_up R s condition handlers.Ignore at = puts R (record s { timer = restarted R.now }) (fault_told s condition words.Ignored)
+gives_up R s condition handlers.Ignore at = puts R (record s { timer = restarted R.now })
+    (fault_told s condition words.Ignored)
 gives_up R s condition handlers.Cancel At_waiting = closes R (name_of s) (fault_told s condition words.Faulted)
 gives_up R s condition handlers.Cancel At_held = puts R (over_here R s condition) (said s words.Faulted)
 gives_up R s condition handlers.Cancel at = puts R (record s { cause = Some condition }) (said s words.Faulted)
@@ -339,9 +375,11 @@ due_parts R V (Alive_due s) =
     puts R (record s { alive_at = R.now }) (record (said s words.KeptAlive) {
       keep_alives = (turned s.header, record { progress = progress_at (entry_of R.world (name_of s)) }) ∷ [];
     })
-due_parts R V (Stage_due s false) = puts R (record s { timer = passed R.now s.timer Again }) (repeats R V s (at_of R.world s))
+due_parts R V (Stage_due s false) = puts R (record s { timer = passed R.now s.timer Again })
+    (repeats R V s (at_of R.world s))
 due_parts R V (Stage_due s true) =
-    gives_up R s (fault_at s.header.acknowledged (at_of R.world s)) (handler_at R.mib s.header.acknowledged (at_of R.world s)) (at_of R.world s)
+    gives_up R s (fault_at s.header.acknowledged (at_of R.world s))
+    (handler_at R.mib s.header.acknowledged (at_of R.world s)) (at_of R.world s)
 
 -- ---- items and outcomes
 
@@ -356,12 +394,27 @@ caused (Some condition) f = record f { condition = condition }
 
 -- of a transaction that was never in the core: nothing was kept of it, and its file is unreported
 abbrev pub ending_finished : Ending → FinishedFields
-ending_finished e = record { condition = e.condition; incomplete = true; file_status = 3; responses = []; fault = Some e.at_fault }
+ending_finished e = record {
+  condition = e.condition;
+  incomplete = true;
+  file_status = 3;
+  responses = [];
+  fault = Some e.at_fault;
+}
 
 abbrev pub stage_outcome : SessionFields → Stage → Outcome
-stage_outcome s (Over ending) = record { header = turned s.header; finished = ending_finished ending; send = ending.is_sent }
+stage_outcome s (Over ending) = record {
+  header = turned s.header;
+  finished = ending_finished ending;
+  send = ending.is_sent;
+}
 stage_outcome s stage =
-    record { header = turned s.header; finished = ending_finished (record { condition = 15; is_sent = false; at_fault = s.header.destination }); send = false }
+    record {
+      header = turned s.header;
+      finished = ending_finished
+          (record { condition = 15; is_sent = false; at_fault = s.header.destination });
+      send = false;
+    }
 
 abbrev pub outcome_for : SessionFields → Option Entry → Outcome
 outcome_for s (Some e) = record (outcome_of e) { finished = caused s.cause (outcome_of e).finished }
@@ -371,7 +424,11 @@ abbrev pub waits : State → SessionFields → Outcome → SessionFields
 waits R s o = record s { stage = Waiting; finished = finished_octets o; timer = restarted R.now }
 
 abbrev pub conclusion_of : Outcome → Conclusion
-conclusion_of o = record { condition = o.finished.condition; incomplete = o.finished.incomplete; file_status = o.finished.file_status }
+conclusion_of o = record {
+  condition = o.finished.condition;
+  incomplete = o.finished.incomplete;
+  file_status = o.finished.file_status;
+}
 
 abbrev pub concluded : SessionFields → Outcome → Word → AnswerFields
 concluded s o word = record (said s word) { indications = tells.TransactionFinished (name_of s) (conclusion_of o) ∷ [] }

@@ -1,4 +1,4 @@
-//! What a receiving entity tells its user.
+//! What a receiving entity notifies its user of.
 
 use cfdp_status::TransactionId;
 use cfdp_transactions::Reply;
@@ -25,7 +25,7 @@ pub struct Conclusion {
     pub file_status: u8,
 }
 
-/// What the user of the receiving entity is told (CCSDS 727.0-B-5, the service's indications).
+/// What the user of the receiving entity is notified of (CCSDS 727.0-B-5, the service's indications).
 #[derive(Clone, Copy, Debug, PartialEq, Eq)]
 pub enum Indication {
     /// Metadata-Recv.
@@ -36,7 +36,8 @@ pub enum Indication {
     EofRecv(TransactionId),
     /// Transaction-Finished.
     TransactionFinished(TransactionId, Conclusion),
-    /// Fault, with the condition code. The transaction goes on, unless it waited for the acknowledgement of its Finished PDU: then it is over.
+    /// Fault, with the condition code. The transaction goes on, unless it waited for the acknowledgement of its
+    /// Finished PDU: then it is over.
     Fault(TransactionId, u8),
     /// Abandoned, with the condition code.
     Abandoned(TransactionId, u8),
@@ -80,7 +81,8 @@ pub enum Word {
 /// What became of an input, in a word: for a log.
 #[derive(Drop)]
 pub enum Became {
-    /// There was nothing to do: no timer is due, no item is to be performed, no outcome is there. Also of names that are forgotten.
+    /// There was nothing to do: no timer is due, no item is to be performed, no outcome is there. Also of names that
+    /// are forgotten.
     Nothing,
     /// The PDU is not for the receiver of a file.
     NotOurs,

@@ -16,7 +16,8 @@ use cfdp_status::TransactionId;
 use cfdp_transactions::{MOST_GAPS, Reply};
 use std::marker::Model;
 
-/// A sequence of NAK PDUs (CCSDS 727.0-B-5 §5.2.6): what is asked for, and how many segment requests each of its PDUs has at most.
+/// A sequence of NAK PDUs (CCSDS 727.0-B-5 §5.2.6): what is asked for, and how many segment requests each of its PDUs
+/// has at most.
 #[derive(Drop)]
 pub struct NakSequence {
     pub(crate) header: Header,
@@ -38,8 +39,9 @@ impl Model for NakSequence {
     ghost invariant = { λ n. IsAsking n.header n.low n.high n.most n.requests.items };
 }
 
-/// What became of an input, what the user is told of it, and the PDUs that are to be sent: one ACK PDU at most, one sequence of NAK PDUs,
-/// one Keep Alive PDU and one Finished PDU, in this order. `Receiver::write` writes them, before the next input.
+/// What became of an input, what the user is notified of, and the PDUs that are to be sent: one ACK PDU at most, one
+/// sequence of NAK PDUs, one Keep Alive PDU and one Finished PDU, in this order. `Receiver::write` writes them, before
+/// the next input.
 #[derive(Drop)]
 pub struct Answer {
     pub(crate) ack: Option<(Header, Ack)>,
@@ -56,13 +58,20 @@ impl Model for Answer {
 
     ghost Value = { AnswerParts };
 
-    ghost view = { λ a. record { acks = listed a.ack; naks = joined a.naks; keep_alives = listed a.keep_alive; finished = listed a.finished; indications = listed a.indication; became = a.became } };
+    ghost view = { λ a. record {
+      acks = listed a.ack;
+      naks = joined a.naks;
+      keep_alives = listed a.keep_alive;
+      finished = listed a.finished;
+      indications = listed a.indication;
+      became = a.became;
+    } };
 
     ghost invariant = { λ a. IsSendable a.ack a.keep_alive };
 }
 
-/// The answer to an input with which nothing is sent: what became of the input, and what the user is told of it. It is small beside an
-/// [`Answer`], which has room for 33 segment requests, so it is moved at little cost.
+/// The answer to an input with which nothing is sent: what became of the input, and what the user is notified of. It is
+/// small beside an [`Answer`], which has room for 33 segment requests, so it is moved at little cost.
 #[derive(Drop)]
 pub(crate) struct Unsent {
     pub(crate) indication: Option<Indication>,
@@ -235,7 +244,7 @@ impl Answer {
         &self.became
     }
 
-    /// What the user is told, if anything.
+    /// What the user is notified of, if anything.
     pub fn indication(&self) -> Option<Indication>
         ensures { listed result ≡ self.now.indications }
     {

@@ -59,7 +59,8 @@ fn acks_only(header: &Header, eof: Eof, status: TransactionStatus, word: Word) -
 
 /// File-Segment-Recv, where the core kept the octets of a File Data PDU.
 fn segment_told(id: TransactionId, piece: &Piece<'_>, reply: &Reply) -> Option<Indication>
-    ensures { listed result ≡ (if is_kept_by reply.now then FileSegmentRecv id piece.now.offset (length piece.now.octets) ∷ [] else []) }
+    ensures { listed result ≡ (if is_kept_by reply.now then FileSegmentRecv id piece.now.offset
+        (length piece.now.octets) ∷ [] else []) }
 {
     if matches!(reply, Reply::Stored | Reply::Complete) {
         let len = piece.octets.len() as u64;
@@ -104,7 +105,8 @@ impl Machine {
         metadata: Metadata,
     ) -> Result<Answer, AllocError>
         requires { IsReadable (MetadataCame header metadata) }
-        ensures ok { IfOk result (λ answer. Turns (at_moment now self.old) self.new answer (MetadataPdu now header metadata)) }
+        ensures ok { IfOk result (λ answer. Turns (at_moment now self.old) self.new answer
+            (MetadataPdu now header metadata)) }
         ensures unchanged { OnErr result (self.new ≡ self.old) }
     {
         if !self.is_ours(&header) {
@@ -139,7 +141,8 @@ impl Machine {
         metadata: Metadata,
     ) -> Result<Reply, AllocError>
         requires { IsReadable (MetadataCame header metadata) }
-        ensures reply { IfOk result (λ reply. next self.old.state.world (MetadataCame header metadata) ≡ (self.new.state.world, reply)) }
+        ensures reply { IfOk result (λ reply. next self.old.state.world (MetadataCame header metadata)
+            ≡ (self.new.state.world, reply)) }
         ensures moment { IfOk result (λ reply. self.new ≡ in_world self.new.state.world (at_moment now self.old)) }
         ensures unchanged { OnErr result (self.new ≡ self.old) }
     {
@@ -152,7 +155,8 @@ impl Machine {
         }
     }
 
-    /// The stage of a transaction whose Metadata was handed to the core, which keeps no entry of one with too many requests.
+    /// The stage of a transaction whose Metadata was handed to the core, which keeps no entry of one with too many
+    /// requests.
     fn stage_in(&self, id: TransactionId, is_sent: bool, at_fault: u64) -> Stage
         ensures { result ≡ stage_in (entry_of self.now.state.world id) is_sent at_fault }
     {
@@ -177,7 +181,8 @@ impl Machine {
         requires ours { is_ours self.old.state header ≡ true }
         requires none { session_of self.old.state (id_of header) ≡ None }
         requires readable { IsReadable (MetadataCame header metadata) }
-        ensures ok { IfOk result (λ answer. Turns (at_moment now self.old) self.new answer (MetadataPdu now header metadata)) }
+        ensures ok { IfOk result (λ answer. Turns (at_moment now self.old) self.new answer
+            (MetadataPdu now header metadata)) }
         ensures unchanged { OnErr result (self.new ≡ self.old) }
     {
         let id = transaction_of(&header);
@@ -214,7 +219,8 @@ impl Machine {
         requires held { AtIndex self.old.state.sessions index (λ s. s.stage ≡ HeldStage eof) }
         requires acknowledged { header.acknowledged ≡ true }
         requires readable { IsReadable (MetadataCame header metadata) }
-        ensures ok { IfOk result (λ answer. Turns (at_moment now self.old) self.new answer (MetadataPdu now header metadata)) }
+        ensures ok { IfOk result (λ answer. Turns (at_moment now self.old) self.new answer
+            (MetadataPdu now header metadata)) }
         ensures unchanged { OnErr result (self.new ≡ self.old) }
     {
         let id = transaction_of(&header);
@@ -246,7 +252,8 @@ impl Machine {
         requires here { IsSessionAt self.old.state (id_of header) index }
         requires known { AtIndex self.old.state.sessions index (λ s. s.stage ≡ KnownStage) }
         requires readable { IsReadable (MetadataCame header metadata) }
-        ensures ok { IfOk result (λ answer. Turns (at_moment now self.old) self.new answer (MetadataPdu now header metadata)) }
+        ensures ok { IfOk result (λ answer. Turns (at_moment now self.old) self.new answer
+            (MetadataPdu now header metadata)) }
         ensures unchanged { OnErr result (self.new ≡ self.old) }
     {
         let id = transaction_of(&header);
@@ -263,9 +270,11 @@ impl Machine {
         header: &Header,
         piece: &Piece<'_>,
     ) -> Answer
-        requires some { IfSome found (λ index. session_of self.old.state (id_of header.now) ≡ slice_get self.old.state.sessions index) }
+        requires some { IfSome found (λ index. session_of self.old.state (id_of header.now)
+            ≡ slice_get self.old.state.sessions index) }
         requires within { IfSome found (λ index. index < length self.old.state.sessions) }
-        requires named { IfSome found (λ index. AtIndex self.old.state.sessions index (λ s. name_of s ≡ id_of header.now)) }
+        requires named { IfSome found (λ index. AtIndex self.old.state.sessions index (λ s. name_of s
+            ≡ id_of header.now)) }
         requires none { IfNone found (session_of self.old.state (id_of header.now) ≡ None) }
         requires header { IsHeader header.now }
         ensures { Turns self.old self.new result (DataPdu self.old.state.now header.now piece.now) }
@@ -283,15 +292,16 @@ impl Machine {
         }
     }
 
-    /// Whether file data begins no gap that is asked for at once: it begins within what was received, or right after it.
+    /// Whether file data begins no gap that is asked for at once: it begins within what was received, or right after
+    /// it.
     fn begins_no_gap(&self, id: TransactionId, piece: &Piece<'_>) -> bool
         ensures { result ≡ begins_no_gap self.now.state id piece.now }
     {
         !self.is_immediate() || piece.offset <= self.progress(id)
     }
 
-    /// Whether nothing is sent with file data for the session with this index: no EOF PDU of its transaction came, and no gap is asked for at
-    /// once.
+    /// Whether nothing is sent with file data for the session with this index: no EOF PDU of its transaction came, and
+    /// no gap is asked for at once.
     pub(crate) fn is_in_order(&self, index: usize, header: &Header, piece: &Piece<'_>) -> bool
         requires { IsSessionAt self.now.state (id_of header.now) index }
         ensures { result ≡ true → IsInOrder self.now.state header.now piece.now index }
@@ -301,12 +311,14 @@ impl Machine {
             && self.at(self.session(index)).is_receiving()
     }
 
-    /// File data with which nothing is sent, of the session with this index. It does what [`Machine::data`] does, and its answer is small.
+    /// File data with which nothing is sent, of the session with this index. It does what [`Machine::data`] does, and
+    /// its answer is small.
     pub(crate) fn keeps(&mut self, index: usize, header: &Header, piece: &Piece<'_>) -> Unsent
         requires ours { is_ours self.old.state header.now ≡ true }
         requires here { IsSessionAt self.old.state (id_of header.now) index }
         requires known { AtIndex self.old.state.sessions index (λ s. s.stage ≡ KnownStage) }
-        requires receiving { AtIndex self.old.state.sessions index (λ s. is_receiving_at (at_of self.old.state.world s) ≡ true) }
+        requires receiving { AtIndex self.old.state.sessions index (λ s. is_receiving_at (at_of self.old.state.world s)
+            ≡ true) }
         requires no_gap { begins_no_gap self.old.state (id_of header.now) piece.now ≡ true }
         requires header { IsHeader header.now }
         ensures { Turns self.old self.new result (DataPdu self.old.state.now header.now piece.now) }
@@ -318,8 +330,8 @@ impl Machine {
         Unsent::replied(id, reply, told)
     }
 
-    /// An event of the transaction of a session was handed to the core while file data was taken and no EOF PDU had come: the session's timer
-    /// begins anew.
+    /// An event of the transaction of a session was handed to the core while file data was taken and no EOF PDU had
+    /// come: the session's timer begins anew.
     fn restarts(&mut self, index: usize)
         requires { index < length self.old.state.sessions }
         ensures { (U : World) (session : SessionFields) → slice_get self.old.state.sessions index ≡ Some session
@@ -370,7 +382,8 @@ impl Machine {
             .with_indication(told)
     }
 
-    /// The NAK sequence for a gap that began after all that was there before, while file data is taken and no EOF PDU came.
+    /// The NAK sequence for a gap that began after all that was there before, while file data is taken and no EOF PDU
+    /// came.
     fn asks_at_once(&self, session: &Session, low: u64) -> Option<NakSequence>
         requires known { session.now.stage ≡ KnownStage }
         requires immediate { is_immediate self.now.state.mib.nak_mode ≡ true }
@@ -569,7 +582,8 @@ impl Machine {
     /// A PDU is a sign of life: the timer of a session begins anew while file data is taken and no EOF PDU came.
     fn rouse(&mut self, index: usize)
         requires { index < length self.old.state.sessions }
-        ensures { AtIndex self.old.state.sessions index (λ s. self.new ≡ with_session self.old (roused self.old.state s)) }
+        ensures { AtIndex self.old.state.sessions index (λ s. self.new
+            ≡ with_session self.old (roused self.old.state s)) }
     {
         self.sound();
         if self.at(self.session(index)).is_receiving() {

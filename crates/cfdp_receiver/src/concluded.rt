@@ -6,8 +6,8 @@ ghost use Rattle.cfdp_transactions.specs.Writable.{longest_finished};
 use std::alloc::Global;
 use std::marker::Model;
 
-/// The octets of the Finished PDU of the transaction that was closed last when its outcome was taken: none before the first. They are
-/// 16,488 at most.
+/// The octets of the Finished PDU of the transaction that was closed last when its outcome was taken: none before the
+/// first. They are 16,488 at most.
 #[derive(Drop)]
 pub(crate) struct Concluded {
     octets: Vec<u8>,

@@ -25,8 +25,9 @@ pub fn few_pdus()
     ensures { FewPdus }
 {}
 
-/// An EOF PDU in acknowledged mode is acknowledged once, with its condition code and the status of its transaction after it. The only one that is
-/// not is one without a fault, of a transaction that has no session and is not closed and remembered, while there are 64 sessions.
+/// An EOF PDU in acknowledged mode is acknowledged once, with its condition code and the status of its transaction
+/// after it. The only one that is not is one without a fault, of a transaction that has no session and is not closed
+/// and remembered, while there are 64 sessions.
 pub fn acknowledged_once()
     ensures { AcknowledgedOnce }
 {}
@@ -41,8 +42,8 @@ pub fn unrecognized_is_true()
     ensures { UnrecognizedIsTrue }
 {}
 
-/// A Metadata PDU of a transaction that is closed and remembered, or is over, or waits for the acknowledgement of its Finished PDU, is not
-/// handed to the core: its requests are not performed again.
+/// A Metadata PDU of a transaction that is closed and remembered, or is over, or waits for the acknowledgement of its
+/// Finished PDU, is not handed to the core: its requests are not performed again.
 pub fn none_again()
     ensures { NoneAgain }
 {}
@@ -57,9 +58,9 @@ pub fn remembered_stays()
     ensures { RememberedStays }
 {}
 
-/// Over an entity that begins without transactions: while a transaction is remembered, a Metadata PDU of it leaves the core as it is. So its
-/// requests are not performed a second time. Remembered is what is closed and not yet forgotten, and what has a session, but while that holds an EOF
-/// PDU: then the first Metadata PDU is still to come.
+/// Over an entity that begins without transactions: while a transaction is remembered, a Metadata PDU of it leaves the
+/// core as it is. So its requests are not performed a second time. Remembered is what is closed and not yet forgotten,
+/// and what has a session, but while that holds an EOF PDU: then the first Metadata PDU is still to come.
 pub fn at_most_once()
     ensures { AtMostOnce }
 {
@@ -79,7 +80,8 @@ pub fn closed_is_over()
     ensures { ClosedIsOver }
 {}
 
-/// A Finished PDU is sent when an outcome is taken, and again when its timer expires below the limit, and at no other input.
+/// A Finished PDU is sent when an outcome is taken, and again when its timer expires below the limit, and at no other
+/// input.
 pub fn finished_only()
     ensures { FinishedOnly }
 {}
@@ -100,7 +102,8 @@ pub fn others_keep_entries()
     cfdp_transactions::laws::next_is_promised();
 }
 
-/// An item that is performed leaves the entries of all transactions in the core as they are, but that of the transaction whose item it is.
+/// An item that is performed leaves the entries of all transactions in the core as they are, but that of the
+/// transaction whose item it is.
 pub fn work_keeps_others()
     ensures { WorkKeepsOthers }
 {
@@ -113,26 +116,27 @@ pub fn are_apart()
     ensures { AreApart }
 {}
 
-/// The Finished PDU of a transaction is sent at most as often as the ACK limit says, the first time included, unless the limit is ignored.
+/// The Finished PDU of a transaction is sent at most as often as the ACK limit says, the first time included, unless
+/// the limit is ignored.
 pub fn sent_at_most()
     ensures { SentAtMost }
 {}
 
-/// An ACK PDU of a Finished PDU closes a transaction that waits for it. After that, as long as the transaction is remembered, no Finished PDU of it
-/// is sent.
+/// An ACK PDU of a Finished PDU closes a transaction that waits for it. After that, as long as the transaction is
+/// remembered, no Finished PDU of it is sent.
 pub fn none_after_ack()
     ensures { NoneAfterAck }
 {}
 
-/// The NAK PDUs of an answer are one sequence, of the session in acknowledged mode that the input is about: of a held one for its Metadata PDU and
-/// the whole file, of one that the core knows for all its gaps, or, after a File Data PDU in immediate mode, for those that began after all
-/// that was there before.
+/// The NAK PDUs of an answer are one sequence, of the session in acknowledged mode that the input is about: of a held
+/// one for its Metadata PDU and the whole file, of one that the core knows for all its gaps, or, after a File Data PDU
+/// in immediate mode, for those that began after all that was there before.
 pub fn naks_ask()
     ensures { NaksAsk }
 {}
 
-/// A sequence for the gaps of a transaction, from offset 0 or right after an octet that was received, has each offset that is missing from there
-/// on in exactly one request, and no other offset.
+/// A sequence for the gaps of a transaction, from offset 0 or right after an octet that was received, has each offset
+/// that is missing from there on in exactly one request, and no other offset.
 pub fn exactly_missing()
     ensures { ExactlyMissing }
 {}
@@ -142,15 +146,16 @@ pub fn ends_stay_there()
     ensures { EndsStayThere }
 {}
 
-/// The NAK PDUs of an answer ask for each octet that is missing exactly once and for no other, and for the Metadata PDU exactly if none came. For a
-/// File Data PDU this asks of the state that the octet before the end of all that was received is there, as it always is in a [`crate::Receiver`]
-/// ([`crate::Receiver::whole`]).
+/// The NAK PDUs of an answer ask for each octet that is missing exactly once and for no other, and for the Metadata PDU
+/// exactly if none came. For a File Data PDU this asks of the state that the octet before the end of all that was
+/// received is there, as it always is in a [`crate::Receiver`] ([`crate::Receiver::whole`]).
 pub fn naks_ask_once_in()
     ensures { NaksAskOnceIn }
 {}
 
-/// Over an entity that begins without transactions: the NAK PDUs of an answer ask for each octet that is missing exactly once and for no other, and
-/// for the Metadata PDU exactly if none came. After a File Data PDU what is asked for follows all that was there before.
+/// Over an entity that begins without transactions: the NAK PDUs of an answer ask for each octet that is missing
+/// exactly once and for no other, and for the Metadata PDU exactly if none came. After a File Data PDU what is asked
+/// for follows all that was there before.
 pub fn naks_ask_once()
     ensures { NaksAskOnce }
 {}
@@ -183,8 +188,8 @@ pub fn known_is_entry()
     cfdp_transactions::laws::next_is_promised();
 }
 
-/// Once every octet that was missing has come, and no piece was passed over, the file of a transaction that waits for it is complete, or its
-/// checksum is wrong.
+/// Once every octet that was missing has come, and no piece was passed over, the file of a transaction that waits for
+/// it is complete, or its checksum is wrong.
 pub fn answered_is_delivered()
     ensures { AnsweredIsDelivered }
 {}

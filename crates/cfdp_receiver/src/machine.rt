@@ -52,7 +52,16 @@ impl Model for Machine {
 
     ghost coded = { Prim.hlevel (codes, nodes_code) };
 
-    ghost view = { λ m. record { state = record { world = m.entity; mib = m.mib; now = m.latest; sessions = m.sessions; closed = m.closed }; concluded = m.concluded } };
+    ghost view = { λ m. record {
+      state = record {
+        world = m.entity;
+        mib = m.mib;
+        now = m.latest;
+        sessions = m.sessions;
+        closed = m.closed;
+      };
+      concluded = m.concluded;
+    } };
 
     ghost invariant = { λ m. IsMib m.mib };
 }
@@ -141,10 +150,13 @@ impl Machine {
         }
     }
 
-    /// A transaction is closed, and its name remembered. The index is that of its session, so that no pass over the sessions finds it again;
-    /// another index changes only the cost.
+    /// A transaction is closed, and its name remembered. The index is that of its session, so that no pass over the
+    /// sessions finds it again; another index changes only the cost.
     pub(crate) fn close(&mut self, index: usize, id: TransactionId)
-        ensures { self.new ≡ record self.old { state = record self.old.state { sessions = without self.old.state.sessions id; closed = with_name self.old.state.closed id } } }
+        ensures { self.new ≡ record self.old {
+          state = record self.old.state
+              { sessions = without self.old.state.sessions id; closed = with_name self.old.state.closed id };
+        } }
     {
         self.sessions.look_first(index);
         self.sessions.close(id);
@@ -161,10 +173,11 @@ impl Machine {
         }
     }
 
-    /// Whether an event that was handed to the core is news to the session of its transaction. After the EOF PDU it is only where something
-    /// that was missing has come.
+    /// Whether an event that was handed to the core is news to the session of its transaction. After the EOF PDU it is
+    /// only where something that was missing has come.
     fn is_news(&self, session: &Session, before: Option<Gaps>) -> bool
-        ensures { (U : World) → option_map (λ gaps. gaps.items) before ≡ awaited_of U session.now → result ≡ is_news U self.now.state.world session.now }
+        ensures { (U : World) → option_map (λ gaps. gaps.items) before ≡ awaited_of U session.now → result
+            ≡ is_news U self.now.state.world session.now }
     {
         let Some(before) = before else {
             return true;
@@ -221,7 +234,8 @@ impl Machine {
 
     /// What is missing of a transaction from an offset on.
     pub(crate) fn missing_from(&self, id: TransactionId, low: u64) -> Option<Gaps>
-        ensures { option_map (λ gaps. gaps.items) result ≡ option_map (gaps_after low) (entry_of self.now.state.world id) }
+        ensures { option_map (λ gaps. gaps.items) result ≡ option_map (gaps_after low)
+            (entry_of self.now.state.world id) }
     {
         let gaps = self.entity.core().gaps(id)?;
         let mut missing = ArrayVec::new();
@@ -248,7 +262,8 @@ impl Machine {
 
     /// The NAK sequence for all that is missing of a transaction that the core knows.
     fn asks_for_gaps(&self, session: &Session) -> Option<NakSequence>
-        ensures { joined result ≡ asks_entry self.now.state.mib session.now.header 0 (entry_of self.now.state.world (name_of session.now)) }
+        ensures { joined result ≡ asks_entry self.now.state.mib session.now.header 0
+            (entry_of self.now.state.world (name_of session.now)) }
     {
         self.sound();
         let id = session.name();
@@ -257,7 +272,8 @@ impl Machine {
         Some(self.sequence(session, 0, high, requests))
     }
 
-    /// The NAK sequence for a session: for the Metadata PDU and the whole file where these did not come, and else for all that is missing.
+    /// The NAK sequence for a session: for the Metadata PDU and the whole file where these did not come, and else for
+    /// all that is missing.
     pub(crate) fn asks(&self, session: &Session) -> Option<NakSequence>
         ensures { joined result ≡ asks self.now.state.mib self.now.state.world session.now }
     {
@@ -285,7 +301,8 @@ impl Machine {
         self.mib.nak_mode == NakMode::Immediate
     }
 
-    /// What holds at all times: the world is sound, its filestore has 65,536 blocks at most, and no two sessions have one name. Does nothing.
+    /// What holds at all times: the world is sound, its filestore has 65,536 blocks at most, and no two sessions have
+    /// one name. Does nothing.
     pub(crate) fn sound(&self)
         ensures sound { Sound self.now.state.world }
         ensures few { self.now.state.world.config.blocks ≤ 65536 }

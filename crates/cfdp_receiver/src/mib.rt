@@ -9,7 +9,7 @@ ghost use Rattle.cfdp_receiver.specs.Turning.{most_requests};
 pub enum Handler {
     /// The transaction is cancelled, with the condition code of the fault.
     Cancel,
-    /// The user is told, and the transaction goes on.
+    /// The user is notified, and the transaction goes on.
     Ignore,
     /// The transaction is abandoned: nothing more is sent.
     Abandon,
@@ -44,19 +44,22 @@ pub struct Watch {
     pub at_limit: Handler,
 }
 
-/// What the management of a receiving entity sets (the management information base of CCSDS 727.0-B-5, chapter 8). Times are in ticks of the
-/// caller's clock.
+/// What the management of a receiving entity sets (the management information base of CCSDS 727.0-B-5, chapter 8).
+/// Times are in ticks of the caller's clock.
 #[derive(Clone, Copy, Debug, PartialEq, Eq)]
 pub struct Mib {
     /// A Finished PDU is sent again after this time without its acknowledgement. At the limit: condition code 1.
     pub ack: Retries,
-    /// What is missing after the EOF PDU is asked for again after this time without a new octet. At the limit: condition code 7.
+    /// What is missing after the EOF PDU is asked for again after this time without a new octet. At the limit:
+    /// condition code 7.
     pub nak: Retries,
-    /// The time between checks in unacknowledged mode. The limit is that of the core's configuration: condition code 10.
+    /// The time between checks in unacknowledged mode. The limit is that of the core's configuration: condition code
+    /// 10.
     pub check: Watch,
     /// Before the EOF PDU: this time without a PDU of the transaction is condition code 8.
     pub inactivity: Watch,
-    /// Before the EOF PDU, in acknowledged mode: the time between Keep Alive PDUs, 1 to 2^32 - 1 ticks. `None`: none is sent.
+    /// Before the EOF PDU, in acknowledged mode: the time between Keep Alive PDUs, 1 to 2^32 - 1 ticks. `None`: none is
+    /// sent.
     pub keep_alive: Option<u32>,
     /// When lost segments are asked for.
     pub nak_mode: NakMode,
@@ -101,8 +104,8 @@ impl Mib {
         None
     }
 
-    /// How many segment requests a NAK PDU has at most: by the longest header of 28 octets, the directive code, a scope of 16 octets,
-    /// requests of 16 octets each and a CRC of 2. There are never more than 34.
+    /// How many segment requests a NAK PDU has at most: by the longest header of 28 octets, the directive code, a scope
+    /// of 16 octets, requests of 16 octets each and a CRC of 2. There are never more than 34.
     pub fn most_requests(&self) -> usize
         ensures { result ≡ most_requests self.now }
     {

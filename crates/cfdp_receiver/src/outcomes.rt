@@ -52,7 +52,8 @@ fn conclusion_of(outcome: &Outcome) -> Conclusion
 }
 
 impl Machine {
-    /// The next item of the first transaction that has one is performed (CCSDS 727.0-B-5, the procedures at the receiving entity).
+    /// The next item of the first transaction that has one is performed (CCSDS 727.0-B-5, the procedures at the
+    /// receiving entity).
     pub(crate) fn work(&mut self) -> Answer
         ensures { Turns self.old self.new result (Work self.old.state.now) }
     {
@@ -65,7 +66,8 @@ impl Machine {
 
     /// The index of the first session that is over.
     pub(crate) fn first_over(&self) -> Option<usize>
-        ensures some { IfSome result (λ index. first_over self.now.state.world self.now.state.sessions ≡ slice_get self.now.state.sessions index) }
+        ensures some { IfSome result (λ index. first_over self.now.state.world self.now.state.sessions
+            ≡ slice_get self.now.state.sessions index) }
         ensures here { IfSome result (λ index. index < length self.now.state.sessions) }
         ensures none { IfNone result (first_over self.now.state.world self.now.state.sessions ≡ None) }
     {
@@ -103,10 +105,12 @@ impl Machine {
         }
     }
 
-    /// The outcome of a transaction that the core knows is taken. Where this entity cancelled it, its own condition code goes out.
+    /// The outcome of a transaction that the core knows is taken. Where this entity cancelled it, its own condition
+    /// code goes out.
     fn finish_known(&mut self, alloc: Global, now: u64, index: usize) -> Result<Answer, AllocError>
         requires here { index < length self.old.state.sessions }
-        requires over { first_over self.old.state.world self.old.state.sessions ≡ slice_get self.old.state.sessions index }
+        requires over { first_over self.old.state.world self.old.state.sessions
+            ≡ slice_get self.old.state.sessions index }
         requires stage { AtIndex self.old.state.sessions index (λ s. s.stage ≡ KnownStage) }
         requires known { AreKnown self.old.state }
         ensures ok { IfOk result (λ answer. Turns (at_moment now self.old) self.new answer (Finish now)) }
@@ -141,7 +145,8 @@ impl Machine {
     ) -> Answer
         requires here { index < length self.old.state.sessions }
         requires short { vec_len octets ≤ longest_finished }
-        ensures { (outcome : OutcomeOf) → is_sent ≡ outcome.send → conclusion ≡ conclusion_of outcome → octets.items ≡ finished_octets outcome
+        ensures { (outcome : OutcomeOf) → is_sent ≡ outcome.send → conclusion ≡ conclusion_of outcome → octets.items
+            ≡ finished_octets outcome
             → AtIndex self.old.state.sessions index (λ s. Concludes self.old self.new result s outcome) }
     {
         self.sessions.distinct();
@@ -170,7 +175,8 @@ impl Machine {
             .with_indication(told)
     }
 
-    /// The Finished PDU of a transaction that waits for its acknowledgement, or that was closed last when its outcome was taken.
+    /// The Finished PDU of a transaction that waits for its acknowledgement, or that was closed last when its outcome
+    /// was taken.
     pub(crate) fn finished_octets(&self, id: TransactionId) -> &[u8]
         ensures octets { result.now ≡ finished_for self.now id }
         ensures short { length result.now ≤ longest_finished }

@@ -59,7 +59,8 @@ pub(crate) enum Directed {
 
 /// An ACK, NAK, Prompt or Keep Alive PDU, by its directive code.
 fn read_other(header: Header, code: u8, octets: &[u8]) -> Result<Directed, PduFault>
-    ensures ok { IfOk result (λ directed. (now : ℕ) → other_input now header code octets.now ≡ Ok (input_of now directed)) }
+    ensures ok { IfOk result (λ directed. (now : ℕ) → other_input now header code octets.now
+        ≡ Ok (input_of now directed)) }
     ensures sound { IfOk result IsHearable }
     ensures err { IfErr result (λ fault. (now : ℕ) → other_input now header code octets.now ≡ Err (PduDropped fault)) }
 {
@@ -90,7 +91,8 @@ pub(crate) fn read_directed(alloc: Global, octets: &[u8]) -> Result<Directed, Pd
     requires { IsNoFileData (pdu_at octets.now) }
     ensures ok { IfOk result (λ directed. (now : ℕ) → input_at now octets.now ≡ Ok (input_of now directed)) }
     ensures sound { IfOk result IsHearable }
-    ensures err { IfErr result (λ fault. ((now : ℕ) → input_at now octets.now ≡ Err (PduDropped fault)) ⊎ ((fault ≡ Memory) × IsMetadata (pdu_at octets.now))) }
+    ensures err { IfErr result (λ fault. ((now : ℕ) → input_at now octets.now ≡ Err (PduDropped fault))
+        ⊎ ((fault ≡ Memory) × IsMetadata (pdu_at octets.now))) }
 {
     match read_for_receiver(alloc, octets)? {
         None => Ok(Directed::Other(read_start(octets)?.header)),

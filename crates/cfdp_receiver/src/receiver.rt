@@ -57,15 +57,17 @@ pub enum NotWritten {
     TooShort,
 }
 
-/// A receiving entity in acknowledged and unacknowledged mode (CCSDS 727.0-B-5, the procedures at the receiving entity): octets and the
-/// present time go in; PDUs to send, indications and the next deadline come out. It has no socket, no clock and no thread.
+/// A receiving entity in acknowledged and unacknowledged mode (CCSDS 727.0-B-5, the procedures at the receiving
+/// entity): octets and the present time go in; PDUs to send, indications and the next deadline come out. It has no
+/// socket, no clock and no thread.
 ///
 /// A driver hands in what comes, by [`Receiver::receive`], or that time has passed, by [`Receiver::expire`]; then calls
-/// [`Receiver::work`] while [`Receiver::has_work`], and [`Receiver::finish`] while [`Receiver::has_outcome`]. It writes the PDUs of
-/// each answer before the next input, and sleeps until [`Receiver::deadline`].
+/// [`Receiver::work`] while [`Receiver::has_work`], and [`Receiver::finish`] while [`Receiver::has_outcome`]. It writes
+/// the PDUs of each answer before the next input, and sleeps until [`Receiver::deadline`].
 ///
-/// Contracts see its state, of which each call makes one turn; no two of its sessions have one name, a session is known exactly where the
-/// core has an entry, and no transaction that is closed and remembered has a session ([`Receiver::whole`]).
+/// Contracts see its state, of which each call makes one turn; no two of its sessions have one name, a session is known
+/// exactly where the core has an entry, and no transaction that is closed and remembered has a session
+/// ([`Receiver::whole`]).
 #[derive(Drop)]
 pub struct Receiver {
     machine: Machine,
@@ -93,8 +95,8 @@ impl Receiver {
     ///
     /// # Errors
     ///
-    /// The first of: [`NotMade::Mib`], [`NotMade::HasTransactions`], and [`NotMade::Memory`] when out of memory. Cost: the memory of 64
-    /// sessions and of 256 names, which is all that it takes but for Metadata PDUs and outcomes.
+    /// The first of: [`NotMade::Mib`], [`NotMade::HasTransactions`], and [`NotMade::Memory`] when out of memory. Cost:
+    /// the memory of 64 sessions and of 256 names, which is all that it takes but for Metadata PDUs and outcomes.
     pub fn new(alloc: Global, mib: Mib, entity: Entity) -> Result<Receiver, NotMade>
         ensures ok { IfOk result (λ receiver. receiver.state ≡ begin mib entity) }
         ensures fit { OnOk result (first_fault mib ≡ None) }
@@ -118,7 +120,8 @@ impl Receiver {
         ensures sound { Sound self.now.state.world }
         ensures distinct { AreDistinct self.now.state.sessions }
         ensures known { AreKnown self.now.state }
-        ensures over { (id : TransactionIdOf) → is_closed self.now.state id ≡ true → session_of self.now.state id ≡ None }
+        ensures over { (id : TransactionIdOf) → is_closed self.now.state id ≡ true → session_of self.now.state id
+            ≡ None }
         ensures ends { EndsThere self.now.state.world }
         ensures set { IsSet self.now.state.mib }
         ensures asks { 1 ≤ most_requests self.now.state.mib }
@@ -145,12 +148,13 @@ impl Receiver {
     ///
     /// Why they were dropped; or out of memory, for a Metadata PDU alone. The receiver is as before.
     ///
-    /// Cost: that of its event, and at most one pass over the 64 sessions; for a transaction without a session also one over the 256 names
-    /// closed last, for a PDU with a CRC one over its octets, and for a NAK sequence its gaps. A File Data PDU after
-    /// one of the same transaction takes at most 1.3 times the instructions of [`Entity::receive`]: so they were counted for 1,000 octets in
-    /// order without a CRC.
+    /// Cost: that of its event, and at most one pass over the 64 sessions; for a transaction without a session also one
+    /// over the 256 names closed last, for a PDU with a CRC one over its octets, and for a NAK sequence its gaps. A
+    /// File Data PDU after one of the same transaction takes at most 1.3 times the instructions of [`Entity::receive`]:
+    /// so they were counted for 1,000 octets in order without a CRC.
     pub fn receive(&mut self, alloc: Global, now: u64, octets: &mut [u8]) -> Result<Answer, Dropped>
-        ensures ok { IfOk result (λ answer. (input : Input) × (heard now octets.old ≡ Ok input) × (turn self.old.state input ≡ (self.new.state, answer_in self.new answer))) }
+        ensures ok { IfOk result (λ answer. (input : Input) × (heard now octets.old ≡ Ok input)
+            × (turn self.old.state input ≡ (self.new.state, answer_in self.new answer))) }
         ensures err { IfErr result (IsDropped now octets.old) }
         ensures unchanged { OnErr result (self.new ≡ self.old) }
     {
@@ -171,7 +175,8 @@ impl Receiver {
     /// The octets of a PDU came that has no CRC and is no File Data PDU.
     fn hear_directed(&mut self, alloc: Global, now: u64, octets: &[u8]) -> Result<Answer, Dropped>
         requires { IsNoFileData (pdu_at octets.now) }
-        ensures ok { IfOk result (λ answer. (input : Input) × (input_at now octets.now ≡ Ok input) × (turn self.old.state input ≡ (self.new.state, answer_in self.new answer))) }
+        ensures ok { IfOk result (λ answer. (input : Input) × (input_at now octets.now ≡ Ok input)
+            × (turn self.old.state input ≡ (self.new.state, answer_in self.new answer))) }
         ensures err { IfErr result (IsUnread now octets.now) }
         ensures unchanged { OnErr result (self.new ≡ self.old) }
     {
@@ -195,7 +200,8 @@ impl Receiver {
         metadata: Metadata,
     ) -> Result<Answer, Dropped>
         requires { IsReadable (MetadataCame header metadata) }
-        ensures ok { IfOk result (λ answer. turn self.old.state (MetadataPdu now header metadata) ≡ (self.new.state, answer_in self.new answer)) }
+        ensures ok { IfOk result (λ answer. turn self.old.state (MetadataPdu now header metadata)
+            ≡ (self.new.state, answer_in self.new answer)) }
         ensures err { IfErr result (λ why. why ≡ PduDropped NoMemory) }
         ensures unchanged { OnErr result (self.new ≡ self.old) }
     {
@@ -206,7 +212,8 @@ impl Receiver {
         }
     }
 
-    /// A File Data PDU came. It is never dropped: its answer is made where [`Receiver::receive`] returns it, and is not moved.
+    /// A File Data PDU came. It is never dropped: its answer is made where [`Receiver::receive`] returns it, and is not
+    /// moved.
     fn hear_data(
         &mut self,
         now: u64,
@@ -214,12 +221,15 @@ impl Receiver {
         header: &Header,
         piece: &Piece<'_>,
     ) -> Result<Answer, Dropped>
-        requires some { IfSome found (λ index. session_of self.old.state (id_of header.now) ≡ slice_get self.old.state.sessions index) }
+        requires some { IfSome found (λ index. session_of self.old.state (id_of header.now)
+            ≡ slice_get self.old.state.sessions index) }
         requires within { IfSome found (λ index. index < length self.old.state.sessions) }
-        requires named { IfSome found (λ index. AtIndex self.old.state.sessions index (λ s. name_of s ≡ id_of header.now)) }
+        requires named { IfSome found (λ index. AtIndex self.old.state.sessions index (λ s. name_of s
+            ≡ id_of header.now)) }
         requires none { IfNone found (session_of self.old.state (id_of header.now) ≡ None) }
         requires header { IsHeader header.now }
-        ensures ok { IfOk result (λ answer. turn self.old.state (DataPdu now header.now piece.now) ≡ (self.new.state, answer_in self.new answer)) }
+        ensures ok { IfOk result (λ answer. turn self.old.state (DataPdu now header.now piece.now)
+            ≡ (self.new.state, answer_in self.new answer)) }
         ensures taken { IsOk result }
     {
         self.stays_whole();
@@ -282,8 +292,8 @@ impl Receiver {
         self.machine.other(header)
     }
 
-    /// Time has passed: the first timer that is due is served, of the first session that has one. Takes no memory. Cost: at most one pass over
-    /// the 64 sessions, that of its event, and for a NAK sequence its gaps.
+    /// Time has passed: the first timer that is due is served, of the first session that has one. Takes no memory.
+    /// Cost: at most one pass over the 64 sessions, that of its event, and for a NAK sequence its gaps.
     pub fn expire(&mut self, now: u64) -> Answer
         ensures { turn self.old.state (Expire now) ≡ (self.new.state, answer_in self.new result) }
     {
@@ -292,8 +302,9 @@ impl Receiver {
         self.machine.expire()
     }
 
-    /// The next item of the first transaction that has one is performed: the file is installed, or a request is performed. Takes no memory.
-    /// Cost: that of its event, which the request says, and a pass over the core's 64 transactions. No pass over the sessions.
+    /// The next item of the first transaction that has one is performed: the file is installed, or a request is
+    /// performed. Takes no memory. Cost: that of its event, which the request says, and a pass over the core's 64
+    /// transactions. No pass over the sessions.
     pub fn work(&mut self, now: u64) -> Answer
         ensures { turn self.old.state (Work now) ≡ (self.new.state, answer_in self.new result) }
     {
@@ -302,15 +313,18 @@ impl Receiver {
         self.machine.work()
     }
 
-    /// The outcome of the first transaction that is over is taken, indicated, and its Finished PDU sent where it is to be.
+    /// The outcome of the first transaction that is over is taken, indicated, and its Finished PDU sent where it is to
+    /// be.
     ///
     /// # Errors
     ///
-    /// [`AllocError`] when out of memory, where a transaction is over: the receiver is as before, and the call can be made again.
+    /// [`AllocError`] when out of memory, where a transaction is over: the receiver is as before, and the call can be
+    /// made again.
     ///
     /// Cost: at most one pass over the 64 sessions, a copy of the requests' names, and the octets of the PDU.
     pub fn finish(&mut self, alloc: Global, now: u64) -> Result<Answer, AllocError>
-        ensures ok { IfOk result (λ answer. turn self.old.state (Finish now) ≡ (self.new.state, answer_in self.new answer)) }
+        ensures ok { IfOk result (λ answer. turn self.old.state (Finish now)
+            ≡ (self.new.state, answer_in self.new answer)) }
         ensures lean { first_over self.old.state.world self.old.state.sessions ≡ None → IsOk result }
         ensures unchanged { OnErr result (self.new ≡ self.old) }
     {
@@ -318,8 +332,8 @@ impl Receiver {
         self.machine.finish(alloc, now)
     }
 
-    /// The user cancels a transaction (condition code 15). Takes no memory. Cost: that of its event, a look-up, and at most one pass over the
-    /// 64 sessions.
+    /// The user cancels a transaction (condition code 15). Takes no memory. Cost: that of its event, a look-up, and at
+    /// most one pass over the 64 sessions.
     pub fn cancel(&mut self, now: u64, id: TransactionId) -> Answer
         ensures { turn self.old.state (CancelAsked now id) ≡ (self.new.state, answer_in self.new result) }
     {
@@ -328,8 +342,8 @@ impl Receiver {
         self.machine.cancel(id)
     }
 
-    /// The names of the transactions that were closed last are forgotten, for a sender whose transaction sequence numbers begin anew. A
-    /// Metadata PDU of one of them that comes once more begins it anew then. Takes no memory.
+    /// The names of the transactions that were closed last are forgotten, for a sender whose transaction sequence
+    /// numbers begin anew. A Metadata PDU of one of them that comes once more begins it anew then. Takes no memory.
     pub fn forget_closed(&mut self) -> Answer
         ensures { turn self.old.state ForgetAsked ≡ (self.new.state, answer_in self.new result) }
     {
@@ -337,10 +351,11 @@ impl Receiver {
         self.machine.forget()
     }
 
-    /// The moment from which on a timer is due: `None` where none runs, or where it is due after the greatest moment. Takes no memory. Cost:
-    /// one pass over the 64 sessions, with a look-up for each.
+    /// The moment from which on a timer is due: `None` where none runs, or where it is due after the greatest moment.
+    /// Takes no memory. Cost: one pass over the 64 sessions, with a look-up for each.
     pub fn deadline(&self) -> Option<u64>
-        ensures { (now : ℕ) → now < 2 ^ 64 → has_come result now ≡ is_any_due (first_due (record self.now.state { now = now }) self.now.state.sessions) }
+        ensures { (now : ℕ) → now < 2 ^ 64 → has_come result now
+            ≡ is_any_due (first_due (record self.now.state { now = now }) self.now.state.sessions) }
     {
         self.machine.deadline()
     }
@@ -359,7 +374,8 @@ impl Receiver {
         self.machine.first_over().is_some()
     }
 
-    /// What an ACK PDU says of a transaction (CCSDS 727.0-B-5 §5.2.4). Cost: a pass over the sessions, or over the names closed last.
+    /// What an ACK PDU says of a transaction (CCSDS 727.0-B-5 §5.2.4). Cost: a pass over the sessions, or over the
+    /// names closed last.
     pub fn status(&self, id: TransactionId) -> TransactionStatus
         ensures { result ≡ status_of self.now.state id }
     {
@@ -373,36 +389,41 @@ impl Receiver {
         self.machine.sessions.get(id)
     }
 
-    /// The entity, for what it tells of transactions, and for its filestore. Costs nothing.
+    /// The entity, for what it says of transactions, and for its filestore. Costs nothing.
     pub fn entity(&self) -> &Entity
         ensures { result.now ≡ self.now.state.world }
     {
         &self.machine.entity
     }
 
-    /// How many octets a PDU that [`Receiver::write`] writes has at most: 16,490, or those of the longest NAK PDU, if these are more.
+    /// How many octets a PDU that [`Receiver::write`] writes has at most: 16,490, or those of the longest NAK PDU, if
+    /// these are more.
     pub fn longest(&self) -> usize
         ensures { result ≡ max longest_sealed self.now.state.mib.longest_nak }
     {
         LONGEST_FINISHED.max(usize::from(self.machine.mib.longest_nak))
     }
 
-    /// Writes the PDU with this number of an answer, counted from 0, to the front of a buffer, and returns its length in octets. It has a CRC
-    /// where the management information base says so. The octets after it are as before. The answer is that of the last input. Takes no
-    /// memory. Cost: the octets.
+    /// Writes the PDU with this number of an answer, counted from 0, to the front of a buffer, and returns its length
+    /// in octets. It has a CRC where the management information base says so. The octets after it are as before. The
+    /// answer is that of the last input. Takes no memory. Cost: the octets.
     ///
     /// # Errors
     ///
-    /// [`NotWritten::NoMore`] where the answer has no such PDU, else [`NotWritten::TooShort`] where the buffer has no room for it, which it
-    /// has if it has [`Receiver::longest`] octets.
+    /// [`NotWritten::NoMore`] where the answer has no such PDU, else [`NotWritten::TooShort`] where the buffer has no
+    /// room for it, which it has if it has [`Receiver::longest`] octets.
     pub fn write(&self, answer: &Answer, number: usize, out: &mut [u8]) -> Result<usize, NotWritten>
-        ensures ok { IfOk result (λ len. (octets : List ℕ) × (slice_get (pdus_of self.now answer.now) number ≡ Some octets) × (as_sent self.now.state.mib octets ≡ take len out.new)) }
+        ensures ok { IfOk result (λ len. (octets : List ℕ)
+            × (slice_get (pdus_of self.now answer.now) number ≡ Some octets)
+            × (as_sent self.now.state.mib octets ≡ take len out.new)) }
         // So the length is that of the octets as sent.
         ensures room { IfOk result (λ len. len ≤ length out.old) }
         ensures rest { IfOk result (λ len. drop len out.new ≡ drop len out.old) }
-        ensures err { IfErr result (IsNotWritten (crc_len self.now.state.mib) (slice_get (pdus_of self.now answer.now) number) (length out.old)) }
+        ensures err { IfErr result (IsNotWritten (crc_len self.now.state.mib)
+            (slice_get (pdus_of self.now answer.now) number) (length out.old)) }
         // A buffer with `longest` octets is never too short, whatever the answer.
-        ensures enough { max longest_sealed self.now.state.mib.longest_nak ≤ length out.old → IfErr result (λ why. why ≡ NoMore) }
+        ensures enough { max longest_sealed self.now.state.mib.longest_nak ≤ length out.old →
+            IfErr result (λ why. why ≡ NoMore) }
         ensures unchanged { OnErr result (out.new ≡ out.old) }
     {
         if !self.machine.mib.has_crc {

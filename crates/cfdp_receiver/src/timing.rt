@@ -55,7 +55,8 @@ impl Machine {
 
     /// Of a timer after which what is missing is asked for again.
     fn nak_expiry(&self, timer: Timer) -> Expiry
-        ensures { result ≡ expiry_by self.now.state.now timer (Some (self.now.state.mib.nak.interval, self.now.state.mib.nak.limit)) }
+        ensures { result ≡ expiry_by self.now.state.now timer
+            (Some (self.now.state.mib.nak.interval, self.now.state.mib.nak.limit)) }
     {
         timer.expiry(
             u64::from(self.mib.nak.interval),
@@ -66,7 +67,8 @@ impl Machine {
 
     /// Of a check timer. The core counts the checks that were made.
     fn check_expiry(&self, timer: Timer, made: u32) -> Expiry
-        ensures { result ≡ expiry_by self.now.state.now timer (terms_at self.now.state.mib self.now.state.world.config.checks false timer (At_awaiting made)) }
+        ensures { result ≡ expiry_by self.now.state.now timer
+            (terms_at self.now.state.mib self.now.state.world.config.checks false timer (At_awaiting made)) }
     {
         if !timer.is_due(u64::from(self.mib.check.interval), self.latest) {
             Expiry::NotDue
@@ -94,7 +96,8 @@ impl Machine {
 
     /// How long the timer of a session's stage runs, if it has one.
     fn interval(&self, session: &Session) -> Option<u32>
-        ensures { result ≡ option_map (λ terms. terms.0) (terms_at self.now.state.mib self.now.state.world.config.checks session.now.header.acknowledged session.now.timer (at_of self.now.state.world session.now)) }
+        ensures { result ≡ option_map (λ terms. terms.0) (terms_at self.now.state.mib self.now.state.world.config.checks
+            session.now.header.acknowledged session.now.timer (at_of self.now.state.world session.now)) }
     {
         match self.at(session) {
             At::Held => Some(self.mib.nak.interval),
@@ -106,9 +109,11 @@ impl Machine {
         }
     }
 
-    /// The moment at which the timer of a session's stage is due: `None` where it has none, or where that is after the greatest moment.
+    /// The moment at which the timer of a session's stage is due: `None` where it has none, or where that is after the
+    /// greatest moment.
     pub(crate) fn stage_deadline(&self, session: &Session) -> Option<u64>
-        ensures { (now : ℕ) → now < 2 ^ 64 → has_come result now ≡ is_expired (expiry_of (record self.now.state { now = now }) session.now) }
+        ensures { (now : ℕ) → now < 2 ^ 64 → has_come result now
+            ≡ is_expired (expiry_of (record self.now.state { now = now }) session.now) }
     {
         let interval = self.interval(session)?;
         session.timer.since.checked_add(u64::from(interval))
@@ -116,7 +121,8 @@ impl Machine {
 
     /// The moment at which a Keep Alive PDU is due.
     pub(crate) fn alive_deadline(&self, session: &Session) -> Option<u64>
-        ensures { (now : ℕ) → now < 2 ^ 64 → has_come result now ≡ is_alive_due (record self.now.state { now = now }) session.now }
+        ensures { (now : ℕ) → now < 2 ^ 64 → has_come result now
+            ≡ is_alive_due (record self.now.state { now = now }) session.now }
     {
         let interval = self.mib.keep_alive?;
         if !session.header.acknowledged || self.at(session) != At::Receiving {
@@ -125,7 +131,8 @@ impl Machine {
         session.alive_at.checked_add(u64::from(interval))
     }
 
-    /// The first session with a timer that is due, and which. That of its stage comes before Keep Alive. Cost: a pass over the sessions.
+    /// The first session with a timer that is due, and which. That of its stage comes before Keep Alive. Cost: a pass
+    /// over the sessions.
     pub(crate) fn first_due(&self) -> DueTimer
         ensures due { timer_in self.now.state.sessions result ≡ first_due self.now.state self.now.state.sessions }
         ensures here { is_within self.now.state.sessions result }
@@ -158,7 +165,8 @@ impl Machine {
 
     /// The moment from which on a timer is due.
     pub(crate) fn deadline(&self) -> Option<u64>
-        ensures { (now : ℕ) → now < 2 ^ 64 → has_come result now ≡ is_any_due (first_due (record self.now.state { now = now }) self.now.state.sessions) }
+        ensures { (now : ℕ) → now < 2 ^ 64 → has_come result now
+            ≡ is_any_due (first_due (record self.now.state { now = now }) self.now.state.sessions) }
     {
         let mut earliest = None;
         for session in self.sessions.as_slice() {
@@ -186,7 +194,8 @@ impl Machine {
     /// A Keep Alive PDU (CCSDS 727.0-B-5 §5.2.8) is sent.
     fn keeps_alive(&mut self, index: usize) -> Answer
         requires here { index < length self.old.state.sessions }
-        requires due { AtIndex self.old.state.sessions index (λ s. first_due self.old.state self.old.state.sessions ≡ Alive_due s) }
+        requires due { AtIndex self.old.state.sessions index (λ s. first_due self.old.state self.old.state.sessions
+            ≡ Alive_due s) }
         ensures { Turns self.old self.new result (Expire self.old.state.now) }
     {
         let session = self.session(index);
@@ -198,10 +207,12 @@ impl Machine {
         Answer::said(id, Word::KeptAlive).with_keep_alive(header, progress)
     }
 
-    /// A timer expired below its limit: Finished is sent again, or what is missing asked for, or the core looks whether the file is whole.
+    /// A timer expired below its limit: Finished is sent again, or what is missing asked for, or the core looks whether
+    /// the file is whole.
     fn expires(&mut self, index: usize) -> Answer
         requires here { index < length self.old.state.sessions }
-        requires due { AtIndex self.old.state.sessions index (λ s. first_due self.old.state self.old.state.sessions ≡ Stage_due s false) }
+        requires due { AtIndex self.old.state.sessions index (λ s. first_due self.old.state self.old.state.sessions
+            ≡ Stage_due s false) }
         ensures { Turns self.old self.new result (Expire self.old.state.now) }
     {
         let session = self.session(index);
@@ -224,7 +235,8 @@ impl Machine {
     /// In unacknowledged mode the core looks whether the file is whole.
     fn hand_check(&mut self, index: usize)
         requires { index < length self.old.state.sessions }
-        ensures { AtIndex self.old.state.sessions index (λ s. self.new ≡ in_world (run self.old.state.world (due_events self.old.state (Stage_due s false))) self.old) }
+        ensures { AtIndex self.old.state.sessions index (λ s. self.new
+            ≡ in_world (run self.old.state.world (due_events self.old.state (Stage_due s false))) self.old) }
     {
         let session = self.session(index);
         if let (At::Awaiting(_), false) = (self.at(session), session.header.acknowledged) {
@@ -250,7 +262,8 @@ impl Machine {
     /// A timer reached its limit.
     fn gives_up(&mut self, index: usize) -> Answer
         requires here { index < length self.old.state.sessions }
-        requires due { AtIndex self.old.state.sessions index (λ s. first_due self.old.state self.old.state.sessions ≡ Stage_due s true) }
+        requires due { AtIndex self.old.state.sessions index (λ s. first_due self.old.state self.old.state.sessions
+            ≡ Stage_due s true) }
         ensures { Turns self.old self.new result (Expire self.old.state.now) }
     {
         let session = self.session(index);
@@ -263,12 +276,15 @@ impl Machine {
         }
     }
 
-    /// A fault is ignored: the user is told, and the timer begins anew.
+    /// A fault is ignored: the user is notified, and the timer begins anew.
     fn ignores(&mut self, index: usize, condition: u8) -> Answer
         requires here { index < length self.old.state.sessions }
-        requires due { AtIndex self.old.state.sessions index (λ s. first_due self.old.state self.old.state.sessions ≡ Stage_due s true) }
-        requires condition { AtIndex self.old.state.sessions index (λ s. condition ≡ fault_at s.header.acknowledged (at_of self.old.state.world s)) }
-        requires handler { AtIndex self.old.state.sessions index (λ s. handler_at self.old.state.mib s.header.acknowledged (at_of self.old.state.world s) ≡ Ignore) }
+        requires due { AtIndex self.old.state.sessions index (λ s. first_due self.old.state self.old.state.sessions
+            ≡ Stage_due s true) }
+        requires condition { AtIndex self.old.state.sessions index (λ s. condition
+            ≡ fault_at s.header.acknowledged (at_of self.old.state.world s)) }
+        requires handler { AtIndex self.old.state.sessions index
+            (λ s. handler_at self.old.state.mib s.header.acknowledged (at_of self.old.state.world s) ≡ Ignore) }
         ensures { Turns self.old self.new result (Expire self.old.state.now) }
     {
         let id = self.session(index).name();
@@ -280,10 +296,13 @@ impl Machine {
     /// A fault cancels the transaction. One whose Finished PDU is not acknowledged is closed.
     fn cancels(&mut self, index: usize, at: At, condition: u8) -> Answer
         requires here { index < length self.old.state.sessions }
-        requires due { AtIndex self.old.state.sessions index (λ s. first_due self.old.state self.old.state.sessions ≡ Stage_due s true) }
+        requires due { AtIndex self.old.state.sessions index (λ s. first_due self.old.state self.old.state.sessions
+            ≡ Stage_due s true) }
         requires at { AtIndex self.old.state.sessions index (λ s. at ≡ at_of self.old.state.world s) }
-        requires condition { AtIndex self.old.state.sessions index (λ s. condition ≡ fault_at s.header.acknowledged at) }
-        requires handler { AtIndex self.old.state.sessions index (λ s. handler_at self.old.state.mib s.header.acknowledged at ≡ Cancel) }
+        requires condition { AtIndex self.old.state.sessions index (λ s. condition
+            ≡ fault_at s.header.acknowledged at) }
+        requires handler { AtIndex self.old.state.sessions index
+            (λ s. handler_at self.old.state.mib s.header.acknowledged at ≡ Cancel) }
         ensures { Turns self.old self.new result (Expire self.old.state.now) }
     {
         let session = self.session(index);
@@ -311,10 +330,13 @@ impl Machine {
     /// A fault abandons the transaction: nothing more is sent.
     fn abandons(&mut self, index: usize, at: At, condition: u8) -> Answer
         requires here { index < length self.old.state.sessions }
-        requires due { AtIndex self.old.state.sessions index (λ s. first_due self.old.state self.old.state.sessions ≡ Stage_due s true) }
+        requires due { AtIndex self.old.state.sessions index (λ s. first_due self.old.state self.old.state.sessions
+            ≡ Stage_due s true) }
         requires at { AtIndex self.old.state.sessions index (λ s. at ≡ at_of self.old.state.world s) }
-        requires condition { AtIndex self.old.state.sessions index (λ s. condition ≡ fault_at s.header.acknowledged at) }
-        requires handler { AtIndex self.old.state.sessions index (λ s. handler_at self.old.state.mib s.header.acknowledged at ≡ Abandon) }
+        requires condition { AtIndex self.old.state.sessions index (λ s. condition
+            ≡ fault_at s.header.acknowledged at) }
+        requires handler { AtIndex self.old.state.sessions index
+            (λ s. handler_at self.old.state.mib s.header.acknowledged at ≡ Abandon) }
         ensures { Turns self.old self.new result (Expire self.old.state.now) }
     {
         let id = self.session(index).name();
@@ -331,7 +353,8 @@ impl Machine {
     /// The core cancels a transaction that it knows.
     fn hand_cancel(&mut self, index: usize)
         requires { index < length self.old.state.sessions }
-        ensures { AtIndex self.old.state.sessions index (λ s. self.new ≡ in_world (run self.old.state.world (where_known s.stage (CancelCame (name_of s) ∷ []))) self.old) }
+        ensures { AtIndex self.old.state.sessions index (λ s. self.new
+            ≡ in_world (run self.old.state.world (where_known s.stage (CancelCame (name_of s) ∷ []))) self.old) }
     {
         let session = self.session(index);
         if session.stage == Stage::Known {
@@ -344,7 +367,11 @@ impl Machine {
     pub(crate) fn ends_here(&mut self, index: usize, condition: u8)
         requires here { index < length self.old.state.sessions }
         requires condition { condition < 16 }
-        ensures { AtIndex self.old.state.sessions index (λ s. self.new ≡ record self.old { state = record self.old.state { sessions = replaced self.old.state.sessions (over_here self.old.state s condition) } }) }
+        ensures { AtIndex self.old.state.sessions index (λ s. self.new
+            ≡ record self.old {
+              state = record self.old.state
+                  { sessions = replaced self.old.state.sessions (over_here self.old.state s condition) };
+            }) }
     {
         let ending = Ending {
             condition,

@@ -119,7 +119,8 @@ impl Machine {
         ensures ok { IfOk result (λ len. slice_get (after_ack self.now answer.now) number ≡ Some (take len out.new)) }
         ensures room { IfOk result (λ len. len ≤ length out.old) }
         ensures rest { IfOk result (λ len. drop len out.new ≡ drop len out.old) }
-        ensures err { IfErr result (IsNotWritten 0 (slice_get (after_ack self.now answer.now) number) (length out.old)) }
+        ensures err { IfErr result (IsNotWritten 0 (slice_get (after_ack self.now answer.now) number)
+            (length out.old)) }
         ensures enough { longest_finished ≤ length out.old → IfErr result (λ why. why ≡ NoMore) }
         ensures unchanged { OnErr result (out.new ≡ out.old) }
     {
@@ -143,7 +144,8 @@ impl Machine {
         ensures ok { IfOk result (λ len. slice_get (after_naks self.now answer.now) number ≡ Some (take len out.new)) }
         ensures room { IfOk result (λ len. len ≤ length out.old) }
         ensures rest { IfOk result (λ len. drop len out.new ≡ drop len out.old) }
-        ensures err { IfErr result (IsNotWritten 0 (slice_get (after_naks self.now answer.now) number) (length out.old)) }
+        ensures err { IfErr result (IsNotWritten 0 (slice_get (after_naks self.now answer.now) number)
+            (length out.old)) }
         ensures enough { longest_finished ≤ length out.old → IfErr result (λ why. why ≡ NoMore) }
         ensures unchanged { OnErr result (out.new ≡ out.old) }
     {
@@ -163,10 +165,12 @@ impl Machine {
         left: usize,
         out: &mut [u8],
     ) -> Result<usize, NotWritten>
-        ensures ok { IfOk result (λ len. slice_get (map (finished_for self.now) answer.now.finished) left ≡ Some (take len out.new)) }
+        ensures ok { IfOk result (λ len. slice_get (map (finished_for self.now) answer.now.finished) left
+            ≡ Some (take len out.new)) }
         ensures room { IfOk result (λ len. len ≤ length out.old) }
         ensures rest { IfOk result (λ len. drop len out.new ≡ drop len out.old) }
-        ensures err { IfErr result (IsNotWritten 0 (slice_get (map (finished_for self.now) answer.now.finished) left) (length out.old)) }
+        ensures err { IfErr result (IsNotWritten 0 (slice_get (map (finished_for self.now) answer.now.finished) left)
+            (length out.old)) }
         ensures enough { longest_finished ≤ length out.old → IfErr result (λ why. why ≡ NoMore) }
         ensures unchanged { OnErr result (out.new ≡ out.old) }
     {

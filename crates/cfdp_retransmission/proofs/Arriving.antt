@@ -24,12 +24,14 @@ comes None later h = h
 comes (Some x) later h = refl
 
 -- an offset that was there or is still brought, once the first piece came
-went : (o later : Option ℕ) (rest : Bool) → (is_some o ≡ true) ⊎ ((if is_some later then true else rest) ≡ true) → (is_some (or_else o later) ≡ true) ⊎ (rest ≡ true)
+went : (o later : Option ℕ) (rest : Bool) → (is_some o ≡ true) ⊎ ((if is_some later then true else rest) ≡ true) → (is_some (or_else o later) ≡ true)
+    ⊎ (rest ≡ true)
 went o later rest (inl h) = inl (stays o later h)
 went o None rest (inr h) = inr h
 went o (Some x) rest (inr h) = inl (comes o (Some x) refl)
 
-there : (rs : Received) (ps : List Piece) (i : ℕ) → AreKept rs ps → (is_some (octet_at rs i) ≡ true) ⊎ (brings ps i ≡ true) → is_some (octet_at (keep_all rs ps) i) ≡ true
+there : (rs : Received) (ps : List Piece) (i : ℕ) → AreKept rs ps → (is_some (octet_at rs i) ≡ true) ⊎ (brings ps i ≡ true) →
+    is_some (octet_at (keep_all rs ps) i) ≡ true
 there rs [] i kept (inl h) = h
 there rs [] i kept (inr h) = absurd cc
 there rs (p ∷ ps) i kept h =
@@ -53,7 +55,8 @@ whole_from limit rs all =
     absurd cc)
 
 -- there already, or asked for
-either : (limit : ℕ) (rs : Received) (ps : List Piece) → Answers limit rs ps → (i : ℕ) → i < limit → (o : Option ℕ) → octet_at rs i ≡ o → (is_some o ≡ true) ⊎ (brings ps i ≡ true)
+either : (limit : ℕ) (rs : Received) (ps : List Piece) → Answers limit rs ps → (i : ℕ) → i < limit → (o : Option ℕ) → octet_at rs i ≡ o → (is_some o ≡ true)
+    ⊎ (brings ps i ≡ true)
 either limit rs ps answers i h None e = inr (answers i h e)
 either limit rs ps answers i h (Some x) e = inl refl
 
@@ -76,7 +79,8 @@ after_one [] (x ∷ xs) = after_one [] xs
 after_one (None ∷ rs) (x ∷ xs) = omega (arith, after_one rs xs, lower rs)
 after_one (Some r ∷ rs) (x ∷ xs) = after_one rs xs
 
-pub joins : (inside : Bool) (rs : Received) (at : ℕ) (octets : List ℕ) → is_some (octet_at rs at) ≡ true → pieces_from inside (kept_with rs (suc at) octets) ≤ pieces_from inside rs
+pub joins : (inside : Bool) (rs : Received) (at : ℕ) (octets : List ℕ) → is_some (octet_at rs at) ≡ true →
+    pieces_from inside (kept_with rs (suc at) octets) ≤ pieces_from inside rs
 joins inside rs at [] h = omega arith
 joins inside [] at (x ∷ xs) h = absurd cc
 joins true (None ∷ rs) zero (x ∷ xs) h = absurd cc
@@ -100,7 +104,8 @@ same_zero [] at (x ∷ xs) h = absurd cc
 same_zero (None ∷ rs) at (x ∷ xs) h = refl
 same_zero (Some r ∷ rs) at (x ∷ xs) h = refl
 
-pub room : (rs : Received) (at : ℕ) (octets : List ℕ) → continues rs at ≡ true → pieces (kept_with rs at octets) + zero_missing (kept_with rs at octets) ≤ pieces rs + zero_missing rs
+pub room : (rs : Received) (at : ℕ) (octets : List ℕ) → continues rs at ≡ true → pieces (kept_with rs at octets)
+    + zero_missing (kept_with rs at octets) ≤ pieces rs + zero_missing rs
 room rs zero octets h = joins_zero rs octets
 room rs (suc at) octets h = omega (arith, joins false rs at octets h, same_zero rs at octets h)
 

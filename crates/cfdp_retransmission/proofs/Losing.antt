@@ -71,7 +71,8 @@ one_at_most : (b : Bool) → one_if b ≤ 1
 one_at_most true = omega arith
 one_at_most false = omega arith
 
-begins_same : (rs ts : Received) (i : ℕ) → ((j : ℕ) → j < suc i → is_some (octet_at rs j) ≡ is_some (octet_at ts j)) → begins_from true rs i ≡ begins_from true ts i
+begins_same : (rs ts : Received) (i : ℕ) → ((j : ℕ) → j < suc i → is_some (octet_at rs j) ≡ is_some (octet_at ts j)) → begins_from true rs i
+    ≡ begins_from true ts i
 begins_same rs ts zero same = ap not (same 0 (omega arith))
 begins_same rs ts (suc i) same =
     ap (λ (b : Bool). b && not (is_some (octet_at rs (suc i)))) (same i (omega arith))
@@ -211,7 +212,8 @@ kept_none rs at [] e = refl
 kept_none rs at (x ∷ xs) e = absurd (omega (arith, e))
 
 -- it is kept
-after_kept : (limit : ℕ) (rs now : Received) (x gone : ℕ) (xs : List ℕ) → Inside limit rs now x gone → x + length xs ≤ limit → pieces (kept_with now x xs) ≤ 32 →
+after_kept : (limit : ℕ) (rs now : Received) (x gone : ℕ) (xs : List ℕ) → Inside limit rs now x gone → x + length xs ≤ limit →
+    pieces (kept_with now x xs) ≤ 32 →
     Inside limit rs (kept_with now x xs) (x + length xs) gone
 after_kept limit rs now x gone xs inside fits few =
     let new = kept_with now x xs in
@@ -220,8 +222,15 @@ after_kept limit rs now x gone xs inside fits few =
     let below : (i : ℕ) → i < x → is_some (octet_at new i) ≡ is_some (octet_at now i) =
     λ i h. ap is_some (first_stays now x xs i) ∙ some_left (octet_at now i) (brought x xs i) (brings_none_below x xs i h) in
     record {
-      later = λ i h. first_stays now x xs i ∙ ap (or_else (octet_at now i)) (brings_none_past x xs i h) ∙ or_none (octet_at now i) ∙ inside.later i (omega (arith, h));
-      few_holes = omega (arith, over_there new x (length xs) there, ap (λ (n : ℕ). holes n new) (on_is (length xs) x), holes_same x new now below, inside.few_holes);
+      later = λ i h. first_stays now x xs i ∙ ap (or_else (octet_at now i)) (brings_none_past x xs i h) ∙ or_none (octet_at now i)
+          ∙ inside.later i (omega (arith, h));
+      few_holes = omega (
+        arith,
+        over_there new x (length xs) there,
+        ap (λ (n : ℕ). holes n new) (on_is (length xs) x),
+        holes_same x new now below,
+        inside.few_holes,
+      );
       few = few;
       short = kept_len now x xs limit inside.short fits;
       first = λ e. kept_none now x xs (omega (arith, e)) ∙ inside.first (omega (arith, e));
@@ -289,14 +298,16 @@ front_by limit rs end true p ss ih fits now gone inside covers missing =
     let rise = covers_rise (p.0 + length p.1) end ss covers in
     let here : (i : ℕ) → p.0 ≤ i → i < p.0 + length p.1 → is_some (octet_at now i) ≡ false =
     λ i low high. ap is_some (inside.later i low) ∙ missing i low (omega (arith, high, rise)) in
-    let last = ih now (p.0 + length p.1) (1 + gone) (after_lost limit rs now p.0 gone (length p.1) inside here) covers (λ i low high. missing i (omega (arith, low)) high) in
+    let last = ih now (p.0 + length p.1) (1 + gone) (after_lost limit rs now p.0 gone (length p.1) inside here) covers
+    (λ i low high. missing i (omega (arith, low)) high) in
     subst (λ (n : ℕ). Inside limit rs (keep_all now (arrived ss)) end n) (omega arith) last
 front_by limit rs end false p ss ih fits now gone inside covers missing =
     let rise = covers_rise (p.0 + length p.1) end ss covers in
     let here : (i : ℕ) → p.0 ≤ i → i < p.0 + length p.1 → is_some (octet_at now i) ≡ false =
     λ i low high. ap is_some (inside.later i low) ∙ missing i low (omega (arith, high, rise)) in
     let last =
-    ih (keep now p) (p.0 + length p.1) gone (after_arrived limit rs now gone p inside (omega (arith, rise, fits)) here) covers (λ i low high. missing i (omega (arith, low)) high) in
+    ih (keep now p) (p.0 + length p.1) gone (after_arrived limit rs now gone p inside (omega (arith, rise, fits)) here) covers
+    (λ i low high. missing i (omega (arith, low)) high) in
     subst (λ (n : ℕ). Inside limit rs (keep_all (keep now p) (arrived ss)) end n) (omega arith) last
 
 over_front : (limit : ℕ) (rs : Received) (end : ℕ) (ss : List Sending) → end ≤ limit → FrontIn limit rs end ss
@@ -312,7 +323,8 @@ over_front limit rs end (s ∷ ss) fits now x gone inside covers missing =
 -- ---- all requests
 
 -- from one offset to a later one all is there
-over_received : (limit : ℕ) (rs now : Received) (x y gone : ℕ) → Inside limit rs now x gone → x ≤ y → ((i : ℕ) → x ≤ i → i < y → is_some (octet_at rs i) ≡ true) →
+over_received : (limit : ℕ) (rs now : Received) (x y gone : ℕ) → Inside limit rs now x gone → x ≤ y →
+    ((i : ℕ) → x ≤ i → i < y → is_some (octet_at rs i) ≡ true) →
     Inside limit rs now y gone
 over_received limit rs now x y gone inside rise there =
     let l = y - x in
@@ -384,7 +396,8 @@ over_requests limit rs (r ∷ rest) sent now x gone inside fits runs all only an
     let missing : (i : ℕ) → r.0 ≤ i → i < r.1 → is_some (octet_at rs i) ≡ false = λ i low high. ap is_some (only i (inl (low, high))).1 in
     let middle = over_front limit rs r.1 front high_fits now r.0 gone start answers.3 missing in
     let end =
-    over_requests limit rs rest back (keep_all now (arrived front)) r.1 (gone + lost front) middle high_fits (runs_earlier r.1 (r.1 + 1) rest (omega arith) runs.2)
+    over_requests limit rs rest back (keep_all now (arrived front)) r.1 (gone + lost front) middle high_fits
+    (runs_earlier r.1 (r.1 + 1) rest (omega arith) runs.2)
     (λ i low high e. in_rest r rest i low (all i (omega (arith, low, runs.0, runs.1)) high e))
     (λ i h. only i (inr h)) answers.4 in
     let counted : (gone + lost front) + lost back ≡ gone + lost (front ++ back) = omega (arith, lost_both front back) in

@@ -1,6 +1,7 @@
 -- What comes in answer to a NAK sequence (CCSDS 727.0-B-5, the lost segment procedures).
 --     Piece                       an offset, and the octets from there on
---     keep rs piece               what is received with one more piece: it is passed over where more than 32 separate parts would be kept
+--     keep rs piece               what is received with one more piece: it is passed over where more than 32 separate
+--                                 parts would be kept
 --     keep_all rs pieces          with several
 --     AreKept rs pieces           none of several is passed over
 --     brings pieces i             one of them has the octet at this offset
@@ -50,11 +51,13 @@ abbrev pub zero_missing : Received → ℕ
 zero_missing rs = if is_some (octet_at rs 0) then 0 else 1
 
 abbrev pub AnsweredIsWhole : Type 0
-AnsweredIsWhole = (limit : ℕ) (rs : Received) (ps : List Piece) → AreKept rs ps → Answers limit rs ps → gaps_below limit (keep_all rs ps) ≡ []
+AnsweredIsWhole = (limit : ℕ) (rs : Received) (ps : List Piece) → AreKept rs ps → Answers limit rs ps →
+    gaps_below limit (keep_all rs ps) ≡ []
 
 abbrev pub AnsweredInOrder : Type 0
 AnsweredInOrder =
-    (limit : ℕ) (rs : Received) (ps : List Piece) → pieces rs + zero_missing rs ≤ 32 → AreJoined rs ps → Answers limit rs ps →
+    (limit : ℕ) (rs : Received) (ps : List Piece) → pieces rs + zero_missing rs ≤ 32 → AreJoined rs ps →
+    Answers limit rs ps →
     gaps_below limit (keep_all rs ps) ≡ []
 
 abbrev pub one_if : Bool → ℕ
@@ -69,7 +72,9 @@ abbrev pub asked : ℕ → ℕ → Received → List (ℕ × ℕ)
 asked most limit rs = flat_map (λ nak. nak.requests) (naks most 0 limit (gaps_below limit rs))
 
 abbrev pub AskedOnce : Type 0
-AskedOnce = (most limit : ℕ) (rs : Received) (i : ℕ) → 1 ≤ most → i < limit → octet_at rs i ≡ None → covers i (asked most limit rs) ≡ 1
+AskedOnce = (most limit : ℕ) (rs : Received) (i : ℕ) → 1 ≤ most → i < limit → octet_at rs i ≡ None →
+    covers i (asked most limit rs) ≡ 1
 
 abbrev pub NotAsked : Type 0
-NotAsked = (most limit : ℕ) (rs : Received) (i : ℕ) → 1 ≤ most → (i < limit → octet_at rs i ≡ None → ⊥) → covers i (asked most limit rs) ≡ 0
+NotAsked = (most limit : ℕ) (rs : Received) (i : ℕ) → 1 ≤ most → (i < limit → octet_at rs i ≡ None → ⊥) →
+    covers i (asked most limit rs) ≡ 0

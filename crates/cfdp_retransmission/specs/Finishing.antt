@@ -1,9 +1,11 @@
--- A Finished PDU that was sent and waits for its acknowledgement (CCSDS 727.0-B-5, the positive acknowledgement procedures).
+-- A Finished PDU that was sent and waits for its acknowledgement (CCSDS 727.0-B-5, the positive acknowledgement
+-- procedures).
 --     Happening                      what happens to it: a moment passes, its acknowledgement comes, or anything else
 --     Terms                          the interval and the limit of its timer
 --     next terms waiting happening   the timer after it; None once the PDU is no longer waited for
 --     sends terms waiting happening  the moment at which it is sent again, if it is
---     waits, times                   the timer after several happenings;  the moments at which it was sent again, in order
+--     waits, times                   the timer after several happenings;  the moments at which it was sent again, in
+--                                    order
 --     AreApart interval from times   each moment is at least an interval after the one before, the first after `from`
 --     SentAtMost, NoneAfterTheEnd, SentApart, EndsInTime     the laws
 use Rattle.std.specs.Prelude.{◌≡◌, ⊤, ℕ, ◌+◌, ◌≤◌, List, [], ◌∷◌, ◌++◌, length, map, Option, Some, None}
@@ -50,7 +52,8 @@ waits terms waiting (happening ∷ happenings) = waits terms (next terms waiting
 
 abbrev pub times : Terms → Option Timer → List Happening → List ℕ
 times terms waiting [] = []
-times terms waiting (happening ∷ happenings) = sends terms waiting happening ++ times terms (next terms waiting happening) happenings
+times terms waiting (happening ∷ happenings) = sends terms waiting happening
+    ++ times terms (next terms waiting happening) happenings
 
 abbrev pub AreApart : ℕ → ℕ → List ℕ → Type 0
 AreApart interval from [] = ⊤
@@ -67,9 +70,11 @@ NoneAfterTheEnd =
     times terms (waits terms (Some (restarted at)) (before ++ Acknowledged ∷ [])) after ≡ []
 
 abbrev pub SentApart : Type 0
-SentApart = (terms : Terms) (at : ℕ) (happenings : List Happening) → AreApart terms.interval at (times terms (Some (restarted at)) happenings)
+SentApart = (terms : Terms) (at : ℕ) (happenings : List Happening) →
+    AreApart terms.interval at (times terms (Some (restarted at)) happenings)
 
 abbrev pub EndsInTime : Type 0
 EndsInTime =
-    (terms : Terms) (at : ℕ) (moments : List ℕ) → 1 ≤ terms.limit → AreApart terms.interval at moments → terms.limit ≤ length moments →
+    (terms : Terms) (at : ℕ) (moments : List ℕ) → 1 ≤ terms.limit → AreApart terms.interval at moments →
+    terms.limit ≤ length moments →
     waits terms (Some (restarted at)) (map Time_is moments) ≡ None

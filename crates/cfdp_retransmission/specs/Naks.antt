@@ -26,7 +26,8 @@ abbrev pub naks_in : ℕ → ℕ → ℕ → ℕ → List Range → List Nak
 naks_in zero most low high requests = []
 naks_in (suc more) most low high requests =
     record { scope = scope_of most low high requests; requests = take most requests }
-    ∷ (if nat_le (length requests) most then [] else naks_in more most (front_end most requests) high (drop most requests))
+    ∷ (if nat_le (length requests) most then [] else naks_in more most (front_end most requests) high
+    (drop most requests))
 
 -- at least one PDU, and at most one for each request
 abbrev pub naks : ℕ → ℕ → ℕ → List Range → List Nak
@@ -41,13 +42,16 @@ AreSideBy low high [] = low ≡ high
 AreSideBy low high (nak ∷ naks) = (nak.scope.0 ≡ low) × AreSideBy nak.scope.1 high naks
 
 abbrev pub AsksForAll : Type 0
-AsksForAll = (most low high : ℕ) (requests : List Range) → 1 ≤ most → flat_map (λ nak. nak.requests) (naks most low high requests) ≡ requests
+AsksForAll = (most low high : ℕ) (requests : List Range) → 1 ≤ most →
+    flat_map (λ nak. nak.requests) (naks most low high requests) ≡ requests
 
 abbrev pub EachIsShort : Type 0
-EachIsShort = (most low high : ℕ) (requests : List Range) → AllByRecursion (λ nak. length nak.requests ≤ most) (naks most low high requests)
+EachIsShort = (most low high : ℕ) (requests : List Range) →
+    AllByRecursion (λ nak. length nak.requests ≤ most) (naks most low high requests)
 
 abbrev pub AreSideBySide : Type 0
-AreSideBySide = (most low high : ℕ) (requests : List Range) → 1 ≤ most → AreSideBy low high (naks most low high requests)
+AreSideBySide = (most low high : ℕ) (requests : List Range) → 1 ≤ most →
+    AreSideBy low high (naks most low high requests)
 
 abbrev pub EachIsWithin : Type 0
 EachIsWithin =
@@ -55,4 +59,5 @@ EachIsWithin =
     AllByRecursion (λ nak. AreWithin nak.scope.0 nak.scope.1 nak.requests) (naks most low high requests)
 
 abbrev pub FewNaks : Type 0
-FewNaks = (most low high : ℕ) (requests : List Range) → 1 ≤ most → most * length (naks most low high requests) < 1 + most + length requests
+FewNaks = (most low high : ℕ) (requests : List Range) → 1 ≤ most → most * length (naks most low high requests) < 1
+    + most + length requests

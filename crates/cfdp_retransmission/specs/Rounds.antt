@@ -1,8 +1,8 @@
 -- A sender that answers each NAK sequence in the order of its requests, over a channel that loses PDUs.
 --     Asking                           a NAK PDU that is sent: its requests, and whether the channel loses it
 --     Sending                          a piece that the sender sends, and whether the channel loses it
---     Exchange                         the NAK PDUs of a round, and the pieces that answer them; and a second answer, where
---                                      NAK PDUs of another sequence have the same requests
+--     Exchange                         the NAK PDUs of a round, and the pieces that answer them; and a second answer,
+--                                      where NAK PDUs of another sequence have the same requests
 --     heard_requests asking            the requests that the sender gets: those of the NAK PDUs that are not lost
 --     Covers at end sent               the pieces follow each other from one offset to another
 --     AnswersInOrder requests sent     they answer each request in turn, from its start to its end

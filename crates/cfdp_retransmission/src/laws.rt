@@ -50,12 +50,14 @@ pub fn few_naks()
     ensures { FewNaks }
 {}
 
-/// Where the pieces that come have each octet that was missing, and none of them is passed over, nothing is missing after them.
+/// Where the pieces that come have each octet that was missing, and none of them is passed over, nothing is missing
+/// after them.
 pub fn answered_is_whole()
     ensures { AnsweredIsWhole }
 {}
 
-/// No piece is passed over where each begins at offset 0 or right after an octet that was received. So then nothing is missing.
+/// No piece is passed over where each begins at offset 0 or right after an octet that was received. So then nothing is
+/// missing.
 pub fn answered_in_order()
     ensures { AnsweredInOrder }
 {}

@@ -16,9 +16,9 @@ pub struct NakPart<'a> {
     pub rest: &'a [Range],
 }
 
-/// The next NAK PDU (CCSDS 727.0-B-5 §5.2.6) of a sequence that asks for these segments from the offset `low` up to `high`, with at most
-/// `most` requests in each PDU. The last PDU's scope ends at `high`, that of each other where its last request ends, and there the next one
-/// begins. Takes no memory. In constant time.
+/// The next NAK PDU (CCSDS 727.0-B-5 §5.2.6) of a sequence that asks for these segments from the offset `low` up to
+/// `high`, with at most `most` requests in each PDU. The last PDU's scope ends at `high`, that of each other where its
+/// last request ends, and there the next one begins. Takes no memory. In constant time.
 pub fn next_nak<'a>(requests: &'a [Range], low: u64, high: u64, most: usize) -> NakPart<'a>
     requires { 1 ≤ most }
     ensures scope { result.scope ≡ scope_of most low high requests.now }

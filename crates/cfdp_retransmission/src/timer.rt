@@ -4,7 +4,8 @@ ghost use Rattle.std.specs.Prelude.{◌≡◌, ◌<◌, ◌+◌, ◌^◌, nat_le
 ghost use Rattle.cfdp_retransmission.specs.Timers.{after, expiry, passed, restarted};
 ghost use Rattle.cfdp_retransmission.specs.declared.timer.Expiry.TheVariants.{Again};
 
-/// A timer: the moment from which it runs, and how often it expired in a row. Moments and intervals are in ticks of the caller's clock.
+/// A timer: the moment from which it runs, and how often it expired in a row. Moments and intervals are in ticks of the
+/// caller's clock.
 #[derive(Clone, Copy, Debug, PartialEq, Eq)]
 pub struct Timer {
     /// The moment from which it runs.
@@ -35,8 +36,8 @@ impl Timer {
         }
     }
 
-    /// Whether it has expired at the moment `now`: `interval` ticks after it began or later. A moment before it began is no fault: it is
-    /// not due then. In constant time.
+    /// Whether it has expired at the moment `now`: `interval` ticks after it began or later. A moment before it began
+    /// is no fault: it is not due then. In constant time.
     pub fn is_due(&self, interval: u64, now: u64) -> bool
         ensures { result ≡ nat_le (self.now.since + interval) now }
     {
@@ -46,8 +47,8 @@ impl Timer {
         }
     }
 
-    /// Whether it has expired at the moment `now`, as [`Timer::is_due`] says. The expiry with the number `limit` in a row reaches the
-    /// limit. In constant time.
+    /// Whether it has expired at the moment `now`, as [`Timer::is_due`] says. The expiry with the number `limit` in a
+    /// row reaches the limit. In constant time.
     pub fn expiry(&self, interval: u64, limit: u64, now: u64) -> Expiry
         ensures { result ≡ expiry interval limit now self.now }
     {
@@ -72,8 +73,8 @@ impl Timer {
         }
     }
 
-    /// Serves the timer at the moment `now`, and returns whether it had expired. Then it begins anew, with one expiry more in its count, or
-    /// with none where the limit was reached. Otherwise it stays as it is. In constant time.
+    /// Serves the timer at the moment `now`, and returns whether it had expired. Then it begins anew, with one expiry
+    /// more in its count, or with none where the limit was reached. Otherwise it stays as it is. In constant time.
     pub fn serve(&mut self, interval: u64, limit: u64, now: u64) -> Expiry
         ensures expiry { result ≡ expiry interval limit now self.old }
         ensures timer { self.new ≡ after interval limit now self.old }

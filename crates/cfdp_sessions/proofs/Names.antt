@@ -32,7 +32,8 @@ abbrev of_some : SessionFields → Option SessionFields → SessionFields
 of_some s None = s
 of_some s (Some t) = t
 
-found_if : (b : Bool) (s t : SessionFields) (later : Option SessionFields) → (if b then Some s else later) ≡ Some t → ((b ≡ true) × (s ≡ t)) ⊎ ((b ≡ false) × (later ≡ Some t))
+found_if : (b : Bool) (s t : SessionFields) (later : Option SessionFields) → (if b then Some s else later) ≡ Some t → ((b ≡ true) × (s ≡ t))
+    ⊎ ((b ≡ false) × (later ≡ Some t))
 found_if true s t later e = inl (refl, ap (λ (o : Option SessionFields). of_some s o) e)
 found_if false s t later e = inr (refl, e)
 
@@ -45,7 +46,8 @@ found_later x xs id h f = (f.0, cond-false (is_same (name_of x) id) (Some x) (fo
 pub found_either : (x : SessionFields) (xs : List SessionFields) (id : TransactionId) → IsFound xs id → IsFound (x ∷ xs) id
 found_either x xs id f = elim (cases_Bool (is_same (name_of x) id)) [ inl h ↦ found_first x xs id h | inr h ↦ found_later x xs id h f ]
 
-pub found_put : (ss : List SessionFields) (new s : SessionFields) (id : TransactionId) → found ss id ≡ Some s → name_of new ≡ name_of s → IsFound (replaced ss new) id
+pub found_put : (ss : List SessionFields) (new s : SessionFields) (id : TransactionId) → found ss id ≡ Some s → name_of new ≡ name_of s →
+    IsFound (replaced ss new) id
 found_put [] new s id e same = absurd cc
 found_put (x ∷ xs) new s id e same =
     let seen = found_if (is_same (name_of x) id) x s (found xs id) e in
@@ -128,7 +130,8 @@ found_more (x ∷ xs) new id f = elim (first_or_later x xs id f) [
 
 -- ---- the sessions of other names
 
-pub replaced_other : (ss : List SessionFields) (new : SessionFields) (id : TransactionId) → is_same (name_of new) id ≡ false → found (replaced ss new) id ≡ found ss id
+pub replaced_other : (ss : List SessionFields) (new : SessionFields) (id : TransactionId) → is_same (name_of new) id ≡ false → found (replaced ss new) id
+    ≡ found ss id
 replaced_other [] new id h = refl
 replaced_other (x ∷ xs) new id h = elim (cases_Bool (is_same (name_of x) (name_of new))) [
   | inl here ↦
@@ -153,7 +156,8 @@ without_other (x ∷ xs) t id h = elim (cases_Bool (is_same (name_of x) t)) [
       ∙ ap (λ (o : Option SessionFields). if is_same (name_of x) id then Some x else o) (without_other xs t id h)
 ]
 
-pub added_other : (ss : List SessionFields) (new : SessionFields) (id : TransactionId) → is_same (name_of new) id ≡ false → found (ss ++ new ∷ []) id ≡ found ss id
+pub added_other : (ss : List SessionFields) (new : SessionFields) (id : TransactionId) → is_same (name_of new) id ≡ false → found (ss ++ new ∷ []) id
+    ≡ found ss id
 added_other [] new id h = cond-false (is_same (name_of new) id) (Some new) None h
 added_other (x ∷ xs) new id h = ap (λ (o : Option SessionFields). if is_same (name_of x) id then Some x else o) (added_other xs new id h)
 
@@ -240,7 +244,8 @@ IsMember t (s ∷ ss) = (s ≡ t) ⊎ IsMember t ss
 -- of sessions with names of their own, a member is found by its name
 pub member_found : (ss : List SessionFields) (t : SessionFields) → AreDistinct ss → IsMember t ss → found ss (name_of t) ≡ Some t
 member_found [] t d m = elim m [ ]
-member_found (x ∷ xs) t d (inl e) = cond-true (is_same (name_of x) (name_of t)) (Some x) (found xs (name_of t)) (ap (is_same (name_of x)) (ap name_of (sym e)) ∙ same_self (name_of x)) ∙ ap Some e
+member_found (x ∷ xs) t d (inl e) = cond-true (is_same (name_of x) (name_of t)) (Some x) (found xs (name_of t)) (ap (is_same (name_of x)) (ap name_of (sym e))
+    ∙ same_self (name_of x)) ∙ ap Some e
 member_found (x ∷ xs) t d (inr m) =
     let later = member_found xs t d.1 m in
     elim (cases_Bool (is_same (name_of x) (name_of t))) [
@@ -249,7 +254,8 @@ member_found (x ∷ xs) t d (inr m) =
     ]
 
 -- the one that replaced another is found
-pub replaced_self : (ss : List SessionFields) (new : SessionFields) (id : TransactionId) → IsFound ss id → name_of new ≡ id → found (replaced ss new) id ≡ Some new
+pub replaced_self : (ss : List SessionFields) (new : SessionFields) (id : TransactionId) → IsFound ss id → name_of new ≡ id → found (replaced ss new) id
+    ≡ Some new
 replaced_self [] new id f e = absurd (no_session id f)
 replaced_self (x ∷ xs) new id f e =
     let new_is : is_same (name_of new) id ≡ true = ap (λ (n : TransactionId). is_same n id) e ∙ same_self id in

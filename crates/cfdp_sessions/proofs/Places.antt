@@ -17,29 +17,34 @@ pub found_at : (ss : List SessionFields) (id : TransactionId) → found ss id �
 found_at [] id = refl
 found_at (s ∷ ss) id = found_if (is_same (name_of s) id) s ss (place_of ss id) (found ss id) (found_at ss id)
 
-put_if : (b : Bool) (s new : SessionFields) (ss rest : List SessionFields) (place : ℕ) → (if b then 0 else suc place) < suc (length ss) → (place < length ss → slice_set ss place new ≡ rest) →
+put_if : (b : Bool) (s new : SessionFields) (ss rest : List SessionFields) (place : ℕ) → (if b then 0 else suc place) < suc (length ss) →
+    (place < length ss → slice_set ss place new ≡ rest) →
     slice_set (s ∷ ss) (if b then 0 else suc place) new ≡ (if b then new ∷ ss else s ∷ rest)
 put_if true s new ss rest place h e = refl
 put_if false s new ss rest place h e = ap (λ (xs : List SessionFields). s ∷ xs) (e (omega (arith, h)))
 
-pub replaced_at : (ss : List SessionFields) (new : SessionFields) → place_of ss (name_of new) < length ss → slice_set ss (place_of ss (name_of new)) new ≡ replaced ss new
+pub replaced_at : (ss : List SessionFields) (new : SessionFields) → place_of ss (name_of new) < length ss → slice_set ss (place_of ss (name_of new)) new
+    ≡ replaced ss new
 replaced_at [] new h = absurd (omega arith)
 replaced_at (s ∷ ss) new h = put_if (is_same (name_of s) (name_of new)) s new ss (replaced ss new) (place_of ss (name_of new)) h (replaced_at ss new)
 
-past_if : (b : Bool) (s : SessionFields) (first ss rest : List SessionFields) (place : ℕ) → suc (length ss) ≤ (if b then 0 else suc place) → (length ss ≤ place → ss ≡ rest) →
+past_if : (b : Bool) (s : SessionFields) (first ss rest : List SessionFields) (place : ℕ) → suc (length ss) ≤ (if b then 0 else suc place) →
+    (length ss ≤ place → ss ≡ rest) →
     s ∷ ss ≡ (if b then first else s ∷ rest)
 past_if true s first ss rest place h e = absurd (omega (arith, h))
 past_if false s first ss rest place h e = ap (λ (xs : List SessionFields). s ∷ xs) (e (omega (arith, h)))
 
 pub replaced_past : (ss : List SessionFields) (new : SessionFields) → length ss ≤ place_of ss (name_of new) → ss ≡ replaced ss new
 replaced_past [] new h = refl
-replaced_past (s ∷ ss) new h = past_if (is_same (name_of s) (name_of new)) s (new ∷ ss) ss (replaced ss new) (place_of ss (name_of new)) h (replaced_past ss new)
+replaced_past (s ∷ ss) new h = past_if (is_same (name_of s) (name_of new)) s (new ∷ ss) ss (replaced ss new) (place_of ss (name_of new)) h
+    (replaced_past ss new)
 
 pub without_past : (ss : List SessionFields) (id : TransactionId) → length ss ≤ place_of ss id → ss ≡ without ss id
 without_past [] id h = refl
 without_past (s ∷ ss) id h = past_if (is_same (name_of s) id) s ss ss (without ss id) (place_of ss id) h (without_past ss id)
 
-cut_if : (b : Bool) (s : SessionFields) (ss rest : List SessionFields) (place : ℕ) → (if b then 0 else suc place) < suc (length ss) → (place < length ss → remove ss place ≡ rest) →
+cut_if : (b : Bool) (s : SessionFields) (ss rest : List SessionFields) (place : ℕ) → (if b then 0 else suc place) < suc (length ss) →
+    (place < length ss → remove ss place ≡ rest) →
     remove (s ∷ ss) (if b then 0 else suc place) ≡ (if b then ss else s ∷ rest)
 cut_if true s ss rest place h e = refl
 cut_if false s ss rest place h e = ap (λ (xs : List SessionFields). s ∷ xs) (e (omega (arith, h)))
@@ -48,12 +53,14 @@ pub without_at : (ss : List SessionFields) (id : TransactionId) → place_of ss 
 without_at [] id h = absurd (omega arith)
 without_at (s ∷ ss) id h = cut_if (is_same (name_of s) id) s ss (without ss id) (place_of ss id) h (without_at ss id)
 
-some_if : (b : Bool) (s d : SessionFields) (ss : List SessionFields) (place : ℕ) (rest : Option SessionFields) → (if b then 0 else suc place) < suc (length ss) →
+some_if : (b : Bool) (s d : SessionFields) (ss : List SessionFields) (place : ℕ) (rest : Option SessionFields) →
+    (if b then 0 else suc place) < suc (length ss) →
     (place < length ss → rest ≡ Some (get_or ss place d)) → (if b then Some s else rest) ≡ Some (get_or (s ∷ ss) (if b then 0 else suc place) d)
 some_if true s d ss place rest h e = refl
 some_if false s d ss place rest h e = e (omega (arith, h))
 
-pub found_some : (ss : List SessionFields) (id : TransactionId) (d : SessionFields) → place_of ss id < length ss → found ss id ≡ Some (get_or ss (place_of ss id) d)
+pub found_some : (ss : List SessionFields) (id : TransactionId) (d : SessionFields) → place_of ss id < length ss → found ss id
+    ≡ Some (get_or ss (place_of ss id) d)
 found_some [] id d h = absurd (omega arith)
 found_some (s ∷ ss) id d h = some_if (is_same (name_of s) id) s d ss (place_of ss id) (found ss id) h (found_some ss id d)
 
@@ -95,8 +102,9 @@ set_replaced (x ∷ xs) (suc i) s new d e same = elim (cases_Bool (is_same (name
       ∙ sym (cond-false (is_same (name_of x) (name_of new)) (new ∷ xs) (x ∷ replaced xs new) there)
 ]
 
--- a session at an index is at the place of its name
-pub place_here : (ss : List SessionFields) (i : ℕ) (s : SessionFields) (id : TransactionId) → AreDistinct ss → slice_get ss i ≡ Some s → name_of s ≡ id → place_of ss id ≡ i
+-- a session at an index is at the index of its name
+pub place_here : (ss : List SessionFields) (i : ℕ) (s : SessionFields) (id : TransactionId) → AreDistinct ss → slice_get ss i ≡ Some s → name_of s ≡ id →
+    place_of ss id ≡ i
 place_here [] i s id d e same = absurd cc
 place_here (x ∷ xs) zero s id d e same =
     let here : is_same (name_of x) id ≡ true = ap (λ (n : TransactionId). is_same n id) (ap name_of (some_same x s e) ∙ same) ∙ same_self id in

@@ -11,8 +11,8 @@ use std::marker::Model;
 /// How many names are remembered at most.
 pub const MOST_CLOSED: usize = 256;
 
-/// The names of the 256 transactions that were closed last, the last one first, and whether a name was ever dropped from them. Only
-/// [`Closed::new`] takes memory.
+/// The names of the 256 transactions that were closed last, the last one first, and whether a name was ever dropped
+/// from them. Only [`Closed::new`] takes memory.
 #[derive(Drop)]
 pub struct Closed {
     names: VecDeque<TransactionId>,

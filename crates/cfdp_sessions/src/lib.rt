@@ -1,5 +1,6 @@
-//! What a receiving entity keeps of each transaction beside its core, which knows nothing of PDUs that are sent and of time: the header
-//! that its PDUs repeat, how far the transaction is, its timer, and its Finished PDU until that is acknowledged.
+//! What a receiving entity keeps of each transaction beside its core, which knows nothing of PDUs that are sent and of
+//! time: the header that its PDUs repeat, how far the transaction is, its timer, and its Finished PDU until that is
+//! acknowledged.
 #![tactic(auto)]
 
 mod closed;

@@ -34,8 +34,8 @@ pub enum Stage {
     Waiting,
 }
 
-/// What is kept of one transaction. Contracts see it without where its octets are. What is sent of it always fits its PDUs: its numbers
-/// fit their fields, and its Finished PDU has 16,488 octets at most.
+/// What is kept of one transaction. Contracts see it without where its octets are. What is sent of it always fits its
+/// PDUs: its numbers fit their fields, and its Finished PDU has 16,488 octets at most.
 #[derive(Debug, Drop)]
 pub struct Session {
     /// The header of the PDU that began it; that of its Metadata PDU once that came.
@@ -61,7 +61,15 @@ impl Model for Session {
 
     ghost Value = { SessionFields };
 
-    ghost view = { λ s. record { header = s.header; stage = s.stage; timer = s.timer; alive_at = s.alive_at; cause = s.cause; is_abandoned = s.is_abandoned; finished = s.finished.items } };
+    ghost view = { λ s. record {
+      header = s.header;
+      stage = s.stage;
+      timer = s.timer;
+      alive_at = s.alive_at;
+      cause = s.cause;
+      is_abandoned = s.is_abandoned;
+      finished = s.finished.items;
+    } };
 
     ghost invariant = { λ s. IsSessionWith s.header s.stage s.timer s.cause (vec_len s.finished) };
 }
@@ -74,7 +82,8 @@ impl Session {
         transaction_of(&self.header)
     }
 
-    /// Whether it is the session of this transaction. The number is compared first: of one sender all transactions have one source.
+    /// Whether it is the session of this transaction. The number is compared first: of one sender all transactions have
+    /// one source.
     pub(crate) fn has_name(&self, id: TransactionId) -> bool
         ensures { result ≡ is_same (name_of self.now) id }
     {

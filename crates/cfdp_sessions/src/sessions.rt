@@ -125,8 +125,8 @@ impl Sessions {
         }
     }
 
-    /// The session with this index, if there is one, is looked at first from now on: then to find it by its name takes constant time. No
-    /// answer changes. In constant time.
+    /// The session with this index, if there is one, is looked at first from now on: then to find it by its name takes
+    /// constant time. No answer changes. In constant time.
     pub fn look_first(&mut self, index: usize)
         ensures { self.new ≡ self.old }
     {
@@ -140,7 +140,8 @@ impl Sessions {
         let _list = &self.list;
     }
 
-    /// Gives the session with this index another timer; it is looked at first from now on. Takes no memory. In constant time.
+    /// Gives the session with this index another timer; it is looked at first from now on. Takes no memory. In constant
+    /// time.
     pub fn set_timer(&mut self, index: usize, timer: Timer)
         requires here { index < length self.old }
         requires counted { timer.count ≤ timer.since }
@@ -175,8 +176,8 @@ impl Sessions {
         session.stage = Stage::Over(ending);
     }
 
-    /// Notes the condition code, 0 to 15, for which this entity cancelled the transaction of the session with this index.
-    /// Takes no memory. In constant time.
+    /// Notes the condition code, 0 to 15, for which this entity cancelled the transaction of the session with this
+    /// index. Takes no memory. In constant time.
     pub fn set_cause(&mut self, index: usize, condition: u8)
         requires here { index < length self.old }
         requires condition { condition < 16 }
@@ -197,14 +198,18 @@ impl Sessions {
         session.is_abandoned = true;
     }
 
-    /// The session with this index waits from now on for the acknowledgement of its Finished PDU, whose octets are given.
-    /// Takes no memory. In constant time.
+    /// The session with this index waits from now on for the acknowledgement of its Finished PDU, whose octets are
+    /// given. Takes no memory. In constant time.
     pub fn wait(&mut self, index: usize, finished: Vec<u8>, timer: Timer)
         requires here { index < length self.old }
         requires short { vec_len finished ≤ longest_finished }
         requires counted { timer.count ≤ timer.since }
         ensures { (session : SessionFields) → slice_get self.old index ≡ Some session
-            → self.new ≡ replaced self.old (record session { stage = Waiting; finished = finished.items; timer = timer }) }
+            → self.new ≡ replaced self.old (record session {
+              stage = Waiting;
+              finished = finished.items;
+              timer = timer;
+            }) }
     {
         let session = &mut self.list[index];
         session.stage = Stage::Waiting;
@@ -231,8 +236,8 @@ impl Sessions {
         }
     }
 
-    /// Removes a transaction's session, if it has one, and keeps the order of the others. Takes no memory. Cost: as [`Sessions::get`], and a
-    /// move of the sessions after it.
+    /// Removes a transaction's session, if it has one, and keeps the order of the others. Takes no memory. Cost: as
+    /// [`Sessions::get`], and a move of the sessions after it.
     pub fn close(&mut self, id: TransactionId)
         ensures { self.new ≡ without self.old id }
     {

@@ -1,10 +1,10 @@
 //! The simulator's scripts: what `cfdpsim` reads, does and writes, without its command line.
 //!
-//! A script is a stream of octets in lines, and each line is answered by itself, in order. There are two kinds of script: of
-//! [`plain`], filestore requests as hexadecimal TLVs (CCSDS 727.0-B-5 §5.4), performed on one filestore (§4.9); and of
-//! [`replay`], PDUs (§5.1 to §5.3) and local events of one receiving entity (§4.6). [`links`] runs several of the second kind at
-//! once. What they stand on: streams of octets (`cfdp_streams`), lines (`cfdp_lines`), and what each line says and does
-//! (`cfdp_commands`).
+//! A script is a stream of octets in lines, and each line is answered by itself, in order. There are two kinds of
+//! script: of [`plain`], filestore requests as hexadecimal TLVs (CCSDS 727.0-B-5 §5.4), performed on one filestore
+//! (filestore procedures); and of [`replay`], PDUs (§5.1 to §5.3) and local events of one receiving entity (copy file
+//! procedures). [`links`] runs several of the second kind at once. What they use: streams of octets
+//! (`cfdp_streams`), lines (`cfdp_lines`), and what each line says and does (`cfdp_commands`).
 #![tactic(auto)]
 
 mod link_scripts;

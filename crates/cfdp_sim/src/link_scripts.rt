@@ -94,11 +94,13 @@ fn settle_all(
     requires works { AllNumbered IsWork 0 workers.items }
     requires finished { AllByRecursion (λ worked. worked.stopped ≡ None) workers.items }
     requires heard { AllByRecursion (λ file. AllByRecursion IsHeard (map said_of file.items)) files.now }
-    ensures handed { IfOk result (λ settled. AreHanded (λ seat. told_of seat.receipts) 0 (map (λ file. map said_of file.items) files.now) settled.0.items settled.1.items) }
+    ensures handed { IfOk result (λ settled. AreHanded (λ seat. told_of seat.receipts) 0
+        (map (λ file. map said_of file.items) files.now) settled.0.items settled.1.items) }
     ensures readable { IfOk result (λ settled. AllByRecursion HasReadable settled.0.items) }
     ensures seats { IfOk result (λ settled. settled.0.items ≡ map (λ worked. worked.seat) workers.items) }
     ensures took { OnOk result (took_of workers.items ≡ map (λ file. map said_of file.items) files.now) }
-    ensures fault { IfErr result (IsWorkFault None (took_of workers.items ≡ map (λ file. map said_of file.items) files.now)) }
+    ensures fault { IfErr result (IsWorkFault None (took_of workers.items
+        ≡ map (λ file. map said_of file.items) files.now)) }
 {
     let mut seats = Vec::with_capacity(alloc, files.len())?;
     let mut dropped = Vec::with_capacity(alloc, files.len())?;
@@ -121,8 +123,8 @@ fn settle_all(
 ///
 /// # Errors
 ///
-/// Why the first worker stopped that did; without a stop, [`LinkFault::ReceiptsDiffer`] only where one took something else than
-/// its file says, the receipts are not the journal, or the entity has not this configuration; out of memory.
+/// Why the first worker stopped that did; without a stop, [`LinkFault::ReceiptsDiffer`] only where one took something
+/// else than its file says, the receipts are not the journal, or the entity has not this configuration; out of memory.
 fn text_of_work(
     alloc: Global,
     config: &Config,
@@ -133,7 +135,10 @@ fn text_of_work(
     requires each { length workers.items ≡ length files.now }
     requires works { AllNumbered IsWork 0 workers.items }
     requires heard { AllByRecursion (λ file. AllByRecursion IsHeard (map said_of file.items)) files.now }
-    ensures ok { IfOk result (λ text. IsLinked (record { config = config.now; said = map (λ file. map said_of file.items) files.now }) text.items) }
+    ensures ok { IfOk result (λ text. IsLinked (record {
+      config = config.now;
+      said = map (λ file. map said_of file.items) files.now;
+    }) text.items) }
     ensures finished { OnOk result (first_stop workers.items ≡ None) }
     ensures why { IfErr result (IsWorkFault (first_stop workers.items)
         (Agree config.now journaled (map (λ file. map said_of file.items) files.now) workers.items)) }
@@ -152,7 +157,7 @@ fn text_of_work(
     }
 }
 
-/// Runs a worker for each file, and tells what they did.
+/// Runs a worker for each file, and says what they did.
 ///
 /// # Errors
 ///
@@ -166,7 +171,10 @@ fn run_files<R: Threads + Wait + Sync, G: Gate + Sync>(
     requires few { length prepared.files.items ≤ 4 }
     requires fresh { prepared.core.world ≡ start prepared.core.world.config }
     requires heard { AllByRecursion (λ file. AllByRecursion IsHeard (map said_of file.items)) prepared.files.items }
-    ensures ok { IfOk result (λ text. IsLinked (record { config = prepared.core.world.config; said = map (λ file. map said_of file.items) prepared.files.items }) text.items) }
+    ensures ok { IfOk result (λ text. IsLinked (record {
+      config = prepared.core.world.config;
+      said = map (λ file. map said_of file.items) prepared.files.items;
+    }) text.items) }
     ensures fault { IfErr result IsRunFault }
 {
     let Prepared { core, files } = prepared;
@@ -197,24 +205,25 @@ fn text_of_scripts<R: Threads + Wait + Sync, G: Gate + Sync>(
 
 /// Runs the scripts of several files on one receiving entity, a worker each, all at once.
 ///
-/// The lines of all files are read before a worker starts; they are those of `replay`, without `list`. Only the first file may
-/// begin with `config` and `protect`. The seats are numbered from 0 in the order of the files. Each worker has an inbox of 16
-/// messages, and all are fed line by line in turn; it passes the gate with each message. A message for a worker that has stopped
-/// is given up. What is written is each entry of the journal with the number of its seat, each seat with the number of its
-/// receipts and of the PDUs without an event, the length of the journal, and all that stands in the filestore. Who comes first
-/// among the workers is free, and so is the order of the entries of different seats. There are at most four files, each of at
-/// most 268,435,456 octets.
+/// The lines of all files are read before a worker starts; they are those of `replay`, without `list`. Only the first
+/// file may begin with `config` and `protect`. The seats are numbered from 0 in the order of the files. Each worker has
+/// an inbox of 16 messages, and all are fed line by line in turn; it passes the gate with each message. A message for a
+/// worker that has stopped is given up. What is written is each entry of the journal with the number of its seat, each
+/// seat with the number of its receipts and of the PDUs without an event, the length of the journal, and all that
+/// is in the filestore. Who comes first among the workers is free, and so is the order of the entries of different
+/// seats. There are at most four files, each of at most 268,435,456 octets.
 ///
 /// # Errors
 ///
-/// [`LinkFault::BadLine`] for the first bad line of the first file that has one; [`LinkFault::Memory`] where memory was refused
-/// or a thread could not be started; [`LinkFault::JournalFull`] where the journal was full (of several workers that stopped the
-/// one with the lowest seat decides); [`LinkFault::ReceiptsDiffer`] where a worker did not take what its file says, the receipts
-/// are not the journal, or the entity has not the configuration of the files; [`LinkFault::Write`] where the writer failed: then a
-/// beginning of the text was written, as far as the writer tells. After each other fault nothing was written.
+/// [`LinkFault::BadLine`] for the first bad line of the first file that has one; [`LinkFault::Memory`] where memory was
+/// refused or a thread could not be started; [`LinkFault::JournalFull`] where the journal was full (of several workers
+/// that stopped the one with the lowest seat decides); [`LinkFault::ReceiptsDiffer`] where a worker did not take what
+/// its file says, the receipts are not the journal, or the entity has not the configuration of the files;
+/// [`LinkFault::Write`] where the writer failed: then a beginning of the text was written, as far as the writer shows.
+/// After each other fault nothing was written.
 ///
-/// Memory: the messages of all files twice, the journal, the filestore and the text. Cost: one pass over the octets, and that of
-/// the events.
+/// Memory: the messages of all files twice, the journal, the filestore and the text. Cost: one pass over the octets,
+/// and that of the events.
 pub fn links<R: Threads + Wait + Sync, G: Gate + Sync, W: ScriptOut>(
     rt: &R,
     alloc: Global,
@@ -224,17 +233,21 @@ pub fn links<R: Threads + Wait + Sync, G: Gate + Sync, W: ScriptOut>(
 ) -> Result<(), LinkFault>
     requires few { length scripts.now ≤ 4 }
     requires short { AllByRecursion (λ script. length script.items ≤ input_limit) scripts.now }
-    // No script has a bad line, and the text that was written is that of a journal of the entity with their configuration,
-    // whose entries are the receipts of the seats, and in which each seat's events are those of its file's lines.
-    ensures ok { OnOk result (IsLinkRun (map (λ script. script.items) scripts.now) (W.contents writer.old) (W.contents writer.new)) }
+    // No script has a bad line, and the text that was written is that of a journal of the entity with their
+    // configuration, whose entries are the receipts of the seats, and in which each seat's events are those of its
+    // file's lines.
+    ensures ok { OnOk result (IsLinkRun (map (λ script. script.items) scripts.now) (W.contents writer.old)
+        (W.contents writer.new)) }
     // The first bad line of the first file that has one.
-    ensures bad_line { (file line : ℕ) → result ≡ Err (BadLine file line) → link_files (map (λ script. script.items) scripts.now) ≡ Err (file, line) }
-    // Nothing but want of memory hides it.
+    ensures bad_line { (file line : ℕ) → result ≡ Err (BadLine file line) →
+        link_files (map (λ script. script.items) scripts.now) ≡ Err (file, line) }
+    // Only out of memory hides it.
     ensures no_other { IfErr result (λ fault. Stops (link_files (map (λ script. script.items) scripts.now)) fault) }
     // Nothing was written; or the writer is to blame. Otherwise it has not failed.
     ensures unwritten { OnErr result (result ≢ Err Write → W.contents writer.new ≡ W.contents writer.old) }
-    // A beginning of such a text was written, as far as the writer tells.
-    ensures begun { result ≡ Err Write → IsLinkLost (map (λ script. script.items) scripts.now) (W.contents writer.old) (W.contents writer.new) }
+    // A beginning of such a text was written, as far as the writer shows.
+    ensures begun { result ≡ Err Write → IsLinkLost (map (λ script. script.items) scripts.now) (W.contents writer.old)
+        (W.contents writer.new) }
     ensures write { result ≡ Err Write → W.failed writer.new ≡ true }
     ensures well_written { result ≢ Err Write → W.failed writer.new ≡ W.failed writer.old }
 {

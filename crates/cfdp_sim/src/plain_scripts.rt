@@ -16,10 +16,10 @@ use std::alloc::Global;
 /// The blocks of the filestore.
 const BLOCKS: u32 = 64;
 
-/// Runs a script of filestore requests (CCSDS 727.0-B-5 §4.9 and §5.4.1).
+/// Runs a script of filestore requests (CCSDS 727.0-B-5 §5.4.1, filestore procedures).
 ///
 /// Each line is a request TLV in hexadecimal of either case, with spaces between pairs of digits, before and
-/// behind. It is answered by a line: its response TLV in lower case, or `dropped` and why. An empty line, or one
+/// after. It is answered by a line: its response TLV in lower case, or `dropped` and why. An empty line, or one
 /// of spaces alone, begins a new list of requests on the same filestore of 64 blocks; after a request that was not
 /// successful the rest of its list is not performed. A line that begins with `#` is passed over. Lines end with a
 /// newline, and a last one without it counts.

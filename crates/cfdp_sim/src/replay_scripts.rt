@@ -12,24 +12,25 @@ use cfdp_lines::{RunFault, run};
 use cfdp_streams::{FromSlice, ScriptIn, ScriptOut, ToWrite};
 use std::alloc::Global;
 
-/// Runs a script of PDUs and local events of one receiving entity (CCSDS 727.0-B-5 §4.6).
+/// Runs a script of PDUs and local events of one receiving entity (CCSDS 727.0-B-5, copy file procedures).
 ///
-/// Words stand between spaces. `config E B C K J` gives this entity's ID, the blocks of its filestore, the octets that a
-/// file of unbounded size may have, the check limit and the journal's entries; without it they are 2, 64, 2400, 2 and 1000.
-/// `protect HEX` protects what stands at or below a path. `pdu HEX` is a PDU that came; `step S N`, `cancel S N`,
-/// `check S N` and `take S N` perform the next item of the transaction with source entity S and sequence number N, cancel
-/// it, expire its check timer and hand its outcome out; `run` performs items until there are none, 4,224 at most; `list`
-/// writes what stands in the filestore. Each reply is a line that begins with its transaction's name. A line that begins
-/// with `#`, and one without words, is passed over. Lines end with a newline, and a last one without it counts.
+/// Words are between spaces. `config E B C K J` gives this entity's ID, the blocks of its filestore, the octets that
+/// a file of unbounded size may have, the check limit and the journal's entries; without it they are 2, 64, 2400, 2 and
+/// 1000. `protect HEX` protects what is at or below a path. `pdu HEX` is a PDU that came; `step S N`, `cancel S N`,
+/// `check S N` and `take S N` perform the next item of the transaction with source entity S and sequence number N,
+/// cancel it, expire its check timer and hand its outcome out; `run` performs items until there are none, 4,224 at
+/// most; `list` writes what is in the filestore. Each reply is a line that begins with its transaction's name. A
+/// line that begins with `#`, and one without words, is passed over. Lines end with a newline, and a last one without
+/// it counts.
 ///
 /// # Errors
 ///
-/// [`RunFault::BadLine`] for the first line that has more than 200,000 octets, even if it begins with `#`, or says none of
-/// these: another word, a word too many or too few, numbers that are no decimal digits or at least 2^64, no hexadecimal, no
-/// pair of digits, no path, a ninth path, numbers outside the configuration's limits, `config` that is not the first,
-/// `protect` behind any line but these two; [`RunFault::Read`] where the reader failed, or gave more than 268,435,456
-/// octets, unless a line is bad that ends within those or is too long within them; [`RunFault::Write`] where the writer
-/// failed; [`RunFault::Memory`] where memory was refused.
+/// [`RunFault::BadLine`] for the first line that has more than 200,000 octets, even if it begins with `#`, or says none
+/// of these: another word, a word too many or too few, numbers that are no decimal digits or at least 2^64, no
+/// hexadecimal, no pair of digits, no path, a ninth path, numbers outside the configuration's limits, `config` that is
+/// not the first, `protect` after any line but these two; [`RunFault::Read`] where the reader failed, or gave more
+/// than 268,435,456 octets, unless a line is bad that ends within those or is too long within them; [`RunFault::Write`]
+/// where the writer failed; [`RunFault::Memory`] where memory was refused.
 ///
 /// Memory: the receiving entity, one line and what it wrote. Cost: one pass over the octets, and that of the events.
 pub fn replay<R: ScriptIn, W: ScriptOut>(
@@ -80,7 +81,8 @@ pub fn replay_text(alloc: Global, script: &[u8]) -> Result<Vec<u8>, RunFault>
     ensures text { IfOk result (λ text. text.items ≡ (replay_report script.now).text) }
     ensures fine { OnOk result ((replay_report script.now).bad_line ≡ None) }
     ensures short { OnOk result (length script.now ≤ input_limit) }
-    ensures bad_line { (number : ℕ) → result ≡ Err (BadLine number) → (replay_report script.now).bad_line ≡ Some number }
+    ensures bad_line { (number : ℕ) → result ≡ Err (BadLine number) → (replay_report script.now).bad_line
+        ≡ Some number }
     ensures within { (number : ℕ) → result ≡ Err (BadLine number)
         → (limited_report replay_answer at_first script.now).bad_line ≡ Some number }
     ensures read { result ≡ Err Read → input_limit < length script.now }

@@ -114,7 +114,7 @@ static HAPPENINGS: [Happening; 7] = [
     Happening::Take,
 ];
 
-/// The path of a name, which spells one: only memory can be wanting.
+/// The path of a name, which spells one: only memory can be refused.
 pub fn path_of(alloc: Global, name: &[u8]) -> Result<Path, Memory> {
     Path::parse(alloc, name).map_err(|_| AllocError)
 }
@@ -148,7 +148,7 @@ fn sent(
     }
 }
 
-/// Whether a file may be installed under the name as things stand.
+/// Whether a file may be installed under the name as things are.
 fn is_open(alloc: Global, store: &ListStore, name: &[u8]) -> Result<bool, Memory> {
     let path = path_of(alloc, name)?;
     Ok(store.parent_is_good(&path) && store.kind(&path) != Some(Kind::Directory))
@@ -166,7 +166,7 @@ impl Random {
         NAMES[self.below(48) as usize]
     }
 
-    /// A filestore request, rather one that is not refused as things stand.
+    /// A filestore request, rather one that is not refused as things are.
     fn request(&mut self, alloc: Global, store: &ListStore) -> Result<FilestoreRequest, Memory> {
         let action = ACTIONS[self.below(16) as usize];
         let (mut first, mut second) = (self.name(), self.name());
@@ -179,7 +179,7 @@ impl Random {
         sent(alloc, action, first, second)
     }
 
-    /// The destination of a file, rather one at which it may be installed as things stand.
+    /// The destination of a file, rather one at which it may be installed as things are.
     fn destination(&mut self, alloc: Global, store: &ListStore) -> Result<Vec<u8>, Memory> {
         let mut name = self.name();
         for _ in 0..self.below(8) {

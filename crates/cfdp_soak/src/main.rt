@@ -35,7 +35,7 @@ use std::env;
 use std::process::ExitCode;
 use std::rt::Env;
 
-/// After how many events all that stands is compared.
+/// After how many events all that exists is compared.
 const STRIDE: u64 = 1_000;
 
 fn main(rt: HostRuntime) -> ExitCode {
@@ -157,7 +157,7 @@ impl Soak {
         })
     }
 
-    /// Hands in so many events, and compares at the end.
+    /// Hands in this many events, and compares at the end.
     fn run(&mut self, alloc: Global, events: u64) -> Result<(), Fault> {
         for _ in 0..events {
             self.turn(alloc)?;

@@ -79,7 +79,7 @@ impl Pair {
         &self.list
     }
 
-    /// Hands the event to both, and tells the reply.
+    /// Hands the event to both, and returns the reply.
     pub fn apply(&mut self, event: &Event) -> Result<Reply, Fault> {
         let reply = self.tree.apply(event);
         if !self.list.apply(event).same(&reply) {

@@ -25,7 +25,7 @@ impl Random {
         (self.state >> 33) % end
     }
 
-    /// Whether the next number of so many is the first.
+    /// Whether the next number of this many is the first.
     pub fn is_one_in(&mut self, count: u64) -> bool
         requires { 0 < count }
     {

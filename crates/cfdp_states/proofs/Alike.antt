@@ -11,8 +11,8 @@ use Rattle.cfdp_leases.specs.Footprint.{Footprint, IsWithin, Keeps}
 use Rattle.cfdp_leases.specs.Laws.{IsAlike, FrameOfReads, StaysRooted}
 use Rattle.cfdp_states.specs.Alone.{statuses, growths, steps, peak, need, reached, stage}
 use Rattle.cfdp_states.specs.Laws.{ForeignChange, ForeignChangeWith}
-use Rattle.cfdp_states.proofs.Order.{node_at-becomes}
-use Rattle.cfdp_states.proofs.Weights.{blocks-stages}
+use Rattle.cfdp_actions.proofs.Order.{node_at-becomes}
+use Rattle.cfdp_actions.proofs.Weights.{blocks-stages}
 use Rattle.cfdp_states.proofs.Rows.{row-grows}
 
 -- ---- one change, and several
@@ -22,15 +22,18 @@ kept-changed fp F G (Becomes p now) kept q covered =
     node_at-becomes F p now q ∙ ap (cond (same_path q p) now) (kept q covered) ∙ sym (node_at-becomes G p now q)
 kept-changed fp F G (Stages slot octets) kept q covered = kept q covered
 
-staged-set : (slot other : ℕ) (xs ys : List (List ℕ)) (octets : List ℕ) → slot < length xs → slot < length ys → slice_index_or xs slot [] ≡ slice_index_or ys slot [] →
+staged-set : (slot other : ℕ) (xs ys : List (List ℕ)) (octets : List ℕ) → slot < length xs → slot < length ys → slice_index_or xs slot []
+    ≡ slice_index_or ys slot [] →
     slice_index_or (slice_set xs other octets) slot [] ≡ slice_index_or (slice_set ys other octets) slot []
 staged-set slot other xs ys octets held_x held_y same =
     ⊎_elim
-    (λ (e : other ≡ slot). subst (λ i. slice_index_or (slice_set xs i octets) slot [] ≡ slice_index_or (slice_set ys i octets) slot []) (sym e) (get_or-set_same xs slot octets [] held_x ∙ sym (get_or-set_same ys slot octets [] held_y)))
-    (λ (apart : other ≢ slot). get_or-set_other xs other slot octets [] (λ e. apart (sym e)) ∙ same ∙ sym (get_or-set_other ys other slot octets [] (λ e. apart (sym e))))
+    (λ (e : other ≡ slot). subst (λ i. slice_index_or (slice_set xs i octets) slot [] ≡ slice_index_or (slice_set ys i octets) slot []) (sym e)
+    (get_or-set_same xs slot octets [] held_x ∙ sym (get_or-set_same ys slot octets [] held_y)))
+    (λ (apart : other ≢ slot). get_or-set_other xs other slot octets [] (λ e. apart (sym e)) ∙ same
+    ∙ sym (get_or-set_other ys other slot octets [] (λ e. apart (sym e))))
     (cases_eq other slot)
 
--- what the transaction of the footprint and the slot can tell of the two, and that both have the slot
+-- what the transaction of the footprint and the slot can say of the two, and that both have the slot
 pub record IsSame (fp : Footprint) (slot : ℕ) (F G : Filestore) : Type 0 where
   pub alike : IsAlike fp slot F G
   pub held_F : slot < length F.staged
@@ -44,7 +47,8 @@ pub held-after : (slot : ℕ) (F : Filestore) (cs : List Change) → slot < leng
 held-after slot F [] held = held
 held-after slot F (c ∷ cs) held = held-after slot (changed F c) cs (held-changed slot F c held)
 
-staged-changed : (slot : ℕ) (F G : Filestore) (c : Change) → slot < length F.staged → slot < length G.staged → staged_in F slot ≡ staged_in G slot → staged_in (changed F c) slot ≡ staged_in (changed G c) slot
+staged-changed : (slot : ℕ) (F G : Filestore) (c : Change) → slot < length F.staged → slot < length G.staged → staged_in F slot ≡ staged_in G slot →
+    staged_in (changed F c) slot ≡ staged_in (changed G c) slot
 staged-changed slot F G (Becomes p now) held_F held_G same = same
 staged-changed slot F G (Stages other octets) held_F held_G same = staged-set slot other F.staged G.staged octets held_F held_G same
 
@@ -78,12 +82,15 @@ pub record RunsAlike (prefixes : List Path) (fp : Footprint) (slot : ℕ) (F G :
 
 module _ (reads : FrameOfReads) (stays : StaysRooted) (prefixes : List Path) (fp : Footprint) (slot : ℕ) where
   -- after an item within the footprint
-  pub same-performed : (F G : Filestore) (item : Item) → IsSame fp slot F G → IsWithin fp item → IsSame fp slot (performed prefixes F slot item) (performed prefixes G slot item)
+  pub same-performed : (F G : Filestore) (item : Item) → IsSame fp slot F G → IsWithin fp item →
+      IsSame fp slot (performed prefixes F slot item) (performed prefixes G slot item)
   same-performed F G item same within =
       let rows : row prefixes F slot item ≡ row prefixes G slot item = (reads prefixes fp F G slot item same.alike within).0 in
-      subst (λ (o : Outcome). IsSame fp slot (performed prefixes F slot item) (after G o.changes)) rows (same-after fp slot F G (row prefixes F slot item).changes same)
+      subst (λ (o : Outcome). IsSame fp slot (performed prefixes F slot item) (after G o.changes)) rows
+      (same-after fp slot F G (row prefixes F slot item).changes same)
 
-  pub runs_alike : (F G : Filestore) (items : List Item) → IsSame fp slot F G → IsRooted F → IsRooted G → AllByRecursion (IsWithin fp) items → RunsAlike prefixes fp slot F G items
+  pub runs_alike : (F G : Filestore) (items : List Item) → IsSame fp slot F G → IsRooted F → IsRooted G → AllByRecursion (IsWithin fp) items →
+      RunsAlike prefixes fp slot F G items
   unfolding statuses growths peak steps reached
   runs_alike F G [] same rooted_F rooted_G within = record { statuses = refl; growths = refl; peak = omega arith; steps = refl; kept = same.alike.kept }
   runs_alike F G (item ∷ items) same rooted_F rooted_G within =
@@ -92,11 +99,13 @@ module _ (reads : FrameOfReads) (stays : StaysRooted) (prefixes : List Path) (fp
       let rows : o ≡ row prefixes G slot item = read.0 in
       let H = performed prefixes F slot item in
       let K = performed prefixes G slot item in
-      let rest = runs_alike H K items (same-performed F G item same within.0) (stays prefixes F slot item rooted_F) (stays prefixes G slot item rooted_G) within.1 in
+      let rest = runs_alike H K items (same-performed F G item same within.0) (stays prefixes F slot item rooted_F)
+      (stays prefixes G slot item rooted_G) within.1 in
       record {
         statuses = λ i. (rows i).answer ∷ rest.statuses i;
         growths = λ i. ((rows i).taken, (rows i).given) ∷ rest.growths i;
-        peak = higher (blocks F) (blocks H) (blocks G) (blocks K) (Rattle.cfdp_states.specs.Alone.peak prefixes H slot items) (Rattle.cfdp_states.specs.Alone.peak prefixes K slot items) o.taken o.given
+        peak = higher (blocks F) (blocks H) (blocks G) (blocks K) (Rattle.cfdp_states.specs.Alone.peak prefixes H slot items)
+            (Rattle.cfdp_states.specs.Alone.peak prefixes K slot items) o.taken o.given
             (row-grows prefixes F slot item rooted_F same.held_F)
             (subst (λ (o : Outcome). blocks K + o.given ≡ blocks G + o.taken) (sym rows) (row-grows prefixes G slot item rooted_G same.held_G))
             rest.peak;
@@ -124,7 +133,8 @@ foreign_change_with reads stays prefixes fp F G slot x items alike rooted_F root
     let runs = runs_alike reads stays prefixes fp slot H K items same rooted_F rooted_G within in (
       runs.statuses,
       runs.growths,
-      restaged (peak prefixes H slot items) (peak prefixes K slot items) (blocks F) (blocks G) (blocks H) (blocks K) (blocks_of (length (staged_in F slot))) (blocks_of (length x)) runs.peak
+      restaged (peak prefixes H slot items) (peak prefixes K slot items) (blocks F) (blocks G) (blocks H) (blocks K) (blocks_of (length (staged_in F slot)))
+          (blocks_of (length x)) runs.peak
           (blocks-stages F slot x held_F)
           (subst (λ (s : List ℕ). blocks K + blocks_of (length s) ≡ blocks G + blocks_of (length x)) (sym alike.staged) (blocks-stages G slot x held_G)),
       runs.steps,

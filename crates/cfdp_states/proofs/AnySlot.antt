@@ -4,12 +4,13 @@ use Rattle.cfdp_paths.specs.Paths.{Path}
 use Rattle.cfdp_actions.specs.Filestore.{Node, Filestore, node_at, staged_in, blocks_of, blocks}
 use Rattle.cfdp_states.specs.Alone.{steps, peak, stage, alone}
 use Rattle.cfdp_states.specs.Laws.{AnySlot, AnySlotWith}
-use Rattle.cfdp_states.proofs.Growth.{blocks_of-zero}
-use Rattle.cfdp_states.proofs.Weights.{blocks-stages}
+use Rattle.cfdp_actions.proofs.Growth.{blocks_of-zero}
+use Rattle.cfdp_actions.proofs.Weights.{blocks-stages}
 use Rattle.cfdp_states.proofs.Longer.{Longer, longer-itself, IsLonger, blocks-longer}
 use Rattle.cfdp_states.proofs.LongerFile.{statuses-longer, peak-longer, steps-longer, other_blocks, held_blocks}
 
-no_longer : (F G : Filestore) (slot other : ℕ) → ((p : Path) → node_at F p ≡ node_at G p) → length (staged_in F slot) ≡ length (staged_in G other) → slot < length F.staged → other < length G.staged →
+no_longer : (F G : Filestore) (slot other : ℕ) → ((p : Path) → node_at F p ≡ node_at G p) → length (staged_in F slot) ≡ length (staged_in G other) →
+    slot < length F.staged → other < length G.staged →
     IsLonger slot other (other_blocks F slot) (other_blocks G other) F G
 no_longer F G slot other same staged held_F held_G = record {
   nodes = λ q. subst (λ (v : Option Node). Longer (node_at F q) v) (same q) (longer-itself (node_at F q));
@@ -33,15 +34,18 @@ any_slot prefixes F G slot other items same staged held_F held_G =
     let there : IsLonger slot other m n F G = no_longer F G slot other same staged held_F held_G in
     let back : IsLonger other slot n m G F = no_longer G F other slot (λ p. sym (same p)) (sym staged) held_G held_F in (
       statuses-longer prefixes slot other m n F G items there,
-      same_gap (blocks F) (blocks G) (peak prefixes F slot items) (peak prefixes G other items) m n (blocks-longer slot other m n F G there) (blocks-longer other slot n m G F back) (peak-longer prefixes slot other m n F G items there) (peak-longer prefixes other slot n m G F items back),
-      equal (steps prefixes F slot items) (steps prefixes G other items) (steps-longer prefixes slot other m n F G items there) (steps-longer prefixes other slot n m G F items back),
+      same_gap (blocks F) (blocks G) (peak prefixes F slot items) (peak prefixes G other items) m n (blocks-longer slot other m n F G there)
+          (blocks-longer other slot n m G F back) (peak-longer prefixes slot other m n F G items there) (peak-longer prefixes other slot n m G F items back),
+      equal (steps prefixes F slot items) (steps prefixes G other items) (steps-longer prefixes slot other m n F G items there)
+          (steps-longer prefixes other slot n m G F items back),
     )
 
 -- f and g blocks before, h and k once the file is staged, and p and r at most from then on; the other slots hold m and n
 same_rise : (f g h k p r x : ℕ) → h ≡ f + x → k ≡ g + x → (m n : ℕ) → h + n ≤ k + m → k + m ≤ h + n → p + n ≤ r + m → r + m ≤ p + n → p - f ≡ r - g
 same_rise f g h k p r x first second m n one two three four = omega arith
 
-pub staged_more : (F : Filestore) (slot : ℕ) (x : List ℕ) → slot < length F.staged → staged_in F slot ≡ [] → blocks (stage F slot x) ≡ blocks F + blocks_of (length x)
+pub staged_more : (F : Filestore) (slot : ℕ) (x : List ℕ) → slot < length F.staged → staged_in F slot ≡ [] → blocks (stage F slot x) ≡ blocks F
+    + blocks_of (length x)
 staged_more F slot x held empty =
     let sum : blocks (stage F slot x) + blocks_of (length (staged_in F slot)) ≡ blocks F + blocks_of (length x) = blocks-stages F slot x held in
     let none : blocks_of (length (staged_in F slot)) ≡ 0 = ap (λ (s : List ℕ). blocks_of (length s)) empty ∙ blocks_of-zero in
@@ -59,7 +63,10 @@ any_slot_with prefixes F slot x items held empty =
     let there : IsLonger slot 0 m n H K = no_longer H K slot 0 (λ p. refl) staged held_H one in
     let back : IsLonger 0 slot n m K H = no_longer K H 0 slot (λ p. refl) (sym staged) one held_H in (
       statuses-longer prefixes slot 0 m n H K items there,
-      same_rise (blocks F) (blocks (alone F [])) (blocks H) (blocks K) (peak prefixes H slot items) (peak prefixes K 0 items) (blocks_of (length x)) (staged_more F slot x held empty) (staged_more (alone F []) 0 x (omega arith) refl) m n
-          (blocks-longer slot 0 m n H K there) (blocks-longer 0 slot n m K H back) (peak-longer prefixes slot 0 m n H K items there) (peak-longer prefixes 0 slot n m K H items back),
-      equal (steps prefixes H slot items) (steps prefixes K 0 items) (steps-longer prefixes slot 0 m n H K items there) (steps-longer prefixes 0 slot n m K H items back),
+      same_rise (blocks F) (blocks (alone F [])) (blocks H) (blocks K) (peak prefixes H slot items) (peak prefixes K 0 items) (blocks_of (length x))
+          (staged_more F slot x held empty) (staged_more (alone F []) 0 x (omega arith) refl) m n
+          (blocks-longer slot 0 m n H K there) (blocks-longer 0 slot n m K H back) (peak-longer prefixes slot 0 m n H K items there)
+          (peak-longer prefixes 0 slot n m K H items back),
+      equal (steps prefixes H slot items) (steps prefixes K 0 items) (steps-longer prefixes slot 0 m n H K items there)
+          (steps-longer prefixes 0 slot n m K H items back),
     )

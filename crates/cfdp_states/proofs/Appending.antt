@@ -1,4 +1,4 @@
--- One more item at the end of a list, and a view that tells of it.
+-- One more item at the end of a list, and a view that describes it.
 use Rattle.std.proofs.Common.{◌≡◌, refl, sym, ◌∙◌, ap, subst, Option, Some, None, ℕ, ◌+◌, ◌-◌, min, max, List, [], ◌∷◌, ◌++◌, arith}
 use Rattle.std.specs.List.{AllByRecursion}
 use Rattle.cfdp_paths.specs.Paths.{Path}
@@ -30,7 +30,8 @@ appended prefixes F slot (first ∷ items) item =
       ap (λ n. (1 + step_bound F first) + n) rest.3 ∙ grouped (1 + step_bound F first) (steps prefixes H slot items) (1 + step_bound G item),
     )
 
-within_append : (fp : Footprint) (items : List Item) (item : Item) → AllByRecursion (IsWithin fp) items → IsWithin fp item → AllByRecursion (IsWithin fp) (items ++ item ∷ [])
+within_append : (fp : Footprint) (items : List Item) (item : Item) → AllByRecursion (IsWithin fp) items → IsWithin fp item →
+    AllByRecursion (IsWithin fp) (items ++ item ∷ [])
 within_append fp [] item all one = (one, tt)
 within_append fp (first ∷ items) item all one = (all.0, within_append fp items item all.1 one)
 
@@ -39,10 +40,11 @@ above_start : (start p : ℕ) → min (max start p - start) most_need ≡ min (p
 above_start start p = omega arith
 
 module _ (leased : OnlyLeased) where
-  -- need and steps, and what stands where it is covered, are those of the whole filestore
+  -- need and steps, and what is where it is covered, are those of the whole filestore
   counted : (v : Sketch) (fp : Footprint) (F : Filestore) (x : List ℕ) (items : List Item) (answers : List Answer) → AllByRecursion (IsWithin fp) items →
       answers ≡ statuses_alone v.prefixes (only fp F) x items →
-      (let G = alone (only fp F) x in let start = blocks (alone (only fp F) []) in IsViewOf v (reached v.prefixes G 0 items) start (max start (peak v.prefixes G 0 items)) (steps v.prefixes G 0 items)) →
+      (let G = alone (only fp F) x in let start = blocks (alone (only fp F) []) in
+      IsViewOf v (reached v.prefixes G 0 items) start (max start (peak v.prefixes G 0 items)) (steps v.prefixes G 0 items)) →
       HasRun v fp F x items answers
   counted v fp F x items answers within answered seen =
       let same = leased v.prefixes fp F x items within in
@@ -58,7 +60,8 @@ module _ (leased : OnlyLeased) where
   pub view_begins : ViewBegins
   unfolding reached statuses peak steps
   view_begins v fp F h =
-      counted v fp F [] [] [] tt refl (subst (λ n. IsViewOf v (alone (only fp F) []) (blocks (alone (only fp F) [])) n 0) (itself (blocks (alone (only fp F) []))) h)
+      counted v fp F [] [] [] tt refl (subst (λ n. IsViewOf v (alone (only fp F) []) (blocks (alone (only fp F) [])) n 0)
+      (itself (blocks (alone (only fp F) []))) h)
     where
       itself : (n : ℕ) → n ≡ max n n
       itself n = omega arith
@@ -73,7 +76,8 @@ module _ (leased : OnlyLeased) where
       let seen : IsViewOf w G start (max start (max (blocks H) (blocks G))) (0 + (1 + step_bound H (Install p))) = told.1 refl in
       counted w fp F x (Install p ∷ []) (Installed ∷ []) (within, tt)
       (ap (λ answer. answer ∷ []) (told.0 ∙ ap (λ prefixes. (row prefixes H 0 (Install p)).answer) (sym same)))
-      (subst (λ (prefixes : List Path). IsViewOf w (performed prefixes H 0 (Install p)) start (max start (max (blocks H) (blocks (performed prefixes H 0 (Install p))))) ((1 + step_bound H (Install p)) + 0)) (sym same)
+      (subst (λ (prefixes : List Path). IsViewOf w (performed prefixes H 0 (Install p)) start
+      (max start (max (blocks H) (blocks (performed prefixes H 0 (Install p))))) ((1 + step_bound H (Install p)) + 0)) (sym same)
       (subst (λ n. IsViewOf w G start (max start (max (blocks H) (blocks G))) n) (turned (1 + step_bound H (Install p))) seen))
     where
       turned : (n : ℕ) → 0 + n ≡ n + 0
@@ -90,9 +94,12 @@ module _ (leased : OnlyLeased) where
       let before = leased v.prefixes fp F x items run.within in
       counted w fp F x (items ++ item ∷ []) (answers ++ answer ∷ []) (within_append fp items item run.within within)
       ((λ i. (run.answered ∙ sym before.0) i ++ told.0 i ∷ []) ∙ sym more.1 ∙ ap (λ prefixes. statuses prefixes H 0 (items ++ item ∷ [])) (sym same))
-      (subst (λ (prefixes : List Path). IsViewOf w (reached prefixes H 0 (items ++ item ∷ [])) start (max start (peak prefixes H 0 (items ++ item ∷ []))) (steps prefixes H 0 (items ++ item ∷ []))) (sym same)
-      (subst (λ (R : Filestore). IsViewOf w R start (max start (peak v.prefixes H 0 (items ++ item ∷ []))) (steps v.prefixes H 0 (items ++ item ∷ []))) (sym more.0)
-      (subst (λ n. IsViewOf w G start n (steps v.prefixes H 0 (items ++ item ∷ []))) (sym (twice_max start (peak v.prefixes H 0 items) (blocks G)) ∙ ap (max start) (sym more.2))
+      (subst (λ (prefixes : List Path). IsViewOf w (reached prefixes H 0 (items ++ item ∷ [])) start (max start (peak prefixes H 0 (items ++ item ∷ [])))
+      (steps prefixes H 0 (items ++ item ∷ []))) (sym same)
+      (subst (λ (R : Filestore). IsViewOf w R start (max start (peak v.prefixes H 0 (items ++ item ∷ []))) (steps v.prefixes H 0 (items ++ item ∷ [])))
+      (sym more.0)
+      (subst (λ n. IsViewOf w G start n (steps v.prefixes H 0 (items ++ item ∷ []))) (sym (twice_max start (peak v.prefixes H 0 items) (blocks G))
+      ∙ ap (max start) (sym more.2))
       (subst (λ n. IsViewOf w G start (max (max start (peak v.prefixes H 0 items)) (blocks G)) n) (sym more.3) told.1))))
 
   pub view_refuses : ViewRefuses

@@ -9,7 +9,8 @@ use Rattle.cfdp_actions.specs.Filestore.{Filestore, after}
 use Rattle.cfdp_actions.specs.Actions.{Request, Perform, Performed, Outcome, succeeded, action_in, table, free_row, bars, denied, row}
 use Rattle.cfdp_states.specs.Sketching.{Extents, IsOutline, Does, DoesOrNot, Performs, PerformsOrNot}
 
-row_barred : (prefixes : List Path) (F : Filestore) (request : Request) → bars prefixes request ≡ true → row prefixes F 0 (Perform request) ≡ denied (Perform request)
+row_barred : (prefixes : List Path) (F : Filestore) (request : Request) → bars prefixes request ≡ true → row prefixes F 0 (Perform request)
+    ≡ denied (Perform request)
 unfolding row
 row_barred prefixes F request e = ap (λ b. if b then denied (Perform request) else free_row F 0 (Perform request)) e
 
@@ -17,7 +18,8 @@ row_free : (prefixes : List Path) (F : Filestore) (request : Request) → bars p
 unfolding row free_row
 row_free prefixes F request e = ap (λ b. if b then denied (Perform request) else free_row F 0 (Perform request)) e
 
-pub barred : (prefixes : List Path) (m : Extents) (request : Request) (b : Bool) (action : Action) → b ≡ bars prefixes request → b ≡ true → action ≡ action_in request → Performs prefixes m m request (NotAllowed action)
+pub barred : (prefixes : List Path) (m : Extents) (request : Request) (b : Bool) (action : Action) → b ≡ bars prefixes request → b ≡ true → action
+    ≡ action_in request → Performs prefixes m m request (NotAllowed action)
 barred prefixes m request b action is holds named =
     let e : (F : Filestore) → row prefixes F 0 (Perform request) ≡ denied (Perform request) = λ F. row_barred prefixes F request (sym is ∙ holds) in
     record {
@@ -26,7 +28,8 @@ barred prefixes m request b action is holds named =
       staged = λ F h. ap (λ (o : Outcome). (after F o.changes).staged) (e F);
     }
 
-free : (prefixes : List Path) (m m' : Extents) (request : Request) (told : Status) → bars prefixes request ≡ false → Does m m' request told → Performs prefixes m m' request told
+free : (prefixes : List Path) (m m' : Extents) (request : Request) (told : Status) → bars prefixes request ≡ false → Does m m' request told →
+    Performs prefixes m m' request told
 free prefixes m m' request told fails does =
     let e : (F : Filestore) → row prefixes F 0 (Perform request) ≡ table F request = λ F. row_free prefixes F request fails in
     record {
@@ -35,7 +38,8 @@ free prefixes m m' request told fails does =
       staged = λ F h. ap (λ (o : Outcome). (after F o.changes).staged) (e F) ∙ does.staged F h;
     }
 
-pub unbarred : (prefixes : List Path) (m m' : Extents) (request : Request) (b : Bool) (result : Result Status AllocError) → b ≡ bars prefixes request → b ≡ false → DoesOrNot m m' request result → PerformsOrNot prefixes m m' request result
+pub unbarred : (prefixes : List Path) (m m' : Extents) (request : Request) (b : Bool) (result : Result Status AllocError) → b ≡ bars prefixes request → b
+    ≡ false → DoesOrNot m m' request result → PerformsOrNot prefixes m m' request result
 unbarred prefixes m m' request b (Ok told) is fails does = free prefixes m m' request told (sym is ∙ fails) does
 unbarred prefixes m m' request b (Err memory) is fails does =
     (does.0, does.1, λ F h. ap (λ (o : Outcome). succeeded o.answer) (row_free prefixes F request (sym is ∙ fails)) ∙ does.2 F h)

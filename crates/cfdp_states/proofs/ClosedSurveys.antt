@@ -22,8 +22,8 @@ use Rattle.cfdp_states.specs.Alone.{alone}
 use Rattle.cfdp_states.specs.Sketching.{most_octets, extent_in, extent_at, Extents, Adds, total_blocks, IsOutline}
 use Rattle.cfdp_states.specs.Views.{most_count, most_need, only}
 use Rattle.cfdp_states.specs.Closed.{is_inside, Reaches, ReachesIn, AreAlike, IsStandIn, IsClosedSurvey, Closes, IsClosedViewOf}
-use Rattle.cfdp_states.proofs.Order.{paths_total, paths_exact, same_path-true, same_path-refl, same_path-is}
-use Rattle.cfdp_states.proofs.Moves.{find-tree_at}
+use Rattle.cfdp_actions.proofs.Order.{paths_total, paths_exact, same_path-true, same_path-refl, same_path-is}
+use Rattle.cfdp_actions.proofs.Moves.{find-tree_at}
 use Rattle.cfdp_states.proofs.Trees.{short, weights-small}
 use Rattle.cfdp_states.proofs.Counting.{enough, blocks-counted}
 use Rattle.cfdp_states.proofs.Viewing.{sketch, nothing_staged}
@@ -50,7 +50,8 @@ nothing_closed F = record {
   deep = λ c n s. absurd (true≢false (sym s));
 }
 
-pub as_closed : (m : Extents) (closed : List Path) (A B : Path → Bool) (F : Filestore) → IsClosedSurvey m closed A F → ((p : Path) → B p ≡ A p) → IsClosedSurvey m closed B F
+pub as_closed : (m : Extents) (closed : List Path) (A B : Path → Bool) (F : Filestore) → IsClosedSurvey m closed A F → ((p : Path) → B p ≡ A p) →
+    IsClosedSurvey m closed B F
 as_closed m closed A B F s same = record {
   told = λ p free. s.told p free ∙ ap (λ b. if b then extent_at F p else None) (sym (same p));
   kept = s.kept;
@@ -76,14 +77,20 @@ node_there : (a : Option Node) → is_some (extent_in a) ≡ true → is_some a 
 node_there None h = h
 node_there (Some node) h = refl
 
-pub adds_closed : (m n : Extents) (closed : List Path) (A B : Path → Bool) (F : Filestore) → IsClosedSurvey m closed A F → Adds B F m n → IsClosedSurvey n closed (λ p. A p || B p) F
+pub adds_closed : (m n : Extents) (closed : List Path) (A B : Path → Bool) (F : Filestore) → IsClosedSurvey m closed A F → Adds B F m n →
+    IsClosedSurvey n closed (λ p. A p || B p) F
 adds_closed m n closed A B F s adds = record {
   told = λ p free. adds p ∙ ap (λ v. if B p && is_some (extent_at F p) then extent_at F p else v) (s.told p free) ∙ either (A p) (B p) (extent_at F p);
   kept = λ p. kept_so p (adds p) (s.kept p);
   there = λ c t. ap is_some (adds c) ∙ stays_there (B c) (extent_at F c) (get m c) (s.there c t);
   covered = λ c p t below. or_left (A p) (B p) (s.covered c p t below);
   deep = λ c k t. (
-    (λ r. let q = (s.deep c k t).0 r in record { path = q.path; below = q.below; there = ap is_some (adds q.path) ∙ stays_there (B q.path) (extent_at F q.path) (get m q.path) q.there; deep = q.deep }),
+    (λ r. let q = (s.deep c k t).0 r in record {
+      path = q.path;
+      below = q.below;
+      there = ap is_some (adds q.path) ∙ stays_there (B q.path) (extent_at F q.path) (get m q.path) q.there;
+      deep = q.deep;
+    }),
     (λ r. elim (put_or_there (B r.path) (extent_at F r.path) (get m r.path) (ap is_some (sym (adds r.path)) ∙ r.there)) [
       | inl h ↦ record { path = r.path; below = r.below; there = node_there (node_at F r.path) h; deep = r.deep }
       | inr h ↦ (s.deep c k t).1 (record { path = r.path; below = r.below; there = h; deep = r.deep })
@@ -131,7 +138,8 @@ deepest-there (e ∷ es) h = by_first (λ k. deepest-there es k) (cases_lt (leng
     shown true o s = refl
     shown false o s = s
 
-    by_first : (0 < deepest_of es → (x : Path) × (is_some (find path_cmp x es) ≡ true) × (length x ≡ deepest_of es)) → (length e.0 < deepest_of es) ⊎ (deepest_of es ≤ length e.0) → (x : Path) × (is_some (find path_cmp x (e ∷ es)) ≡ true) × (length x ≡ deepest_of (e ∷ es))
+    by_first : (0 < deepest_of es → (x : Path) × (is_some (find path_cmp x es) ≡ true) × (length x ≡ deepest_of es)) → (length e.0 < deepest_of es)
+        ⊎ (deepest_of es ≤ length e.0) → (x : Path) × (is_some (find path_cmp x (e ∷ es)) ≡ true) × (length x ≡ deepest_of (e ∷ es))
     by_first later (inr le) = (e.0, ap (λ b. is_some (cond b (Some e.1) (find path_cmp e.0 es))) (same_path-refl e.0), omega arith)
     by_first later (inl more) =
         let rest = later (omega arith) in
@@ -156,7 +164,8 @@ reaches-deepest F r n is long =
 
 reaches-no_deeper : (F : Filestore) (r : Path) (k n : ℕ) → n ≡ deepest_of (tree_at F r) → Reaches F r k → k ≤ n
 reaches-no_deeper F r k n is q =
-    let most = deepest-most (tree_at F r) q.path (ap is_some (find-tree_at F r q.path ∙ ap (λ b. cond b (node_at F q.path) None) (below-at q.path r q.below)) ∙ q.there) in
+    let most = deepest-most (tree_at F r) q.path (ap is_some (find-tree_at F r q.path ∙ ap (λ b. cond b (node_at F q.path) None) (below-at q.path r q.below))
+    ∙ q.there) in
     let deep = q.deep in
     omega (arith, is, most, deep)
 
@@ -192,7 +201,8 @@ module _ (m m' : Extents) (closed : List Path) (A : Path → Bool) (F : Filestor
   find_where : (x : Path) → Where x
   find_where x =
       elim (cases_Bool (same_path x (closes.0))) [
-        | inl e ↦ at_filler (same_path-true x (closes.0) e) (now x ∙ ap (λ b. cond b (Some extent.Directory) (cond (same_path x r) (Some extent.Directory) (get m x))) e)
+        | inl e ↦ at_filler (same_path-true x (closes.0) e) (now x ∙ ap (λ b.
+            cond b (Some extent.Directory) (cond (same_path x r) (Some extent.Directory) (get m x))) e)
         | inr f ↦ elim (cases_Bool (same_path x r)) [
           | inl e ↦ at_root (same_path-true x r e) (now x ∙ (λ i. cond (f i) (Some extent.Directory) (cond (e i) (Some extent.Directory) (get m x))))
           | inr g ↦ elsewhere g (now x ∙ (λ i. cond (f i) (Some extent.Directory) (cond (g i) (Some extent.Directory) (get m x))))
@@ -214,8 +224,10 @@ module _ (m m' : Extents) (closed : List Path) (A : Path → Bool) (F : Filestor
       let out : is_below x r ≡ false = (or_parts (is_below x r) false parts.1).0 in
       elim (find_where x) [
         | at_filler e f ↦ absurd (true≢false (sym under ∙ subst (λ y. is_below y r ≡ false) e out))
-        | at_root e f ↦ f ∙ sym here ∙ ap (extent_at F) (sym e) ∙ sym (ap (λ b. if b then extent_at F x else None) (or_right (A x) (is_at_or_below x r) (subst (λ y. is_at_or_below y r ≡ true) (sym e) (at_or_below-itself r))))
-        | elsewhere g f ↦ f ∙ s.told x parts.0 ∙ ap (λ b. if b then extent_at F x else None) (sym (or_none (A x) (is_at_or_below x r) (false_from_ne_true (is_at_or_below x r) (λ at.
+        | at_root e f ↦ f ∙ sym here ∙ ap (extent_at F) (sym e) ∙ sym (ap (λ b. if b then extent_at F x else None)
+            (or_right (A x) (is_at_or_below x r) (subst (λ y. is_at_or_below y r ≡ true) (sym e) (at_or_below-itself r))))
+        | elsewhere g f ↦ f ∙ s.told x parts.0 ∙ ap (λ b. if b then extent_at F x else None)
+            (sym (or_none (A x) (is_at_or_below x r) (false_from_ne_true (is_at_or_below x r) (λ at.
             true≢false (sym ((is_below-Decides x r).1 (at, λ e. true≢false (sym (same_path-is x r e) ∙ g))) ∙ out)))))
       ]
     where
@@ -233,7 +245,12 @@ module _ (m m' : Extents) (closed : List Path) (A : Path → Bool) (F : Filestor
   there_now : (c : Path) → stands c (closed ++ r ∷ []) → is_some (get m' c) ≡ true
   there_now c t = elim (last_or closed r c t) [
     | inl old ↦ stayed c (s.there c old)
-    | inr e ↦ elim (find_where c) [ at_filler e f ↦ ap is_some f | at_root e f ↦ ap is_some f | elsewhere g f ↦ absurd (true≢false (sym (same_path-is c r e) ∙ g)) ]
+    | inr e ↦ elim (find_where c) [
+      | at_filler e f ↦ ap is_some f
+      | at_root e f ↦ ap is_some f
+      | elsewhere g f ↦
+          absurd (true≢false (sym (same_path-is c r e) ∙ g))
+    ]
   ]
 
   covered_now : (c x : Path) → stands c (closed ++ r ∷ []) → is_below x c ≡ true → (A x || is_at_or_below x r) ≡ true
@@ -252,7 +269,13 @@ module _ (m m' : Extents) (closed : List Path) (A : Path → Bool) (F : Filestor
         record {
           path = closes.0;
           below = subst (λ y. is_below (closes.0) y ≡ true) (sym e) under;
-          there = elim (find_where (closes.0)) [ at_filler e f ↦ ap is_some f | at_root e f ↦ ap is_some f | elsewhere g f ↦ ap is_some (now (closes.0) ∙ ap (λ b. cond b (Some extent.Directory) (cond (same_path (closes.0) r) (Some extent.Directory) (get m (closes.0)))) (same_path-refl (closes.0))) ];
+          there = elim (find_where (closes.0)) [
+            | at_filler e f ↦ ap is_some f
+            | at_root e f ↦ ap is_some f
+            | elsewhere g f ↦
+                ap is_some (now (closes.0) ∙ ap (λ b. cond b (Some extent.Directory) (cond (same_path (closes.0) r) (Some extent.Directory) (get m (closes.0))))
+                (same_path-refl (closes.0)))
+          ];
           deep = omega (arith, le, size);
         }
   ]
@@ -302,10 +325,12 @@ next_root m closed roots i root F within is s =
     as_closed m closed (λ p. below_one (take i roots) p || is_at_or_below p root) (below_one (take (i + 1) roots)) F s (λ p.
     list_any_more (λ r. is_at_or_below p r) roots i root within ∙ ap (λ r. below_one (take i roots) p || is_at_or_below p r) (sym is))
 
-pub whole_closed : (roots paths : List Path) (i : ℕ) (fp : Footprint) (F : Filestore) (m n : Extents) (closed : List Path) → set.from_list roots ≡ fp.exclusive → set.from_list paths ≡ fp.shared → length roots ≤ i →
+pub whole_closed : (roots paths : List Path) (i : ℕ) (fp : Footprint) (F : Filestore) (m n : Extents) (closed : List Path) → set.from_list roots
+    ≡ fp.exclusive → set.from_list paths ≡ fp.shared → length roots ≤ i →
     IsClosedSurvey m closed (below_one (take i roots)) F → Adds (one_of paths) F m n → IsClosedSurvey n closed (is_covered fp) F
 whole_closed roots paths i fp F m n closed exclusive shared all s adds =
-    as_closed n closed (λ p. below_one (take i roots) p || one_of paths p) (is_covered fp) F (adds_closed m n closed (below_one (take i roots)) (one_of paths) F s adds)
+    as_closed n closed (λ p. below_one (take i roots) p || one_of paths p) (is_covered fp) F
+    (adds_closed m n closed (below_one (take i roots)) (one_of paths) F s adds)
     (λ p. covered-lent roots paths fp p exclusive shared ∙ ap (λ rs. below_one rs p || one_of paths p) (sym (take_all i roots all)))
 
 -- ---- the view of it
@@ -322,11 +347,13 @@ node_in (Some e) = Some (node_of e)
 filestore_of : Extents → Filestore
 filestore_of m = record { nodes = from_entries (map {B = Path × Node} (λ (e : Path × Extent). (e.0, node_of e.1)) (entries m)); staged = [] ∷ [] }
 
-find-nodes : (es : List (Path × Extent)) (p : Path) → find path_cmp p (map {B = Path × Node} (λ (e : Path × Extent). (e.0, node_of e.1)) es) ≡ node_in (find path_cmp p es)
+find-nodes : (es : List (Path × Extent)) (p : Path) → find path_cmp p (map {B = Path × Node} (λ (e : Path × Extent). (e.0, node_of e.1)) es)
+    ≡ node_in (find path_cmp p es)
 unfolding node_in
 find-nodes [] p = refl
 find-nodes (e ∷ es) p =
-    elim (same_path p e.0) as (λ b. cond b (Some (node_of e.1)) (find path_cmp p (map {B = Path × Node} (λ (e : Path × Extent). (e.0, node_of e.1)) es)) ≡ node_in (cond b (Some e.1) (find path_cmp p es))) [
+    elim (same_path p e.0) as (λ b. cond b (Some (node_of e.1)) (find path_cmp p (map {B = Path × Node} (λ (e : Path × Extent). (e.0, node_of e.1)) es))
+    ≡ node_in (cond b (Some e.1) (find path_cmp p es))) [
       | true ↦ refl
       | false ↦ find-nodes es p
     ]
@@ -376,7 +403,8 @@ total-is total now one two = omega arith
 none_needed : (n most : ℕ) → 0 ≡ min (n - n) most
 none_needed n most = omega arith
 
-module _ (fp : Footprint) (F : Filestore) (prefixes : List Path) (m : Extents) (closed : List Path) (s : IsClosedSurvey m closed (is_covered fp) F) (few : blocks F ≤ 65536) (small : total_blocks m ≤ 65536) where
+module _ (fp : Footprint) (F : Filestore) (prefixes : List Path) (m : Extents) (closed : List Path) (s : IsClosedSurvey m closed (is_covered fp) F)
+    (few : blocks F ≤ 65536) (small : total_blocks m ≤ 65536) where
   outlines : IsOutline m (filestore_of m)
   unfolding node_in node_of
   outlines = record { found = λ p. sym (ap extent_in (node_at-filestore_of m p) ∙ same p (get m p) (s.kept p)) }
@@ -395,13 +423,25 @@ module _ (fp : Footprint) (F : Filestore) (prefixes : List Path) (m : Extents) (
     staged = refl;
     alike = λ p free.
         subst (λ (a : Option Node). AreAlike a (node_at (filestore_of m) p)) (sym (kept_node p))
-        (subst (λ (b : Option Node). AreAlike (cond (is_covered fp p) (node_at F p) None) b) (sym (node_at-filestore_of m p ∙ ap node_in (s.told p free))) (at p));
+        (subst (λ (b : Option Node). AreAlike (cond (is_covered fp p) (node_at F p) None) b) (sym (node_at-filestore_of m p ∙ ap node_in (s.told p free)))
+        (at p));
     deep = λ c n t. (
       (λ r. let kept = kept_some (is_covered fp r.path) (node_at F r.path) (ap is_some (sym (kept_node r.path)) ∙ r.there) in
           let q = (s.deep c n t).0 (record { path = r.path; below = r.below; there = kept.1; deep = r.deep }) in
           record { path = q.path; below = q.below; there = ap is_some (node_at-filestore_of m q.path) ∙ in_there (get m q.path) ∙ q.there; deep = q.deep }),
-      (λ r. let q = (s.deep c n t).1 (record { path = r.path; below = r.below; there = sym (ap is_some (node_at-filestore_of m r.path) ∙ in_there (get m r.path)) ∙ r.there; deep = r.deep }) in
-          record { path = q.path; below = q.below; there = ap is_some (kept_node q.path ∙ ap (λ b. cond b (node_at F q.path) None) (s.covered c q.path t q.below)) ∙ q.there; deep = q.deep }),
+      (λ r. let q = (s.deep c n t).1 (record {
+        path = r.path;
+        below = r.below;
+        there = sym (ap is_some (node_at-filestore_of m r.path) ∙ in_there (get m r.path)) ∙ r.there;
+        deep = r.deep;
+      }) in
+          record {
+            path = q.path;
+            below = q.below;
+            there = ap is_some (kept_node q.path
+                ∙ ap (λ b. cond b (node_at F q.path) None) (s.covered c q.path t q.below)) ∙ q.there;
+            deep = q.deep;
+          }),
     );
   }
     where
@@ -420,7 +460,14 @@ module _ (fp : Footprint) (F : Filestore) (prefixes : List Path) (m : Extents) (
         seen = G;
         first = blocks G;
         most = blocks G;
-        tells = record { extents = outlines.found; staged = refl; base = counted; small = omega (arith, counted, small); need = none_needed (blocks G) most_need; steps = none_needed 0 most_count };
+        tells = record {
+          extents = outlines.found;
+          staged = refl;
+          base = counted;
+          small = omega (arith, counted, small);
+          need = none_needed (blocks G) most_need;
+          steps = none_needed 0 most_count;
+        };
         one = stands_in;
         gap = omega arith;
         peaks = omega arith;

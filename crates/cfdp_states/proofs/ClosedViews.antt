@@ -1,4 +1,4 @@
--- What a view tells of the filestore that it has seen, told of one that is the same but for what is in closed directories.
+-- What a view says of the filestore that it has seen, said of one that is the same but for what is in closed directories.
 --     tells_closed, tells_closed_install     of a request that does not look inside, and of an install
 use Rattle.std.proofs.Common.{◌≡◌, refl, sym, ◌∙◌, ap, subst, Bool, true, false, ℕ, ◌+◌, max, List, length, arith}
 use Rattle.cfdp_paths.specs.Paths.{Path}
@@ -22,7 +22,8 @@ later_peak : (peak most h k first start : ℕ) → peak + first ≡ most + start
 later_peak peak most h k first start before now = omega arith
 
 module _ (v w : Sketch) (closed now : List Path) (request : Request) (status : Status) where
-  pub tells_closed : looks_inside closed v.extents request ≡ false → (is_successful status ≡ true → now ≡ after_request request closed) → (is_successful status ≡ false → now ≡ closed) →
+  pub tells_closed : looks_inside closed v.extents request ≡ false → (is_successful status ≡ true → now ≡ after_request request closed) →
+      (is_successful status ≡ false → now ≡ closed) →
       Tells v w (Perform request) (Performed status) → TellsClosed v closed w now (Perform request) (Performed status)
   tells_closed free moved stayed tells F start peak taken c =
       let G = c.seen in
@@ -77,5 +78,6 @@ module _ (v w : Sketch) (closed : List Path) (p : Path) (size : ℕ) (done : Boo
         },
       )
     where
-      twice : (peak most f g h k first start : ℕ) → peak + first ≡ most + start → f + first ≡ g + start → h + first ≡ k + start → max peak (max f h) + first ≡ max most (max g k) + start
+      twice : (peak most f g h k first start : ℕ) → peak + first ≡ most + start → f + first ≡ g + start → h + first ≡ k + start → max peak (max f h) + first
+          ≡ max most (max g k) + start
       twice peak most f g h k first start before one two = omega arith

@@ -1,5 +1,5 @@
 -- The blocks and step bounds of a filestore, counted on a map of extents whose sizes stop at the greatest u64. The counts
--- agree up to 2 ^ 33, which is more than any that a view can tell.
+-- agree up to 2 ^ 33, which is more than any that a view can say.
 use Rattle.std.proofs.Common.{◌≡◌, refl, sym, ◌∙◌, ap, true, false, Option, Some, None, ℕ, ◌+◌, ◌*◌, min, List, [], ◌∷◌, length, sum_by, if◌then◌else◌, arith}
 use Rattle.std.specs.FinMap.{entries, get}
 use Rattle.cfdp_paths.specs.Paths.{Path, same_path}
@@ -37,7 +37,8 @@ weights-counted (e ∷ es) =
     omega (arith, first, rest)
 
 -- with nothing staged
-pub blocks-counted : (staged : List (List ℕ)) → sum_by (λ octets. blocks_of (length octets)) staged ≡ 0 → (m : Extents) (F : Filestore) → F.staged ≡ staged → IsOutline m F →
+pub blocks-counted : (staged : List (List ℕ)) → sum_by (λ octets. blocks_of (length octets)) staged ≡ 0 → (m : Extents) (F : Filestore) → F.staged ≡ staged →
+    IsOutline m F →
     min (total_blocks m) enough ≡ min (blocks F) enough
 unfolding blocks
 blocks-counted staged empty m F same h =
@@ -66,7 +67,8 @@ bound-counted m F h item = by_item item
     by_item (Perform (ReplaceFile p q)) =
         let e = told p in
         let f = told q in
-        elim (same_path p q) as (λ b. min (if b then 0 else content_in (get m p) + 2 * content_in (get m q)) enough ≡ min (if b then 0 else content (node_at F p) + 2 * content (node_at F q)) enough) [
+        elim (same_path p q) as (λ b. min (if b then 0 else content_in (get m p) + 2 * content_in (get m q)) enough
+        ≡ min (if b then 0 else content (node_at F p) + 2 * content (node_at F q)) enough) [
           | true ↦ refl
           | false ↦ omega (arith, e, f)
         ]

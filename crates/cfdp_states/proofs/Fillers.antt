@@ -5,7 +5,7 @@ use Rattle.std.proofs.Common.{◌≡◌, ap, true, ◌&&◌, ℕ, zero, suc, ◌
 use Rattle.cfdp_paths.specs.Paths.{Path, is_at_or_below, rebased}
 use Rattle.cfdp_paths.proofs.Below.{is_below-Decides, length-rebased}
 use Rattle.cfdp_states.specs.Closed.{IsFiller}
-use Rattle.cfdp_states.proofs.Prefixes.{same_name-refl, below_root, rebased-below}
+use Rattle.cfdp_actions.proofs.Prefixes.{same_name-refl, below_root, rebased-below}
 
 pub prefix_take : (x : Path) (k n : ℕ) → k ≤ n → is_at_or_below (take n x) (take k x) ≡ true
 prefix_take x zero n le = below_root (take n x)
@@ -16,5 +16,11 @@ prefix_take (m ∷ x) (suc k) (suc n) le = λ i. same_name-refl m i && prefix_ta
 pub is_filler : (x p : Path) (n : ℕ) → length x ≡ 8 → length p < n → n ≤ 8 → IsFiller p n (rebased (take (length p) x) p (take n x))
 is_filler x p n long below within =
     let d = rebased (take (length p) x) p (take n x) in
-    let l : length d ≡ n = omega (arith, length-rebased (take (length p) x) p (take n x), length-take (length p) x, length-take n x) in
-    ((is_below-Decides d p).1 (rebased-below (take (length p) x) p (take n x), λ e. let same : length d ≡ length p = ap length e in omega (arith, same, l, below)), l)
+    let l : length d ≡ n = omega (arith, length-rebased (take (length p) x) p (take n x), length-take (length p) x, length-take n x) in (
+      (is_below-Decides d p).1 (
+        rebased-below (take (length p) x) p (take n x),
+        λ e. let same : length d ≡ length p = ap length e in
+            omega (arith, same, l, below),
+      ),
+      l,
+    )

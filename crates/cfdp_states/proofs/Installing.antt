@@ -9,7 +9,7 @@ use Rattle.std.specs.FinMap.{insert, get-insert}
 use Rattle.cfdp_states.specs.Alone.{alone}
 use Rattle.cfdp_states.specs.Sketching.{most_octets, extent_in, extent_at, Extents, total_blocks, bound_on, gives_way, can_install, IsOutline}
 use Rattle.cfdp_states.specs.Views.{most_count, most_need, Sketch, IsViewOf, TellsInstall}
-use Rattle.cfdp_states.proofs.Order.{paths_total, node_at-becomes}
+use Rattle.cfdp_actions.proofs.Order.{paths_total, node_at-becomes}
 use Rattle.cfdp_states.proofs.Sketched.{extent-cond, good_parent-is}
 use Rattle.cfdp_states.proofs.Counting.{enough, blocks-counted, bound-counted}
 use Rattle.cfdp_states.proofs.Viewing.{sketch, outlined, nothing_staged, needs, takes}
@@ -19,29 +19,35 @@ use Rattle.cfdp_states.proofs.Viewing.{sketch, outlined, nothing_staged, needs, 
 abbrev pub install_row : List Path → Path → List ℕ → Option Node → Bool → Outcome
 install_row prefixes p x a good = if is_some a && is_protected prefixes p then unchanged NotInstalled else install 0 p x a good
 
-pub row-install : (prefixes : List Path) (F : Filestore) (p : Path) (x : List ℕ) → row prefixes (alone F x) 0 (Install p) ≡ install_row prefixes p x (node_at F p) (parent_is_good F p)
+pub row-install : (prefixes : List Path) (F : Filestore) (p : Path) (x : List ℕ) → row prefixes (alone F x) 0 (Install p)
+    ≡ install_row prefixes p x (node_at F p) (parent_is_good F p)
 unfolding row free_row
 row-install prefixes F p x = refl
 
 abbrev Comes : Outcome → Path → List ℕ → Type 0
 Comes o p x = (o.answer ≡ Installed) × (o.changes ≡ Stages 0 [] ∷ Becomes p (Some (File x)) ∷ [])
 
-not_installed : (prefixes : List Path) (p : Path) (x : List ℕ) (a : Option Node) (good : Bool) → (good && gives_way prefixes p (extent_in a)) ≡ false → install_row prefixes p x a good ≡ unchanged NotInstalled
+not_installed : (prefixes : List Path) (p : Path) (x : List ℕ) (a : Option Node) (good : Bool) → (good && gives_way prefixes p (extent_in a)) ≡ false →
+    install_row prefixes p x a good ≡ unchanged NotInstalled
 unfolding install
 not_installed prefixes p x None true e = absurd (true≢false e)
 not_installed prefixes p x None false e = refl
-not_installed prefixes p x (Some Directory) good e = elim (is_protected prefixes p) as (λ b. (if b then unchanged NotInstalled else install 0 p x (Some Directory) good) ≡ unchanged NotInstalled) [
-  | true ↦ refl
-  | false ↦ elim good as (λ good. install 0 p x (Some Directory) good ≡ unchanged NotInstalled) [ true ↦ refl | false ↦ refl ]
-]
-not_installed prefixes p x (Some (File old)) false e = elim (is_protected prefixes p) as (λ b. (if b then unchanged NotInstalled else install 0 p x (Some (File old)) false) ≡ unchanged NotInstalled) [ true ↦ refl | false ↦ refl ]
+not_installed prefixes p x (Some Directory) good e = elim (is_protected prefixes p) as
+    (λ b. (if b then unchanged NotInstalled else install 0 p x (Some Directory) good) ≡ unchanged NotInstalled) [
+      | true ↦ refl
+      | false ↦ elim good as (λ good. install 0 p x (Some Directory) good ≡ unchanged NotInstalled) [ true ↦ refl | false ↦ refl ]
+    ]
+not_installed prefixes p x (Some (File old)) false e = elim (is_protected prefixes p) as
+    (λ b. (if b then unchanged NotInstalled else install 0 p x (Some (File old)) false) ≡ unchanged NotInstalled) [ true ↦ refl | false ↦ refl ]
 not_installed prefixes p x (Some (File old)) true e =
-    elim (is_protected prefixes p) as (λ b. not b ≡ false → (if b then unchanged NotInstalled else install 0 p x (Some (File old)) true) ≡ unchanged NotInstalled) [
+    elim (is_protected prefixes p) as (λ b. not b ≡ false → (if b then unchanged NotInstalled else install 0 p x (Some (File old)) true)
+    ≡ unchanged NotInstalled) [
       | true ↦ λ e. refl
       | false ↦ λ e. absurd (true≢false e)
     ] e
 
-comes : (prefixes : List Path) (p : Path) (x : List ℕ) (a : Option Node) (good : Bool) → (good && gives_way prefixes p (extent_in a)) ≡ true → Comes (install_row prefixes p x a good) p x
+comes : (prefixes : List Path) (p : Path) (x : List ℕ) (a : Option Node) (good : Bool) → (good && gives_way prefixes p (extent_in a)) ≡ true →
+    Comes (install_row prefixes p x a good) p x
 unfolding install
 comes prefixes p x a false e = absurd (true≢false (sym e))
 comes prefixes p x None true e = (refl, refl)
@@ -64,7 +70,8 @@ module _ (prefixes : List Path) (m : Extents) (F : Filestore) (h : IsOutline m F
   pub allows : can_install prefixes m p ≡ true → Comes (row prefixes (alone F x) 0 (Install p)) p x
   allows e = subst (λ (o : Outcome). Comes o p x) (sym (row-install prefixes F p x)) (comes prefixes p x (node_at F p) (parent_is_good F p) (test-is ∙ e))
 
-  pub installed-outline : (size : ℕ) → min (length x) most_octets ≡ size → IsOutline (insert m p (extent.File size)) (changed (changed (alone F x) (Stages 0 [])) (Becomes p (Some (File x))))
+  pub installed-outline : (size : ℕ) → min (length x) most_octets ≡ size →
+      IsOutline (insert m p (extent.File size)) (changed (changed (alone F x) (Stages 0 [])) (Becomes p (Some (File x))))
   installed-outline size fits = record {
     found = λ q.
         get-insert paths_total m p (extent.File size) q
@@ -78,17 +85,19 @@ module _ (prefixes : List Path) (m : Extents) (F : Filestore) (h : IsOutline m F
 pub staged_more : (F : Filestore) (x : List ℕ) → F.staged ≡ [] ∷ [] → blocks (alone F x) ≡ blocks F + blocks_of (length x)
 unfolding blocks
 staged_more F x same =
-    let lists : sum_by (λ (octets : List ℕ). blocks_of (length octets)) F.staged ≡ 0 = ap (λ lists. sum_by (λ (octets : List ℕ). blocks_of (length octets)) lists) same ∙ nothing_staged in
+    let lists : sum_by (λ (octets : List ℕ). blocks_of (length octets)) F.staged ≡ 0 =
+    ap (λ lists. sum_by (λ (octets : List ℕ). blocks_of (length octets)) lists) same ∙ nothing_staged in
     omega arith
 
 fits_u64 : (n size : ℕ) → n ≡ size → size ≤ most_octets → min n most_octets ≡ size
 fits_u64 n size e le = omega arith
 
--- the staged list and what stands, counted
+-- the staged list and what exists, counted
 with_file : (weight here more : ℕ) → min weight enough ≡ min here enough → min (weight + more) enough ≡ min (here + more) enough
 with_file weight here more e = omega arith
 
-twice : (need need' peak start h g : ℕ) → need ≡ min (max peak h - start) most_need → need' ≡ min (max (max peak h) g - start) most_need → need' ≡ min (max peak (max h g) - start) most_need
+twice : (need need' peak start h g : ℕ) → need ≡ min (max peak h - start) most_need → need' ≡ min (max (max peak h) g - start) most_need → need'
+    ≡ min (max peak (max h g) - start) most_need
 twice need need' peak start h g one two = omega arith
 
 pub tells_installed : (v : Sketch) (prefixes : List Path) (m m' : Extents) (base need need' need'' steps steps' : ℕ) (p : Path) (size ticks staged weight : ℕ) →
@@ -96,32 +105,38 @@ pub tells_installed : (v : Sketch) (prefixes : List Path) (m m' : Extents) (base
     m' ≡ insert m p (extent.File size) → ticks ≡ bound_on m (Install p) → staged ≡ total_blocks m + blocks_of size → weight ≡ total_blocks m' →
     need' ≡ max need (min (staged - base) most_need) → need'' ≡ max need' (min (weight - base) most_need) → steps' ≡ min (steps + (1 + ticks)) most_count →
     TellsInstall v (sketch prefixes m' base need'' steps') p size true
-tells_installed v prefixes m m' base need need' need'' steps steps' p size ticks staged weight is named can small now ticks_is staged_is weight_is need_is more_is steps_is =
+tells_installed v prefixes m m' base need need' need'' steps steps' p size ticks staged weight is named can small now ticks_is staged_is weight_is need_is
+    more_is steps_is =
     subst (λ (v : Sketch). TellsInstall v (sketch prefixes m' base need'' steps') p size true) is (λ F start peak taken x h long.
     let here = outlined prefixes m base need steps F start peak taken h in
     let H = alone F x in
     let allowed = allows prefixes m F here p named x can in
     let G = changed (changed H (Stages 0 [])) (Becomes p (Some (File x))) in
-    let there : IsOutline m' G = subst (λ m. IsOutline m G) (sym now) (installed-outline prefixes m F here p named x size (fits_u64 (length x) size long small)) in
+    let there : IsOutline m' G = subst (λ m. IsOutline m G) (sym now) (installed-outline prefixes m F here p named x size
+    (fits_u64 (length x) size long small)) in
     let first : min (total_blocks m) enough ≡ min (blocks F) enough = blocks-counted ([] ∷ []) nothing_staged m F h.staged here in
     let more : blocks H ≡ blocks F + blocks_of size = staged_more F x h.staged ∙ ap (λ n. blocks F + blocks_of n) long in
     let one : need' ≡ min (max peak (blocks H) - start) most_need =
     need_is ∙ needs need base staged (blocks H) peak start h.need h.base h.small
     (ap (λ n. min n enough) staged_is ∙ with_file (total_blocks m) (blocks F) (blocks_of size) first ∙ ap (λ n. min n enough) (sym more)) in
     let two : need'' ≡ min (max (max peak (blocks H)) (blocks G) - start) most_need =
-    more_is ∙ needs need' base weight (blocks G) (max peak (blocks H)) start one h.base h.small (ap (λ n. min n enough) weight_is ∙ blocks-counted ([] ∷ []) nothing_staged m' G refl there) in (
+    more_is ∙ needs need' base weight (blocks G) (max peak (blocks H)) start one h.base h.small (ap (λ n. min n enough) weight_is
+    ∙ blocks-counted ([] ∷ []) nothing_staged m' G refl there) in (
       sym allowed.0,
-      λ _. subst (λ (cs : List Change). IsViewOf (sketch prefixes m' base need'' steps') (after H cs) start (max peak (max (blocks H) (blocks (after H cs)))) (taken + (1 + step_bound H (Install p)))) (sym allowed.1) (record {
-        extents = there.found;
-        staged = refl;
-        base = h.base;
-        small = h.small;
-        need = twice need' need'' peak start (blocks H) (blocks G) one two;
-        steps = steps_is ∙ takes steps ticks (step_bound H (Install p)) taken h.steps (ap (λ n. min n enough) ticks_is ∙ bound-counted m H (record { found = here.found }) (Install p));
-      }),
+      λ _. subst (λ (cs : List Change). IsViewOf (sketch prefixes m' base need'' steps') (after H cs) start (max peak (max (blocks H) (blocks (after H cs))))
+          (taken + (1 + step_bound H (Install p)))) (sym allowed.1) (record {
+            extents = there.found;
+            staged = refl;
+            base = h.base;
+            small = h.small;
+            need = twice need' need'' peak start (blocks H) (blocks G) one two;
+            steps = steps_is ∙ takes steps ticks (step_bound H (Install p)) taken h.steps (ap (λ n. min n enough) ticks_is
+                ∙ bound-counted m H (record { found = here.found }) (Install p));
+          }),
     ))
 
-pub tells_refused : (v : Sketch) (prefixes : List Path) (m : Extents) (base need steps : ℕ) (p : Path) (size : ℕ) → sketch prefixes m base need steps ≡ v → p ≢ [] → can_install prefixes m p ≡ false → TellsInstall v v p size false
+pub tells_refused : (v : Sketch) (prefixes : List Path) (m : Extents) (base need steps : ℕ) (p : Path) (size : ℕ) → sketch prefixes m base need steps ≡ v → p
+    ≢ [] → can_install prefixes m p ≡ false → TellsInstall v v p size false
 tells_refused v prefixes m base need steps p size is named cannot =
     subst (λ (v : Sketch). TellsInstall v v p size false) is (λ F start peak taken x h long.
     let here = outlined prefixes m base need steps F start peak taken h in (

@@ -1,8 +1,3 @@
-pub mod Order
-pub mod Weights
-pub mod Growth
-pub mod Prefixes
-pub mod Moves
 pub mod Rows
 pub mod NextItem
 pub mod Alike

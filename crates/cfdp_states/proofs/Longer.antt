@@ -1,5 +1,5 @@
 -- Two filestores with the same directories and files, where the files of the second are as long or longer.
---     Longer                          of what stands at a path
+--     Longer                          of what is at a path
 --     LongerEntries, longer_entries   of lists of entries;  pointwise in the look-ups is pointwise in the lists
 --     LongerChanges                   the same changes, of paths or of the two slots
 --     IsLonger, longer-after          of filestores;  after such changes
@@ -12,9 +12,9 @@ use Rattle.std.specs.FinMap.Entries.{below_all, is_sorted, find}
 use Rattle.cfdp_paths.specs.Paths.{Path, path_cmp, same_path, is_at_or_below, is_below, parent, rebased}
 use Rattle.cfdp_actions.specs.Filestore.{Node, Directory, File, Filestore, node_at, staged_in, blocks_of, weight, weights, blocks, Change, Becomes, Stages, changed, after, inside, has_entries, is_directory, is_good, is_root, parent_is_good, tree_at}
 use Rattle.cfdp_actions.specs.Actions.{vacated, settled, is_too_deep}
-use Rattle.cfdp_states.proofs.Order.{paths_total, paths_exact, same_path-refl, node_at-becomes}
-use Rattle.cfdp_states.proofs.Weights.{below_rest, sorted_rest, below_less, find_below, find_later}
-use Rattle.cfdp_states.proofs.Growth.{blocks_of-le}
+use Rattle.cfdp_actions.proofs.Order.{paths_total, paths_exact, same_path-refl, node_at-becomes}
+use Rattle.cfdp_actions.proofs.Weights.{below_rest, sorted_rest, below_less, find_below, find_later}
+use Rattle.cfdp_actions.proofs.Growth.{blocks_of-le}
 
 pub data Longer : Option Node → Option Node → Type 0 where
   nothing : Longer None None
@@ -56,19 +56,22 @@ find_here e es = ap (λ b. cond b (Some e.1) (find path_cmp e.0 es)) (same_path-
 missed : (e f : Path × Node) (fs : List (Path × Node)) → path_cmp e.0 f.0 ≡ Less → T (is_sorted path_cmp (f ∷ fs)) → find path_cmp e.0 (f ∷ fs) ≡ None
 missed e f fs p h = find_below e.0 (f ∷ fs) (subst (λ r. T (is_lt r && below_all path_cmp e.0 fs)) (sym p) (below_less e.0 f.0 fs p (below_rest f fs h)))
 
-pub longer_entries : (es fs : List (Path × Node)) → T (is_sorted path_cmp es) → T (is_sorted path_cmp fs) → ((q : Path) → Longer (find path_cmp q es) (find path_cmp q fs)) → LongerEntries es fs
+pub longer_entries : (es fs : List (Path × Node)) → T (is_sorted path_cmp es) → T (is_sorted path_cmp fs) →
+    ((q : Path) → Longer (find path_cmp q es) (find path_cmp q fs)) → LongerEntries es fs
 longer_entries [] [] sorted_e sorted_f longer = tt
 longer_entries [] (f ∷ fs) sorted_e sorted_f longer = absurd (true≢false (ap is_some (sym (find_here f fs)) ∙ sym (longer-is_some (longer f.0))))
 longer_entries (e ∷ es) [] sorted_e sorted_f longer = absurd (true≢false (ap is_some (sym (find_here e es)) ∙ longer-is_some (longer e.0)))
 longer_entries (e ∷ es) (f ∷ fs) sorted_e sorted_f longer =
     elim (path_cmp e.0 f.0) as (λ r. path_cmp e.0 f.0 ≡ r → LongerEntries (e ∷ es) (f ∷ fs)) [
       | Less ↦ λ p. absurd (true≢false (ap is_some (sym (find_here e es)) ∙ longer-is_some (longer e.0) ∙ ap is_some (missed e f fs p sorted_f)))
-      | Greater ↦ λ p. absurd (true≢false (ap is_some (sym (find_here f fs)) ∙ sym (longer-is_some (longer f.0)) ∙ ap is_some (missed f e es (paths_total.antisymm f.0 e.0 ∙ ap ordering_reverse p) sorted_e)))
+      | Greater ↦ λ p. absurd (true≢false (ap is_some (sym (find_here f fs)) ∙ sym (longer-is_some (longer f.0))
+          ∙ ap is_some (missed f e es (paths_total.antisymm f.0 e.0 ∙ ap ordering_reverse p) sorted_e)))
       | Equal ↦ λ p.
           let keys : e.0 ≡ f.0 = paths_exact e.0 f.0 p in
           let there : find path_cmp e.0 (f ∷ fs) ≡ Some f.1 = ap (λ r. cond (is_eq r) (Some f.1) (find path_cmp e.0 fs)) p in (
             keys,
-            subst (λ (b : Option Node). Longer (Some e.1) b) there (subst (λ (a : Option Node). Longer a (find path_cmp e.0 (f ∷ fs))) (find_here e es) (longer e.0)),
+            subst (λ (b : Option Node). Longer (Some e.1) b) there (subst (λ (a : Option Node). Longer a (find path_cmp e.0 (f ∷ fs))) (find_here e es)
+                (longer e.0)),
             longer_entries es fs (sorted_rest e es sorted_e) (sorted_rest f fs sorted_f) (λ q. later keys q (same_path q e.0) refl),
           )
     ] refl
@@ -113,7 +116,8 @@ LongerChanges slot other [] (d ∷ ds) = ⊥
 LongerChanges slot other (c ∷ cs) [] = ⊥
 LongerChanges slot other (c ∷ cs) (d ∷ ds) = LongerChange slot other c d × LongerChanges slot other cs ds
 
-pub longer-append : (slot other : ℕ) (cs ds us vs : List Change) → LongerChanges slot other cs ds → LongerChanges slot other us vs → LongerChanges slot other (cs ++ us) (ds ++ vs)
+pub longer-append : (slot other : ℕ) (cs ds us vs : List Change) → LongerChanges slot other cs ds → LongerChanges slot other us vs →
+    LongerChanges slot other (cs ++ us) (ds ++ vs)
 longer-append slot other [] [] us vs h k = k
 longer-append slot other [] (d ∷ ds) us vs h k = absurd h
 longer-append slot other (c ∷ cs) [] us vs h k = absurd h
@@ -125,7 +129,8 @@ longer-vacated slot other [] (f ∷ fs) h = absurd h
 longer-vacated slot other (e ∷ es) [] h = absurd h
 longer-vacated slot other (e ∷ es) (f ∷ fs) h = ((h.0, nothing), longer-vacated slot other es fs h.2)
 
-pub longer-settled : (slot other : ℕ) (p q : Path) (es fs : List (Path × Node)) → LongerEntries es fs → LongerChanges slot other (settled p q es) (settled p q fs)
+pub longer-settled : (slot other : ℕ) (p q : Path) (es fs : List (Path × Node)) → LongerEntries es fs →
+    LongerChanges slot other (settled p q es) (settled p q fs)
 longer-settled slot other p q [] [] h = tt
 longer-settled slot other p q [] (f ∷ fs) h = absurd h
 longer-settled slot other p q (e ∷ es) [] h = absurd h
@@ -147,9 +152,12 @@ pub record IsLonger (slot other m n : ℕ) (F G : Filestore) : Type 0 where
   pub others_G : staged_blocks G.staged ≡ n + blocks_of (length (staged_in G other))
 
 -- what is staged in one slot leaves the others
-others-stay : (lists : List (List ℕ)) (slot n : ℕ) (octets : List ℕ) → slot < length lists → staged_blocks lists ≡ n + blocks_of (length (slice_index_or lists slot [])) → staged_blocks (slice_set lists slot octets) ≡ n + blocks_of (length (slice_index_or (slice_set lists slot octets) slot []))
+others-stay : (lists : List (List ℕ)) (slot n : ℕ) (octets : List ℕ) → slot < length lists → staged_blocks lists ≡ n
+    + blocks_of (length (slice_index_or lists slot [])) → staged_blocks (slice_set lists slot octets) ≡ n
+    + blocks_of (length (slice_index_or (slice_set lists slot octets) slot []))
 others-stay lists slot n octets held others =
-    let sum : staged_blocks (slice_set lists slot octets) + blocks_of (length (slice_index_or lists slot [])) ≡ staged_blocks lists + blocks_of (length octets) = sum_by-set (λ (octets : List ℕ). blocks_of (length octets)) lists slot octets [] held in
+    let sum : staged_blocks (slice_set lists slot octets) + blocks_of (length (slice_index_or lists slot [])) ≡ staged_blocks lists
+    + blocks_of (length octets) = sum_by-set (λ (octets : List ℕ). blocks_of (length octets)) lists slot octets [] held in
     let now : staged_blocks (slice_set lists slot octets) ≡ n + blocks_of (length octets) = omega arith in
     now ∙ ap (λ (xs : List ℕ). n + blocks_of (length xs)) (sym (get_or-set_same lists slot octets [] held))
 
@@ -157,11 +165,13 @@ longer-cond : (b : Bool) (a a' c c' : Option Node) → Longer a a' → Longer c 
 longer-cond true a a' c c' h k = h
 longer-cond false a a' c c' h k = k
 
-pub longer-becomes : (slot other m n : ℕ) (F G : Filestore) (p q : Path) (a b : Option Node) → IsLonger slot other m n F G → p ≡ q → Longer a b → IsLonger slot other m n (changed F (Becomes p a)) (changed G (Becomes q b))
+pub longer-becomes : (slot other m n : ℕ) (F G : Filestore) (p q : Path) (a b : Option Node) → IsLonger slot other m n F G → p ≡ q → Longer a b →
+    IsLonger slot other m n (changed F (Becomes p a)) (changed G (Becomes q b))
 longer-becomes slot other m n F G p q a b h e ab = record {
   nodes = λ x.
       subst (λ (v : Option Node). Longer (node_at (changed F (Becomes p a)) x) v) (sym (node_at-becomes G q b x))
-      (subst (λ (v : Option Node). Longer v (cond (same_path x q) b (node_at G x))) (sym (node_at-becomes F p a x ∙ ap (λ y. cond (same_path x y) a (node_at F x)) e))
+      (subst (λ (v : Option Node). Longer v (cond (same_path x q) b (node_at G x)))
+      (sym (node_at-becomes F p a x ∙ ap (λ y. cond (same_path x y) a (node_at F x)) e))
       (longer-cond (same_path x q) a b (node_at F x) (node_at G x) ab (h.nodes x)));
   staged = h.staged;
   held_F = h.held_F;
@@ -170,7 +180,8 @@ longer-becomes slot other m n F G p q a b h e ab = record {
   others_G = h.others_G;
 }
 
-pub longer-stages : (slot other m n : ℕ) (F G : Filestore) (xs ys : List ℕ) → IsLonger slot other m n F G → length xs ≤ length ys → IsLonger slot other m n (changed F (Stages slot xs)) (changed G (Stages other ys))
+pub longer-stages : (slot other m n : ℕ) (F G : Filestore) (xs ys : List ℕ) → IsLonger slot other m n F G → length xs ≤ length ys →
+    IsLonger slot other m n (changed F (Stages slot xs)) (changed G (Stages other ys))
 longer-stages slot other m n F G xs ys h le = record {
   nodes = h.nodes;
   staged =
@@ -182,7 +193,8 @@ longer-stages slot other m n F G xs ys h le = record {
   others_G = others-stay G.staged other n ys h.held_G h.others_G;
 }
 
-pub longer-changed : (slot other m n : ℕ) (F G : Filestore) (c d : Change) → IsLonger slot other m n F G → LongerChange slot other c d → IsLonger slot other m n (changed F c) (changed G d)
+pub longer-changed : (slot other m n : ℕ) (F G : Filestore) (c d : Change) → IsLonger slot other m n F G → LongerChange slot other c d →
+    IsLonger slot other m n (changed F c) (changed G d)
 longer-changed slot other m n F G (Becomes p a) (Becomes q b) h k = longer-becomes slot other m n F G p q a b h k.0 k.1
 longer-changed slot other m n F G (Becomes p a) (Stages s ys) h k = absurd k
 longer-changed slot other m n F G (Stages s xs) (Becomes q b) h k = absurd k
@@ -191,11 +203,13 @@ longer-changed slot other m n F G (Stages s xs) (Stages t ys) h k =
     (subst (λ (t : ℕ). IsLonger slot other m n (changed F (Stages slot xs)) (changed G (Stages t ys))) (sym k.1)
     (longer-stages slot other m n F G xs ys h k.2))
 
-pub longer-after : (slot other m n : ℕ) (F G : Filestore) (cs ds : List Change) → IsLonger slot other m n F G → LongerChanges slot other cs ds → IsLonger slot other m n (after F cs) (after G ds)
+pub longer-after : (slot other m n : ℕ) (F G : Filestore) (cs ds : List Change) → IsLonger slot other m n F G → LongerChanges slot other cs ds →
+    IsLonger slot other m n (after F cs) (after G ds)
 longer-after slot other m n F G [] [] h k = h
 longer-after slot other m n F G [] (d ∷ ds) h k = absurd k
 longer-after slot other m n F G (c ∷ cs) [] h k = absurd k
-longer-after slot other m n F G (c ∷ cs) (d ∷ ds) h k = longer-after slot other m n (changed F c) (changed G d) cs ds (longer-changed slot other m n F G c d h k.0) k.1
+longer-after slot other m n F G (c ∷ cs) (d ∷ ds) h k = longer-after slot other m n (changed F c) (changed G d) cs ds
+    (longer-changed slot other m n F G c d h k.0) k.1
 
 -- ---- what is read of them
 
@@ -204,9 +218,12 @@ module _ (slot other m n : ℕ) (F G : Filestore) (h : IsLonger slot other m n F
   pub blocks-longer : blocks F + n ≤ blocks G + m
   unfolding blocks
   blocks-longer =
-      let nodes : weights (entries F.nodes) ≤ weights (entries G.nodes) = longer-weights (entries F.nodes) (entries G.nodes) (longer_entries (entries F.nodes) (entries G.nodes) (entries_sorted F.nodes) (entries_sorted G.nodes) (λ q.
-      subst (λ (v : Option Node). Longer (find path_cmp q (entries F.nodes)) v) (get-entries G.nodes q) (subst (λ (v : Option Node). Longer v (node_at G q)) (get-entries F.nodes q) (h.nodes q)))) in
-      let own : blocks_of (length (staged_in F slot)) ≤ blocks_of (length (staged_in G other)) = blocks_of-le (length (staged_in F slot)) (length (staged_in G other)) h.staged in
+      let nodes : weights (entries F.nodes) ≤ weights (entries G.nodes) = longer-weights (entries F.nodes) (entries G.nodes)
+      (longer_entries (entries F.nodes) (entries G.nodes) (entries_sorted F.nodes) (entries_sorted G.nodes) (λ q.
+      subst (λ (v : Option Node). Longer (find path_cmp q (entries F.nodes)) v) (get-entries G.nodes q)
+      (subst (λ (v : Option Node). Longer v (node_at G q)) (get-entries F.nodes q) (h.nodes q)))) in
+      let own : blocks_of (length (staged_in F slot)) ≤ blocks_of (length (staged_in G other)) =
+      blocks_of-le (length (staged_in F slot)) (length (staged_in G other)) h.staged in
       let one : staged_blocks F.staged ≡ m + blocks_of (length (staged_in F slot)) = h.others_F in
       let two : staged_blocks G.staged ≡ n + blocks_of (length (staged_in G other)) = h.others_G in
       omega arith
@@ -220,7 +237,8 @@ module _ (slot other m n : ℕ) (F G : Filestore) (h : IsLonger slot other m n F
 
   -- of the entries whose paths pass a test
   pub kept-longer : (test : Path → Bool) → LongerEntries (entries (retain_keys F.nodes test)) (entries (retain_keys G.nodes test))
-  kept-longer test = longer_entries (entries (retain_keys F.nodes test)) (entries (retain_keys G.nodes test)) (entries_sorted (retain_keys F.nodes test)) (entries_sorted (retain_keys G.nodes test)) (λ q.
+  kept-longer test = longer_entries (entries (retain_keys F.nodes test)) (entries (retain_keys G.nodes test)) (entries_sorted (retain_keys F.nodes test))
+      (entries_sorted (retain_keys G.nodes test)) (λ q.
       subst (λ (v : Option Node). Longer (find path_cmp q (entries (retain_keys F.nodes test))) v) (sym (kept G q))
       (subst (λ (v : Option Node). Longer v (cond (test q) (node_at G q) None)) (sym (kept F q))
       (longer-cond (test q) (node_at F q) (node_at G q) None None (h.nodes q) nothing)))
@@ -232,4 +250,5 @@ module _ (slot other m n : ℕ) (F G : Filestore) (h : IsLonger slot other m n F
   tree-longer p = kept-longer (λ q. is_at_or_below q p)
 
   pub entries-longer : (p : Path) → has_entries F p ≡ has_entries G p
-  entries-longer p = ap (λ n. not (n == 0)) (len-entries (inside F p) ∙ longer-length (entries (inside F p)) (entries (inside G p)) (kept-longer (λ q. is_below q p)) ∙ sym (len-entries (inside G p)))
+  entries-longer p = ap (λ n. not (n == 0)) (len-entries (inside F p) ∙ longer-length (entries (inside F p)) (entries (inside G p))
+      (kept-longer (λ q. is_below q p)) ∙ sym (len-entries (inside G p)))

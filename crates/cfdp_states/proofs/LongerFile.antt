@@ -8,7 +8,7 @@ use Rattle.cfdp_actions.specs.Actions.{Item}
 use Rattle.cfdp_leases.specs.Items.{performed}
 use Rattle.cfdp_states.specs.Alone.{statuses, steps, peak, stage}
 use Rattle.cfdp_states.specs.Laws.{LongerFile}
-use Rattle.cfdp_states.proofs.Growth.{blocks_of-zero}
+use Rattle.cfdp_actions.proofs.Growth.{blocks_of-zero}
 use Rattle.cfdp_states.proofs.Longer.{longer-itself, IsLonger, longer-stages, staged_blocks, blocks-longer}
 use Rattle.cfdp_states.proofs.LongerRows.{row-longer, performed-longer, step_bound-longer}
 
@@ -19,7 +19,8 @@ module _ (prefixes : List Path) (slot other m n : ℕ) where
   pub statuses-longer : (F G : Filestore) (items : List Item) → IsLonger slot other m n F G → statuses prefixes F slot items ≡ statuses prefixes G other items
   unfolding statuses
   statuses-longer F G [] h = refl
-  statuses-longer F G (item ∷ items) h = λ i. (row-longer slot other m n F G h prefixes item).answer i ∷ statuses-longer (performed prefixes F slot item) (performed prefixes G other item) items (performed-longer slot other m n F G h prefixes item) i
+  statuses-longer F G (item ∷ items) h = λ i. (row-longer slot other m n F G h prefixes item).answer i ∷ statuses-longer (performed prefixes F slot item)
+      (performed prefixes G other item) items (performed-longer slot other m n F G h prefixes item) i
 
   pub peak-longer : (F G : Filestore) (items : List Item) → IsLonger slot other m n F G → peak prefixes F slot items + n ≤ peak prefixes G other items + m
   unfolding peak
@@ -27,13 +28,15 @@ module _ (prefixes : List Path) (slot other m n : ℕ) where
   peak-longer F G (item ∷ items) h =
       let H = performed prefixes F slot item in
       let K = performed prefixes G other item in
-      higher (blocks F) (blocks G) (peak prefixes H slot items) (peak prefixes K other items) m n (blocks-longer slot other m n F G h) (peak-longer H K items (performed-longer slot other m n F G h prefixes item))
+      higher (blocks F) (blocks G) (peak prefixes H slot items) (peak prefixes K other items) m n (blocks-longer slot other m n F G h)
+      (peak-longer H K items (performed-longer slot other m n F G h prefixes item))
 
   pub steps-longer : (F G : Filestore) (items : List Item) → IsLonger slot other m n F G → steps prefixes F slot items ≤ steps prefixes G other items
   unfolding steps
   steps-longer F G [] h = le_refl 0
   steps-longer F G (item ∷ items) h =
-      add-le-add (add-le-add (le_refl 1) (step_bound-longer slot other m n F G h item)) (steps-longer (performed prefixes F slot item) (performed prefixes G other item) items (performed-longer slot other m n F G h prefixes item))
+      add-le-add (add-le-add (le_refl 1) (step_bound-longer slot other m n F G h item))
+      (steps-longer (performed prefixes F slot item) (performed prefixes G other item) items (performed-longer slot other m n F G h prefixes item))
 
 -- ---- a longer file in the same slot
 
@@ -41,11 +44,14 @@ module _ (prefixes : List Path) (slot other m n : ℕ) where
 abbrev pub other_blocks : Filestore → ℕ → ℕ
 other_blocks F slot = staged_blocks F.staged - blocks_of (length (staged_in F slot))
 
-pub held_blocks : (lists : List (List ℕ)) (slot : ℕ) → slot < length lists → (staged_blocks lists - blocks_of (length (slice_index_or lists slot []))) + blocks_of (length (slice_index_or lists slot [])) ≡ staged_blocks lists
+pub held_blocks : (lists : List (List ℕ)) (slot : ℕ) → slot < length lists → (staged_blocks lists - blocks_of (length (slice_index_or lists slot [])))
+    + blocks_of (length (slice_index_or lists slot [])) ≡ staged_blocks lists
 held_blocks lists slot held =
     let own = slice_index_or lists slot [] in
-    let sum : staged_blocks (slice_set lists slot own) + blocks_of (length own) ≡ staged_blocks lists + blocks_of (length own) = sum_by-set (λ (octets : List ℕ). blocks_of (length octets)) lists slot own [] held in
-    let empty : staged_blocks (slice_set lists slot []) + blocks_of (length own) ≡ staged_blocks lists + blocks_of 0 = sum_by-set (λ (octets : List ℕ). blocks_of (length octets)) lists slot [] [] held in
+    let sum : staged_blocks (slice_set lists slot own) + blocks_of (length own) ≡ staged_blocks lists + blocks_of (length own) =
+    sum_by-set (λ (octets : List ℕ). blocks_of (length octets)) lists slot own [] held in
+    let empty : staged_blocks (slice_set lists slot []) + blocks_of (length own) ≡ staged_blocks lists + blocks_of 0 =
+    sum_by-set (λ (octets : List ℕ). blocks_of (length octets)) lists slot [] [] held in
     let none : blocks_of 0 ≡ 0 = blocks_of-zero in
     omega arith
 

@@ -25,7 +25,8 @@ unfolding peak steps
 own_step prefixes F slot item items rooted held =
     let G = performed prefixes F slot item in
     let o = row prefixes F slot item in (
-      left_over (blocks F) (blocks G) (peak prefixes G slot items) o.taken o.given (row-grows prefixes F slot item rooted held) (blocks-le-peak prefixes G slot items),
+      left_over (blocks F) (blocks G) (peak prefixes G slot items) o.taken o.given (row-grows prefixes F slot item rooted held)
+          (blocks-le-peak prefixes G slot items),
       refl,
       row-ticks prefixes F slot item,
     )
@@ -35,5 +36,6 @@ unfolding peak
 enough_room prefixes F free slot item items rooted held enough =
     let G = performed prefixes F slot item in
     let o = row prefixes F slot item in
-    let fits : o.taken ≤ free + o.given = room_for (blocks F) (blocks G) (peak prefixes G slot items) o.taken o.given free (row-grows prefixes F slot item rooted held) (blocks-le-peak prefixes G slot items) enough in
+    let fits : o.taken ≤ free + o.given = room_for (blocks F) (blocks G) (peak prefixes G slot items) o.taken o.given free
+    (row-grows prefixes F slot item rooted held) (blocks-le-peak prefixes G slot items) enough in
     ap (λ b. if b then o else denied item) (le-leb o.taken (free + o.given) fits)

@@ -7,13 +7,18 @@ use Rattle.cfdp_status.specs.declared.status.Status.TheVariants.{NotAllowed}
 use Rattle.cfdp_actions.specs.Filestore.{Node, Directory, File, Filestore, node_at, staged_in, blocks_of, weight, parent_is_good, has_entries, tree_at, IsRooted}
 use Rattle.cfdp_actions.specs.Actions.{Request, CreateFile, DeleteFile, RenameFile, AppendFile, ReplaceFile, CreateDirectory, RemoveDirectory, DenyFile, DenyDirectory, Item, Install, Perform, Outcome, ticks, refused, succeeds, vacated, settled, is_too_deep, create, delete_file, rename, append, replace, remove_directory, deny_file, deny_directory, install, table, free_row, is_barred, denied, row}
 use Rattle.cfdp_leases.specs.Items.{content, step_bound}
-use Rattle.cfdp_states.proofs.Growth.{Grows, create-grows, delete_file-grows, remove_directory-grows, deny_file-grows, deny_directory-grows, append-grows, replace-grows, install-grows, blocks_of-zero}
-use Rattle.cfdp_states.proofs.Moves.{rename-grows}
+use Rattle.cfdp_actions.proofs.Growth.{Grows, create-grows, delete_file-grows, remove_directory-grows, deny_file-grows, deny_directory-grows, append-grows, replace-grows, install-grows, blocks_of-zero}
+use Rattle.cfdp_actions.proofs.Moves.{rename-grows}
 
 -- what holds of a row that is denied and of the free row holds of the row
-pub row_cases : (P : Outcome → Type 0) (prefixes : List Path) (F : Filestore) (slot : ℕ) (item : Item) → P (denied item) → P (free_row F slot item) → P (row prefixes F slot item)
+pub row_cases : (P : Outcome → Type 0) (prefixes : List Path) (F : Filestore) (slot : ℕ) (item : Item) → P (denied item) → P (free_row F slot item) →
+    P (row prefixes F slot item)
 unfolding row
-row_cases P prefixes F slot item if_denied if_free = elim (is_barred prefixes F item) as (λ b. P (if b then denied item else free_row F slot item)) [ true ↦ if_denied | false ↦ if_free ]
+row_cases P prefixes F slot item if_denied if_free = elim (is_barred prefixes F item) as (λ b. P (if b then denied item else free_row F slot item)) [
+  | true ↦
+      if_denied
+  | false ↦ if_free
+]
 
 -- ---- growth
 
@@ -66,7 +71,8 @@ rename-ticks p q (Some node) (Some other) good below es = le_refl 0
 rename-ticks p q (Some node) None false below es = le_refl 0
 rename-ticks p q (Some node) None true true es = le_refl 0
 rename-ticks p q (Some node) None true false es =
-    elim (is_too_deep p q es) as (λ deep. ticks (if deep then refused (NotAllowed action.RenameFile) else succeeds action.RenameFile (vacated es ++ settled p q es) 0 0 0) ≤ 0) [ true ↦ le_refl 0 | false ↦ le_refl 0 ]
+    elim (is_too_deep p q es) as (λ deep. ticks (if deep then refused (NotAllowed action.RenameFile)
+    else succeeds action.RenameFile (vacated es ++ settled p q es) 0 0 0) ≤ 0) [ true ↦ le_refl 0 | false ↦ le_refl 0 ]
 
 -- to append n octets to m takes no more blocks than n octets do
 blocks_of-add : (m n : ℕ) → blocks_of (m + n) ≤ blocks_of m + blocks_of n
@@ -144,4 +150,5 @@ denied-ticks (Install p) n = zero-le
 denied-ticks (Perform request) n = zero-le
 
 pub row-ticks : (prefixes : List Path) (F : Filestore) (slot : ℕ) (item : Item) → ticks (row prefixes F slot item) ≤ step_bound F item
-row-ticks prefixes F slot item = row_cases (λ o. ticks o ≤ step_bound F item) prefixes F slot item (denied-ticks item (step_bound F item)) (free_row-ticks F slot item)
+row-ticks prefixes F slot item = row_cases (λ o. ticks o ≤ step_bound F item) prefixes F slot item (denied-ticks item (step_bound F item))
+    (free_row-ticks F slot item)

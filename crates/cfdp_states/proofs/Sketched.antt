@@ -1,10 +1,10 @@
 -- What the tests of the action table read of a filestore, and what its rows do to it, seen through a map of extents.
 --     extent-cond                              of one node or another
 --     entries-outlined                         the entries of the map are those of the filestore
---     good_parent-is, entries-is, depth-is     whether the parent is good, anything stands below, a path would be too deep
+--     good_parent-is, entries-is, depth-is     whether the parent is good, anything is below, a path would be too deep
 --     Follows, does-at                         what `Does` asks at one filestore;  `Does` is that at each
 --     follows-same, follows-one, follows-moved    no change;  one path changes;  a directory moves (moved_where, staged-moved: what is where then)
---     kept                                     a map to which what stands already is put
+--     kept                                     a map to which what is already is put
 use Rattle.std.proofs.Common.{◌≡◌, ◌≢◌, refl, sym, ◌∙◌, ap, subst, Bool, true, false, cond, not, ◌&&◌, ◌||◌, ◌==◌, T, is_some, Option, Some, None, List, [], ◌∷◌, ◌++◌, map, length, nat_lt, ne_eqb, arith}
 use Rattle.std.specs.List.{list_any}
 use Rattle.std.specs.Ordering.{is_lt}
@@ -17,10 +17,10 @@ use Rattle.cfdp_actions.specs.Filestore.{Node, Directory, File, Filestore, node_
 use Rattle.cfdp_actions.specs.Actions.{Request, Performed, Outcome, vacated, settled, is_too_deep, table}
 use Rattle.cfdp_states.specs.declared.extent.Extent.{Extent}
 use Rattle.cfdp_states.specs.Sketching.{extent_of, extent_in, extent_at, Extents, rehomed, is_folder, good_among, good_parent, IsOutline, Does}
-use Rattle.cfdp_states.proofs.Order.{paths_total, paths_exact, node_at-becomes, same_path-true}
-use Rattle.cfdp_states.proofs.Weights.{entries-retain_keys}
-use Rattle.cfdp_states.proofs.Prefixes.{rebased-below}
-use Rattle.cfdp_states.proofs.Moves.{after-append, tree_at-all, tree_at-sorted, find-tree_at, node_at-vacated, node_at-settled, node_at-settled_apart, moved}
+use Rattle.cfdp_actions.proofs.Order.{paths_total, paths_exact, node_at-becomes, same_path-true}
+use Rattle.cfdp_actions.proofs.Weights.{entries-retain_keys}
+use Rattle.cfdp_actions.proofs.Prefixes.{rebased-below}
+use Rattle.cfdp_actions.proofs.Moves.{after-append, tree_at-all, tree_at-sorted, find-tree_at, node_at-vacated, node_at-settled, node_at-settled_apart, moved}
 use Rattle.cfdp_states.proofs.Counted.{get-rehomed}
 
 -- ---- the extent of a node
@@ -62,7 +62,8 @@ find-outlines x (e ∷ es) =
 where-outlines : (test : Path → Bool) (es : List (Path × Node)) → where_key path_cmp test (outlines es) ≡ outlines (where_key path_cmp test es)
 where-outlines test [] = refl
 where-outlines test (e ∷ es) =
-    elim (test e.0) as (λ b. cond b (outline_of e ∷ where_key path_cmp test (outlines es)) (where_key path_cmp test (outlines es)) ≡ outlines (cond b (e ∷ where_key path_cmp test es) (where_key path_cmp test es))) [
+    elim (test e.0) as (λ b. cond b (outline_of e ∷ where_key path_cmp test (outlines es)) (where_key path_cmp test (outlines es))
+    ≡ outlines (cond b (e ∷ where_key path_cmp test es) (where_key path_cmp test es))) [
       | true ↦ ap (λ us. outline_of e ∷ us) (where-outlines test es)
       | false ↦ where-outlines test es
     ]
@@ -75,7 +76,8 @@ deep-outlines p q (e ∷ es) = ap (λ b. nat_lt 8 (length (rebased p q e.0)) || 
 any-outlines : (test : Path → Bool) (es : List (Path × Node)) → list_any (λ e. test e.0) (outlines es) ≡ not (length (where_key path_cmp test es) == 0)
 any-outlines test [] = refl
 any-outlines test (e ∷ es) =
-    elim (test e.0) as (λ b. (b || list_any (λ e. test e.0) (outlines es)) ≡ not (length (cond b (e ∷ where_key path_cmp test es) (where_key path_cmp test es)) == 0)) [
+    elim (test e.0) as (λ b. (b || list_any (λ e. test e.0) (outlines es))
+    ≡ not (length (cond b (e ∷ where_key path_cmp test es) (where_key path_cmp test es)) == 0)) [
       | true ↦ sym (ap not (ne_eqb (length (e ∷ where_key path_cmp test es)) 0 (λ same. omega arith)))
       | false ↦ any-outlines test es
     ]
@@ -118,21 +120,24 @@ pub record Follows (m' : Extents) (F : Filestore) (o : Outcome) (told : Status) 
   pub outlines : IsOutline m' (after F o.changes)
   pub staged : (after F o.changes).staged ≡ F.staged
 
-pub does-at : (m m' : Extents) (request : Request) (told : Status) → ((F : Filestore) → IsOutline m F → Follows m' F (table F request) told) → Does m m' request told
+pub does-at : (m m' : Extents) (request : Request) (told : Status) → ((F : Filestore) → IsOutline m F → Follows m' F (table F request) told) →
+    Does m m' request told
 does-at m m' request told at = record {
   status = λ F h. (at F h).status;
   outlines = λ F h. (at F h).outlines;
   staged = λ F h. (at F h).staged;
 }
 
-pub follows-same : (m' : Extents) (F : Filestore) (o : Outcome) (told : Status) → Performed told ≡ o.answer → o.changes ≡ [] → IsOutline m' F → Follows m' F o told
+pub follows-same : (m' : Extents) (F : Filestore) (o : Outcome) (told : Status) → Performed told ≡ o.answer → o.changes ≡ [] → IsOutline m' F →
+    Follows m' F o told
 follows-same m' F o told answer changes h = record {
   status = answer;
   outlines = subst (λ (cs : List Change). IsOutline m' (after F cs)) (sym changes) h;
   staged = ap (λ (cs : List Change). (after F cs).staged) changes;
 }
 
-pub follows-one : (m m' : Extents) (F : Filestore) (o : Outcome) (told : Status) (p : Path) (node : Option Node) → IsOutline m F → Performed told ≡ o.answer → o.changes ≡ Becomes p node ∷ [] →
+pub follows-one : (m m' : Extents) (F : Filestore) (o : Outcome) (told : Status) (p : Path) (node : Option Node) → IsOutline m F → Performed told ≡ o.answer →
+    o.changes ≡ Becomes p node ∷ [] →
     ((x : Path) → get m' x ≡ cond (same_path x p) (extent_in node) (get m x)) → Follows m' F o told
 follows-one m m' F o told p node h answer changes now = record {
   status = answer;
@@ -143,8 +148,9 @@ follows-one m m' F o told p node h answer changes now = record {
   staged = ap (λ (cs : List Change). (after F cs).staged) changes;
 }
 
--- what stands at p already
-pub kept : (m m' : Extents) (F : Filestore) (p : Path) (c : Option Extent) → IsOutline m F → extent_at F p ≡ c → ((x : Path) → get m' x ≡ cond (same_path x p) c (get m x)) → IsOutline m' F
+-- what is at p already
+pub kept : (m m' : Extents) (F : Filestore) (p : Path) (c : Option Extent) → IsOutline m F → extent_at F p ≡ c →
+    ((x : Path) → get m' x ≡ cond (same_path x p) c (get m x)) → IsOutline m' F
 kept m m' F p c h here now = record {
   found = λ x. now x ∙ elim (same_path x p) as (λ b. same_path x p ≡ b → cond b c (get m x) ≡ extent_at F x) [
     | true ↦ λ t. sym here ∙ ap (extent_at F) (sym (same_path-true x p t))
@@ -156,12 +162,14 @@ kept m m' F p c h here now = record {
 
 pub moved_where : (F : Filestore) (p q x : Path) →
     node_at (moved F p q) x
-    ≡ cond (is_at_or_below x q) (cond (is_some (node_at F (rebased q p x))) (node_at F (rebased q p x)) (cond (is_at_or_below x p) None (node_at F x))) (cond (is_at_or_below x p) None (node_at F x))
+    ≡ cond (is_at_or_below x q) (cond (is_some (node_at F (rebased q p x))) (node_at F (rebased q p x)) (cond (is_at_or_below x p) None (node_at F x)))
+    (cond (is_at_or_below x p) None (node_at F x))
 moved_where F p q x =
     let es = tree_at F p in
     let y = rebased q p x in
     ap (λ G. node_at G x) (after-append F (vacated es) (settled p q es))
-    ∙ elim (is_at_or_below x q) as (λ b. is_at_or_below x q ≡ b → node_at (after (after F (vacated es)) (settled p q es)) x ≡ cond b (cond (is_some (node_at F y)) (node_at F y) (cond (is_at_or_below x p) None (node_at F x))) (cond (is_at_or_below x p) None (node_at F x))) [
+    ∙ elim (is_at_or_below x q) as (λ b. is_at_or_below x q ≡ b → node_at (after (after F (vacated es)) (settled p q es)) x
+    ≡ cond b (cond (is_some (node_at F y)) (node_at F y) (cond (is_at_or_below x p) None (node_at F x))) (cond (is_at_or_below x p) None (node_at F x))) [
       | true ↦ λ at. node_at-settled p q (after F (vacated es)) es (tree_at-sorted F p) (tree_at-all F p) x at
           ∙ ap (λ v. cond (is_some v) v (node_at (after F (vacated es)) x)) (find-tree_at F p y ∙ ap (λ b. cond b (node_at F y) None) (rebased-below q p x))
           ∙ ap (λ v. cond (is_some (node_at F y)) (node_at F y) v) (vacant es)
@@ -189,23 +197,27 @@ staged-settled p q F [] = refl
 staged-settled p q F (e ∷ es) = staged-settled p q (changed F (Becomes (rebased p q e.0) (Some e.1))) es
 
 pub staged-moved : (F : Filestore) (p q : Path) → (moved F p q).staged ≡ F.staged
-staged-moved F p q = ap (λ (G : Filestore). G.staged) (after-append F (vacated (tree_at F p)) (settled p q (tree_at F p))) ∙ staged-settled p q (after F (vacated (tree_at F p))) (tree_at F p) ∙ staged-vacated F (tree_at F p)
+staged-moved F p q = ap (λ (G : Filestore). G.staged) (after-append F (vacated (tree_at F p)) (settled p q (tree_at F p)))
+    ∙ staged-settled p q (after F (vacated (tree_at F p))) (tree_at F p) ∙ staged-vacated F (tree_at F p)
 
-pub follows-moved : (m : Extents) (F : Filestore) (o : Outcome) (told : Status) (p q : Path) → IsOutline m F → Performed told ≡ o.answer → o.changes ≡ vacated (tree_at F p) ++ settled p q (tree_at F p) → Follows (rehomed p q m) F o told
+pub follows-moved : (m : Extents) (F : Filestore) (o : Outcome) (told : Status) (p q : Path) → IsOutline m F → Performed told ≡ o.answer → o.changes
+    ≡ vacated (tree_at F p) ++ settled p q (tree_at F p) → Follows (rehomed p q m) F o told
 follows-moved m F o told p q h answer changes = record {
   status = answer;
   outlines = subst (λ (cs : List Change). IsOutline (rehomed p q m) (after F cs)) (sym changes) (record {
     found = λ x.
         let y = rebased q p x in
         get-rehomed p q m x
-        ∙ (λ i. cond (is_at_or_below x q) (cond (is_some (h.found y i)) (h.found y i) (cond (is_at_or_below x p) None (h.found x i))) (cond (is_at_or_below x p) None (h.found x i)))
+        ∙ (λ i. cond (is_at_or_below x q) (cond (is_some (h.found y i)) (h.found y i) (cond (is_at_or_below x p) None (h.found x i)))
+        (cond (is_at_or_below x p) None (h.found x i)))
         ∙ through (is_at_or_below x q) (is_at_or_below x p) (node_at F y) (node_at F x)
         ∙ ap extent_in (sym (moved_where F p q x));
   });
   staged = ap (λ (cs : List Change). (after F cs).staged) changes ∙ staged-moved F p q;
 }
   where
-    through : (a b : Bool) (v w : Option Node) → cond a (cond (is_some (extent_in v)) (extent_in v) (cond b None (extent_in w))) (cond b None (extent_in w)) ≡ extent_in (cond a (cond (is_some v) v (cond b None w)) (cond b None w))
+    through : (a b : Bool) (v w : Option Node) → cond a (cond (is_some (extent_in v)) (extent_in v) (cond b None (extent_in w))) (cond b None (extent_in w))
+        ≡ extent_in (cond a (cond (is_some v) v (cond b None w)) (cond b None w))
     through false false v w = refl
     through false true v w = refl
     through true false None w = refl

@@ -10,7 +10,7 @@ use Rattle.cfdp_actions.proofs.Allowed.{Allowed, Makes, file_made, directory_mad
 use Rattle.cfdp_states.specs.declared.extent.Extent.{Extent}
 use Rattle.cfdp_states.specs.declared.extent.Extent.TheVariants as extent
 use Rattle.cfdp_states.specs.Sketching.{most_octets, extent_in, extent_at, Extents, size_in, resized, rehomed, IsOutline, Does}
-use Rattle.cfdp_states.proofs.Order.{paths_total, same_path-true}
+use Rattle.cfdp_actions.proofs.Order.{paths_total, same_path-true}
 use Rattle.cfdp_states.proofs.Sketched.{Follows, does-at, follows-same, follows-one, follows-moved, kept}
 
 size-in : (o : Option Node) → size_in (extent_in o) ≡ min (length (octets_in o)) most_octets
@@ -32,7 +32,9 @@ module _ (m : Extents) (request : Request) (allowed : (F : Filestore) → IsOutl
 
   -- ---- create
 
-  created : (m' : Extents) (p : Path) (node : Node) (c : Extent) → ((F : Filestore) → Allowed F request → Makes F p node (action_in request) (table F request)) → Some c ≡ extent_in (Some node) → m' ≡ insert m p c → Does m m' request (Successful (action_in request))
+  created : (m' : Extents) (p : Path) (node : Node) (c : Extent) → ((F : Filestore) → Allowed F request →
+      Makes F p node (action_in request) (table F request)) → Some c ≡ extent_in (Some node) → m' ≡ insert m p c →
+      Does m m' request (Successful (action_in request))
   created m' p node c makes is now = does-at m m' request (Successful (action_in request)) (λ F h.
       let row = (makes F (allowed F h)).row in
       follows-one m m' F (table F request) (Successful (action_in request)) p (Some node) h (answer F h) row.changes
@@ -41,15 +43,18 @@ module _ (m : Extents) (request : Request) (allowed : (F : Filestore) → IsOutl
   pub file-created : (m' : Extents) (p : Path) → request ≡ CreateFile p → m' ≡ insert m p (extent.File 0) → Does m m' request (Successful (action_in request))
   file-created m' p e = created m' p (File []) (extent.File 0) (λ F h. file_made F request p h e) refl
 
-  pub directory-created : (m' : Extents) (p : Path) → request ≡ CreateDirectory p → m' ≡ insert m p extent.Directory → Does m m' request (Successful (action_in request))
+  pub directory-created : (m' : Extents) (p : Path) → request ≡ CreateDirectory p → m' ≡ insert m p extent.Directory →
+      Does m m' request (Successful (action_in request))
   directory-created m' p e = created m' p Directory extent.Directory (λ F h. directory_made F request p h e) refl
 
   -- ---- remove
 
-  removes : (m' : Extents) (p : Path) → m' ≡ remove m p → (F : Filestore) → IsOutline m F → (o : Outcome) → Performed (Successful (action_in request)) ≡ o.answer → (absent : Bool) → is_none (node_at F p) ≡ absent →
+  removes : (m' : Extents) (p : Path) → m' ≡ remove m p → (F : Filestore) → IsOutline m F → (o : Outcome) → Performed (Successful (action_in request))
+      ≡ o.answer → (absent : Bool) → is_none (node_at F p) ≡ absent →
       o.changes ≡ (if absent then [] else Becomes p None ∷ []) → Follows m' F o (Successful (action_in request))
   removes m' p now F h o answer true none changes =
-      follows-same m' F o (Successful (action_in request)) answer changes (kept m m' F p None h (nothing (node_at F p) none) (λ x. ap (λ m'. get m' x) now ∙ get-remove paths_total m p x))
+      follows-same m' F o (Successful (action_in request)) answer changes (kept m m' F p None h (nothing (node_at F p) none) (λ x. ap (λ m'. get m' x) now
+      ∙ get-remove paths_total m p x))
     where
       nothing : (o : Option Node) → is_none o ≡ true → extent_in o ≡ None
       nothing None e = refl
@@ -57,7 +62,8 @@ module _ (m : Extents) (request : Request) (allowed : (F : Filestore) → IsOutl
   removes m' p now F h o answer false some changes =
       follows-one m m' F o (Successful (action_in request)) p None h answer changes (λ x. ap (λ m'. get m' x) now ∙ get-remove paths_total m p x)
 
-  pub gone : (m' : Extents) (p : Path) → ((request ≡ DeleteFile p) ⊎ (request ≡ RemoveDirectory p)) ⊎ ((request ≡ DenyFile p) ⊎ (request ≡ DenyDirectory p)) → m' ≡ remove m p → Does m m' request (Successful (action_in request))
+  pub gone : (m' : Extents) (p : Path) → ((request ≡ DeleteFile p) ⊎ (request ≡ RemoveDirectory p)) ⊎ ((request ≡ DenyFile p) ⊎ (request ≡ DenyDirectory p)) →
+      m' ≡ remove m p → Does m m' request (Successful (action_in request))
   gone m' p (inl e) now = does-at m m' request (Successful (action_in request)) (λ F h.
       let goes = removed F request p (allowed F h) e in
       removes m' p now F h (table F request) (answer F h) false (present (node_at F p) goes.present) goes.row.changes)
@@ -72,20 +78,23 @@ module _ (m : Extents) (request : Request) (allowed : (F : Filestore) → IsOutl
   -- ---- rename
 
   pub moves : (m' : Extents) (p q : Path) → request ≡ RenameFile p q → m' ≡ rehomed p q m → Does m m' request (Successful (action_in request))
-  moves m' p q e now = subst (λ m'. Does m m' request (Successful (action_in request))) (sym now) (does-at m (rehomed p q m) request (Successful (action_in request)) (λ F h.
+  moves m' p q e now = subst (λ m'. Does m m' request (Successful (action_in request))) (sym now)
+      (does-at m (rehomed p q m) request (Successful (action_in request)) (λ F h.
       let row = (moved F request p q (allowed F h) e).row in
       follows-moved m F (table F request) (Successful (action_in request)) p q h (answer F h) row.changes))
 
   -- ---- append and replace
 
-  -- the map has a file of n octets at p, where a file stands
-  at_size : (m' : Extents) (F : Filestore) (p : Path) (n : ℕ) → IsOutline m F → is_file (node_at F p) ≡ true → m' ≡ resized p n m → (x : Path) → get m' x ≡ cond (same_path x p) (Some (extent.File n)) (get m x)
+  -- the map has a file of n octets at p, where a file exists
+  at_size : (m' : Extents) (F : Filestore) (p : Path) (n : ℕ) → IsOutline m F → is_file (node_at F p) ≡ true → m' ≡ resized p n m → (x : Path) → get m' x
+      ≡ cond (same_path x p) (Some (extent.File n)) (get m x)
   at_size m' F p n h file now x =
       ap (λ m'. get m' x) now
       ∙ ap (λ c. get (if is_some c then insert m p (extent.File n) else m) x) (h.found p ∙ file-extent (node_at F p) file)
       ∙ get-insert paths_total m p (extent.File n) x
 
-  pub appends : (m' : Extents) (p q : Path) (n : ℕ) → request ≡ AppendFile p q → n ≡ min (size_in (get m p) + size_in (get m q)) most_octets → m' ≡ resized p n m → Does m m' request (Successful (action_in request))
+  pub appends : (m' : Extents) (p q : Path) (n : ℕ) → request ≡ AppendFile p q → n ≡ min (size_in (get m p) + size_in (get m q)) most_octets → m'
+      ≡ resized p n m → Does m m' request (Successful (action_in request))
   appends m' p q n e sum now = does-at m m' request (Successful (action_in request)) (λ F h.
       let row = appended F request p q (allowed F h) e in
       let long : n ≡ min (length (octets_at F p ++ octets_at F q)) most_octets =
@@ -94,16 +103,19 @@ module _ (m : Extents) (request : Request) (allowed : (F : Filestore) → IsOutl
       follows-one m m' F (table F request) (Successful (action_in request)) p _ h (answer F h) row.row.changes
       (λ x. at_size m' F p n h row.first now x ∙ ap (λ n. cond (same_path x p) (Some (extent.File n)) (get m x)) long))
 
-  pub replaces : (m' : Extents) (p q : Path) (n : ℕ) → request ≡ ReplaceFile p q → n ≡ size_in (get m q) → m' ≡ resized p n m → Does m m' request (Successful (action_in request))
+  pub replaces : (m' : Extents) (p q : Path) (n : ℕ) → request ≡ ReplaceFile p q → n ≡ size_in (get m q) → m' ≡ resized p n m →
+      Does m m' request (Successful (action_in request))
   replaces m' p q n e size now = does-at m m' request (Successful (action_in request)) (λ F h.
       let row = replaced F request p q (allowed F h) e in
       by_same m' p q n now F h row.first (size ∙ ap size_in (h.found q)) (table F request) (answer F h) (same_path p q) refl row.row.changes)
     where
-      by_same : (m' : Extents) (p q : Path) (n : ℕ) → m' ≡ resized p n m → (F : Filestore) → IsOutline m F → is_file (node_at F p) ≡ true → n ≡ size_in (extent_at F q) → (o : Outcome) → Performed (Successful (action_in request)) ≡ o.answer → (same : Bool) → same_path p q ≡ same →
+      by_same : (m' : Extents) (p q : Path) (n : ℕ) → m' ≡ resized p n m → (F : Filestore) → IsOutline m F → is_file (node_at F p) ≡ true → n
+          ≡ size_in (extent_at F q) → (o : Outcome) → Performed (Successful (action_in request)) ≡ o.answer → (same : Bool) → same_path p q ≡ same →
           o.changes ≡ (if same then [] else Becomes p (Some (File (octets_at F q))) ∷ []) → Follows m' F o (Successful (action_in request))
       by_same m' p q n now F h file size o answer true e changes =
           follows-same m' F o (Successful (action_in request)) answer changes (kept m m' F p (Some (extent.File n)) h
-          (file-extent (node_at F p) file ∙ ap (λ x. Some (extent.File (size_in (extent_at F x)))) (same_path-true p q e) ∙ ap (λ n. Some (extent.File n)) (sym size))
+          (file-extent (node_at F p) file ∙ ap (λ x. Some (extent.File (size_in (extent_at F x)))) (same_path-true p q e)
+          ∙ ap (λ n. Some (extent.File n)) (sym size))
           (at_size m' F p n h file now))
       by_same m' p q n now F h file size o answer false e changes =
           follows-one m m' F o (Successful (action_in request)) p (Some (File (octets_at F q))) h answer changes

@@ -9,9 +9,9 @@ use Rattle.cfdp_paths.proofs.Below.{at_or_below-trans, is_below-Decides, length-
 use Rattle.cfdp_actions.specs.Filestore.{Node, Filestore, node_at, blocks, has_entries}
 use Rattle.cfdp_leases.proofs.Sets.{stands, any_at, any_from}
 use Rattle.cfdp_states.specs.Closed.{is_inside, Reaches, AreAlike, IsStandIn, moved_path, moved_closed}
-use Rattle.cfdp_states.proofs.Order.{same_path-true, same_path-refl, same_path-is}
-use Rattle.cfdp_states.proofs.Prefixes.{same_name-refl, rebased-below, rebased_back}
-use Rattle.cfdp_states.proofs.Moves.{none_unless, moved, blocks-moved_free}
+use Rattle.cfdp_actions.proofs.Order.{same_path-true, same_path-refl, same_path-is}
+use Rattle.cfdp_actions.proofs.Prefixes.{same_name-refl, rebased-below, rebased_back}
+use Rattle.cfdp_actions.proofs.Moves.{none_unless, moved, blocks-moved_free}
 use Rattle.cfdp_states.proofs.Sketched.{moved_where, staged-moved}
 use Rattle.cfdp_states.proofs.StandIns.{nothing, alike, like-none, below-at, above, outside, nodes, found-has_entries}
 
@@ -47,7 +47,8 @@ under-drop : (x c p : Path) → is_at_or_below x c ≡ true → is_at_or_below c
 under-drop x c [] h k = h
 under-drop x [] (n ∷ p) h k = absurd (true≢false (sym k))
 under-drop [] (m ∷ c) (n ∷ p) h k = absurd (true≢false (sym h))
-under-drop (l ∷ x) (m ∷ c) (n ∷ p) h k = under-drop x c p (and_parts (same_name l m) (is_at_or_below x c) h).1 (and_parts (same_name m n) (is_at_or_below c p) k).1
+under-drop (l ∷ x) (m ∷ c) (n ∷ p) h k = under-drop x c p (and_parts (same_name l m) (is_at_or_below x c) h).1
+    (and_parts (same_name m n) (is_at_or_below c p) k).1
 
 under-front : (q x c : Path) → is_at_or_below x c ≡ true → is_at_or_below (q ++ x) (q ++ c) ≡ true
 under-front [] x c h = h
@@ -76,7 +77,8 @@ module _ (F : Filestore) (p q : Path) (empty : (x : Path) → is_at_or_below x q
   moved-here x at =
       let y = rebased q p x in
       moved_where F p q x
-      ∙ (λ i. cond (at i) (cond (is_some (node_at F y)) (node_at F y) (cond (is_at_or_below x p) None (empty x at i))) (cond (is_at_or_below x p) None (node_at F x)))
+      ∙ (λ i. cond (at i) (cond (is_some (node_at F y)) (node_at F y) (cond (is_at_or_below x p) None (empty x at i)))
+      (cond (is_at_or_below x p) None (node_at F x)))
       ∙ itself (node_at F y) (is_at_or_below x p)
     where
       itself : (v : Option Node) (b : Bool) → cond (is_some v) v (cond {A = Option Node} b None None) ≡ v
@@ -85,13 +87,16 @@ module _ (F : Filestore) (p q : Path) (empty : (x : Path) → is_at_or_below x q
       itself (Some n) b = refl
 
   pub moved-gone : (x : Path) → is_at_or_below x q ≡ false → is_at_or_below x p ≡ true → node_at (moved F p q) x ≡ None
-  moved-gone x apart at = moved_where F p q x ∙ (λ i. cond (apart i) (cond (is_some (node_at F (rebased q p x))) (node_at F (rebased q p x)) (cond (is_at_or_below x p) None (node_at F x))) (cond (at i) None (node_at F x)))
+  moved-gone x apart at = moved_where F p q x ∙ (λ i. cond (apart i) (cond (is_some (node_at F (rebased q p x))) (node_at F (rebased q p x))
+      (cond (is_at_or_below x p) None (node_at F x))) (cond (at i) None (node_at F x)))
 
   pub moved-else : (x : Path) → is_at_or_below x q ≡ false → is_at_or_below x p ≡ false → node_at (moved F p q) x ≡ node_at F x
-  moved-else x apart other = moved_where F p q x ∙ (λ i. cond (apart i) (cond (is_some (node_at F (rebased q p x))) (node_at F (rebased q p x)) (cond (is_at_or_below x p) None (node_at F x))) (cond (other i) None (node_at F x)))
+  moved-else x apart other = moved_where F p q x ∙ (λ i. cond (apart i) (cond (is_some (node_at F (rebased q p x))) (node_at F (rebased q p x))
+      (cond (is_at_or_below x p) None (node_at F x))) (cond (other i) None (node_at F x)))
 
   -- what is below a directory that moves
-  reaches-moved : (c : Path) (n : ℕ) → is_at_or_below c p ≡ true → Reaches (moved F p q) (rebased p q c) n → (m : ℕ) × (n + length p ≤ m + length q) × Reaches F c m
+  reaches-moved : (c : Path) (n : ℕ) → is_at_or_below c p ≡ true → Reaches (moved F p q) (rebased p q c) n → (m : ℕ) × (n + length p ≤ m + length q)
+      × Reaches F c m
   reaches-moved c n at r =
       let x = r.path in
       let y = rebased q p x in
@@ -121,18 +126,33 @@ module _ (F : Filestore) (p q : Path) (empty : (x : Path) → is_at_or_below x q
       }
 
   -- what is below one that is beside both
-  module _ (c : Path) (beside_p : (x : Path) → is_below x c ≡ true → is_at_or_below x p ≡ false) (beside_q : (x : Path) → is_below x c ≡ true → is_at_or_below x q ≡ false) where
+  module _ (c : Path) (beside_p : (x : Path) → is_below x c ≡ true → is_at_or_below x p ≡ false) (beside_q : (x : Path) → is_below x c ≡ true →
+      is_at_or_below x q ≡ false) where
     reaches-stays : (n : ℕ) → Reaches (moved F p q) c n → Reaches F c n
-    reaches-stays n r = record { path = r.path; below = r.below; there = ap is_some (sym (moved-else r.path (beside_q r.path r.below) (beside_p r.path r.below))) ∙ r.there; deep = r.deep }
+    reaches-stays n r = record {
+      path = r.path;
+      below = r.below;
+      there = ap is_some
+          (sym (moved-else r.path (beside_q r.path r.below) (beside_p r.path r.below))) ∙ r.there;
+      deep = r.deep;
+    }
 
     reaches_to-stays : (n : ℕ) → Reaches F c n → Reaches (moved F p q) c n
-    reaches_to-stays n r = record { path = r.path; below = r.below; there = ap is_some (moved-else r.path (beside_q r.path r.below) (beside_p r.path r.below)) ∙ r.there; deep = r.deep }
+    reaches_to-stays n r = record {
+      path = r.path;
+      below = r.below;
+      there = ap is_some (moved-else r.path (beside_q r.path r.below) (beside_p r.path r.below))
+          ∙ r.there;
+      deep = r.deep;
+    }
 
 -- ---- two of them
 
 -- from one to the other, where both have it before
-goes_over : (F G : Filestore) (p q : Path) → ((x : Path) → is_at_or_below x q ≡ true → node_at F x ≡ None) → ((x : Path) → is_at_or_below x q ≡ true → node_at G x ≡ None) →
-    (c : Path) → is_at_or_below c p ≡ true → ((m : ℕ) → Reaches F c m → Reaches G c m) → (n : ℕ) → Reaches (moved F p q) (rebased p q c) n → Reaches (moved G p q) (rebased p q c) n
+goes_over : (F G : Filestore) (p q : Path) → ((x : Path) → is_at_or_below x q ≡ true → node_at F x ≡ None) →
+    ((x : Path) → is_at_or_below x q ≡ true → node_at G x ≡ None) →
+    (c : Path) → is_at_or_below c p ≡ true → ((m : ℕ) → Reaches F c m → Reaches G c m) → (n : ℕ) → Reaches (moved F p q) (rebased p q c) n →
+    Reaches (moved G p q) (rebased p q c) n
 goes_over F G p q empty_F empty_G c at over n r =
     let before = reaches-moved F p q empty_F c n at r in
     reaches_to-moved G p q empty_G c n before.0 at before.1 (over before.0 before.2)
@@ -164,7 +184,8 @@ module _ (closed : List Path) (F G : Filestore) (h : IsStandIn closed F G) (p q 
   -- a path in none of the closed directories after the move
   module _ (x : Path) (free : is_inside (moved_closed p q closed) x ≡ false) where
     not_in : (c : Path) → stands c closed → is_below x (moved_path p q c) ≡ true → {A : Type 0} → A
-    not_in c s below = absurd (true≢false (sym (any_at (λ d. is_below x d) (moved_closed p q closed) (moved_path p q c) (in_moved (moved_path p q) closed c s) below) ∙ free))
+    not_in c s below = absurd (true≢false (sym (any_at (λ d. is_below x d) (moved_closed p q closed) (moved_path p q c)
+        (in_moved (moved_path p q) closed c s) below) ∙ free))
 
     free_back : is_at_or_below x q ≡ true → is_inside closed (rebased q p x) ≡ false
     free_back at =
@@ -205,7 +226,8 @@ module _ (closed : List Path) (F G : Filestore) (h : IsStandIn closed F G) (p q 
           goes_over G F p q empty_G empty_F c at (λ m. (h.deep c m s).1) n,
         )
         | inr f ↦
-            let beside_p = λ (x : Path) (below : is_below x c ≡ true). false_from_ne_true (is_at_or_below x p) (λ at. true≢false (sym (above x c p (below-at x c below) at (outside closed p c free_p s)) ∙ f)) in
+            let beside_p = λ (x : Path) (below : is_below x c ≡ true). false_from_ne_true (is_at_or_below x p)
+            (λ at. true≢false (sym (above x c p (below-at x c below) at (outside closed p c free_p s)) ∙ f)) in
             let beside_q = λ (x : Path) (below : is_below x c ≡ true). beside c x s below in
             subst (λ d. Reaches (moved F p q) d n ↔ Reaches (moved G p q) d n) (sym (moved-not p q c f)) (
               (λ r. reaches_to-stays G p q empty_G c beside_p beside_q n ((h.deep c n s).0 (reaches-stays F p q empty_F c beside_p beside_q n r))),

@@ -20,8 +20,8 @@ use Rattle.cfdp_actions.specs.Actions.{Request, CreateFile, DeleteFile, RenameFi
 use Rattle.cfdp_leases.specs.Items.{step_bound}
 use Rattle.cfdp_states.specs.Sketching.{Extents, IsOutline}
 use Rattle.cfdp_states.specs.Closed.{is_inside, Reaches, AreAlike, IsStandIn, after_request, looks_inside, is_cramped}
-use Rattle.cfdp_states.proofs.Order.{node_at-becomes, node_at-becomes_apart, same_path-true}
-use Rattle.cfdp_states.proofs.Weights.{blocks-becomes, blocks-stages}
+use Rattle.cfdp_actions.proofs.Order.{node_at-becomes, node_at-becomes_apart, same_path-true}
+use Rattle.cfdp_actions.proofs.Weights.{blocks-becomes, blocks-stages}
 use Rattle.cfdp_states.proofs.Sketched.{entries-is}
 use Rattle.cfdp_states.proofs.Installing.{install_row, row-install}
 use Rattle.cfdp_states.specs.Alone.{alone}
@@ -53,37 +53,46 @@ both_ways_on f g h = ((λ a. h.0 (g.0 (f.0 a))), (λ d. f.1 (g.1 (h.1 d))))
 turned : {A B : Type 0} → A ↔ B → B ↔ A
 turned f = (f.1, f.0)
 
-becomes-standin : (closed : List Path) (F G : Filestore) (p : Path) (a b : Option Node) → IsStandIn closed F G → is_inside closed p ≡ false → Like a b → IsStandIn closed (changed F (Becomes p a)) (changed G (Becomes p b))
+becomes-standin : (closed : List Path) (F G : Filestore) (p : Path) (a b : Option Node) → IsStandIn closed F G → is_inside closed p ≡ false → Like a b →
+    IsStandIn closed (changed F (Becomes p a)) (changed G (Becomes p b))
 becomes-standin closed F G p a b h free same = record {
   staged = h.staged;
   alike = λ x f.
       subst (λ (v : Option Node). AreAlike v (node_at (changed G (Becomes p b)) x)) (sym (node_at-becomes F p a x))
       (subst (λ (v : Option Node). AreAlike (cond (same_path x p) a (node_at F x)) v) (sym (node_at-becomes G p b x)) (at x f));
-  deep = λ c n s. both_ways_on (reaches-changed F p a c n (outside closed p c free s)) (h.deep c n s) (turned (reaches-changed G p b c n (outside closed p c free s)));
+  deep = λ c n s. both_ways_on (reaches-changed F p a c n (outside closed p c free s)) (h.deep c n s)
+      (turned (reaches-changed G p b c n (outside closed p c free s)));
 }
   where
     at : (x : Path) → is_inside closed x ≡ false → AreAlike (cond (same_path x p) a (node_at F x)) (cond (same_path x p) b (node_at G x))
     at x f = elim (same_path x p) as (λ t. AreAlike (cond t a (node_at F x)) (cond t b (node_at G x))) [ true ↦ alike same | false ↦ h.alike x f ]
 
-becomes-blocks : (closed : List Path) (F G : Filestore) (p : Path) (a b : Option Node) → IsStandIn closed F G → is_inside closed p ≡ false → Like a b → blocks (changed F (Becomes p a)) + blocks G ≡ blocks (changed G (Becomes p b)) + blocks F
+becomes-blocks : (closed : List Path) (F G : Filestore) (p : Path) (a b : Option Node) → IsStandIn closed F G → is_inside closed p ≡ false → Like a b →
+    blocks (changed F (Becomes p a)) + blocks G ≡ blocks (changed G (Becomes p b)) + blocks F
 becomes-blocks closed F G p a b h free same =
-    as_much (blocks F) (blocks (changed F (Becomes p a))) (blocks G) (blocks (changed G (Becomes p b))) (weight (node_at F p)) (weight (node_at G p)) (weight a) (weight b)
+    as_much (blocks F) (blocks (changed F (Becomes p a))) (blocks G) (blocks (changed G (Becomes p b))) (weight (node_at F p)) (weight (node_at G p)) (weight a)
+    (weight b)
     (blocks-becomes F p a) (blocks-becomes G p b) (like-weight (nodes closed F G h p free)) (like-weight same)
 
-stages-standin : (closed : List Path) (F G : Filestore) (slot : ℕ) (xs : List ℕ) → IsStandIn closed F G → IsStandIn closed (changed F (Stages slot xs)) (changed G (Stages slot xs))
+stages-standin : (closed : List Path) (F G : Filestore) (slot : ℕ) (xs : List ℕ) → IsStandIn closed F G →
+    IsStandIn closed (changed F (Stages slot xs)) (changed G (Stages slot xs))
 stages-standin closed F G slot xs h = record {
   staged = λ i. (changed (record F { staged = h.staged i }) (Stages slot xs)).staged;
   alike = h.alike;
   deep = λ c n s. (
-    (λ r. let q = (h.deep c n s).0 (record { path = r.path; below = r.below; there = r.there; deep = r.deep }) in record { path = q.path; below = q.below; there = q.there; deep = q.deep }),
-    (λ r. let q = (h.deep c n s).1 (record { path = r.path; below = r.below; there = r.there; deep = r.deep }) in record { path = q.path; below = q.below; there = q.there; deep = q.deep }),
+    (λ r. let q = (h.deep c n s).0 (record { path = r.path; below = r.below; there = r.there; deep = r.deep }) in
+        record { path = q.path; below = q.below; there = q.there; deep = q.deep }),
+    (λ r. let q = (h.deep c n s).1 (record { path = r.path; below = r.below; there = r.there; deep = r.deep }) in
+        record { path = q.path; below = q.below; there = q.there; deep = q.deep }),
   );
 }
 
-stages-blocks : (closed : List Path) (F G : Filestore) (slot : ℕ) (xs : List ℕ) → IsStandIn closed F G → slot < length F.staged → blocks (changed F (Stages slot xs)) + blocks G ≡ blocks (changed G (Stages slot xs)) + blocks F
+stages-blocks : (closed : List Path) (F G : Filestore) (slot : ℕ) (xs : List ℕ) → IsStandIn closed F G → slot < length F.staged →
+    blocks (changed F (Stages slot xs)) + blocks G ≡ blocks (changed G (Stages slot xs)) + blocks F
 stages-blocks closed F G slot xs h held =
     let held_G : slot < length G.staged = subst (λ (s : List (List ℕ)). slot < length s) (sym h.staged) held in
-    as_much (blocks F) (blocks (changed F (Stages slot xs))) (blocks G) (blocks (changed G (Stages slot xs))) (blocks_of (length (staged_in F slot))) (blocks_of (length (staged_in G slot))) (blocks_of (length xs)) (blocks_of (length xs))
+    as_much (blocks F) (blocks (changed F (Stages slot xs))) (blocks G) (blocks (changed G (Stages slot xs))) (blocks_of (length (staged_in F slot)))
+    (blocks_of (length (staged_in G slot))) (blocks_of (length xs)) (blocks_of (length xs))
     (blocks-stages F slot xs held) (blocks-stages G slot xs held_G) (sym (ap (λ (s : List (List ℕ)). blocks_of (length (slot_of s))) h.staged)) refl
   where
     slot_of : List (List ℕ) → List ℕ
@@ -98,9 +107,13 @@ pub data Goes (p : Path) : List Change → List Change → Type 0 where
   still : Goes p [] []
   becomes : {a b : Option Node} → Like a b → Goes p (Becomes p a ∷ []) (Becomes p b ∷ [])
 
-goes-standin : (closed : List Path) (F G : Filestore) (p : Path) → IsStandIn closed F G → is_inside closed p ≡ false → {cs ds : List Change} → Goes p cs ds → Both closed F G (after F cs) (after G ds)
+goes-standin : (closed : List Path) (F G : Filestore) (p : Path) → IsStandIn closed F G → is_inside closed p ≡ false → {cs ds : List Change} → Goes p cs ds →
+    Both closed F G (after F cs) (after G ds)
 goes-standin closed F G p h free still = record { one = h; blocks = omega arith }
-goes-standin closed F G p h free (becomes {a = a} {b = b} same) = record { one = becomes-standin closed F G p a b h free same; blocks = becomes-blocks closed F G p a b h free same }
+goes-standin closed F G p h free (becomes {a = a} {b = b} same) = record {
+  one = becomes-standin closed F G p a b h free same;
+  blocks = becomes-blocks closed F G p a b h free same;
+}
 
 -- ---- the rows of one path, and those that join two files
 
@@ -112,7 +125,8 @@ none-alike : (p : Path) (answer : Answer) → IsLikeOutcome p (unchanged answer)
 none-alike p answer = record { answer = refl; goes = still }
 
 module _ (p : Path) where
-  create-alike : (action : Action) (node : Node) {a b : Option Node} (good : Bool) → Like a b → IsLikeOutcome p (create action node p a good) (create action node p b good)
+  create-alike : (action : Action) (node : Node) {a b : Option Node} (good : Bool) → Like a b →
+      IsLikeOutcome p (create action node p a good) (create action node p b good)
   unfolding create
   create-alike action node true nothing = record { answer = refl; goes = becomes (like-itself (Some node)) }
   create-alike action node false nothing = record { answer = refl; goes = still }
@@ -180,14 +194,19 @@ by_depth : (p q : Path) (es fs : List (Path × Node)) → is_too_deep p q es ≡
     (if is_too_deep p q es then refused (NotAllowed action.RenameFile) else succeeds action.RenameFile (vacated es ++ settled p q es) 0 0 0)
     (if is_too_deep p q fs then refused (NotAllowed action.RenameFile) else succeeds action.RenameFile (vacated fs ++ settled p q fs) 0 0 0)
 by_depth p q es fs same =
-    subst (λ deep. Renames p q false None es fs (if is_too_deep p q es then refused (NotAllowed action.RenameFile) else succeeds action.RenameFile (vacated es ++ settled p q es) 0 0 0) (if deep then refused (NotAllowed action.RenameFile) else succeeds action.RenameFile (vacated fs ++ settled p q fs) 0 0 0))
+    subst (λ deep. Renames p q false None es fs (if is_too_deep p q es then refused (NotAllowed action.RenameFile)
+    else succeeds action.RenameFile (vacated es ++ settled p q es) 0 0 0) (if deep then refused (NotAllowed action.RenameFile)
+    else succeeds action.RenameFile (vacated fs ++ settled p q fs) 0 0 0))
     same
-    (elim (is_too_deep p q es) as (λ deep. Renames p q false None es fs (if deep then refused (NotAllowed action.RenameFile) else succeeds action.RenameFile (vacated es ++ settled p q es) 0 0 0) (if deep then refused (NotAllowed action.RenameFile) else succeeds action.RenameFile (vacated fs ++ settled p q fs) 0 0 0)) [
+    (elim (is_too_deep p q es) as (λ deep. Renames p q false None es fs (if deep then refused (NotAllowed action.RenameFile)
+    else succeeds action.RenameFile (vacated es ++ settled p q es) 0 0 0) (if deep then refused (NotAllowed action.RenameFile)
+    else succeeds action.RenameFile (vacated fs ++ settled p q fs) 0 0 0)) [
       | true ↦ refuses (NotAllowed action.RenameFile) refl
       | false ↦ moves refl refl
     ])
 
-rename-alike : (p q : Path) {a b c d : Option Node} (good below : Bool) (es fs : List (Path × Node)) → Like a b → Like c d → is_too_deep p q es ≡ is_too_deep p q fs →
+rename-alike : (p q : Path) {a b c d : Option Node} (good below : Bool) (es fs : List (Path × Node)) → Like a b → Like c d → is_too_deep p q es
+    ≡ is_too_deep p q fs →
     Renames p q below d es fs (rename p q a c good below es) (rename p q b d good below fs)
 unfolding rename
 rename-alike p q good below es fs nothing more same = refuses _ refl
@@ -214,7 +233,8 @@ pub record GoesOn (closed moved : List Path) (F G : Filestore) (o r : Outcome) :
   pub done : succeeded r.answer ≡ true → Both moved F G (after F o.changes) (after G r.changes)
   pub not_done : succeeded r.answer ≡ false → Both closed F G (after F o.changes) (after G r.changes)
 
-stays_on : (closed : List Path) (F G : Filestore) (p : Path) → IsStandIn closed F G → is_inside closed p ≡ false → {o r : Outcome} → IsLikeOutcome p o r → GoesOn closed closed F G o r
+stays_on : (closed : List Path) (F G : Filestore) (p : Path) → IsStandIn closed F G → is_inside closed p ≡ false → {o r : Outcome} → IsLikeOutcome p o r →
+    GoesOn closed closed F G o r
 stays_on closed F G p h free same = record {
   answer = same.answer;
   done = λ _. goes-standin closed F G p h free same.goes;
@@ -223,12 +243,18 @@ stays_on closed F G p h free same = record {
 
 module _ (closed : List Path) (F G : Filestore) (h : IsStandIn closed F G) (m : Extents) (here : IsOutline m G) where
   refuses_on : (moved : List Path) (status : Status) → is_successful status ≡ false → GoesOn closed moved F G (refused status) (refused status)
-  refuses_on moved status bad = record { answer = refl; done = λ good. not_both (is_successful status) good bad; not_done = λ _. record { one = h; blocks = omega arith } }
+  refuses_on moved status bad = record {
+    answer = refl;
+    done = λ good. not_both (is_successful status) good bad;
+    not_done = λ _. record { one = h; blocks = omega arith };
+  }
 
-  renames_on : (p q : Path) → looks_inside closed m (RenameFile p q) ≡ false → {o r : Outcome} → Renames p q (is_at_or_below q p) (node_at G q) (tree_at F p) (tree_at G p) o r → GoesOn closed (after_request (RenameFile p q) closed) F G o r
+  renames_on : (p q : Path) → looks_inside closed m (RenameFile p q) ≡ false → {o r : Outcome} →
+      Renames p q (is_at_or_below q p) (node_at G q) (tree_at F p) (tree_at G p) o r → GoesOn closed (after_request (RenameFile p q) closed) F G o r
   renames_on p q free (refuses status bad) = refuses_on (after_request (RenameFile p q) closed) status bad
   renames_on p q free (moves below absent) =
-      let a = or_parts (is_inside closed p || is_inside closed q || list_any (λ c. is_at_or_below c q) closed || any_below q (entries m)) (list_any (is_cramped p q) closed) free in
+      let a = or_parts (is_inside closed p || is_inside closed q || list_any (λ c. is_at_or_below c q) closed || any_below q (entries m))
+      (list_any (is_cramped p q) closed) free in
       let b = or_parts (is_inside closed p || is_inside closed q || list_any (λ c. is_at_or_below c q) closed) (any_below q (entries m)) a.0 in
       let c = or_parts (is_inside closed p || is_inside closed q) (list_any (λ c. is_at_or_below c q) closed) b.0 in
       let d = or_parts (is_inside closed p) (is_inside closed q) c.0 in
@@ -241,28 +267,43 @@ module _ (closed : List Path) (F G : Filestore) (h : IsStandIn closed F G) (m : 
 
   table_on : (request : Request) → looks_inside closed m request ≡ false → GoesOn closed (after_request request closed) F G (table F request) (table G request)
   unfolding table
-  table_on (CreateFile p) free = stays_on closed F G p h free (along (parent-alike closed F G h p free) (create action.CreateFile (File []) p (node_at F p) (parent_is_good F p)) (λ good. create action.CreateFile (File []) p (node_at G p) good) (create-alike p action.CreateFile (File []) (parent_is_good F p) (nodes closed F G h p free)))
+  table_on (CreateFile p) free = stays_on closed F G p h free (along (parent-alike closed F G h p free)
+      (create action.CreateFile (File []) p (node_at F p) (parent_is_good F p)) (λ good. create action.CreateFile (File []) p (node_at G p) good)
+      (create-alike p action.CreateFile (File []) (parent_is_good F p) (nodes closed F G h p free)))
   table_on (DeleteFile p) free = stays_on closed F G p h free (delete_file-alike p (nodes closed F G h p free))
   table_on (RenameFile p q) free =
-      let a = or_parts (is_inside closed p || is_inside closed q || list_any (λ c. is_at_or_below c q) closed || any_below q (entries m)) (list_any (is_cramped p q) closed) free in
+      let a = or_parts (is_inside closed p || is_inside closed q || list_any (λ c. is_at_or_below c q) closed || any_below q (entries m))
+      (list_any (is_cramped p q) closed) free in
       let b = or_parts (is_inside closed p || is_inside closed q || list_any (λ c. is_at_or_below c q) closed) (any_below q (entries m)) a.0 in
       let c = or_parts (is_inside closed p || is_inside closed q) (list_any (λ c. is_at_or_below c q) closed) b.0 in
       let d = or_parts (is_inside closed p) (is_inside closed q) c.0 in
       renames_on p q free
-      (subst (λ good. Renames p q (is_at_or_below q p) (node_at G q) (tree_at F p) (tree_at G p) (rename p q (node_at F p) (node_at F q) (parent_is_good F q) (is_at_or_below q p) (tree_at F p)) (rename p q (node_at G p) (node_at G q) good (is_at_or_below q p) (tree_at G p)))
+      (subst (λ good. Renames p q (is_at_or_below q p) (node_at G q) (tree_at F p) (tree_at G p)
+      (rename p q (node_at F p) (node_at F q) (parent_is_good F q) (is_at_or_below q p) (tree_at F p))
+      (rename p q (node_at G p) (node_at G q) good (is_at_or_below q p) (tree_at G p)))
       (parent-alike closed F G h q d.1)
-      (rename-alike p q (parent_is_good F q) (is_at_or_below q p) (tree_at F p) (tree_at G p) (nodes closed F G h p d.0) (nodes closed F G h q d.1) (depth-alike closed F G h p q d.0)))
-  table_on (AppendFile p q) free = let d = or_parts (is_inside closed p) (is_inside closed q) free in stays_on closed F G p h d.0 (append-alike p (nodes closed F G h p d.0) (nodes closed F G h q d.1))
-  table_on (ReplaceFile p q) free = let d = or_parts (is_inside closed p) (is_inside closed q) free in stays_on closed F G p h d.0 (replace-alike p (same_path p q) (nodes closed F G h p d.0) (nodes closed F G h q d.1))
-  table_on (CreateDirectory p) free = stays_on closed F G p h free (along (parent-alike closed F G h p free) (create action.CreateDirectory Directory p (node_at F p) (parent_is_good F p)) (λ good. create action.CreateDirectory Directory p (node_at G p) good) (create-alike p action.CreateDirectory Directory (parent_is_good F p) (nodes closed F G h p free)))
-  table_on (RemoveDirectory p) free = stays_on closed F G p h free (along (entries-alike closed F G h p free) (remove_directory p (node_at F p) (has_entries F p)) (λ entries. remove_directory p (node_at G p) entries) (remove_directory-alike p (has_entries F p) (nodes closed F G h p free)))
+      (rename-alike p q (parent_is_good F q) (is_at_or_below q p) (tree_at F p) (tree_at G p) (nodes closed F G h p d.0) (nodes closed F G h q d.1)
+      (depth-alike closed F G h p q d.0)))
+  table_on (AppendFile p q) free = let d = or_parts (is_inside closed p) (is_inside closed q) free in
+      stays_on closed F G p h d.0 (append-alike p (nodes closed F G h p d.0) (nodes closed F G h q d.1))
+  table_on (ReplaceFile p q) free = let d = or_parts (is_inside closed p) (is_inside closed q) free in
+      stays_on closed F G p h d.0 (replace-alike p (same_path p q) (nodes closed F G h p d.0) (nodes closed F G h q d.1))
+  table_on (CreateDirectory p) free = stays_on closed F G p h free (along (parent-alike closed F G h p free)
+      (create action.CreateDirectory Directory p (node_at F p) (parent_is_good F p)) (λ good. create action.CreateDirectory Directory p (node_at G p) good)
+      (create-alike p action.CreateDirectory Directory (parent_is_good F p) (nodes closed F G h p free)))
+  table_on (RemoveDirectory p) free = stays_on closed F G p h free (along (entries-alike closed F G h p free)
+      (remove_directory p (node_at F p) (has_entries F p)) (λ entries. remove_directory p (node_at G p) entries)
+      (remove_directory-alike p (has_entries F p) (nodes closed F G h p free)))
   table_on (DenyFile p) free = stays_on closed F G p h free (deny_file-alike p (nodes closed F G h p free))
-  table_on (DenyDirectory p) free = stays_on closed F G p h free (along (entries-alike closed F G h p free) (deny_directory p (node_at F p) (has_entries F p)) (λ entries. deny_directory p (node_at G p) entries) (deny_directory-alike p (has_entries F p) (nodes closed F G h p free)))
+  table_on (DenyDirectory p) free = stays_on closed F G p h free (along (entries-alike closed F G h p free) (deny_directory p (node_at F p) (has_entries F p))
+      (λ entries. deny_directory p (node_at G p) entries) (deny_directory-alike p (has_entries F p) (nodes closed F G h p free)))
 
-  pub request-standin : (prefixes : List Path) (request : Request) → looks_inside closed m request ≡ false → GoesOn closed (after_request request closed) F G (row prefixes F 0 (Perform request)) (row prefixes G 0 (Perform request))
+  pub request-standin : (prefixes : List Path) (request : Request) → looks_inside closed m request ≡ false →
+      GoesOn closed (after_request request closed) F G (row prefixes F 0 (Perform request)) (row prefixes G 0 (Perform request))
   unfolding row free_row
   request-standin prefixes request free =
-      elim (bars prefixes request) as (λ b. GoesOn closed (after_request request closed) F G (if b then denied (Perform request) else table F request) (if b then denied (Perform request) else table G request)) [
+      elim (bars prefixes request) as (λ b. GoesOn closed (after_request request closed) F G (if b then denied (Perform request) else table F request) (if b
+      then denied (Perform request) else table G request)) [
         | true ↦ refuses_on (after_request request closed) _ refl
         | false ↦ table_on request free
       ]
@@ -272,7 +313,8 @@ module _ (closed : List Path) (F G : Filestore) (h : IsStandIn closed F G) (m : 
   bound-standin (CreateFile p) free = refl
   bound-standin (DeleteFile p) free = ap (λ n. 1 + n) (like-content (nodes closed F G h p free))
   bound-standin (RenameFile p q) free = refl
-  bound-standin (AppendFile p q) free = let d = or_parts (is_inside closed p) (is_inside closed q) free in ap (λ n. 2 * n) (like-content (nodes closed F G h q d.1))
+  bound-standin (AppendFile p q) free = let d = or_parts (is_inside closed p) (is_inside closed q) free in
+      ap (λ n. 2 * n) (like-content (nodes closed F G h q d.1))
   bound-standin (ReplaceFile p q) free =
       let d = or_parts (is_inside closed p) (is_inside closed q) free in
       λ i. if same_path p q then 0 else like-content (nodes closed F G h p d.0) i + 2 * like-content (nodes closed F G h q d.1) i
@@ -296,16 +338,21 @@ install-alike p x true folder = stays
 install-alike p x false (file e) = stays
 install-alike p x true (file e) = comes _ _ _ _
 
-install_row-alike : (prefixes : List Path) (p : Path) (x : List ℕ) {a b : Option Node} (good : Bool) → Like a b → Installs p x (install_row prefixes p x a good) (install_row prefixes p x b good)
+install_row-alike : (prefixes : List Path) (p : Path) (x : List ℕ) {a b : Option Node} (good : Bool) → Like a b →
+    Installs p x (install_row prefixes p x a good) (install_row prefixes p x b good)
 install_row-alike prefixes p x good nothing = install-alike p x good nothing
-install_row-alike prefixes p x good folder = elim (is_protected prefixes p) as (λ b. Installs p x (if b then unchanged NotInstalled else install 0 p x (Some Directory) good) (if b then unchanged NotInstalled else install 0 p x (Some Directory) good)) [
-  | true ↦ stays
-  | false ↦ install-alike p x good folder
-]
-install_row-alike prefixes p x good (file {xs = xs} {ys = ys} e) = elim (is_protected prefixes p) as (λ b. Installs p x (if b then unchanged NotInstalled else install 0 p x (Some (File xs)) good) (if b then unchanged NotInstalled else install 0 p x (Some (File ys)) good)) [
-  | true ↦ stays
-  | false ↦ install-alike p x good (file e)
-]
+install_row-alike prefixes p x good folder = elim (is_protected prefixes p) as
+    (λ b. Installs p x (if b then unchanged NotInstalled else install 0 p x (Some Directory) good) (if b then unchanged NotInstalled
+    else install 0 p x (Some Directory) good)) [
+      | true ↦ stays
+      | false ↦ install-alike p x good folder
+    ]
+install_row-alike prefixes p x good (file {xs = xs} {ys = ys} e) = elim (is_protected prefixes p) as
+    (λ b. Installs p x (if b then unchanged NotInstalled else install 0 p x (Some (File xs)) good) (if b then unchanged NotInstalled
+    else install 0 p x (Some (File ys)) good)) [
+      | true ↦ stays
+      | false ↦ install-alike p x good (file e)
+    ]
 
 -- the same answer, and both as they are after it
 pub record AnswersAlike (closed : List Path) (F G : Filestore) (o r : Outcome) : Type 0 where
@@ -321,8 +368,10 @@ module _ (closed : List Path) (F G : Filestore) (h : IsStandIn closed F G) (p : 
     staged = refl;
     alike = h.alike;
     deep = λ c n s. (
-      (λ r. let q = (h.deep c n s).0 (record { path = r.path; below = r.below; there = r.there; deep = r.deep }) in record { path = q.path; below = q.below; there = q.there; deep = q.deep }),
-      (λ r. let q = (h.deep c n s).1 (record { path = r.path; below = r.below; there = r.there; deep = r.deep }) in record { path = q.path; below = q.below; there = q.there; deep = q.deep }),
+      (λ r. let q = (h.deep c n s).0 (record { path = r.path; below = r.below; there = r.there; deep = r.deep }) in
+          record { path = q.path; below = q.below; there = q.there; deep = q.deep }),
+      (λ r. let q = (h.deep c n s).1 (record { path = r.path; below = r.below; there = r.there; deep = r.deep }) in
+          record { path = q.path; below = q.below; there = q.there; deep = q.deep }),
     );
   }
 
@@ -339,14 +388,20 @@ module _ (closed : List Path) (F G : Filestore) (h : IsStandIn closed F G) (p : 
         one = becomes-standin closed H K p (Some (File x)) (Some (File x)) out.one free (file refl);
         blocks = becomes-blocks closed H K p (Some (File x)) (Some (File x)) out.one free (file refl);
       } in
-      record { answer = refl; both = both_again closed (alone F x) (alone G x) H K (changed H (Becomes p (Some (File x)))) (changed K (Becomes p (Some (File x)))) out back }
+      record {
+        answer = refl;
+        both = both_again closed (alone F x) (alone G x) H K (changed H (Becomes p (Some (File x))))
+            (changed K (Becomes p (Some (File x)))) out back;
+      }
 
-  pub install-standin : (prefixes : List Path) → AnswersAlike closed (alone F x) (alone G x) (row prefixes (alone F x) 0 (Install p)) (row prefixes (alone G x) 0 (Install p))
+  pub install-standin : (prefixes : List Path) → AnswersAlike closed (alone F x) (alone G x) (row prefixes (alone F x) 0 (Install p))
+      (row prefixes (alone G x) 0 (Install p))
   install-standin prefixes =
       let same : Installs p x (row prefixes (alone F x) 0 (Install p)) (row prefixes (alone G x) 0 (Install p)) =
       subst (λ (o : Outcome). Installs p x o (row prefixes (alone G x) 0 (Install p))) (sym (row-install prefixes F p x))
       (subst (λ (o : Outcome). Installs p x (install_row prefixes p x (node_at F p) (parent_is_good F p)) o) (sym (row-install prefixes G p x))
-      (subst (λ good. Installs p x (install_row prefixes p x (node_at F p) (parent_is_good F p)) (install_row prefixes p x (node_at G p) good)) (parent-alike closed F G h p free)
+      (subst (λ good. Installs p x (install_row prefixes p x (node_at F p) (parent_is_good F p)) (install_row prefixes p x (node_at G p) good))
+      (parent-alike closed F G h p free)
       (install_row-alike prefixes p x (parent_is_good F p) (nodes closed F G h p free)))) in
       installs-on same
 

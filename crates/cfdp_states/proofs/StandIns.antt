@@ -17,8 +17,8 @@ use Rattle.cfdp_actions.specs.Actions.{is_too_deep}
 use Rattle.cfdp_leases.specs.Items.{content}
 use Rattle.cfdp_leases.proofs.Sets.{stands, by_truth, any_at, any_from}
 use Rattle.cfdp_states.specs.Closed.{is_inside, Reaches, AreAlike, IsStandIn}
-use Rattle.cfdp_states.proofs.Order.{paths_exact, same_path-true, same_path-refl, same_path-is}
-use Rattle.cfdp_states.proofs.Moves.{find-tree_at}
+use Rattle.cfdp_actions.proofs.Order.{paths_exact, same_path-true, same_path-refl, same_path-is}
+use Rattle.cfdp_actions.proofs.Moves.{find-tree_at}
 
 -- ---- two nodes
 
@@ -79,7 +79,11 @@ below-at x c h = ((is_below-Decides x c).0 h).0
 pub below-trans : (x c p : Path) → is_below x c ≡ true → is_at_or_below c p ≡ true → is_below x p ≡ true
 below-trans x c p h k =
     let parts = (is_below-Decides x c).0 h in
-    (is_below-Decides x p).1 (at_or_below-trans x c p parts.0 k, λ e. parts.1 (at_or_below-antisym x c parts.0 (subst (λ y. is_at_or_below c y ≡ true) (sym e) k)))
+    (is_below-Decides x p).1 (
+      at_or_below-trans x c p parts.0 k,
+      λ e. parts.1
+          (at_or_below-antisym x c parts.0 (subst (λ y. is_at_or_below c y ≡ true) (sym e) k)),
+    )
 
 pub below-under : (x p c : Path) → is_at_or_below x p ≡ true → is_below p c ≡ true → is_below x c ≡ true
 below-under x p c h k =
@@ -138,7 +142,8 @@ across closed F G same deep p x free at there =
     ]
 
 -- an entry whose path passes a test
-any-found : (test : Path → Bool) (es : List (Path × Node)) → list_any (λ (e : Path × Node). test e.0) es ≡ true → (x : Path) × (test x ≡ true) × (is_some (find path_cmp x es) ≡ true)
+any-found : (test : Path → Bool) (es : List (Path × Node)) → list_any (λ (e : Path × Node). test e.0) es ≡ true → (x : Path) × (test x ≡ true)
+    × (is_some (find path_cmp x es) ≡ true)
 any-found test [] h = absurd (true≢false (sym h))
 any-found test (e ∷ es) h =
     elim (or_cases (test e.0) (list_any (λ (e : Path × Node). test e.0) es) h) [
@@ -152,10 +157,12 @@ any-found test (e ∷ es) h =
     shown true o s = refl
     shown false o s = s
 
-pub found-any : {X : Type 0} (test : Path → Bool) (es : List (Path × X)) (x : Path) → test x ≡ true → is_some (find path_cmp x es) ≡ true → list_any (λ (e : Path × X). test e.0) es ≡ true
+pub found-any : {X : Type 0} (test : Path → Bool) (es : List (Path × X)) (x : Path) → test x ≡ true → is_some (find path_cmp x es) ≡ true →
+    list_any (λ (e : Path × X). test e.0) es ≡ true
 found-any test [] x t s = absurd (true≢false (sym s))
 found-any {X} test (e ∷ es) x t s =
-    elim (same_path x e.0) as (λ b. same_path x e.0 ≡ b → is_some (cond b (Some e.1) (find path_cmp x es)) ≡ true → list_any (λ (e : Path × X). test e.0) (e ∷ es) ≡ true) [
+    elim (same_path x e.0) as (λ b. same_path x e.0 ≡ b → is_some (cond b (Some e.1) (find path_cmp x es)) ≡ true →
+    list_any (λ (e : Path × X). test e.0) (e ∷ es) ≡ true) [
       | true ↦ λ same s. or_left _ (list_any (λ (e : Path × X). test e.0) es) (subst (λ y. test y ≡ true) (same_path-true x e.0 same) t)
       | false ↦ λ other s. or_right (test e.0) _ (found-any test es x t s)
     ] refl s
@@ -203,7 +210,8 @@ too_deep-found F p q h =
 pub found-too_deep : (F : Filestore) (p q : Path) → TooDeep F p q → is_too_deep p q (tree_at F p) ≡ true
 found-too_deep F p q d =
     deep-any p q (tree_at F p)
-    ∙ found-any (λ x. nat_lt 8 (length (rebased p q x))) (tree_at F p) d.path d.deep (ap is_some (find-tree_at F p d.path ∙ ap (λ b. cond b (node_at F d.path) None) d.at) ∙ d.there)
+    ∙ found-any (λ x. nat_lt 8 (length (rebased p q x))) (tree_at F p) d.path d.deep
+    (ap is_some (find-tree_at F p d.path ∙ ap (λ b. cond b (node_at F d.path) None) d.at) ∙ d.there)
 
 deeper : (p q x y : Path) → length x ≤ length y → nat_lt 8 (length (rebased p q x)) ≡ true → nat_lt 8 (length (rebased p q y)) ≡ true
 deeper p q x y le h =

@@ -1,4 +1,4 @@
--- What a survey tells is what stands where the footprint covers it.
+-- What a survey says is what is where the footprint covers it.
 use Rattle.std.proofs.Common.{◌≡◌, refl, sym, ◌∙◌, ap, Bool, true, false, cond, ◌||◌, Option, None, ℕ, ◌-◌, ◌≤◌, min, List, [], ◌∷◌, arith}
 use Rattle.std.specs.List.{list_any}
 use Rattle.std.specs.FinSet as set
@@ -11,15 +11,16 @@ use Rattle.cfdp_leases.proofs.Sets.{any_in-from_list}
 use Rattle.cfdp_states.specs.Alone.{alone}
 use Rattle.cfdp_states.specs.Sketching.{extent_in, Extents, total_blocks, IsOutline, Adds, IsSurvey}
 use Rattle.cfdp_states.specs.Views.{most_count, most_need, only, IsViewOf}
-use Rattle.cfdp_states.proofs.Order.{paths_total, paths_exact}
-use Rattle.cfdp_states.proofs.Weights.{entries-retain_keys}
+use Rattle.cfdp_actions.proofs.Order.{paths_total, paths_exact}
+use Rattle.cfdp_actions.proofs.Weights.{entries-retain_keys}
 use Rattle.cfdp_states.proofs.Counting.{enough, blocks-counted}
 use Rattle.cfdp_states.proofs.Viewing.{sketch, nothing_staged}
 use Rattle.cfdp_states.proofs.Trees.{weights-kept}
 use Rattle.cfdp_states.proofs.Surveys.{below_one, one_of, adds_as, surveyed}
 
 -- the paths of a footprint, as it lends them
-pub covered-lent : (xs ys : List Path) (fp : Footprint) (p : Path) → set.from_list xs ≡ fp.exclusive → set.from_list ys ≡ fp.shared → is_covered fp p ≡ (below_one xs p || list_any (same_path p) ys)
+pub covered-lent : (xs ys : List Path) (fp : Footprint) (p : Path) → set.from_list xs ≡ fp.exclusive → set.from_list ys ≡ fp.shared → is_covered fp p
+    ≡ (below_one xs p || list_any (same_path p) ys)
 covered-lent xs ys fp p exclusive shared =
     (λ i. any_in (sym exclusive i) (λ e. is_at_or_below p e) || set.contains (sym shared i) p)
     ∙ (λ i. any_in-from_list (λ e. is_at_or_below p e) xs i || set.contains-from_list paths_total ys p i)
@@ -34,8 +35,10 @@ whole_survey xs ys fp F m exclusive shared adds =
 pub only-small : (fp : Footprint) (F : Filestore) → blocks F ≤ 65536 → blocks (alone (only fp F) []) ≤ 65536
 unfolding blocks
 only-small fp F le =
-    let kept : weights (entries (retain_keys F.nodes (λ p. is_covered fp p))) ≡ weights (where_key path_cmp (λ p. is_covered fp p) (entries F.nodes)) = ap weights (entries-retain_keys paths_total paths_exact F.nodes (λ p. is_covered fp p)) in
-    let fewer : weights (where_key path_cmp (λ p. is_covered fp p) (entries F.nodes)) ≤ weights (entries F.nodes) = weights-kept (λ p. is_covered fp p) (entries F.nodes) in
+    let kept : weights (entries (retain_keys F.nodes (λ p. is_covered fp p))) ≡ weights (where_key path_cmp (λ p. is_covered fp p) (entries F.nodes)) =
+    ap weights (entries-retain_keys paths_total paths_exact F.nodes (λ p. is_covered fp p)) in
+    let fewer : weights (where_key path_cmp (λ p. is_covered fp p) (entries F.nodes)) ≤ weights (entries F.nodes) =
+    weights-kept (λ p. is_covered fp p) (entries F.nodes) in
     let none = nothing_staged in
     omega (arith, kept, fewer, none)
 
@@ -56,7 +59,8 @@ start-is total now one two = omega arith
 none_yet : (n most : ℕ) → 0 ≡ min (n - n) most
 none_yet n most = omega arith
 
-pub view_of : (fp : Footprint) (F : Filestore) (prefixes : List Path) (m : Extents) (base : ℕ) → IsSurvey m (is_covered fp) F → blocks F ≤ 65536 → base ≡ total_blocks m →
+pub view_of : (fp : Footprint) (F : Filestore) (prefixes : List Path) (m : Extents) (base : ℕ) → IsSurvey m (is_covered fp) F → blocks F ≤ 65536 → base
+    ≡ total_blocks m →
     IsViewOf (sketch prefixes m base 0 0) (alone (only fp F) []) (blocks (alone (only fp F) [])) (blocks (alone (only fp F) [])) 0
 view_of fp F prefixes m base survey le base_is =
     let G = alone (only fp F) [] in

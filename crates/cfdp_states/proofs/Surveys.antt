@@ -1,6 +1,6 @@
--- What stands at some paths, put into a map of extents, path by path and tree by tree.
+-- What is at some paths, put into a map of extents, path by path and tree by tree.
 --     adds_nothing, adds_both           no path;  one set of paths, and then another
---     adds_one, adds_none               one path, at which something stands, or nothing
+--     adds_one, adds_none               one path, at which something exists, or nothing
 --     inside_earlier                    what is at or below an earlier root
 --     adds_paths, adds_root, adds_rest  one more path;  the paths before a root, and its tree;  the paths after all roots
 use Rattle.std.proofs.Common.{◌≡◌, refl, sym, ◌∙◌, ap, Bool, true, false, cond, ◌||◌, ◌&&◌, is_some, Option, Some, None, ℕ, zero, suc, ◌+◌, ◌<◌, ◌≤◌, List, [], ◌∷◌, length, take, drop, get_or, if◌then◌else◌, true≢false, arith, take-add, take_all, length-drop}
@@ -14,7 +14,7 @@ use Rattle.cfdp_paths.proofs.Below.{at_or_below-trans}
 use Rattle.cfdp_actions.specs.Filestore.{Filestore}
 use Rattle.cfdp_states.specs.declared.extent.Extent.{Extent}
 use Rattle.cfdp_states.specs.Sketching.{extent_at, Extents, Adds, IsSurvey}
-use Rattle.cfdp_states.proofs.Order.{paths_total, same_path-true}
+use Rattle.cfdp_actions.proofs.Order.{paths_total, same_path-true}
 
 abbrev pub below_one : List Path → Path → Bool
 below_one roots p = list_any (λ root. is_at_or_below p root) roots
@@ -22,7 +22,7 @@ below_one roots p = list_any (λ root. is_at_or_below p root) roots
 abbrev pub one_of : List Path → Path → Bool
 one_of paths p = list_any (same_path p) paths
 
--- what is there where the test passes and something stands
+-- what is there where the test passes and something exists
 abbrev seen : Bool → Option Extent → Option Extent → Option Extent
 seen b v w = if b && is_some v then v else w
 
@@ -67,21 +67,24 @@ adds_none F m path gone p =
     ] refl
 
 -- one more of some paths
-pub one_more : (paths : List Path) (i : ℕ) (path : Path) → i < length paths → path ≡ get_or paths i path → (p : Path) → one_of (take (i + 1) paths) p ≡ (one_of (take i paths) p || same_path p path)
+pub one_more : (paths : List Path) (i : ℕ) (path : Path) → i < length paths → path ≡ get_or paths i path → (p : Path) → one_of (take (i + 1) paths) p
+    ≡ (one_of (take i paths) p || same_path p path)
 one_more paths i path within is p = list_any_more (same_path p) paths i path within ∙ ap (λ q. one_of (take i paths) p || same_path p q) (sym is)
 
 pub adds_paths : (paths : List Path) (i : ℕ) (path : Path) (F : Filestore) (l m n : Extents) → i < length paths → path ≡ get_or paths i path →
     Adds (one_of (take i paths)) F l m → Adds (λ p. same_path p path) F m n → Adds (one_of (take (i + 1) paths)) F l n
-adds_paths paths i path F l m n within is one two = adds_both (one_of (take i paths)) (λ p. same_path p path) (one_of (take (i + 1) paths)) F l m n one two (one_more paths i path within is)
+adds_paths paths i path F l m n within is one two = adds_both (one_of (take i paths)) (λ p. same_path p path) (one_of (take (i + 1) paths)) F l m n one two
+    (one_more paths i path within is)
 
 -- ---- the roots and the paths between them
 
--- those up to the place of a root, and up to that of a path
+-- those up to the index of a root, and up to that of a path
 abbrev pub up_to : List Path → List Path → ℕ → ℕ → Path → Bool
 up_to roots paths i k p = below_one (take i roots) p || one_of (take k paths) p
 
--- the root at the place is at or below an earlier one
-pub inside_earlier : (roots : List Path) (i j : ℕ) (root : Path) → i < j → j ≤ length roots → is_at_or_below root (get_or roots i root) ≡ true → below_one (take j roots) root ≡ true
+-- the root at the index is at or below an earlier one
+pub inside_earlier : (roots : List Path) (i j : ℕ) (root : Path) → i < j → j ≤ length roots → is_at_or_below root (get_or roots i root) ≡ true →
+    below_one (take j roots) root ≡ true
 inside_earlier [] i j root less within h = absurd (omega arith)
 inside_earlier (r ∷ roots) i zero root less within h = absurd (omega arith)
 inside_earlier (r ∷ roots) zero (suc j) root less within h = ap (λ b. b || below_one (take j roots) root) h
@@ -108,7 +111,8 @@ module _ (roots paths : List Path) (i k more : ℕ) (root : Path) (F : Filestore
   before : (l m n : Extents) → Adds (up_to roots paths i k) F l m → Adds (one_of (take more (drop k paths))) F m n → Adds (up_to roots paths i (k + more)) F l n
   before l m n one two =
       adds_both (up_to roots paths i k) (one_of (take more (drop k paths))) (up_to roots paths i (k + more)) F l m n one two (λ p.
-      ap (λ b. below_one (take i roots) p || b) (ap (λ ps. one_of ps p) (take-add k more paths) ∙ list_any-append (same_path p) (take k paths) (take more (drop k paths)))
+      ap (λ b. below_one (take i roots) p || b) (ap (λ ps. one_of ps p) (take-add k more paths)
+      ∙ list_any-append (same_path p) (take k paths) (take more (drop k paths)))
       ∙ assoc (below_one (take i roots) p) (one_of (take k paths) p) (one_of (take more (drop k paths)) p))
     where
       assoc : (a b c : Bool) → (a || (b || c)) ≡ ((a || b) || c)
@@ -119,7 +123,8 @@ module _ (roots paths : List Path) (i k more : ℕ) (root : Path) (F : Filestore
   next p = list_any_more (λ root. is_at_or_below p root) roots i root within ∙ ap (λ r. below_one (take i roots) p || is_at_or_below p r) (sym is)
 
   -- and its tree
-  pub adds_root : (l m n o : Extents) → Adds (up_to roots paths i k) F l m → Adds (one_of (take more (drop k paths))) F m n → Adds (λ p. is_at_or_below p root) F n o → Adds (up_to roots paths (i + 1) (k + more)) F l o
+  pub adds_root : (l m n o : Extents) → Adds (up_to roots paths i k) F l m → Adds (one_of (take more (drop k paths))) F m n →
+      Adds (λ p. is_at_or_below p root) F n o → Adds (up_to roots paths (i + 1) (k + more)) F l o
   adds_root l m n o one two three =
       adds_both (up_to roots paths i (k + more)) (λ p. is_at_or_below p root) (up_to roots paths (i + 1) (k + more)) F l n o (before l m n one two) three (λ p.
       ap (λ b. b || one_of (take (k + more) paths) p) (next p) ∙ turned (below_one (take i roots) p) (is_at_or_below p root) (one_of (take (k + more) paths) p))
@@ -132,10 +137,12 @@ module _ (roots paths : List Path) (i k more : ℕ) (root : Path) (F : Filestore
       turned false false false = refl
 
   -- or nothing more, where the root is inside an earlier one
-  pub adds_inside : (l m n : Extents) → Adds (up_to roots paths i k) F l m → Adds (one_of (take more (drop k paths))) F m n → below_one (take i roots) root ≡ true → Adds (up_to roots paths (i + 1) (k + more)) F l n
+  pub adds_inside : (l m n : Extents) → Adds (up_to roots paths i k) F l m → Adds (one_of (take more (drop k paths))) F m n → below_one (take i roots) root
+      ≡ true → Adds (up_to roots paths (i + 1) (k + more)) F l n
   adds_inside l m n one two inside =
       adds_as (up_to roots paths i (k + more)) (up_to roots paths (i + 1) (k + more)) F l n (before l m n one two) (λ p.
-      ap (λ b. b || one_of (take (k + more) paths) p) (next p ∙ absorbs (below_one (take i roots) p) (is_at_or_below p root) (λ below. lower (take i roots) root p below inside)))
+      ap (λ b. b || one_of (take (k + more) paths) p) (next p ∙ absorbs (below_one (take i roots) p) (is_at_or_below p root)
+      (λ below. lower (take i roots) root p below inside)))
     where
       absorbs : (a b : Bool) → (b ≡ true → a ≡ true) → (a || b) ≡ a
       absorbs true b h = refl
@@ -146,12 +153,14 @@ module _ (roots paths : List Path) (i k more : ℕ) (root : Path) (F : Filestore
 pub adds_start : (roots paths : List Path) (F : Filestore) (m : Extents) → Adds (up_to roots paths 0 0) F m m
 adds_start roots paths F m p = refl
 
-pub adds_rest : (roots paths : List Path) (i k : ℕ) (F : Filestore) (l m n : Extents) → length roots ≤ i → Adds (up_to roots paths i k) F l m → Adds (one_of (drop k paths)) F m n →
+pub adds_rest : (roots paths : List Path) (i k : ℕ) (F : Filestore) (l m n : Extents) → length roots ≤ i → Adds (up_to roots paths i k) F l m →
+    Adds (one_of (drop k paths)) F m n →
     Adds (λ p. below_one roots p || one_of paths p) F l n
 adds_rest roots paths i k F l m n all one two =
     adds_both (up_to roots paths i k) (one_of (drop k paths)) (λ p. below_one roots p || one_of paths p) F l m n one two (λ p.
     ap (λ rs. below_one rs p || one_of paths p) (sym (take_all i roots all))
-    ∙ ap (λ b. below_one (take i roots) p || b) (ap (λ ps. one_of ps p) (sym (take-append-drop k paths)) ∙ list_any-append (same_path p) (take k paths) (drop k paths))
+    ∙ ap (λ b. below_one (take i roots) p || b) (ap (λ ps. one_of ps p) (sym (take-append-drop k paths))
+    ∙ list_any-append (same_path p) (take k paths) (drop k paths))
     ∙ assoc (below_one (take i roots) p) (one_of (take k paths) p) (one_of (drop k paths) p))
   where
     assoc : (a b c : Bool) → (a || (b || c)) ≡ ((a || b) || c)
@@ -162,11 +171,15 @@ adds_rest roots paths i k F l m n all one two =
 pub behind : (paths : List Path) (k : ℕ) → between k (length paths) paths ≡ drop k paths
 behind paths k = between_to_end paths k (length paths) (omega arith)
 
-pub adds_before : (paths : List Path) (k more : ℕ) (F : Filestore) (m n : Extents) → Adds (one_of (take more (between k (length paths) paths))) F m n → Adds (one_of (take more (drop k paths))) F m n
-adds_before paths k more F m n two = adds_as (one_of (take more (between k (length paths) paths))) (one_of (take more (drop k paths))) F m n two (λ p. ap (λ ps. one_of (take more ps) p) (sym (behind paths k)))
+pub adds_before : (paths : List Path) (k more : ℕ) (F : Filestore) (m n : Extents) → Adds (one_of (take more (between k (length paths) paths))) F m n →
+    Adds (one_of (take more (drop k paths))) F m n
+adds_before paths k more F m n two = adds_as (one_of (take more (between k (length paths) paths))) (one_of (take more (drop k paths))) F m n two
+    (λ p. ap (λ ps. one_of (take more ps) p) (sym (behind paths k)))
 
-pub adds_behind : (paths : List Path) (k : ℕ) (F : Filestore) (m n : Extents) → Adds (one_of (between k (length paths) paths)) F m n → Adds (one_of (drop k paths)) F m n
-adds_behind paths k F m n two = adds_as (one_of (between k (length paths) paths)) (one_of (drop k paths)) F m n two (λ p. ap (λ ps. one_of ps p) (sym (behind paths k)))
+pub adds_behind : (paths : List Path) (k : ℕ) (F : Filestore) (m n : Extents) → Adds (one_of (between k (length paths) paths)) F m n →
+    Adds (one_of (drop k paths)) F m n
+adds_behind paths k F m n two = adds_as (one_of (between k (length paths) paths)) (one_of (drop k paths)) F m n two
+    (λ p. ap (λ ps. one_of ps p) (sym (behind paths k)))
 
 pub next_within : (paths : List Path) (k more : ℕ) → k ≤ length paths → more ≤ length (between k (length paths) paths) → k + more ≤ length paths
 next_within paths k more within bound = omega (arith, within, bound, ap length (behind paths k), length-drop k paths)

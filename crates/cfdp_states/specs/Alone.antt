@@ -1,5 +1,6 @@
 -- A list of items run alone, with unlimited room.
---     statuses, growths, Succeed         the answers of the items one after another;  what each takes and gives back;  that each succeeds
+--     statuses, growths, Succeed         the answers of the items one after another;  what each takes and gives
+--                                        back;  that each succeeds
 --     steps                              1 and what each item may take at most, over the list
 --     peak, need                         the most blocks in use at F and after each item;  how far that is above F's
 --     reached                            the filestore after all items
@@ -13,20 +14,24 @@ use Rattle.cfdp_leases.specs.Items.{performed, step_bound}
 
 unfoldable pub statuses : List Path → Filestore → ℕ → List Item → List Answer
 statuses prefixes F slot [] = []
-statuses prefixes F slot (item ∷ items) = (row prefixes F slot item).answer ∷ statuses prefixes (performed prefixes F slot item) slot items
+statuses prefixes F slot (item ∷ items) = (row prefixes F slot item).answer ∷ statuses prefixes
+    (performed prefixes F slot item) slot items
 
 unfoldable pub growths : List Path → Filestore → ℕ → List Item → List (ℕ × ℕ)
 growths prefixes F slot [] = []
 growths prefixes F slot (item ∷ items) =
-    ((row prefixes F slot item).taken, (row prefixes F slot item).given) ∷ growths prefixes (performed prefixes F slot item) slot items
+    ((row prefixes F slot item).taken, (row prefixes F slot item).given) ∷ growths prefixes
+    (performed prefixes F slot item) slot items
 
 unfoldable pub Succeed : List Path → Filestore → ℕ → List Item → Type 0
 Succeed prefixes F slot [] = ⊤
-Succeed prefixes F slot (item ∷ items) = IsTrue (succeeded (row prefixes F slot item).answer) × Succeed prefixes (performed prefixes F slot item) slot items
+Succeed prefixes F slot (item ∷ items) = IsTrue (succeeded (row prefixes F slot item).answer)
+    × Succeed prefixes (performed prefixes F slot item) slot items
 
 unfoldable pub steps : List Path → Filestore → ℕ → List Item → ℕ
 steps prefixes F slot [] = 0
-steps prefixes F slot (item ∷ items) = (1 + step_bound F item) + steps prefixes (performed prefixes F slot item) slot items
+steps prefixes F slot (item ∷ items) = (1 + step_bound F item)
+    + steps prefixes (performed prefixes F slot item) slot items
 
 unfoldable pub peak : List Path → Filestore → ℕ → List Item → ℕ
 peak prefixes F slot [] = blocks F

@@ -1,14 +1,15 @@
--- Views in which directories stay closed: what is below such a directory is not looked at. In its place the view has one
--- directory, which is as deep as the deepest path there.
+-- Views in which directories stay closed: what is below such a directory is not looked at. Instead of it the view has
+-- one directory, which is as deep as the deepest path there.
 --     is_inside closed p              p is below one of these directories
 --     Reaches F p n, ReachesIn m p n  something is below p, and its path has n names or more: in a filestore, in a map
---     IsClosedSurvey m closed test F  the map tells what is in F at the paths that pass the test, these directories closed
+--     IsClosedSurvey m closed test F  the map says what is in F at the paths that pass the test, these directories
+--                                     closed
 --     IsFiller p n d, Closes m p n m' d is below p and has n names;  the map with p as a directory, and with one such d
 --     AreAlike a b                    what is at two paths: of one kind, and files of one length
 --     IsStandIn closed F G            with these directories closed, F and G are one
 --     moved_closed p q closed         the closed directories once each p/r is at q/r;  after_request: after a request
 --     looks_inside closed m request   the request names something in a closed directory, or moves onto what is there
---     IsClosedViewOf v closed F start peak taken    the view tells of F, as far as its closed directories let it
+--     IsClosedViewOf v closed F start peak taken    the view describes F, as far as its closed directories let it
 --     TellsClosed, TellsClosedInstall               how such a view goes on with an item, and with the install
 use Rattle.std.specs.Prelude.{◌≡◌, ⊤, ℕ, ◌+◌, ◌≤◌, max, Bool, ◌&&◌, ◌||◌, nat_lt, IsTrue, IsFalse, IsSome, ◌↔◌, ◌⊎◌, if◌then◌else◌, List, map, length, Option, Some, None}
 use Rattle.std.specs.List.{list_any}
@@ -42,7 +43,8 @@ pub record ReachesIn (m : Extents) (p : Path) (n : ℕ) : Type 0 where
 pub record IsClosedSurvey (m : Extents) (closed : List Path) (test : Path → Bool) (F : Filestore) : Type 0 where
   pub told : (p : Path) → IsFalse (is_inside closed p) → finite.get m p ≡ (if test p then extent_at F p else None)
   -- a file is one of the filestore, whether it is in a closed directory or not
-  pub kept : (p : Path) → (finite.get m p ≡ None) ⊎ ((finite.get m p ≡ Some extent.Directory) ⊎ (finite.get m p ≡ extent_at F p))
+  pub kept : (p : Path) → (finite.get m p ≡ None) ⊎ ((finite.get m p ≡ Some extent.Directory)
+      ⊎ (finite.get m p ≡ extent_at F p))
   pub there : (c : Path) → IsTrue (list_any (same_path c) closed) → IsSome (finite.get m c)
   pub covered : (c p : Path) → IsTrue (list_any (same_path c) closed) → IsTrue (is_below p c) → IsTrue (test p)
   -- it is as deep in each closed directory as the filestore, and no deeper
@@ -52,7 +54,8 @@ abbrev pub IsFiller : Path → ℕ → Path → Type 0
 IsFiller p n d = IsTrue (is_below d p) × (length d ≡ n)
 
 abbrev pub Closes : Extents → Path → ℕ → Extents → Type 0
-Closes m p n m' = (d : Path) × IsFiller p n d × (m' ≡ finite.insert (finite.insert m p extent.Directory) d extent.Directory)
+Closes m p n m' = (d : Path) × IsFiller p n d × (m' ≡ finite.insert
+    (finite.insert m p extent.Directory) d extent.Directory)
 
 -- nothing and nothing, two directories, or two files of one length
 abbrev pub AreAlike : Option Node → Option Node → Type 0
@@ -96,7 +99,8 @@ is_cramped p q c = is_at_or_below c p && nat_lt (8 + length p) (length c + lengt
 -- one of the request's paths is in a closed directory; or it is to move to where something is already, or too deep
 abbrev pub looks_inside : List Path → Extents → Request → Bool
 looks_inside closed m (RenameFile p q) =
-    is_inside closed p || is_inside closed q || list_any (λ c. is_at_or_below c q) closed || any_below q (finite.entries m) || list_any (is_cramped p q) closed
+    is_inside closed p || is_inside closed q || list_any (λ c. is_at_or_below c q) closed
+    || any_below q (finite.entries m) || list_any (is_cramped p q) closed
 looks_inside closed m (AppendFile p q) = is_inside closed p || is_inside closed q
 looks_inside closed m (ReplaceFile p q) = is_inside closed p || is_inside closed q
 looks_inside closed m (CreateFile p) = is_inside closed p
@@ -106,7 +110,8 @@ looks_inside closed m (RemoveDirectory p) = is_inside closed p
 looks_inside closed m (DenyFile p) = is_inside closed p
 looks_inside closed m (DenyDirectory p) = is_inside closed p
 
--- the view tells of a filestore that is one with F but for the closed directories, and that has more or fewer blocks by what is in them
+-- the view describes a filestore that is one with F but for the closed directories, and that has more or fewer blocks
+-- by what is in them
 pub record IsClosedViewOf (v : Sketch) (closed : List Path) (F : Filestore) (start peak taken : ℕ) : Type 0 where
   pub seen : Filestore
   pub first : ℕ
@@ -121,7 +126,8 @@ abbrev pub TellsClosed : Sketch → List Path → Sketch → List Path → Item 
 TellsClosed v closed w after item answer =
     (F : Filestore) (start peak taken : ℕ) → IsClosedViewOf v closed F start peak taken →
     let G = performed v.prefixes F 0 item in
-    (answer ≡ (row v.prefixes F 0 item).answer) × IsClosedViewOf w after G start (max peak (blocks G)) (taken + (1 + step_bound F item))
+    (answer ≡ (row v.prefixes F 0 item).answer) × IsClosedViewOf w after G start (max peak (blocks G)) (taken
+    + (1 + step_bound F item))
 
 -- as `TellsInstall` has it
 abbrev pub TellsClosedInstall : Sketch → Sketch → List Path → Path → ℕ → Bool → Type 0
@@ -130,4 +136,5 @@ TellsClosedInstall v w closed p size done =
     let H = alone F x in
     let G = performed v.prefixes H 0 (Install p) in
     (installed_if done ≡ (row v.prefixes H 0 (Install p)).answer)
-    × (IsTrue done → IsClosedViewOf w closed G start (max peak (max (blocks H) (blocks G))) (taken + (1 + step_bound H (Install p))))
+    × (IsTrue done → IsClosedViewOf w closed G start (max peak (max (blocks H) (blocks G))) (taken
+    + (1 + step_bound H (Install p))))

@@ -1,23 +1,28 @@
 -- What a view has of a filestore: kinds and sizes, without octets.
 --     most_octets                                the greatest u64, at which sizes stop
---     Extent, extent_of, extent_in, extent_at    a directory, or a file of at most so many octets: of a node, of what stands at a path
+--     Extent, extent_of, extent_in, extent_at    a directory, or a file of at most this many octets: of a node, of what
+--                                                is at a path
 --     extent_content, extent_weight              the blocks of an extent's octets;  one more for itself
---     content_in, weight_in                      of what stands at a path
+--     content_in, weight_in                      of what is at a path
 --     Extents                                    a finite map from paths to extents
---     size_in, resized p octets m                the octets of a file;  the map with a file of so many octets where anything stands
+--     size_in, resized p octets m                the octets of a file;  the map with a file of this many octets where
+--                                                anything exists
 --     total_weight, total_blocks                 the blocks of all entries together;  of all that the map has
---     AreSmall, IsCounted es used                no extent has more blocks than a u64 of octets;  the entries are in order, and their blocks are counted
+--     AreSmall, IsCounted es used                no extent has more blocks than a u64 of octets;  the entries are in
+--                                                order, and their blocks are counted
 --     rehomed p q m                              the map once each p/r is at q/r
 --     bound_on m item                            how many ticks an item may take
---     is_folder, good_among, good_parent         whether the root or a directory stands at a path, or at its parent
---     IsOutline m F                              the map tells what stands in F
---     Does, Performs                             a map goes on as the row of a request;  and as the row with protected prefixes
+--     is_folder, good_among, good_parent         whether the root or a directory is at a path, or at its parent
+--     IsOutline m F                              the map says what is in F
+--     Does, Performs                             a map goes on as the row of a request;  and as the row with protected
+--                                                prefixes
 --     makes_path request                         whether the request may make a path: the actions that take memory
---     DoesOrNot, PerformsOrNot                   or there was no memory to make a path, though it would be successful, and it is as before
---     gives_way, can_install                     whether a file may come to stand where this stands, or at a path
---     extent_standing, added ss m                what a store says that stands at a path;  the map with all of these
---     Adds test F m m'                           the map with what stands in F at the paths that pass the test
---     IsSurvey m test F                          the map tells what stands in F at these paths, and no more
+--     DoesOrNot, PerformsOrNot                   or there was no memory to make a path, though it would be successful,
+--                                                and it is as before
+--     gives_way, can_install                     whether a file may be put where this is, or at a path
+--     extent_standing, added ss m                what a store says that is at a path;  the map with all of these
+--     Adds test F m m'                           the map with what is in F at the paths that pass the test
+--     IsSurvey m test F                          the map says what is in F at these paths, and no more
 use Rattle.std.specs.Prelude.{◌≡◌, ℕ, ◌+◌, ◌≤◌, ◌^◌, min, Bool, true, false, not, ◌&&◌, is_some, IsTrue, if◌then◌else◌, List, [], ◌∷◌, Option, Some, None, length, Result, Ok, Err}
 use Rattle.std.specs.FinMap as finite
 use Rattle.cfdp_paths.specs.Paths.{Path, path_cmp, parent}
@@ -54,7 +59,7 @@ extent_content (extent.File octets) = blocks_of octets
 abbrev pub extent_weight : Extent → ℕ
 extent_weight e = 1 + extent_content e
 
--- the blocks of the octets of what stands at a path, and all its blocks
+-- the blocks of the octets of what is at a path, and all its blocks
 abbrev pub content_in : Option Extent → ℕ
 content_in None = 0
 content_in (Some e) = extent_content e
@@ -63,7 +68,7 @@ abbrev pub weight_in : Option Extent → ℕ
 weight_in None = 0
 weight_in (Some e) = extent_weight e
 
--- what stands at some paths
+-- what is at some paths
 abbrev pub Extents : Type 0
 Extents = finite.FinMap path_cmp Extent
 
@@ -73,7 +78,7 @@ size_in None = 0
 size_in (Some extent.Directory) = 0
 size_in (Some (extent.File octets)) = octets
 
--- what stands at p, if anything does, is a file of so many octets
+-- what is at p, if anything is there, is a file of this many octets
 abbrev pub resized : Path → ℕ → Extents → Extents
 resized p octets m = if is_some (finite.get m p) then finite.insert m p (extent.File octets) else m
 
@@ -116,11 +121,11 @@ good_among m (n ∷ p) = is_folder (finite.get m (n ∷ p))
 abbrev pub good_parent : Extents → Path → Bool
 good_parent m p = good_among m (parent p)
 
--- the map tells whatever stands in the filestore, and no more
+-- the map says whatever is in the filestore, and no more
 pub record IsOutline (m : Extents) (F : Filestore) : Type 0 where
   pub found : (p : Path) → finite.get m p ≡ extent_at F p
 
--- whatever filestore the map tells of: the status is the row's, and the map after it tells of the filestore after it
+-- whatever filestore the map describes: the status is the row's, and the map after it describes the filestore after it
 pub record Does (m m' : Extents) (request : Request) (told : Status) : Type 0 where
   pub status : (F : Filestore) → IsOutline m F → Performed told ≡ (table F request).answer
   pub outlines : (F : Filestore) → IsOutline m F → IsOutline m' (after F (table F request).changes)
@@ -136,7 +141,8 @@ makes_path _ = false
 -- or there was no memory to make a path, though the row is successful, and the map is as before
 abbrev pub DoesOrNot : Extents → Extents → Request → Result Status AllocError → Type 0
 DoesOrNot m m' request (Ok status) = Does m m' request status
-DoesOrNot m m' request (Err memory) = (m' ≡ m) × IsTrue (makes_path request) × ((F : Filestore) → IsOutline m F → IsTrue (succeeded (table F request).answer))
+DoesOrNot m m' request (Err memory) = (m' ≡ m) × IsTrue (makes_path request)
+    × ((F : Filestore) → IsOutline m F → IsTrue (succeeded (table F request).answer))
 
 -- the same where prefixes are protected
 pub record Performs (prefixes : List Path) (m m' : Extents) (request : Request) (told : Status) : Type 0 where
@@ -147,9 +153,10 @@ pub record Performs (prefixes : List Path) (m m' : Extents) (request : Request) 
 abbrev pub PerformsOrNot : List Path → Extents → Extents → Request → Result Status AllocError → Type 0
 PerformsOrNot prefixes m m' request (Ok status) = Performs prefixes m m' request status
 PerformsOrNot prefixes m m' request (Err memory) =
-    (m' ≡ m) × IsTrue (makes_path request) × ((F : Filestore) → IsOutline m F → IsTrue (succeeded (row prefixes F 0 (Perform request)).answer))
+    (m' ≡ m) × IsTrue (makes_path request) × ((F : Filestore) → IsOutline m F →
+    IsTrue (succeeded (row prefixes F 0 (Perform request)).answer))
 
--- whether a file may come to stand where this stands
+-- whether a file may be put where this is
 abbrev pub gives_way : List Path → Path → Option Extent → Bool
 gives_way prefixes p None = true
 gives_way prefixes p (Some extent.Directory) = false
@@ -158,7 +165,7 @@ gives_way prefixes p (Some (extent.File octets)) = not (is_protected prefixes p)
 abbrev pub can_install : List Path → Extents → Path → Bool
 can_install prefixes m p = good_parent m p && gives_way prefixes p (finite.get m p)
 
--- what a store says that stands at a path
+-- what a store says that is at a path
 abbrev pub extent_standing : Standing → Extent
 extent_standing s = if is_file_kind s.kind then extent.File s.size else extent.Directory
 
@@ -167,10 +174,11 @@ abbrev pub added : List Standing → Extents → Extents
 added [] m = m
 added (s ∷ ss) m = added ss (finite.insert m s.path (extent_standing s))
 
--- at the paths that pass the test and at which something stands, that; at the others as before
+-- at the paths that pass the test and at which something exists, that; at the others as before
 abbrev pub Adds : (Path → Bool) → Filestore → Extents → Extents → Type 0
-Adds test F m m' = (p : Path) → finite.get m' p ≡ (if test p && is_some (extent_at F p) then extent_at F p else finite.get m p)
+Adds test F m m' = (p : Path) → finite.get m' p ≡ (if test p && is_some (extent_at F p) then extent_at F p
+    else finite.get m p)
 
--- what stands at the paths that pass the test, and no more
+-- what is at the paths that pass the test, and no more
 abbrev pub IsSurvey : Extents → (Path → Bool) → Filestore → Type 0
 IsSurvey m test F = (p : Path) → finite.get m p ≡ (if test p then extent_at F p else None)

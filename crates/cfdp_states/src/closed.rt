@@ -21,12 +21,12 @@ use std::alloc::Global;
 /// The most blocks that a store has.
 const MOST_BLOCKS: u128 = 65_536;
 
-/// A view in which directories stay closed. What is below a leased directory that has entries is not looked at: the view
-/// has one entry instead, which is as deep as the deepest one there. So what a move of the directory costs does not grow
-/// with its entries.
+/// A view in which directories stay closed. What is below a leased directory that has entries is not looked at: the
+/// view has one entry instead, which is as deep as the deepest one there. So what a move of the directory costs does
+/// not grow with its entries.
 ///
-/// Such a view tells how a list of items goes when it runs alone (CCSDS 727.0-B-5 §4.9), as a [`View`] does, as long as
-/// no item names what is in a closed directory.
+/// Such a view says how a list of items goes when it runs alone (CCSDS 727.0-B-5, filestore procedures), as a [`View`]
+/// does, as long as no item names what is in a closed directory.
 #[derive(Drop)]
 pub struct ClosedView<'a> {
     alloc: Global,
@@ -37,8 +37,8 @@ pub struct ClosedView<'a> {
 
 impl<'a> ClosedView<'a> {
     /// What is in the store at the leased paths, and below them but for what is in closed directories, before any item.
-    /// `None` if that counts more than 65,536 blocks, which no store has: for each closed directory one block more may be
-    /// counted than is there. A caller asks [`View::of`] then.
+    /// `None` if that counts more than 65,536 blocks, which no store has: for each closed directory one block more may
+    /// be counted than is there. A caller asks [`View::of`] then.
     ///
     /// # Errors
     ///
@@ -52,7 +52,8 @@ impl<'a> ClosedView<'a> {
         protected: &'a Protected,
         footprint: &Footprint,
     ) -> Result<Option<ClosedView<'a>>, Memory>
-        ensures told { IfOk result (λ made. IfSome made (λ it. let F = alone (only footprint.now (S.state store.now).filestore) [] in
+        ensures told { IfOk result (λ made. IfSome made (λ it.
+            let F = alone (only footprint.now (S.state store.now).filestore) [] in
             IsClosedViewOf it.view it.closed.items F (blocks F) (blocks F) 0)) }
         ensures prefixes { IfOk result (λ made. IfSome made (λ it. it.view.prefixes ≡ protected.now)) }
     {
@@ -68,10 +69,10 @@ impl<'a> ClosedView<'a> {
         }))
     }
 
-    /// Performs the next request on the view, with unlimited room, and returns its status (CCSDS 727.0-B-5 §4.9), as
-    /// [`View::apply`] does. `None` exactly if the view can't tell, and then it is as before: a path of the request is
-    /// below a closed directory; or something is to move to a path below which the view has something already, or at or
-    /// below which a directory is closed; or a closed directory would have more than 8 names.
+    /// Performs the next request on the view, with unlimited room, and returns its status (CCSDS 727.0-B-5, filestore
+    /// procedures), as [`View::apply`] does. `None` exactly if the view can't say, and then it is as before: a path of
+    /// the request is below a closed directory; or something is to move to a path below which the view has something
+    /// already, or at or below which a directory is closed; or a closed directory would have more than 8 names.
     ///
     /// # Errors
     ///
@@ -79,8 +80,10 @@ impl<'a> ClosedView<'a> {
     /// look at each closed directory, and a copy of the path of each where something moves.
     pub fn apply(&mut self, request: &Request) -> Result<Option<Status>, Memory>
         ensures told { IfOk result (λ told. IfSome told (λ status.
-            TellsClosed self.old.view self.old.closed.items self.new.view self.new.closed.items (Perform request.now) (Performed status))) }
-        ensures inside { IfOk result (λ told. is_none told ≡ looks_inside self.old.closed.items self.old.view.extents request.now) }
+            TellsClosed self.old.view self.old.closed.items self.new.view self.new.closed.items (Perform request.now)
+            (Performed status))) }
+        ensures inside { IfOk result (λ told. is_none told
+            ≡ looks_inside self.old.closed.items self.old.view.extents request.now) }
         ensures same { result ≡ Ok None → self.new ≡ self.old }
         ensures prefixes { OnOk result (self.new.view.prefixes ≡ self.old.view.prefixes) }
     {
@@ -94,9 +97,9 @@ impl<'a> ClosedView<'a> {
         Ok(Some(status))
     }
 
-    /// Installs a delivered file of at most `bound` octets at the path (CCSDS 727.0-B-5 §4.6.1), and returns whether that
-    /// is allowed, as [`View::install`] does. `None` exactly if the path is below a closed directory; the view is then as
-    /// before.
+    /// Installs a delivered file of at most `bound` octets at the path (CCSDS 727.0-B-5, copy file procedures), and
+    /// returns whether that is allowed, as [`View::install`] does. `None` exactly if the path is below a closed
+    /// directory; the view is then as before.
     ///
     /// # Errors
     ///
@@ -116,14 +119,14 @@ impl<'a> ClosedView<'a> {
         Ok(Some(done))
     }
 
-    /// The view itself, which tells what the items needed and took.
+    /// The view itself, which says what the items needed and took.
     pub fn into_view(self) -> View<'a>
         ensures { result ≡ self.entry.view }
     {
         self.view
     }
 
-    /// Whether the view can't tell how the request goes.
+    /// Whether the view can't say how the request goes.
     fn looks_inside(&self, request: &Request) -> bool
         ensures { result ≡ looks_inside self.now.closed.items self.now.view.extents request.now }
     {

@@ -29,7 +29,7 @@ pub fn survey_closed<S: Filestore>(
         IsClosedSurvey found.0 found.1.items (is_covered footprint.now) (S.state store.now).filestore) }
     ensures small { blocks (S.state store.now).filestore ≤ 65536 }
 {
-    // Its contract says that few blocks are in use, so that an extent can tell each size.
+    // Its contract says that few blocks are in use, so that an extent can say each size.
     let _ = store.takes_no_memory();
     let exclusive = footprint.exclusive();
     let shared = footprint.shared();
@@ -53,7 +53,8 @@ fn add_root<S: Filestore>(
     requires { blocks (S.state store.now).filestore ≤ 65536 }
     ensures { OnOk result ((test : Path → Bool)
         → IsClosedSurvey extents.old closed.old.items test (S.state store.now).filestore
-        → IsClosedSurvey extents.new closed.new.items (λ p. test p || is_at_or_below p root.now) (S.state store.now).filestore) }
+        → IsClosedSurvey extents.new closed.new.items (λ p. test p || is_at_or_below p root.now)
+        (S.state store.now).filestore) }
 {
     let Some(depth) = depth_below(store, root) else {
         return add_tree(alloc, extents, store, root);
@@ -67,7 +68,8 @@ fn add_root<S: Filestore>(
 
 /// The number of names of the longest path below a directory; `None` where nothing is below it, or it is no directory.
 fn depth_below<S: Filestore>(store: &S, path: &Path) -> Option<usize>
-    ensures directory { IfSome result (λ depth. extent_at (S.state store.now).filestore path.now ≡ Some Extent.Directory) }
+    ensures directory { IfSome result (λ depth. extent_at (S.state store.now).filestore path.now
+        ≡ Some Extent.Directory) }
     ensures depth { IfSome result (λ depth. depth ≡ deepest_of (tree_at (S.state store.now).filestore path.now)) }
     ensures below { IfSome result (λ depth. length path.now < depth) }
     ensures within { IfSome result (λ depth. depth ≤ 8) }

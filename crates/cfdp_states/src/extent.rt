@@ -1,11 +1,11 @@
-//! What stands at a path, without its octets.
+//! What is at a path, without its octets.
 
 ghost use Rattle.std.specs.Prelude.{◌≡◌, ◌<◌, ◌≤◌, ◌^◌};
 ghost use Rattle.cfdp_states.specs.Sketching.{extent_weight, extent_content};
 
 use cfdp_actions::PAYLOAD_OCTETS;
 
-/// What stands at a path: a directory, or a file of at most so many octets.
+/// What is at a path: a directory, or a file of at most this many octets.
 #[derive(Clone, Copy, Debug, PartialEq, Eq)]
 pub enum Extent {
     /// A directory.

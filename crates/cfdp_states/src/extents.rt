@@ -1,4 +1,4 @@
-//! What stands at some paths, without octets, and how many blocks it takes.
+//! What is at some paths, without octets, and how many blocks it takes.
 
 ghost use Rattle.std.specs.Prelude.{◌≡◌, ◌≢◌, [], ◌+◌, ◌≤◌, ◌<◌, ◌^◌, false, nat_lt, IsSome, IsOk, OnOk, OnErr, length};
 ghost use Rattle.std.specs.FinMap as finite;
@@ -12,7 +12,7 @@ use cfdp_paths::{MOST_NAMES, Memory, Path, PathMap};
 use std::alloc::Global;
 use std::marker::Model;
 
-/// What stands at some paths. A look-up is a search among them and makes no path. Contracts see a finite map.
+/// What is at some paths. A look-up is a search among them and makes no path. Contracts see a finite map.
 #[derive(Drop)]
 pub struct Extents {
     alloc: Global,
@@ -38,7 +38,7 @@ impl Model for Extents {
 }
 
 impl Extents {
-    /// Nothing stands anywhere. Takes no memory.
+    /// Nothing exists. Takes no memory.
     pub fn new(alloc: Global) -> Extents
         ensures { result ≡ finite.empty }
     {
@@ -49,14 +49,14 @@ impl Extents {
         }
     }
 
-    /// What stands at the path, if anything does. Cost: one search.
+    /// What is at the path, if anything is. Cost: one search.
     pub fn get(&self, path: &Path) -> Option<Extent>
         ensures { result ≡ finite.get self.now path.now }
     {
         self.entries.get(path).copied()
     }
 
-    /// What stands at the path's parent, if anything does. Cost: one search.
+    /// What is at the path's parent, if anything is. Cost: one search.
     pub fn parent(&self, path: &Path) -> Option<Extent>
         ensures { result ≡ finite.get self.now (parent path.now) }
     {
@@ -71,22 +71,22 @@ impl Extents {
         path.depth() == 1 || self.parent(path) == Some(Extent::Directory)
     }
 
-    /// Whether anything stands strictly below the path. Cost: two searches.
+    /// Whether anything is strictly below the path. Cost: two searches.
     pub fn has_below(&self, path: &Path) -> bool
         ensures { result ≡ any_below path.now (finite.entries self.now) }
     {
         self.entries.has_below(path)
     }
 
-    /// Whether a path at or below the first would have more than 8 names once the first is the second. Cost: two searches,
-    /// and a look at each path at or below the first.
+    /// Whether a path at or below the first would have more than 8 names once the first is the second. Cost: two
+    /// searches, and a look at each path at or below the first.
     pub fn is_too_deep(&self, from: &Path, to: &Path) -> bool
         ensures { result ≡ is_too_deep from.now to.now (tree_in from.now (finite.entries self.now)) }
     {
         any_too_deep(self.entries.tree(from), from, to)
     }
 
-    /// All blocks of what stands at the path: none where nothing does. Cost: one search.
+    /// All blocks of what is at the path: none where nothing is. Cost: one search.
     pub fn weight(&self, path: &Path) -> u64
         ensures value { result ≡ weight_in (finite.get self.now path.now) }
         ensures within { result ≤ 2 ^ 58 }
@@ -99,13 +99,13 @@ impl Extents {
         ensures value { result ≡ total_blocks self.now }
         ensures within { result < 2 ^ 122 }
     {
-        // No list has so many entries that their blocks pass what is told.
+        // No list has this many entries that their blocks pass what is reported.
         let _ = self.entries.entries().len();
         self.used
     }
 
-    /// From now on the extent stands at the path. Takes memory only where nothing stood there. Cost: one search; the
-    /// entries behind a new one are shifted.
+    /// From now on the extent is at the path. Takes memory only where nothing was there. Cost: one search; the
+    /// entries after a new one are shifted.
     pub fn put(&mut self, path: &Path, extent: Extent) -> Result<(), Memory>
         ensures ok { OnOk result (self.new ≡ finite.insert self.old path.now extent) }
         ensures err { OnErr result (self.new ≡ self.old) }
@@ -117,7 +117,7 @@ impl Extents {
         Ok(())
     }
 
-    /// Puts another extent at a path at which something stands. Takes no memory. Cost: one search.
+    /// Puts another extent at a path at which something exists. Takes no memory. Cost: one search.
     pub fn set(&mut self, path: &Path, extent: Extent)
         requires { IsSome (finite.get self.old path.now) }
         ensures { self.new ≡ finite.insert self.old path.now extent }
@@ -138,7 +138,7 @@ impl Extents {
         Ok(())
     }
 
-    /// From now on nothing stands at the path. Takes no memory. Cost: one search; the entries behind are shifted.
+    /// From now on nothing is at the path. Takes no memory. Cost: one search; the entries after it are shifted.
     pub fn remove(&mut self, path: &Path)
         ensures { self.new ≡ finite.remove self.old path.now }
     {
@@ -146,8 +146,8 @@ impl Extents {
         self.used -= u128::from(weigh(old));
     }
 
-    /// Moves what stands at a path and below it: each path p/r becomes q/r. Cost: that of [`PathMap::relocate`]; where
-    /// something stands at or below the second path all blocks are counted anew.
+    /// Moves what is at a path and below it: each path p/r becomes q/r. Cost: that of [`PathMap::relocate`]; where
+    /// something is at or below the second path all blocks are counted anew.
     pub fn relocate(&mut self, from: &Path, to: &Path) -> Result<(), Memory>
         requires { is_too_deep from.now to.now (tree_in from.now (finite.entries self.old)) ≡ false }
         ensures ok { OnOk result (self.new ≡ rehomed from.now to.now self.old) }

@@ -9,7 +9,7 @@ use crate::extents::Extents;
 use cfdp_actions::{Kind, Kinds};
 use cfdp_paths::Path;
 
-/// It tells of each filestore in which the same kinds and sizes stand.
+/// It describes each filestore in which the same kinds and sizes exist.
 impl Kinds for Extents {
     ghost tells = { IsOutline };
 

@@ -5,8 +5,8 @@ ghost use Rattle.cfdp_states.specs.Laws.{OwnStep, EnoughRoom, LongerFile, Foreig
 
 use cfdp_leases::laws::{frame_of_reads, own_changes, stays_rooted};
 
-/// The blocks in use after a row of the action table (CCSDS 727.0-B-5 §4.9): those before, with those that it takes and
-/// without those that it gives back.
+/// The blocks in use after a row of the action table (CCSDS 727.0-B-5, filestore procedures): those before, with those
+/// that it takes and without those that it gives back.
 pub fn growth()
     ensures { Growth }
 {}
@@ -32,8 +32,8 @@ pub fn longer_file()
     ensures { LongerFile }
 {}
 
-/// On two filestores that agree on a footprint, with one list staged, items within the footprint have the same statuses,
-/// growths, need and steps.
+/// On two filestores that agree on a footprint, with one list staged, items within the footprint have the same
+/// statuses, growths, need and steps.
 pub fn foreign_change()
     ensures { ForeignChange }
 {
@@ -60,7 +60,7 @@ pub fn any_slot_with()
 {}
 
 /// What a footprint does not cover may be left out of sight: items within it run alone as they do where nothing else
-/// stands.
+/// exists.
 pub fn only_leased()
     ensures { OnlyLeased }
 {
@@ -78,14 +78,14 @@ pub fn appended()
     ensures { Appended }
 {}
 
-/// A view as [`View::of`](crate::View::of) makes it tells of no item yet.
+/// A view as [`View::of`](crate::View::of) makes it describes no item yet.
 pub fn view_begins()
     ensures { ViewBegins }
 {
     only_leased();
 }
 
-/// After an install that is allowed, a view tells of it, run alone on the whole filestore.
+/// After an install that is allowed, a view describes it, run alone on the whole filestore.
 pub fn view_installs()
     ensures { ViewInstalls }
 {
@@ -99,16 +99,16 @@ pub fn view_refuses()
     only_leased();
 }
 
-/// After one more item, a view tells of that too, run alone on the whole filestore.
+/// After one more item, a view describes that too, run alone on the whole filestore.
 pub fn view_goes_on()
     ensures { ViewGoesOn }
 {
     only_leased();
 }
 
-/// The bound that a view tells of a path within its footprint ([`View::bound`](crate::View::bound)) is the length of the
-/// file that stands there once the items so far have run alone on the whole filestore, or the greatest u64 where that is
-/// less; none where no file stands.
+/// The bound that a view gives for a path within its footprint ([`View::bound`](crate::View::bound)) is the length of
+/// the file that is there once the items so far have run alone on the whole filestore, or the greatest u64 where
+/// that is less; none where no file exists.
 pub fn view_bounds()
     ensures { ViewBounds }
 {}

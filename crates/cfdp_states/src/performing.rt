@@ -12,7 +12,7 @@ use cfdp_actions::{Protected, Request, refusal};
 use cfdp_paths::{Memory, Path};
 use cfdp_status::{Action, Status};
 
-/// Performs a request (CCSDS 727.0-B-5 §4.9), except where the prefixes bar it.
+/// Performs a request (CCSDS 727.0-B-5, filestore procedures), except where the prefixes bar it.
 pub fn perform(
     extents: &mut Extents,
     protected: &Protected,
@@ -38,7 +38,7 @@ fn perform_freely(extents: &mut Extents, request: &Request) -> Result<Status, Me
 }
 
 /// Whether a delivered file may be installed at the path: its parent is good, and neither a directory nor a protected
-/// file stands there.
+/// file is there.
 pub fn can_install(extents: &Extents, protected: &Protected, path: &Path) -> bool
     ensures value { result ≡ can_install protected.now extents.now path.now }
     ensures named { path.now ≢ [] }
@@ -75,7 +75,7 @@ pub fn step_bound(extents: &Extents, request: &Request) -> u64
     }
 }
 
-/// The blocks of the octets of what stands at the path.
+/// The blocks of the octets of what is at the path.
 pub fn content(extents: &Extents, path: &Path) -> u64
     ensures value { result ≡ content_in (finite.get extents.now path.now) }
     ensures within { result < 2 ^ 58 }

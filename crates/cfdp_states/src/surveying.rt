@@ -1,4 +1,4 @@
-//! What stands in a store at some paths, without octets.
+//! What is in a store at some paths, without octets.
 
 ghost use Rattle.std.specs.Prelude.{◌≡◌, ◌≤◌, ◌<◌, IsTrue, IfOk, OnOk, length, take, slice_index_or};
 ghost use Rattle.std.specs.List.{list_any};
@@ -14,7 +14,7 @@ use cfdp_leases::Footprint;
 use cfdp_paths::{Memory, Path};
 use std::alloc::Global;
 
-/// What stands at each path that the footprint covers.
+/// What is at each path that the footprint covers.
 pub fn survey<S: Filestore>(
     alloc: Global,
     store: &S,
@@ -24,7 +24,7 @@ pub fn survey<S: Filestore>(
         IsSurvey extents (is_covered footprint.now) (S.state store.now).filestore) }
     ensures small { blocks (S.state store.now).filestore ≤ 65536 }
 {
-    // Its contract says that few blocks are in use, so that no size passes what an extent can tell.
+    // Its contract says that few blocks are in use, so that no size passes what an extent can say.
     let _ = store.takes_no_memory();
     let exclusive = footprint.exclusive();
     let shared = footprint.shared();
@@ -47,7 +47,7 @@ pub fn survey<S: Filestore>(
     Ok(extents)
 }
 
-/// Whether the root at the place is at or below the one at an earlier place.
+/// Whether the root at the index is at or below the one at an earlier index.
 fn is_inside(roots: &[Path], earlier: usize, place: usize) -> bool
     requires order { earlier ≤ place }
     requires within { place < length roots.now }
@@ -57,7 +57,7 @@ fn is_inside(roots: &[Path], earlier: usize, place: usize) -> bool
     earlier < place && roots[place].is_at_or_below(&roots[earlier])
 }
 
-/// Adds what stands at the path and below it.
+/// Adds what is at the path and below it.
 pub fn add_tree<S: Filestore>(
     alloc: Global,
     extents: &mut Extents,
@@ -65,7 +65,8 @@ pub fn add_tree<S: Filestore>(
     root: &Path,
 ) -> Result<(), Memory>
     requires { blocks (S.state store.now).filestore ≤ 65536 }
-    ensures { OnOk result (Adds (λ path. is_at_or_below path root.now) (S.state store.now).filestore extents.old extents.new) }
+    ensures { OnOk result (Adds (λ path. is_at_or_below path root.now)
+        (S.state store.now).filestore extents.old extents.new) }
 {
     let found = store.standing(alloc, root)?;
     add_all(extents, found)?;
@@ -84,14 +85,15 @@ fn add_all(extents: &mut Extents, found: Vec<Standing>) -> Result<(), Memory>
     Ok(())
 }
 
-/// Adds what stands at the paths.
+/// Adds what is at the paths.
 pub fn add_paths<S: Filestore>(
     extents: &mut Extents,
     store: &S,
     paths: &[Path],
 ) -> Result<(), Memory>
     requires { blocks (S.state store.now).filestore ≤ 65536 }
-    ensures { OnOk result (Adds (λ path. list_any (same_path path) paths.now) (S.state store.now).filestore extents.old extents.new) }
+    ensures { OnOk result (Adds (λ path. list_any (same_path path) paths.now)
+        (S.state store.now).filestore extents.old extents.new) }
 {
     for path in paths {
         let Some(extent) = extent_at(store, path) else {
@@ -102,7 +104,7 @@ pub fn add_paths<S: Filestore>(
     Ok(())
 }
 
-/// What stands at the path, if anything does.
+/// What is at the path, if anything is.
 fn extent_at<S: Filestore>(store: &S, path: &Path) -> Option<Extent>
     requires { blocks (S.state store.now).filestore ≤ 65536 }
     ensures { result ≡ extent_at (S.state store.now).filestore path.now }
@@ -114,7 +116,7 @@ fn extent_at<S: Filestore>(store: &S, path: &Path) -> Option<Extent>
     }
 }
 
-/// What the store says that stands there.
+/// What the store says that is there.
 fn extent_standing(standing: &Standing) -> Extent
     ensures { result ≡ extent_standing standing.now }
 {

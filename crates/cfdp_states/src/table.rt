@@ -15,7 +15,7 @@ use cfdp_actions::Request;
 use cfdp_paths::{Memory, Path};
 use cfdp_status::Action;
 
-/// Changes the extents as the row of the request says. Only a request that makes a path takes memory; after want of it
+/// Changes the extents as the row of the request says. Only a request that makes a path takes memory; when out of it
 /// they are as before.
 pub fn change(extents: &mut Extents, request: &Request) -> Result<(), Memory>
     requires allowed { (F : Filestore) → IsOutline extents.old F → IsTrue (succeeded (table F request.now).answer) }
@@ -46,7 +46,7 @@ pub fn change(extents: &mut Extents, request: &Request) -> Result<(), Memory>
     }
 }
 
-/// The most octets that a file has: 0 where no file stands.
+/// The most octets that a file has: 0 where no file exists.
 fn size(extents: &Extents, path: &Path) -> u64
     ensures { result ≡ size_in (finite.get extents.now path.now) }
 {
@@ -56,7 +56,7 @@ fn size(extents: &Extents, path: &Path) -> u64
     }
 }
 
-/// From now on what stands at the path, if anything does, is a file of at most so many octets.
+/// From now on what is at the path, if anything is there, is a file of at most this many octets.
 fn resize(extents: &mut Extents, path: &Path, octets: u64)
     ensures { extents.new ≡ resized path.now octets extents.old }
 {

@@ -20,14 +20,15 @@ use cfdp_status::Status;
 use std::alloc::Global;
 use std::marker::Model;
 
-/// At which the need stops: one more than the greatest that can be told.
+/// At which the need stops: one more than the greatest that can be reported.
 const MOST_NEED: u128 = 1 << 32;
 
-/// What stands at and below some leased paths, a file being 'at most n octets', without contents: enough to say how a
-/// list of items goes when it runs alone (CCSDS 727.0-B-5 §4.9), how many blocks it needs and how many steps it takes.
+/// What is at and below some leased paths, a file being 'at most n octets', without contents: enough to say how a
+/// list of items goes when it runs alone (CCSDS 727.0-B-5, filestore procedures), how many blocks it needs and how many
+/// steps it takes.
 ///
-/// Sizes stop at the greatest u64, and what is told of blocks and steps at the greatest u32. The need is counted one
-/// further, so that one that no u32 can tell still differs from the greatest that one can.
+/// Sizes stop at the greatest u64, and what is said of blocks and steps at the greatest u32. The need is counted one
+/// further, so that one that no u32 can say still differs from the greatest that one can.
 #[derive(Drop)]
 pub struct View<'a> {
     protected: &'a Protected,
@@ -45,19 +46,25 @@ impl<'a> Model for View<'a> {
 
     ghost coded = { sketch_code extent.the_row.coded };
 
-    ghost view = { λ v. record { prefixes = v.protected.now; extents = v.extents; base = v.base; need = v.need; steps = v.steps } };
+    ghost view = { λ v. record {
+      prefixes = v.protected.now;
+      extents = v.extents;
+      base = v.base;
+      need = v.need;
+      steps = v.steps;
+    } };
 }
 
 impl<'a> View<'a> {
-    /// What stands in the store at and below the leased paths, before any item.
+    /// What is in the store at and below the leased paths, before any item.
     ///
     /// # Errors
     ///
-    /// Want of memory.
+    /// Out of memory.
     ///
     /// Cost: one `standing` for each exclusive path that is not at or below an earlier one, and for each shared path a
-    /// `kind`, and a `size` where that is a file; no listing, no octets and no checksum. What the footprint does not cover
-    /// is not asked for. Each thing found is put in by a search; as all come in path order, nothing is shifted.
+    /// `kind`, and a `size` where that is a file; no listing, no octets and no checksum. What the footprint does not
+    /// cover is not asked for. Each thing found is put in by a search; as all come in path order, nothing is shifted.
     pub fn of<S: Filestore>(
         alloc: Global,
         store: &S,
@@ -74,7 +81,13 @@ impl<'a> View<'a> {
 
     /// The view that has these extents, before any item.
     pub(crate) fn begun(protected: &'a Protected, extents: Extents) -> View<'a>
-        ensures { result ≡ record { prefixes = protected.now; extents = extents; base = total_blocks extents; need = 0; steps = 0 } }
+        ensures { result ≡ record {
+          prefixes = protected.now;
+          extents = extents;
+          base = total_blocks extents;
+          need = 0;
+          steps = 0;
+        } }
     {
         let base = extents.blocks();
         View {
@@ -93,15 +106,15 @@ impl<'a> View<'a> {
         self.extents.has_below(path)
     }
 
-    /// Performs the next request on the view, with unlimited room, and answers its status (CCSDS 727.0-B-5 §4.9); a
-    /// request that is not successful changes nothing that stands. The blocks that it needs and the steps that it may take are
-    /// counted.
+    /// Performs the next request on the view, with unlimited room, and returns its status (CCSDS 727.0-B-5, filestore
+    /// procedures); a request that is not successful changes nothing that exists. The blocks that it needs and the
+    /// steps that it may take are counted.
     ///
     /// # Errors
     ///
-    /// Want of memory, which only a request that makes a path takes, and only where it is successful; the view is then as
-    /// before. Cost: a few searches among what the view has, and, of a rename, the octets of each path that moves: they
-    /// are rewritten in the memory that they have, or copied, as
+    /// Out of memory, which only a request that makes a path takes, and only where it is successful; the view is then
+    /// as before. Cost: a few searches among what the view has, and, of a rename, the octets of each path that moves:
+    /// they are rewritten in the memory that they have, or copied, as
     /// [`PathMap::relocate`](cfdp_paths::PathMap::relocate) says. What comes after in path order is shifted, in one
     /// piece.
     pub fn apply(&mut self, request: &Request) -> Result<Status, Memory>
@@ -117,14 +130,14 @@ impl<'a> View<'a> {
         Ok(status)
     }
 
-    /// Installs a delivered file of at most `bound` octets at the path (CCSDS 727.0-B-5 §4.6.1), in place of a file that
-    /// stands there, and answers whether that is allowed: its parent is the root or a directory, and neither a directory
-    /// nor a protected file stands there. Where it is not allowed the view is as before. The blocks of the staged file
-    /// are counted too.
+    /// Installs a delivered file of at most `bound` octets at the path (CCSDS 727.0-B-5, copy file procedures), in
+    /// place of a file that is there, and returns whether that is allowed: its parent is the root or a directory,
+    /// and neither a directory nor a protected file is there. Where it is not allowed the view is as before. The
+    /// blocks of the staged file are counted too.
     ///
     /// # Errors
     ///
-    /// Want of memory; the view is then as before. Cost: a few searches among what the view has.
+    /// Out of memory; the view is then as before. Cost: a few searches among what the view has.
     pub fn install(&mut self, path: &Path, bound: u64) -> Result<bool, Memory>
         ensures told { IfOk result (λ done. TellsInstall self.old self.new path.now bound done) }
         ensures prefixes { OnOk result (self.new.prefixes ≡ self.old.prefixes) }
@@ -144,9 +157,9 @@ impl<'a> View<'a> {
         Ok(true)
     }
 
-    /// The most octets that the file at the path has, from 0 to the greatest u64, which also stands for more. `None` where
-    /// the view has no file at it: what the view's footprint does not cover it never saw. Takes no memory. Cost: one
-    /// search among what the view has.
+    /// The most octets that the file at the path has, from 0 to the greatest u64, which also means more. `None`
+    /// where the view has no file at it: what the view's footprint does not cover it never saw. Takes no memory. Cost:
+    /// one search among what the view has.
     pub fn bound(&self, path: &Path) -> Option<u64>
         ensures { result ≡ size_of (finite.get self.now.extents path.now) }
     {
@@ -164,8 +177,8 @@ impl<'a> View<'a> {
         capped(self.need)
     }
 
-    /// Whether at most so many blocks more than at first were in use at any time. It is exact for the greatest u32 too,
-    /// which `need` tells of greater needs as well.
+    /// Whether at most this many blocks more than at first were in use at any time. It is exact for the greatest u32
+    /// too, which `need` returns for greater needs as well.
     pub fn needs_at_most(&self, blocks: u32) -> bool
         ensures { result ≡ not (nat_lt blocks self.now.need) }
     {
@@ -188,7 +201,7 @@ fn add_steps(steps: u32, bound: u64) -> u32
     capped(u64::from(steps) + 1 + bound)
 }
 
-/// The need, where so many blocks are in use.
+/// The need, where this many blocks are in use.
 fn raise_need(need: u64, base: u128, blocks: u128) -> u64
     ensures { result ≡ max need (min (blocks - base) most_need) }
 {

@@ -1,4 +1,4 @@
--- Each status stands in the table beside its own octet, and beside no other.
+-- Each status is in the table beside its own octet, and beside no other.
 use Rattle.std.proofs.Common.{◌≡◌, ◌⊎◌, ℕ, ◌/◌, Bool, true, false, cond, eqb, List, [], ◌∷◌, Some, refl, sym, subst, inl, inr}
 use Rattle.std.proofs.lemmas.Bool.{eqb-true}
 use Rattle.cfdp_status.specs.Codes.{beside, actions, statuses, octet_of, action_of}
@@ -52,7 +52,7 @@ chosen : {A : Type 0} (b : Bool) (x y z : A) → cond b x y ≡ z → ((b ≡ tr
 chosen true x y z e = inl (refl, e)
 chosen false x y z e = inr (refl, e)
 
--- what stands beside a number has the property
+-- what is beside a number has the property
 pub beside_all : {A : Type 0} (P : ℕ → A → Type 0) (rows : List (ℕ × A)) (number : ℕ) (x : A) → AllRows P rows → beside rows number ≡ Some x → P number x
 beside_all P [] number x all e = absurd cc
 beside_all {A = A} P (row ∷ rows) number x all e =
@@ -67,8 +67,146 @@ beside_all {A = A} P (row ∷ rows) number x all e =
 
 -- the octet of a status of the table is the status's own
 pub octet_of-beside : (octet : ℕ) (status : Status) → beside statuses octet ≡ Some status → octet ≡ octet_of status
-octet_of-beside octet status e = beside_all (λ n s. n ≡ octet_of s) statuses octet status (refl, (refl, (refl, (refl, (refl, (refl, (refl, (refl, (refl, (refl, (refl, (refl, (refl, (refl, (refl, (refl, (refl, (refl, (refl, (refl, (refl, (refl, (refl, (refl, (refl, (refl, (refl, (refl, (refl, (refl, (refl, (refl, (refl, (refl, (refl, tt))))))))))))))))))))))))))))))))))) e
+octet_of-beside octet status e = beside_all (λ n s. n ≡ octet_of s) statuses octet status (
+  refl,
+  (
+    refl,
+    (
+      refl,
+      (
+        refl,
+        (
+          refl,
+          (
+            refl,
+            (
+              refl,
+              (
+                refl,
+                (
+                  refl,
+                  (
+                    refl,
+                    (
+                      refl,
+                      (
+                        refl,
+                        (
+                          refl,
+                          (
+                            refl,
+                            (
+                              refl,
+                              (
+                                refl,
+                                (
+                                  refl,
+                                  (
+                                    refl,
+                                    (
+                                      refl,
+                                      (
+                                        refl,
+                                        (
+                                          refl,
+                                          (
+                                            refl,
+                                            (
+                                              refl,
+                                              (refl, (refl, (refl, (refl, (refl, (refl, (refl, (refl, (refl, (refl, (refl, (refl, tt)))))))))))),
+                                            ),
+                                          ),
+                                        ),
+                                      ),
+                                    ),
+                                  ),
+                                ),
+                              ),
+                            ),
+                          ),
+                        ),
+                      ),
+                    ),
+                  ),
+                ),
+              ),
+            ),
+          ),
+        ),
+      ),
+    ),
+  ),
+) e
 
 -- the high four bits of an octet of the table are the code of the status's action
 pub action_of-beside : (octet : ℕ) (status : Status) → beside statuses octet ≡ Some status → beside actions (octet / 16) ≡ Some (action_of status)
-action_of-beside octet status e = beside_all (λ n s. beside actions (n / 16) ≡ Some (action_of s)) statuses octet status (refl, (refl, (refl, (refl, (refl, (refl, (refl, (refl, (refl, (refl, (refl, (refl, (refl, (refl, (refl, (refl, (refl, (refl, (refl, (refl, (refl, (refl, (refl, (refl, (refl, (refl, (refl, (refl, (refl, (refl, (refl, (refl, (refl, (refl, (refl, tt))))))))))))))))))))))))))))))))))) e
+action_of-beside octet status e = beside_all (λ n s. beside actions (n / 16) ≡ Some (action_of s)) statuses octet status (
+  refl,
+  (
+    refl,
+    (
+      refl,
+      (
+        refl,
+        (
+          refl,
+          (
+            refl,
+            (
+              refl,
+              (
+                refl,
+                (
+                  refl,
+                  (
+                    refl,
+                    (
+                      refl,
+                      (
+                        refl,
+                        (
+                          refl,
+                          (
+                            refl,
+                            (
+                              refl,
+                              (
+                                refl,
+                                (
+                                  refl,
+                                  (
+                                    refl,
+                                    (
+                                      refl,
+                                      (
+                                        refl,
+                                        (
+                                          refl,
+                                          (
+                                            refl,
+                                            (
+                                              refl,
+                                              (refl, (refl, (refl, (refl, (refl, (refl, (refl, (refl, (refl, (refl, (refl, (refl, tt)))))))))))),
+                                            ),
+                                          ),
+                                        ),
+                                      ),
+                                    ),
+                                  ),
+                                ),
+                              ),
+                            ),
+                          ),
+                        ),
+                      ),
+                    ),
+                  ),
+                ),
+              ),
+            ),
+          ),
+        ),
+      ),
+    ),
+  ),
+) e

@@ -1,6 +1,6 @@
 -- The codes of filestore requests and responses, as CCSDS 727.0-B-5 lists them in §5.4.1 (action
 -- codes) and §5.4.2 (status codes).
---   beside               what stands beside a number in a table
+--   beside               what is beside a number in a table
 --   actions              the table of action codes
 --   statuses             the table of status octets: action code in the high four bits, status code
 --                        in the low four
@@ -30,12 +30,27 @@ actions =
 abbrev pub statuses : List (ℕ × Status)
 statuses =
     (0x00, Successful CreateFile) ∷ (0x01, NotAllowed CreateFile) ∷ (0x0f, NotPerformed CreateFile)
-    ∷ (0x10, Successful DeleteFile) ∷ (0x11, DeleteAbsent) ∷ (0x12, NotAllowed DeleteFile) ∷ (0x1f, NotPerformed DeleteFile)
-    ∷ (0x20, Successful RenameFile) ∷ (0x21, RenameOldAbsent) ∷ (0x22, RenameNewPresent) ∷ (0x23, NotAllowed RenameFile) ∷ (0x2f, NotPerformed RenameFile)
-    ∷ (0x30, Successful AppendFile) ∷ (0x31, AppendFirstAbsent) ∷ (0x32, AppendSecondAbsent) ∷ (0x33, NotAllowed AppendFile) ∷ (0x3f, NotPerformed AppendFile)
-    ∷ (0x40, Successful ReplaceFile) ∷ (0x41, ReplaceFirstAbsent) ∷ (0x42, ReplaceSecondAbsent) ∷ (0x43, NotAllowed ReplaceFile) ∷ (0x4f, NotPerformed ReplaceFile)
+    ∷ (0x10, Successful DeleteFile) ∷ (0x11, DeleteAbsent) ∷ (0x12, NotAllowed DeleteFile) ∷ (
+      0x1f,
+      NotPerformed DeleteFile,
+    )
+    ∷ (0x20, Successful RenameFile) ∷ (0x21, RenameOldAbsent) ∷ (0x22, RenameNewPresent) ∷ (
+      0x23,
+      NotAllowed RenameFile,
+    ) ∷ (0x2f, NotPerformed RenameFile)
+    ∷ (0x30, Successful AppendFile) ∷ (0x31, AppendFirstAbsent) ∷ (0x32, AppendSecondAbsent) ∷ (
+      0x33,
+      NotAllowed AppendFile,
+    ) ∷ (0x3f, NotPerformed AppendFile)
+    ∷ (0x40, Successful ReplaceFile) ∷ (0x41, ReplaceFirstAbsent) ∷ (0x42, ReplaceSecondAbsent) ∷ (
+      0x43,
+      NotAllowed ReplaceFile,
+    ) ∷ (0x4f, NotPerformed ReplaceFile)
     ∷ (0x50, Successful CreateDirectory) ∷ (0x51, NotAllowed CreateDirectory) ∷ (0x5f, NotPerformed CreateDirectory)
-    ∷ (0x60, Successful RemoveDirectory) ∷ (0x61, RemoveAbsent) ∷ (0x62, NotAllowed RemoveDirectory) ∷ (0x6f, NotPerformed RemoveDirectory)
+    ∷ (0x60, Successful RemoveDirectory) ∷ (0x61, RemoveAbsent) ∷ (0x62, NotAllowed RemoveDirectory) ∷ (
+      0x6f,
+      NotPerformed RemoveDirectory,
+    )
     ∷ (0x70, Successful DenyFile) ∷ (0x72, NotAllowed DenyFile) ∷ (0x7f, NotPerformed DenyFile)
     ∷ (0x80, Successful DenyDirectory) ∷ (0x82, NotAllowed DenyDirectory) ∷ (0x8f, NotPerformed DenyDirectory)
     ∷ []

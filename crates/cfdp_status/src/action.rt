@@ -1,14 +1,14 @@
 ghost use Rattle.std.specs.Prelude.{◌≡◌, ℕ, ◌<◌, Some};
 ghost use Rattle.cfdp_status.specs.Codes.{beside, actions, code_of, has_second};
 
-/// What a filestore request asks for (CCSDS 727.0-B-5 §5.4.1, procedures in §4.9).
+/// What a filestore request asks for (CCSDS 727.0-B-5 §5.4.1, filestore procedures).
 #[derive(Clone, Copy, Debug, PartialEq, Eq, PartialOrd, Ord, Hash)]
 pub enum Action {
     /// Makes an empty file.
     CreateFile,
     /// Removes a file, which has to be there.
     DeleteFile,
-    /// Gives a new name to what stands at the first name.
+    /// Gives a new name to what is at the first name.
     RenameFile,
     /// Adds the second file's octets to the end of the first file.
     AppendFile,

@@ -1,7 +1,7 @@
 //! Streams of octets: where a script's octets come from, and where its text goes.
 //!
-//! Input and output go through two small traits, so that a theorem can name their octets: those that a reader still has to
-//! give, and those that a writer holds. std's readers and writers are such streams, and so are octets in memory.
+//! Input and output go through two small traits, so that a theorem can name their octets: those that a reader still has
+//! to give, and those that a writer holds. std's readers and writers are such streams, and so are octets in memory.
 #![tactic(auto)]
 
 mod from_read;

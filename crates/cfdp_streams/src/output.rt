@@ -10,7 +10,8 @@ pub fn write_all<W: ScriptOut>(writer: &mut W, text: &[u8]) -> Result<(), Failed
     ensures ok { OnOk result (Appends (W.contents writer.old) (W.contents writer.new) text.now) }
     ensures well { OnOk result (W.failed writer.new ≡ W.failed writer.old) }
     ensures fails { OnErr result (W.failed writer.new ≡ true) }
-    ensures begun { OnErr result ((written : List ℕ) × (AppendsOrLost (W.contents writer.old) (W.contents writer.new) written)
+    ensures begun { OnErr result ((written : List ℕ) × (AppendsOrLost (W.contents writer.old)
+        (W.contents writer.new) written)
         × Begins text.now written) }
 {
     let mut rest = text;

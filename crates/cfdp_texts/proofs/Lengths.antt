@@ -74,7 +74,13 @@ place_len (place.Request number) narrow = omega (arith, labelled_len (codes "bad
 
 failure_len : (number octet : ℕ) → number < 256 → length (labelled (codes "would-fail ") number ++ word (two_digits octet)) ≤ 50
 failure_len number octet narrow =
-    omega (arith, length-append (labelled (codes "would-fail ") number) (word (two_digits octet)), labelled_len (codes "would-fail ") number, octet_len number narrow, two_len octet)
+    omega (
+      arith,
+      length-append (labelled (codes "would-fail ") number) (word (two_digits octet)),
+      labelled_len (codes "would-fail ") number,
+      octet_len number narrow,
+      two_len octet,
+    )
 
 refusal_len : (why : Refusal) → IsNarrowRefusal why → length (refusal_text why) ≤ 50
 refusal_len refusal.TooManyRequests narrow = omega arith
@@ -84,7 +90,14 @@ refusal_len refusal.DestinationNotAllowed narrow = omega arith
 refusal_len (refusal.WouldFail number status) narrow = failure_len number (octet_of status) narrow
 refusal_len (refusal.TooLong steps) narrow = omega (arith, labelled_len (codes "too-long ") steps, number_len steps narrow)
 refusal_len (refusal.NoRoom blocks spare) narrow =
-    omega (arith, length-append (labelled (codes "no-room ") blocks) (labelled (codes " ") spare), labelled_len (codes "no-room ") blocks, labelled_len (codes " ") spare, number_len blocks narrow.0, number_len spare narrow.1)
+    omega (
+      arith,
+      length-append (labelled (codes "no-room ") blocks) (labelled (codes " ") spare),
+      labelled_len (codes "no-room ") blocks,
+      labelled_len (codes " ") spare,
+      number_len blocks narrow.0,
+      number_len spare narrow.1,
+    )
 
 grant_len : (blocks steps : ℕ) → blocks < 2 ^ 32 → steps < 2 ^ 32 → length (grant_text blocks steps) ≤ 58
 grant_len blocks steps b s =
@@ -123,7 +136,12 @@ reply_len reply.Memory narrow = omega arith
 reply_len reply.JournalFull narrow = omega arith
 
 line_len : (id : TransactionId) (text : List ℕ) → id.source < 2 ^ 64 → id.number < 2 ^ 64 → length (line (name_of id ++ word text)) ≤ 43 + length text
-line_len id text source number = omega (arith, length-append (name_of id ++ word text) (10 ∷ []), length-append (name_of id) (word text), name_len id source number)
+line_len id text source number = omega (
+  arith,
+  length-append (name_of id ++ word text) (10 ∷ []),
+  length-append (name_of id) (word text),
+  name_len id source number,
+)
 
 pub reply_line_len : (id : TransactionId) (told : Reply) → id.source < 2 ^ 64 → id.number < 2 ^ 64 → IsNarrow told → length (reply_line id told) ≤ 101
 reply_line_len id told source number narrow = omega (arith, line_len id (reply_text told) source number, reply_len told narrow)
@@ -134,4 +152,8 @@ taken_len (octet ∷ octets) condition narrow = omega (arith, length-append (cod
 
 pub taken_line_len : (id : TransactionId) (octets : List ℕ) (condition : ℕ) → id.source < 2 ^ 64 → id.number < 2 ^ 64 → condition < 2 ^ 32 →
     length (line (name_of id ++ word (taken_text octets condition))) ≤ max 101 (52 + 2 * length octets)
-taken_line_len id octets condition source number narrow = omega (arith, line_len id (taken_text octets condition) source number, taken_len octets condition narrow)
+taken_line_len id octets condition source number narrow = omega (
+  arith,
+  line_len id (taken_text octets condition) source number,
+  taken_len octets condition narrow,
+)

@@ -1,15 +1,16 @@
--- What `replay` writes: a line for each reply, for each PDU that is no event, and for all that stands in the filestore.
+-- What `replay` writes: a line for each reply, for each PDU that is no event, and for all that is in the filestore.
 --
 --   StartsAs         a text begins with what it was
 --   word             a text with a space before it
 --   number_text      a number in decimal
---   labelled         a label, and a number in decimal behind it
+--   labelled         a label, and a number in decimal after it
 --   two_digits       an octet in two hexadecimal digits
---   line             a text with a newline behind it
+--   line             a text with a newline after it
 --   place_text       which name is no path: the destination's, or that of a request
 --   failure_text     which request would fail, and with which status
 --   refusal_text     why a list of requests was refused
---   taken_text       the octets of a Finished PDU in hexadecimal (CCSDS 727.0-B-5 §5.2.3), or, where there are none, a condition code
+--   taken_text       the octets of a Finished PDU in hexadecimal (CCSDS 727.0-B-5 §5.2.3), or, where there are none, a
+--                    condition code
 --   finished_text    that of an outcome: the Finished PDU where it is sent, and else the condition code
 --   grant_text       what was granted to a transaction
 --   reply_text       what is written of a reply
@@ -20,9 +21,9 @@
 --   is_plain         an octet of a path that is written as it is: no space, no control character, no `%`
 --   shown_octet, shown_path    an octet and a path, with `%` and two digits for the others
 --   size_text, checksum_text   a file's size, and its checksum in eight digits
---   entry_line       the line of what stands at a path
+--   entry_line       the line of what is at a path
 --   blocks_line      the blocks in use, those that are free, and those of them that nobody was granted
---   listing_text     that line and those of all that stands, in path order
+--   listing_text     that line and those of all that exists, in path order
 use Rattle.std.specs.Prelude.{◌≡◌, ℕ, ◌==◌, Bool, not, ◌&&◌, nat_le, if◌then◌else◌, List, [], ◌∷◌, ◌++◌, codes, decimal, flat_map}
 use Rattle.byteorder.specs.Endian.{big_bytes}
 use Rattle.hex.specs.Hex.{encode_lower}
@@ -96,7 +97,7 @@ finished_text outcome = taken_text (finished_octets outcome) outcome.finished.co
 abbrev pub grant_text : ℕ → ℕ → List ℕ
 grant_text blocks steps = codes "admitted " ++ labelled (codes "blocks ") blocks ++ labelled (codes " steps ") steps
 
--- the last two have a text so that each reply has one: a script ends at want of memory, and has no journal
+-- the last two have a text so that each reply has one: a script ends when out of memory, and has no journal
 abbrev pub reply_text : Reply → List ℕ
 reply_text (replied.Admitted blocks steps) = grant_text blocks steps
 reply_text (replied.Refused refusal) = codes "refused " ++ refusal_text refusal
@@ -154,14 +155,16 @@ checksum_text checksum = encode_lower (big_bytes 4 checksum)
 abbrev pub kind_line : Kind → Entry → List ℕ
 kind_line Directory entry = line (codes "dir " ++ shown_path entry.path)
 kind_line File entry =
-    line (codes "file " ++ shown_path entry.path ++ labelled (codes " ") entry.size ++ word (checksum_text entry.checksum))
+    line (codes "file " ++ shown_path entry.path ++ labelled (codes " ") entry.size
+    ++ word (checksum_text entry.checksum))
 
 abbrev pub entry_line : Entry → List ℕ
 entry_line entry = kind_line entry.kind entry
 
 abbrev pub blocks_line : World → List ℕ
 blocks_line W =
-    line (labelled (codes "store used ") (blocks W.filestore) ++ labelled (codes " free ") (free W) ++ labelled (codes " spare ") (spare W))
+    line (labelled (codes "store used ") (blocks W.filestore) ++ labelled (codes " free ") (free W)
+    ++ labelled (codes " spare ") (spare W))
 
 abbrev pub listing_text : World → List ℕ
 listing_text W = blocks_line W ++ flat_map entry_line (listing_of W.filestore)

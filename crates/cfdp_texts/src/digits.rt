@@ -8,7 +8,7 @@ use std::alloc::AllocError;
 ///
 /// # Errors
 ///
-/// Want of memory: nothing was appended. Cost: a pass over the octets.
+/// Out of memory: nothing was appended. Cost: a pass over the octets.
 pub fn encode(octets: &[u8], out: &mut Vec<u8>) -> Result<(), AllocError>
     ensures ok { OnOk result (out.new.items ≡ out.old.items ++ encode_lower octets.now) }
     ensures kept { OnErr result (out.new.items ≡ out.old.items) }

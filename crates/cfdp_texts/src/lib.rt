@@ -1,5 +1,6 @@
-//! The texts of a receiving entity: the line of a reply to a PDU or a local event (CCSDS 727.0-B-5 §4.6), that of octets that bring
-//! no event, and those of what stands in the filestore. `docs/FORMATS.md` lists them, and `specs/Replies.antt` defines them.
+//! The texts of a receiving entity: the line of a reply to a PDU or a local event (CCSDS 727.0-B-5, copy file
+//! procedures), that of octets that bring no event, and those of what is in the filestore. `docs/FORMATS.md` lists
+//! them, and `specs/Replies.antt` defines them.
 #![tactic(auto)]
 
 mod digits;

@@ -1,4 +1,4 @@
-//! The lines that `replay` writes of all that stands in the filestore.
+//! The lines that `replay` writes of all that is in the filestore.
 ghost use Rattle.std.specs.Prelude.{◌≡◌, ◌++◌, OnOk};
 ghost use Rattle.cfdp_actions.specs.Filestore.{blocks};
 ghost use Rattle.cfdp_texts.specs.Replies.{blocks_line, entry_line, is_plain, listing_text, shown_octet, shown_path};
@@ -40,7 +40,7 @@ fn push_path(alloc: Global, path: &Path, text: &mut Vec<u8>) -> Result<(), Alloc
     Ok(())
 }
 
-/// Appends the line of what stands at a path.
+/// Appends the line of what is at a path.
 fn push_entry(alloc: Global, entry: &Entry, text: &mut Vec<u8>) -> Result<(), AllocError>
     ensures { OnOk result (text.new.items ≡ text.old.items ++ entry_line entry.now) }
 {
@@ -77,7 +77,8 @@ fn push_blocks<S: Filestore>(core: &Core<S>, text: &mut Vec<u8>) -> Result<(), A
     Ok(text.push(b'\n')?)
 }
 
-/// Appends the line of the blocks, and those of all that stands, in path order. Cost: one pass over the filestore's octets.
+/// Appends the line of the blocks, and those of all that exists, in path order. Cost: one pass over the filestore's
+/// octets.
 pub fn write_listing<S: Filestore>(
     alloc: Global,
     core: &Core<S>,

@@ -197,8 +197,8 @@ pub fn write_reply(
     Ok(text.push(b'\n')?)
 }
 
-/// Appends the line of an outcome that was handed out, from the octets of its Finished PDU, none where it is not sent, and its
-/// condition code.
+/// Appends the line of an outcome that was handed out, from the octets of its Finished PDU, none where it is not sent,
+/// and its condition code.
 ///
 /// # Errors
 ///
@@ -209,7 +209,8 @@ pub fn write_taken(
     condition: u64,
     text: &mut Vec<u8>,
 ) -> Result<(), AllocError>
-    ensures ok { OnOk result (text.new.items ≡ text.old.items ++ line (name_of id ++ word (taken_text octets.now condition))) }
+    ensures ok { OnOk result (text.new.items ≡ text.old.items
+        ++ line (name_of id ++ word (taken_text octets.now condition))) }
     ensures begins { StartsAs text.old.items text.new.items }
 {
     push_name(id, text)?;

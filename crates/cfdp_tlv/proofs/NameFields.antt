@@ -7,12 +7,13 @@ use Rattle.cfdp_tlv.specs.Grammar.{names_of, second_at}
 use Rattle.cfdp_tlv.proofs.Steps.{bind_ok, ok_is}
 use Rattle.cfdp_tlv.proofs.Fields.{lv_takes, lv_again}
 
--- a first name and, where it is wanted, a second one stand at the front
+-- a first name and, where it is wanted, a second one are at the front
 pub record TakesNames (wanted : Bool) (octets first : List ℕ) (second : Option (List ℕ)) (rest : List ℕ) : Type 0 where
   pub complete : is_some second ≡ wanted
   pub parts : octets ≡ names_of first second ++ rest
 
-pub names_take : (wanted : Bool) (octets first after : List ℕ) (second : Option (List ℕ)) (rest : List ℕ) → lv_at octets ≡ Ok (first, after) → second_at wanted after ≡ Ok (second, rest) → TakesNames wanted octets first second rest
+pub names_take : (wanted : Bool) (octets first after : List ℕ) (second : Option (List ℕ)) (rest : List ℕ) → lv_at octets ≡ Ok (first, after) →
+    second_at wanted after ≡ Ok (second, rest) → TakesNames wanted octets first second rest
 unfolding second_at
 names_take false octets first after second rest one two =
     let made : Option (List ℕ) × List ℕ = (None, after) in
@@ -21,11 +22,12 @@ names_take false octets first after second rest one two =
 names_take true octets first after second rest one two =
     let a = bind_ok (lv_at after) (λ field. Ok (Some field.0, field.1)) (second, rest) two in
     let made : Option (List ℕ) × List ℕ = (Some a.0.0, a.0.1) in
-    let parts : octets ≡ lv first ++ (lv a.0.0 ++ a.0.1) = lv_takes octets first after one ∙ ap (λ (t : List ℕ). lv first ++ t) (lv_takes after a.0.0 a.0.1 a.1) in
+    let parts : octets ≡ lv first ++ (lv a.0.0 ++ a.0.1) = lv_takes octets first after one
+    ∙ ap (λ (t : List ℕ). lv first ++ t) (lv_takes after a.0.0 a.0.1 a.1) in
     subst (λ (p : Option (List ℕ) × List ℕ). TakesNames true octets first p.0 p.1) (ok_is made (second, rest) a.2)
     record { complete = refl; parts = parts ∙ sym (append_assoc (lv first) (lv a.0.0) a.0.1) }
 
--- what stands after the first name
+-- what is after the first name
 abbrev pub after_first : Option (List ℕ) → List ℕ → List ℕ
 after_first None rest = rest
 after_first (Some second) rest = lv second ++ rest

@@ -20,8 +20,10 @@ pub request_takes : (octets : List ℕ) (request : RequestFields) → request_at
 unfolding request_at
 request_takes [] request e = absurd cc
 request_takes (octet ∷ octets) request e =
-    let a = bind_ok (known (beside actions (octet / 16)) BadAction) (λ action. lv_at octets >>= λ first. second_at (has_second action) first.1 >>= λ second. whole (record { action = action; first = first.0; second = second.0 }) second.1) request e in
-    let b = bind_ok (lv_at octets) (λ first. second_at (has_second a.0) first.1 >>= λ second. whole (record { action = a.0; first = first.0; second = second.0 }) second.1) request a.2 in
+    let a = bind_ok (known (beside actions (octet / 16)) BadAction) (λ action. lv_at octets >>= λ first. second_at (has_second action) first.1 >>= λ second.
+    whole (record { action = action; first = first.0; second = second.0 }) second.1) request e in
+    let b = bind_ok (lv_at octets) (λ first. second_at (has_second a.0) first.1 >>= λ second.
+    whole (record { action = a.0; first = first.0; second = second.0 }) second.1) request a.2 in
     let d = bind_ok (second_at (has_second a.0) b.0.1) (λ second. whole (record { action = a.0; first = b.0.0; second = second.0 }) second.1) request b.2 in
     let made : RequestFields = record { action = a.0; first = b.0.0; second = d.0.0 } in
     let end = whole_ok made d.0.1 request d.2 in
@@ -39,10 +41,11 @@ request_again [] request spelled = absurd spelled
 request_again (octet ∷ octets) request spelled =
     let names : octets ≡ names_of request.first request.second ++ [] = spelled.named ∙ sym (append-nil (names_of request.first request.second)) in
     let first : lv_at octets ≡ Ok (request.first, after_first request.second []) = ap lv_at names ∙ first_again request.first request.second [] in
-    let second : second_at (has_second request.action) (after_first request.second []) ≡ Ok (request.second, []) = rw (← spelled.complete) (second_again request.second []) in
+    let second : second_at (has_second request.action) (after_first request.second []) ≡ Ok (request.second, []) =
+    rw (← spelled.complete) (second_again request.second []) in
     rw (spelled.acts, first, second) refl
 
--- the code of an action, above four spare bits, stands for it
+-- the code of an action, above four spare bits, means it
 beside-code : (action : Action) → beside actions (16 * code_of action / 16) ≡ Some action
 beside-code CreateFile = refl
 beside-code DeleteFile = refl
@@ -58,11 +61,13 @@ beside-code DenyDirectory = refl
 pub one_request : (octets : List ℕ) (a b : RequestFields) → SpellsRequest octets a → SpellsRequest octets b → a ≡ b
 one_request octets a b first second = ok_is a b (sym (request_again octets a first) ∙ request_again octets b second)
 
-pub request_found : (octets : List ℕ) (result : Result RequestFields TlvFault) → Gives Memory (λ (r : RequestFields). r) result (request_at octets) → IfOk result (SpellsRequest octets)
+pub request_found : (octets : List ℕ) (result : Result RequestFields TlvFault) → Gives Memory (λ (r : RequestFields). r) result (request_at octets) →
+    IfOk result (SpellsRequest octets)
 request_found octets (Ok request) given = request_takes octets request given
 request_found octets (Err fault) given = tt
 
-pub request_only : (octets : List ℕ) (result : Result RequestFields TlvFault) → Gives Memory (λ (r : RequestFields). r) result (request_at octets) → (request : RequestFields) → SpellsRequest octets request → (result ≡ Ok request) ⊎ (result ≡ Err Memory)
+pub request_only : (octets : List ℕ) (result : Result RequestFields TlvFault) → Gives Memory (λ (r : RequestFields). r) result (request_at octets) →
+    (request : RequestFields) → SpellsRequest octets request → (result ≡ Ok request) ⊎ (result ≡ Err Memory)
 request_only octets result given request spelled = only_ok Memory result (request_at octets) request given (request_again octets request spelled)
 
 -- what is written of a request spells it

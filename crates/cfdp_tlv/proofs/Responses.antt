@@ -18,10 +18,16 @@ pub response_takes : (octets : List ℕ) (response : ResponseFields) → respons
 unfolding response_at
 response_takes [] response e = absurd cc
 response_takes (octet ∷ octets) response e =
-    let n = bind_ok (known (beside actions (octet / 16)) BadAction) (λ _. known (beside statuses octet) BadStatus >>= λ status. lv_at octets >>= λ first. second_at (has_second (action_of status)) first.1 >>= λ second. lv_at second.1 >>= λ message. whole (record { status = status; first = first.0; second = second.0; message = message.0 }) message.1) response e in
-    let a = bind_ok (known (beside statuses octet) BadStatus) (λ status. lv_at octets >>= λ first. second_at (has_second (action_of status)) first.1 >>= λ second. lv_at second.1 >>= λ message. whole (record { status = status; first = first.0; second = second.0; message = message.0 }) message.1) response n.2 in
-    let b = bind_ok (lv_at octets) (λ first. second_at (has_second (action_of a.0)) first.1 >>= λ second. lv_at second.1 >>= λ message. whole (record { status = a.0; first = first.0; second = second.0; message = message.0 }) message.1) response a.2 in
-    let d = bind_ok (second_at (has_second (action_of a.0)) b.0.1) (λ second. lv_at second.1 >>= λ message. whole (record { status = a.0; first = b.0.0; second = second.0; message = message.0 }) message.1) response b.2 in
+    let n = bind_ok (known (beside actions (octet / 16)) BadAction) (λ _. known (beside statuses octet) BadStatus >>= λ status. lv_at octets >>= λ first.
+    second_at (has_second (action_of status)) first.1 >>= λ second. lv_at second.1 >>= λ message.
+    whole (record { status = status; first = first.0; second = second.0; message = message.0 }) message.1) response e in
+    let a = bind_ok (known (beside statuses octet) BadStatus) (λ status. lv_at octets >>= λ first.
+    second_at (has_second (action_of status)) first.1 >>= λ second. lv_at second.1 >>= λ message.
+    whole (record { status = status; first = first.0; second = second.0; message = message.0 }) message.1) response n.2 in
+    let b = bind_ok (lv_at octets) (λ first. second_at (has_second (action_of a.0)) first.1 >>= λ second. lv_at second.1 >>= λ message.
+    whole (record { status = a.0; first = first.0; second = second.0; message = message.0 }) message.1) response a.2 in
+    let d = bind_ok (second_at (has_second (action_of a.0)) b.0.1) (λ second. lv_at second.1 >>= λ message.
+    whole (record { status = a.0; first = b.0.0; second = second.0; message = message.0 }) message.1) response b.2 in
     let m = bind_ok (lv_at d.0.1) (λ message. whole (record { status = a.0; first = b.0.0; second = d.0.0; message = message.0 }) message.1) response d.2 in
     let made : ResponseFields = record { status = a.0; first = b.0.0; second = d.0.0; message = m.0.0 } in
     let end = whole_ok made m.0.1 response m.2 in
@@ -39,8 +45,10 @@ unfolding response_at
 response_again [] response spelled = absurd spelled
 response_again (octet ∷ octets) response spelled =
     let action : beside actions (octet / 16) ≡ Some (action_of response.status) = action_of-beside octet response.status spelled.answers in
-    let first : lv_at octets ≡ Ok (response.first, after_first response.second (lv response.message)) = ap lv_at spelled.named ∙ first_again response.first response.second (lv response.message) in
-    let second : second_at (has_second (action_of response.status)) (after_first response.second (lv response.message)) ≡ Ok (response.second, lv response.message) = rw (← spelled.complete) (second_again response.second (lv response.message)) in
+    let first : lv_at octets ≡ Ok (response.first, after_first response.second (lv response.message)) = ap lv_at spelled.named
+    ∙ first_again response.first response.second (lv response.message) in
+    let second : second_at (has_second (action_of response.status)) (after_first response.second (lv response.message))
+    ≡ Ok (response.second, lv response.message) = rw (← spelled.complete) (second_again response.second (lv response.message)) in
     let message : lv_at (lv response.message) ≡ Ok (response.message, []) = ap lv_at (sym (append-nil (lv response.message))) ∙ lv_again response.message [] in
     rw (action, spelled.answers, first, second, message) refl
 
@@ -48,11 +56,13 @@ response_again (octet ∷ octets) response spelled =
 pub one_response : (octets : List ℕ) (a b : ResponseFields) → SpellsResponse octets a → SpellsResponse octets b → a ≡ b
 one_response octets a b first second = ok_is a b (sym (response_again octets a first) ∙ response_again octets b second)
 
-pub response_found : (octets : List ℕ) (result : Result ResponseFields TlvFault) → Gives Memory (λ (r : ResponseFields). r) result (response_at octets) → IfOk result (SpellsResponse octets)
+pub response_found : (octets : List ℕ) (result : Result ResponseFields TlvFault) → Gives Memory (λ (r : ResponseFields). r) result (response_at octets) →
+    IfOk result (SpellsResponse octets)
 response_found octets (Ok response) given = response_takes octets response given
 response_found octets (Err fault) given = tt
 
-pub response_only : (octets : List ℕ) (result : Result ResponseFields TlvFault) → Gives Memory (λ (r : ResponseFields). r) result (response_at octets) → (response : ResponseFields) → SpellsResponse octets response → (result ≡ Ok response) ⊎ (result ≡ Err Memory)
+pub response_only : (octets : List ℕ) (result : Result ResponseFields TlvFault) → Gives Memory (λ (r : ResponseFields). r) result (response_at octets) →
+    (response : ResponseFields) → SpellsResponse octets response → (result ≡ Ok response) ⊎ (result ≡ Err Memory)
 response_only octets result given response spelled = only_ok Memory result (response_at octets) response given (response_again octets response spelled)
 
 -- what is written of a response spells it

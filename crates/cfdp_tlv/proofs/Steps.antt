@@ -31,7 +31,8 @@ known_ok None fault y e = absurd cc
 known_ok (Some x) fault y e = cc
 
 -- where reading gives a value, the answer is that value, or memory ran out
-pub only_ok : {A F : Type 0} (memory : F) (result read : Result A F) (y : A) → Gives memory (λ (x : A). x) result read → read ≡ Ok y → (result ≡ Ok y) ⊎ (result ≡ Err memory)
+pub only_ok : {A F : Type 0} (memory : F) (result read : Result A F) (y : A) → Gives memory (λ (x : A). x) result read → read ≡ Ok y → (result ≡ Ok y)
+    ⊎ (result ≡ Err memory)
 only_ok memory (Ok x) read y given e = inl (sym given ∙ e)
 only_ok memory (Err fault) read y (inl same) e = absurd cc
 only_ok memory (Err fault) read y (inr ran_out) e = inr (ap Err ran_out.0)

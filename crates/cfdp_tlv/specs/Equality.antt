@@ -29,7 +29,8 @@ names_equiv = options_equiv (lists_equiv nat_eq_equiv)
 pub requests_equiv : IsEquivalence same_request
 requests_equiv =
     and_equiv (on_equiv (λ (r : RequestFields). code_of r.action) nat_eq_equiv)
-    (and_equiv (on_equiv (λ (r : RequestFields). r.first) (lists_equiv nat_eq_equiv)) (on_equiv (λ (r : RequestFields). r.second) names_equiv))
+    (and_equiv (on_equiv (λ (r : RequestFields). r.first) (lists_equiv nat_eq_equiv))
+    (on_equiv (λ (r : RequestFields). r.second) names_equiv))
 
 pub requests_per : IsPartialEquivalence same_request
 requests_per = partial_equiv_from_equiv requests_equiv
@@ -37,7 +38,8 @@ requests_per = partial_equiv_from_equiv requests_equiv
 same_names_equiv : IsEquivalence same_names
 unfolding same_names
 same_names_equiv =
-    and_equiv (on_equiv (λ (r : ResponseFields). r.first) (lists_equiv nat_eq_equiv)) (on_equiv (λ (r : ResponseFields). r.second) names_equiv)
+    and_equiv (on_equiv (λ (r : ResponseFields). r.first) (lists_equiv nat_eq_equiv))
+    (on_equiv (λ (r : ResponseFields). r.second) names_equiv)
 
 pub responses_equiv : IsEquivalence same_response
 responses_equiv =

@@ -1,8 +1,8 @@
 -- LV and TLV fields (CCSDS 727.0-B-5 §5.1.8 and §5.1.9). An octet is a number below 256.
 --   lv value          the octets of an LV field: the length of the value, and the value
 --   tlv kind value    the octets of a TLV field: the type, the length, and the value
---   lv_at octets      the value at the front and what stands after it; Truncated where it is cut
---   tlv_at octets     the type and the value at the front and what stands after them, likewise
+--   lv_at octets      the value at the front and what is after it; Truncated where it is cut
+--   tlv_at octets     the type and the value at the front and what is after them, likewise
 use Rattle.std.specs.Prelude.{ℕ, List, [], ◌∷◌, length, take, drop, nat_lt, if◌then◌else◌, Result, Ok, Err}
 use Rattle.cfdp_tlv.specs.declared.fault.TlvFault.{TlvFault}
 use Rattle.cfdp_tlv.specs.declared.fault.TlvFault.TheVariants.{Truncated}

@@ -48,7 +48,7 @@ abbrev pub response_octets : ResponseFields → List ℕ
 response_octets response =
     octet_of response.status ∷ (names_of response.first response.second ++ lv response.message)
 
--- a second name, where there is to be one, and what stands after it
+-- a second name, where there is to be one, and what is after it
 unfoldable pub second_at : Bool → List ℕ → Result (Option (List ℕ) × List ℕ) TlvFault
 second_at false octets = Ok (None, octets)
 second_at true octets = do

@@ -14,11 +14,11 @@ pub enum TlvFault {
     Truncated,
     /// The action code is above 8.
     BadAction,
-    /// Octets stand after the last part of the value.
+    /// Octets are after the last part of the value.
     Trailing,
     /// The value to be written has more than 255 octets.
     TooLong,
-    /// The status octet stands in no row of the table.
+    /// The status octet is in no row of the table.
     BadStatus,
     /// Memory ran out.
     Memory,

@@ -22,11 +22,11 @@ pub struct Tlv<'a> {
     pub kind: u8,
     /// The value, at most 255 octets.
     pub value: &'a [u8],
-    /// What stands after the field.
+    /// What is after the field.
     pub rest: &'a [u8],
 }
 
-/// The value of the LV field at the front, and what stands after it (CCSDS 727.0-B-5 §5.1.8).
+/// The value of the LV field at the front, and what is after it (CCSDS 727.0-B-5 §5.1.8).
 ///
 /// The only fault is `Truncated`: there is no length octet, or fewer octets after it than it says.
 /// It takes no memory.
@@ -34,7 +34,8 @@ pub struct Tlv<'a> {
 pub fn read_lv(octets: &[u8]) -> Result<(&[u8], &[u8]), TlvFault>
     // What is read is spelled so, and what is spelled so is read.
     ensures found { IfOk result (λ field. octets.now ≡ lv field.0.now ++ field.1.now) }
-    ensures only { (value rest : List ℕ) → octets.now ≡ lv value ++ rest → IsOkAnd result (λ field. (field.0.now ≡ value) × (field.1.now ≡ rest)) }
+    ensures only { (value rest : List ℕ) → octets.now ≡ lv value ++ rest →
+        IsOkAnd result (λ field. (field.0.now ≡ value) × (field.1.now ≡ rest)) }
     // Which fault it is.
     ensures exact { Answers (λ field. (field.0.now, field.1.now)) result (lv_at octets.now) }
 {
@@ -48,9 +49,9 @@ pub fn read_lv(octets: &[u8]) -> Result<(&[u8], &[u8]), TlvFault>
     Ok(rest.split_at(len))
 }
 
-/// The TLV field at the front, and what stands after it (CCSDS 727.0-B-5 §5.1.9).
+/// The TLV field at the front, and what is after it (CCSDS 727.0-B-5 §5.1.9).
 ///
-/// The only fault is `Truncated`: the type or the length octet is missing, or fewer octets stand
+/// The only fault is `Truncated`: the type or the length octet is missing, or fewer octets are
 /// after it than it says. It takes no memory.
 #[tactic(auto, unfolding(crate::specs::Field::tlv_at))]
 pub fn read_tlv(octets: &[u8]) -> Result<Tlv<'_>, TlvFault>

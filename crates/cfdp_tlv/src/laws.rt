@@ -13,5 +13,6 @@ pub fn requests_have_one_reading()
 /// Octets spell at most one response, and what is written of a response spells it.
 pub fn responses_have_one_reading()
     ensures one { (octets : List ℕ) (a b : ResponseFields) → SpellsResponse octets a → SpellsResponse octets b → a ≡ b }
-    ensures written { (response : ResponseFields) → IsResponse response → SpellsResponse (response_octets response) response }
+    ensures written { (response : ResponseFields) → IsResponse response →
+        SpellsResponse (response_octets response) response }
 {}

@@ -1,9 +1,9 @@
 //! LV and TLV fields, filestore requests and filestore responses (CCSDS 727.0-B-5 §5.1.8, §5.1.9,
 //! §5.4.1 and §5.4.2).
 //!
-//! A reader answers the value exactly where the octets spell one, and otherwise the first fault;
+//! A reader returns the value exactly where the octets spell one, and otherwise the first fault;
 //! `specs/Grammar.antt` says what spells what. A writer appends the one canonical spelling, or
-//! answers [`TlvFault::TooLong`] exactly where a value is longer than a length octet can say.
+//! returns [`TlvFault::TooLong`] exactly where a value is longer than a length octet can say.
 //! Reading refuses before it allocates: one pass looks for a fault, and then the names and the message
 //! are copied into one allocation, out of which they are lent.
 #![tactic(auto)]

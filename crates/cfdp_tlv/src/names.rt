@@ -10,10 +10,11 @@ use crate::{TlvFault, read_lv};
 use cfdp_status::Action;
 use std::alloc::{AllocError, Global};
 
-/// The second name at the front, where the action has one, and what stands after it.
+/// The second name at the front, where the action has one, and what is after it.
 #[tactic(auto, unfolding(crate::specs::Grammar::second_at))]
 pub fn read_second(action: Action, octets: &[u8]) -> Result<(Option<&[u8]>, &[u8]), TlvFault>
-    ensures exact { Answers (λ x. (option_map (λ name. name.now) x.0, x.1.now)) result (second_at (has_second action) octets.now) }
+    ensures exact { Answers (λ x. (option_map (λ name. name.now) x.0, x.1.now)) result
+        (second_at (has_second action) octets.now) }
     ensures complete { IfOk result (λ x. is_some x.0 ≡ has_second action) }
 {
     if !action.has_second() {
@@ -30,7 +31,8 @@ pub fn joined(
     second: Option<&[u8]>,
     message: &[u8],
 ) -> Result<Vec<u8>, AllocError>
-    ensures { IfOk result (λ octets. octets.items ≡ first.now ++ or_empty (option_map (λ name. name.now) second.entry) ++ message.now) }
+    ensures { IfOk result (λ octets. octets.items ≡ first.now ++ or_empty (option_map (λ name. name.now) second.entry)
+        ++ message.now) }
 {
     let second = second.unwrap_or(&[]);
     let len = first.len().saturating_add(second.len());

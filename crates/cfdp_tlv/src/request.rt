@@ -37,7 +37,11 @@ impl Model for FilestoreRequest {
 
     ghost Value = { RequestFields };
 
-    ghost view = { λ r. record { action = r.action; first = take r.first_len r.names.items; second = second_of r.action (drop r.first_len r.names.items) } };
+    ghost view = { λ r. record {
+      action = r.action;
+      first = take r.first_len r.names.items;
+      second = second_of r.action (drop r.first_len r.names.items);
+    } };
 
     ghost invariant = { λ r. r.first_len ≤ length r.names.items };
 }
@@ -61,7 +65,11 @@ impl<'a> Model for RequestParts<'a> {
 
     ghost Value = { RequestFields };
 
-    ghost view = { λ r. record { action = r.action; first = r.first.now; second = option_map (λ name. name.now) r.second } };
+    ghost view = { λ r. record {
+      action = r.action;
+      first = r.first.now;
+      second = option_map (λ name. name.now) r.second;
+    } };
 
     ghost invariant = { λ r. is_some r.second ≡ has_second r.action };
 }
@@ -96,7 +104,11 @@ impl FilestoreRequest {
         second: Option<&[u8]>,
     ) -> Result<FilestoreRequest, AllocError>
         requires { is_some second ≡ has_second action }
-        ensures { IfOk result (λ request. request ≡ record { action = action; first = first.now; second = option_map (λ name. name.now) second.entry }) }
+        ensures { IfOk result (λ request. request ≡ record {
+          action = action;
+          first = first.now;
+          second = option_map (λ name. name.now) second.entry;
+        }) }
     {
         Ok(FilestoreRequest {
             action,
@@ -186,7 +198,7 @@ pub fn request_parts(value: &[u8]) -> Result<RequestParts<'_>, TlvFault>
 }
 
 impl<'a> RequestParts<'a> {
-    /// The request with names of its own, in one allocation. The only fault is want of memory.
+    /// The request with names of its own, in one allocation. The only fault is out of memory.
     pub fn copy(&self, alloc: Global) -> Result<FilestoreRequest, AllocError>
         ensures { IfOk result (λ request. request ≡ self.now) }
     {
@@ -194,7 +206,7 @@ impl<'a> RequestParts<'a> {
     }
 }
 
-/// What [`read_request`] answers.
+/// What [`read_request`] returns.
 fn copied(alloc: Global, value: &[u8]) -> Result<FilestoreRequest, TlvFault>
     ensures exact { Gives Memory (λ request. request) result (request_at value.now) }
 {
@@ -210,8 +222,9 @@ pub fn read_request(alloc: Global, value: &[u8]) -> Result<FilestoreRequest, Tlv
     // What is read is spelled so.
     ensures found { IfOk result (SpellsRequest value.now) }
     // What is spelled so is read, unless memory runs out.
-    ensures only { (request : RequestFields) → SpellsRequest value.now request → (result ≡ Ok request) ⊎ (result ≡ Err Memory) }
-    // Which fault it is: `Memory` stands only in place of a request.
+    ensures only { (request : RequestFields) → SpellsRequest value.now request → (result ≡ Ok request)
+        ⊎ (result ≡ Err Memory) }
+    // Which fault it is: `Memory` is only in place of a request.
     ensures exact { Gives Memory (λ request. request) result (request_at value.now) }
 {
     copied(alloc, value)

@@ -38,7 +38,12 @@ impl Model for FilestoreResponse {
 
     ghost Value = { ResponseFields };
 
-    ghost view = { λ r. record { status = r.status; first = take r.first_len r.octets.items; second = second_of (action_of r.status) (drop r.first_len (take r.names_len r.octets.items)); message = drop r.names_len r.octets.items } };
+    ghost view = { λ r. record {
+      status = r.status;
+      first = take r.first_len r.octets.items;
+      second = second_of (action_of r.status) (drop r.first_len (take r.names_len r.octets.items));
+      message = drop r.names_len r.octets.items;
+    } };
 
     ghost invariant = { λ r. (r.first_len ≤ r.names_len) × (r.names_len ≤ length r.octets.items) };
 }
@@ -64,7 +69,12 @@ impl<'a> Model for ResponseParts<'a> {
 
     ghost Value = { ResponseFields };
 
-    ghost view = { λ r. record { status = r.status; first = r.first.now; second = option_map (λ name. name.now) r.second; message = r.message.now } };
+    ghost view = { λ r. record {
+      status = r.status;
+      first = r.first.now;
+      second = option_map (λ name. name.now) r.second;
+      message = r.message.now;
+    } };
 
     ghost invariant = { λ r. is_some r.second ≡ has_second (action_of r.status) };
 }
@@ -108,7 +118,12 @@ impl FilestoreResponse {
         message: &[u8],
     ) -> Result<FilestoreResponse, AllocError>
         requires { is_some second ≡ has_second (action_of status) }
-        ensures { IfOk result (λ response. response ≡ record { status = status; first = first.now; second = option_map (λ name. name.now) second.entry; message = message.now }) }
+        ensures { IfOk result (λ response. response ≡ record {
+          status = status;
+          first = first.now;
+          second = option_map (λ name. name.now) second.entry;
+          message = message.now;
+        }) }
     {
         let octets = joined(alloc, first, second, message)?;
         let names_len = octets.len() - message.len();
@@ -120,10 +135,15 @@ impl FilestoreResponse {
         })
     }
 
-    /// The response with a status, no message, and the names that stand one after the other.
+    /// The response with a status, no message, and the names one after the other.
     pub(crate) fn of_names(status: Status, names: Vec<u8>, first_len: usize) -> FilestoreResponse
         requires { first_len ≤ length names.items }
-        ensures { result ≡ record { status = status; first = take first_len names.items; second = second_of (action_of status) (drop first_len names.items); message = [] } }
+        ensures { result ≡ record {
+          status = status;
+          first = take first_len names.items;
+          second = second_of (action_of status) (drop first_len names.items);
+          message = [];
+        } }
     {
         let names_len = names.len();
         FilestoreResponse {
@@ -232,7 +252,7 @@ impl<'a> ResponseParts<'a> {
     }
 }
 
-/// What [`read_response`] answers.
+/// What [`read_response`] returns.
 fn copied(alloc: Global, value: &[u8]) -> Result<FilestoreResponse, TlvFault>
     ensures exact { Gives Memory (λ response. response) result (response_at value.now) }
 {
@@ -249,8 +269,9 @@ pub fn read_response(alloc: Global, value: &[u8]) -> Result<FilestoreResponse, T
     // What is read is spelled so.
     ensures found { IfOk result (SpellsResponse value.now) }
     // What is spelled so is read, unless memory runs out.
-    ensures only { (response : ResponseFields) → SpellsResponse value.now response → (result ≡ Ok response) ⊎ (result ≡ Err Memory) }
-    // Which fault it is: `Memory` stands only in place of a response.
+    ensures only { (response : ResponseFields) → SpellsResponse value.now response → (result ≡ Ok response)
+        ⊎ (result ≡ Err Memory) }
+    // Which fault it is: `Memory` is only in place of a response.
     ensures exact { Gives Memory (λ response. response) result (response_at value.now) }
 {
     copied(alloc, value)

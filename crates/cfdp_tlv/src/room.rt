@@ -31,9 +31,11 @@ pub fn push_lv(out: &mut Vec<u8>, value: &[u8])
 /// Appends the names as LV fields. It cannot fail, since there is room for them.
 pub fn push_names(out: &mut Vec<u8>, first: &[u8], second: Option<&[u8]>)
     requires short { length (names_of first.now (option_map (λ name. name.now) second)) < 256 }
-    requires room { vec_len out.old + length (names_of first.now (option_map (λ name. name.now) second)) ≤ vec_capacity out.old }
+    requires room { vec_len out.old + length (names_of first.now (option_map (λ name. name.now) second)) ≤ vec_capacity
+        out.old }
     ensures items { out.new.items ≡ out.old.items ++ names_of first.now (option_map (λ name. name.now) second.entry) }
-    ensures len { vec_len out.new ≡ vec_len out.old + length (names_of first.now (option_map (λ name. name.now) second.entry)) }
+    ensures len { vec_len out.new ≡ vec_len out.old + length
+        (names_of first.now (option_map (λ name. name.now) second.entry)) }
     ensures capacity { vec_capacity out.old ≤ vec_capacity out.new }
 {
     push_lv(out, first);

@@ -25,7 +25,8 @@ lease_in live e later = if live then (name_of e, footprint e) ∷ later else lat
 alike : (e new : Entry) (later : Grants) → new.header ≡ e.header → new.items ≡ e.items → lease_in true new later ≡ lease_in true e later
 alike e new later header items = rw (header, items) refl
 
-pub leases_changed : (t : List Entry) (k : ℕ) (e new : Entry) → slice_get t k ≡ Some e → IsTrue (is_live e.phase) → IsTrue (is_live new.phase) → new.header ≡ e.header → new.items ≡ e.items →
+pub leases_changed : (t : List Entry) (k : ℕ) (e new : Entry) → slice_get t k ≡ Some e → IsTrue (is_live e.phase) → IsTrue (is_live new.phase) → new.header
+    ≡ e.header → new.items ≡ e.items →
     leases_of (slice_set t k new) ≡ leases_of t
 leases_changed [] k e new at live still header items = refl
 leases_changed (d ∷ t) zero e new at live still header items = let q : d ≡ e = cc in rw (q, live, still) (alike e new (leases_of t) header items)
@@ -45,7 +46,8 @@ without_step : (d : Entry) (t : List Entry) (u : Grants) (id : TransactionId) (l
 without_step d t u id true ne later = rw (differs (name_of d) id ne) (ap (λ (g : Grants). (name_of d, footprint d) ∷ g) later)
 without_step d t u id false ne later = later
 
-pub leases_ended : (t : List Entry) (k : ℕ) (e new : Entry) → slice_get t k ≡ Some e → IsTrue (is_live e.phase) → IsFalse (is_live new.phase) → EachTwo (λ d f. name_of d ≢ name_of f) t →
+pub leases_ended : (t : List Entry) (k : ℕ) (e new : Entry) → slice_get t k ≡ Some e → IsTrue (is_live e.phase) → IsFalse (is_live new.phase) →
+    EachTwo (λ d f. name_of d ≢ name_of f) t →
     leases_of (slice_set t k new) ≡ without (leases_of t) (name_of e)
 leases_ended [] k e new at live final names = absurd cc
 leases_ended (d ∷ t) zero e new at live final names =
@@ -72,7 +74,7 @@ leases_added (d ∷ t) new = rw (leases_added t new) (leases_added_step d (lease
 
 -- the budget -------------------------------------------------------------------------
 
--- from q to p, where e comes to be `new`, and W to be V
+-- from q to p, where e becomes `new`, and W to be V
 pub record Adjusts (q p : Budget) (W V : World) (e new : Entry) : Type 0 where
   pub in_all : p.capacity ≡ q.capacity
   pub not_used : p.free ≡ free V

@@ -22,13 +22,14 @@ use Rattle.cfdp_transactions.proofs.ExampleWords.{config, header, id, asks, asks
 abbrev proposed : World → MetadataFields → List Reply
 proposed W m = replies W (metadata 7 m ∷ [])
 
--- where these entries stand and no transaction is known
+-- where these entries exist and no transaction is known
 abbrev judged : Listed → MetadataFields → List Reply
 judged es m = proposed (world config es []) m
 
--- sys and what stands below it is protected; sys and sys/a stand
+-- sys and what is below it is protected; sys and sys/a exist
 abbrev guarded : MetadataFields → List Reply
-guarded m = proposed (world (record config { prefixes = (codes "sys" ∷ []) ∷ [] }) ((codes "sys" ∷ [], Directory) ∷ (codes "sys" ∷ codes "a" ∷ [], File []) ∷ []) []) m
+guarded m = proposed (world (record config { prefixes = (codes "sys" ∷ []) ∷ [] })
+    ((codes "sys" ∷ [], Directory) ∷ (codes "sys" ∷ codes "a" ∷ [], File []) ∷ []) []) m
 
 -- what is granted --------------------------------------------------------------------
 
@@ -73,7 +74,8 @@ gives_before = simp look_ups
 many : judged [] (list (replicate 65 (asks action.CreateFile []))) ≡ Reply.Refused TooManyRequests ∷ []
 many = refl
 
-bad_path : judged [] (list (asks action.CreateFile (codes "a") ∷ asks action.CreateFile (codes "a//b") ∷ asks action.CreateFile [] ∷ [])) ≡ Reply.Refused (BadPath (places.Request 1)) ∷ []
+bad_path : judged [] (list (asks action.CreateFile (codes "a") ∷ asks action.CreateFile (codes "a//b") ∷ asks action.CreateFile [] ∷ []))
+    ≡ Reply.Refused (BadPath (places.Request 1)) ∷ []
 bad_path = refl
 
 -- the destination's name, before a request's
@@ -103,18 +105,25 @@ unfolding statuses steps peak row free_row table remove_directory step_bound blo
 first_conflicts = simp (look_ups, conflicts)
 
 -- one that is done leases nothing any more
-done_leases_none : proposed (shared (record (making 22 (codes "x")) { phase = Done } ∷ making 23 (codes "y") ∷ [])) removal ≡ Reply.Refused (Conflict (id 23)) ∷ []
+done_leases_none : proposed (shared (record (making 22 (codes "x")) { phase = Done } ∷ making 23 (codes "y") ∷ [])) removal
+    ≡ Reply.Refused (Conflict (id 23)) ∷ []
 unfolding statuses steps peak row free_row table remove_directory step_bound blocks blocks_of
 done_leases_none = simp (look_ups, conflicts)
 
 -- one that ended leases nothing, and what it performed stays
-ended_leases_none : proposed (world config ((codes "a" ∷ [], File []) ∷ []) (record (fresh 12 (list []) (Perform (CreateFile (codes "a" ∷ [])) ∷ Perform (CreateFile (codes "b" ∷ [])) ∷ []) 2 4) { phase = Ended 15; blocks_spent = pos 1; steps_spent = 2 } ∷ []))
+ended_leases_none : proposed (world config ((codes "a" ∷ [], File []) ∷ [])
+    (record (fresh 12 (list []) (Perform (CreateFile (codes "a" ∷ [])) ∷ Perform (CreateFile (codes "b" ∷ [])) ∷ []) 2 4) {
+      phase = Ended 15;
+      blocks_spent = pos 1;
+      steps_spent = 2;
+    } ∷ []))
     (list (asks action.DeleteFile (codes "a") ∷ [])) ≡ Reply.Admitted 0 2 ∷ []
 unfolding statuses steps peak row free_row table delete_file step_bound blocks blocks_of
 ended_leases_none = simp look_ups
 
 -- a name that is no path, before a conflict
-bad_path_first : proposed (shared (making 22 (codes "x") ∷ [])) (list (asks action.RemoveDirectory (codes "d") ∷ asks action.CreateFile [] ∷ [])) ≡ Reply.Refused (BadPath (places.Request 1)) ∷ []
+bad_path_first : proposed (shared (making 22 (codes "x") ∷ [])) (list (asks action.RemoveDirectory (codes "d") ∷ asks action.CreateFile [] ∷ []))
+    ≡ Reply.Refused (BadPath (places.Request 1)) ∷ []
 bad_path_first = refl
 
 -- a conflict, before a destination that is a directory
@@ -136,15 +145,18 @@ no_parent = simp look_ups
 -- requests that would fail -----------------------------------------------------------
 
 -- judged after those before it
-third_fails : judged [] (list (asks action.CreateFile (codes "a") ∷ asks_two action.RenameFile (codes "a") (codes "b") ∷ asks action.DeleteFile (codes "a") ∷ [])) ≡ Reply.Refused (WouldFail 2 DeleteAbsent) ∷ []
+third_fails : judged [] (list (asks action.CreateFile (codes "a") ∷ asks_two action.RenameFile (codes "a") (codes "b") ∷ asks action.DeleteFile
+    (codes "a") ∷ [])) ≡ Reply.Refused (WouldFail 2 DeleteAbsent) ∷ []
 unfolding statuses steps peak row free_row table create rename delete_file step_bound blocks blocks_of
 third_fails = simp look_ups
 
-twice : judged [] (list (asks action.CreateFile (codes "/a") ∷ asks action.CreateFile (codes "a") ∷ [])) ≡ Reply.Refused (WouldFail 1 (NotAllowed action.CreateFile)) ∷ []
+twice : judged [] (list (asks action.CreateFile (codes "/a") ∷ asks action.CreateFile (codes "a") ∷ []))
+    ≡ Reply.Refused (WouldFail 1 (NotAllowed action.CreateFile)) ∷ []
 unfolding statuses steps peak row free_row table create step_bound blocks blocks_of
 twice = simp look_ups
 
-not_empty : judged ((codes "d" ∷ [], Directory) ∷ (codes "d" ∷ codes "x" ∷ [], File []) ∷ []) (list (asks action.DenyDirectory (codes "d") ∷ [])) ≡ Reply.Refused (WouldFail 0 (NotAllowed action.DenyDirectory)) ∷ []
+not_empty : judged ((codes "d" ∷ [], Directory) ∷ (codes "d" ∷ codes "x" ∷ [], File []) ∷ []) (list (asks action.DenyDirectory (codes "d") ∷ []))
+    ≡ Reply.Refused (WouldFail 0 (NotAllowed action.DenyDirectory)) ∷ []
 unfolding statuses steps peak row free_row table deny_directory step_bound blocks blocks_of
 not_empty = simp look_ups
 
@@ -153,7 +165,7 @@ not_empty = simp look_ups
 abbrev doubling : List ℕ → List RequestFields → MetadataFields
 doubling name more = list (asks_two action.AppendFile name name ∷ more)
 
--- a file a, where there are so many blocks in all
+-- a file a, where there are this many blocks in all
 abbrev with_file : ℕ → List ℕ → World
 with_file capacity octets = world (record config { blocks = capacity }) ((codes "a" ∷ [], File octets) ∷ []) []
 
@@ -163,7 +175,8 @@ unfolding statuses steps peak row free_row table append step_bound blocks blocks
 too_long octets long = simp (look_ups, long)
 
 -- a request that would fail, before that
-fails_first : (octets : List ℕ) → length octets ≡ 3932160 → proposed (with_file 65536 octets) (doubling (codes "a") (asks action.DeleteFile (codes "b") ∷ [])) ≡ Reply.Refused (WouldFail 1 DeleteAbsent) ∷ []
+fails_first : (octets : List ℕ) → length octets ≡ 3932160 → proposed (with_file 65536 octets) (doubling (codes "a") (asks action.DeleteFile (codes "b") ∷ []))
+    ≡ Reply.Refused (WouldFail 1 DeleteAbsent) ∷ []
 unfolding statuses steps peak row free_row table append delete_file step_bound blocks blocks_of
 fails_first octets long = simp (look_ups, long)
 
@@ -179,9 +192,11 @@ one_short octets long = simp (look_ups, length-append, long)
 -- what a live transaction was granted is not to spare: after the first of its two steps nine blocks are free, and six reserved
 abbrev midway : World
 midway = world (record config { blocks = 16 }) ((codes "log" ∷ [], File []) ∷ (codes "src" ∷ [], File (replicate 600 5)) ∷ [])
-    (record (fresh 30 (list []) (Perform (DeleteFile (codes "old" ∷ [])) ∷ Perform (AppendFile (codes "log" ∷ []) (codes "src" ∷ [])) ∷ []) 0 18) { phase = Executing 1; blocks_spent = negsuc 5; steps_spent = 7 } ∷ [])
+    (record (fresh 30 (list []) (Perform (DeleteFile (codes "old" ∷ [])) ∷ Perform (AppendFile (codes "log" ∷ []) (codes "src" ∷ [])) ∷ []) 0 18)
+    { phase = Executing 1; blocks_spent = negsuc 5; steps_spent = 7 } ∷ [])
 
-reserved : proposed midway (list (asks action.CreateFile (codes "1") ∷ asks action.CreateFile (codes "2") ∷ asks action.CreateFile (codes "3") ∷ asks action.CreateFile (codes "4") ∷ asks action.CreateFile (codes "5") ∷ [])) ≡ Reply.Refused (NoRoom 5 3) ∷ []
+reserved : proposed midway (list (asks action.CreateFile (codes "1") ∷ asks action.CreateFile (codes "2") ∷ asks action.CreateFile
+    (codes "3") ∷ asks action.CreateFile (codes "4") ∷ asks action.CreateFile (codes "5") ∷ [])) ≡ Reply.Refused (NoRoom 5 3) ∷ []
 unfolding statuses steps peak row free_row table create step_bound blocks blocks_of
 reserved = simp (look_ups, conflicts)
 

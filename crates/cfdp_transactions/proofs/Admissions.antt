@@ -1,4 +1,4 @@
--- A reply that admits comes of a Metadata PDU alone, and the new entry has what it grants.
+-- Only a Metadata PDU has a reply that admits, and the new entry has what it grants.
 use Rattle.std.proofs.Common.{◌≡◌, ℕ, ◌+◌, List, [], ◌∷◌, length, refl, drop}
 use Rattle.std.specs.Prelude.{Option, Some, None, not, ◌&&◌, ◌||◌, ◌==◌, nat_lt, nat_le}
 use Rattle.std.proofs.lemmas.Bool.{cond_both}
@@ -134,12 +134,14 @@ module _ (W : World) (h : Header) (m : MetadataFields) (granted steps : ℕ) whe
     filestore = refl;
   }
 
-  judged_admits : (v : Verdict) → entry_of W (id_of h) ≡ None → verdict W.config.prefixes W.filestore (leases_of W.table) (spare W) (proposal_of W.config m) ≡ v → Admits (judged W h m v)
+  judged_admits : (v : Verdict) → entry_of W (id_of h) ≡ None → verdict W.config.prefixes W.filestore (leases_of W.table) (spare W) (proposal_of W.config m)
+      ≡ v → Admits (judged W h m v)
   judged_admits (Refuse r) absent is q = absurd cc
   judged_admits (Grant items blocks bound_steps) absent is q =
       let same_blocks : blocks ≡ granted = cc in
       let same_steps : bound_steps ≡ steps = cc in
-      rw (same_blocks, same_steps) (new_admitted items absent (granted_parsed W.config.prefixes W.filestore (leases_of W.table) (spare W) (proposal_of W.config m) items blocks bound_steps is))
+      rw (same_blocks, same_steps) (new_admitted items absent (granted_parsed W.config.prefixes W.filestore (leases_of W.table) (spare W)
+      (proposal_of W.config m) items blocks bound_steps is))
 
   metadata_admits : (o : Option Entry) → entry_of W (id_of h) ≡ o → Admits (metadata_came W h m o)
   metadata_admits (Some e) found = λ q. absurd cc
@@ -152,9 +154,11 @@ module _ (W : World) (h : Header) (m : MetadataFields) (granted steps : ℕ) whe
   came_admits : Admits (for_us W h (metadata_came W h m (entry_of W (id_of h))))
   came_admits = cond_both (h.destination == W.config.entity) _ _ Admits (λ _. metadata_admits (entry_of W (id_of h)) refl) (λ _ q. absurd cc)
 
-pub next_admitted : (W : World) (event : Event) (granted steps : ℕ) → (next W event).1 ≡ Reply.Admitted granted steps → IsAdmitted W (next W event).0 event granted steps
+pub next_admitted : (W : World) (event : Event) (granted steps : ℕ) → (next W event).1 ≡ Reply.Admitted granted steps →
+    IsAdmitted W (next W event).0 event granted steps
 next_admitted W (MetadataCame h m) granted steps q = came_admits W h m granted steps q
-next_admitted W (DataCame h piece) granted steps q = absurd (for_us_none W h _ (data_none W (index_of W (id_of h)) piece (entry_of W (id_of h))) granted steps q)
+next_admitted W (DataCame h piece) granted steps q = absurd (for_us_none W h _
+    (data_none W (index_of W (id_of h)) piece (entry_of W (id_of h))) granted steps q)
 next_admitted W (EofCame h eof) granted steps q = absurd (for_us_none W h _ (eof_none W (index_of W (id_of h)) eof (entry_of W (id_of h))) granted steps q)
 next_admitted W (Step id) granted steps q = absurd (stepped_none W (index_of W id) (entry_of W id) granted steps q)
 next_admitted W (Cancel id) granted steps q = absurd (cancelled_none W (index_of W id) (entry_of W id) granted steps q)

@@ -32,7 +32,8 @@ bound_without c m h = without (has_file m) (if m.size == 0 then c.cap else m.siz
     without true size h = absurd cc
     without false size h = refl
 
-module _ (laws : LowerLaws) (W : World) (s : Sound W) (h : Header) (m : MetadataFields) (new_name : Each (λ d. name_of d ≢ id_of h) W.table) (few : length W.table < 64) (short : length m.requests ≤ 64) where
+module _ (laws : LowerLaws) (W : World) (s : Sound W) (h : Header) (m : MetadataFields) (new_name : Each (λ d. name_of d ≢ id_of h) W.table)
+    (few : length W.table < 64) (short : length m.requests ≤ 64) where
   -- an entry that never is live
   refused_sound : (phase : Phase) → IsFalse (is_live phase) → IsFalse (is_counted phase) → Sound (with_new W (refused_entry h m phase))
   refused_sound phase final uncounted = new_sound W (refused_entry h m phase) s (record {
@@ -40,13 +41,28 @@ module _ (laws : LowerLaws) (W : World) (s : Sound W) (h : Header) (m : Metadata
     apart = λ live. absurd cc;
     names = new_name;
     kept = λ live. absurd cc;
-    honest = record { blocks = fresh_within 0; steps = omega arith; limits = record { of_blocks = omega arith; of_steps = omega arith; of_requests = short; of_items = omega arith }; no_more = omega arith; statuses = tt; in_order = refl; to_come = λ counted. absurd cc; counted = λ counted. absurd cc };
+    honest = record {
+      blocks = fresh_within 0;
+      steps = omega arith;
+      limits = record {
+        of_blocks = omega arith;
+        of_steps = omega arith;
+        of_requests = short;
+        of_items = omega arith;
+      };
+      no_more = omega arith;
+      statuses = tt;
+      in_order = refl;
+      to_come = λ counted. absurd cc;
+      counted = λ counted. absurd cc;
+    };
     few = few;
     room = rw final (omega arith);
     given = omega arith;
   })
 
-  granted_sound : (items : List Item) (blocks steps : ℕ) → IsGranted W.config.prefixes W.filestore (leases_of W.table) (spare W) (proposal_of W.config m) items blocks steps →
+  granted_sound : (items : List Item) (blocks steps : ℕ) → IsGranted W.config.prefixes W.filestore (leases_of W.table) (spare W)
+      (proposal_of W.config m) items blocks steps →
       successes items ≡ all_successful m.requests → Sound (with_new W (new_entry h m Receiving (free_slot W.table) items blocks steps))
   granted_sound items blocks steps granted order =
       let F = W.filestore in
@@ -60,8 +76,10 @@ module _ (laws : LowerLaws) (W : World) (s : Sound W) (h : Header) (m : Metadata
       new_sound W (new_entry h m Receiving slot items blocks steps) s (record {
         covered = λ _. laws.own_footprint items;
         apart = λ _ k d at live.
-            let apart = none_conflicts W.table (footprint_of items) granted.apart k d at live in
-            (record { paths = conflict_sym (footprint_of items) (footprint d) apart; slots = vacant k d at live }, record { paths = apart; slots = λ q. vacant k d at live (sym q) });
+            let apart = none_conflicts W.table (footprint_of items) granted.apart k d at live in (
+              record { paths = conflict_sym (footprint_of items) (footprint d) apart; slots = vacant k d at live },
+              record { paths = apart; slots = λ q. vacant k d at live (sym q) },
+            );
         names = new_name;
         kept = λ _. record {
           slot = inside;
@@ -73,21 +91,38 @@ module _ (laws : LowerLaws) (W : World) (s : Sound W) (h : Header) (m : Metadata
           eof = λ no. absurd cc;
           checks = omega arith;
           promise = record {
-            succeeds = succeed_same W.config.prefixes (alone F x) (stage F slot x) 0 slot items (sym law.0) (succeed_answers W.config.prefixes (alone F x) 0 items granted.succeed);
+            succeeds = succeed_same W.config.prefixes (alone F x) (stage F slot x) 0 slot items (sym law.0)
+                (succeed_answers W.config.prefixes (alone F x) 0 items granted.succeed);
             blocks = omega (arith, law.1, granted.need);
             steps = omega (arith, law.2, granted.steps);
           };
         };
-        honest = record { blocks = fresh_within blocks; steps = omega arith; limits = record { of_blocks = omega (arith, granted.room); of_steps = granted.short; of_requests = short; of_items = omega (arith, items_length items granted.proposed.shape, granted.proposed.count) }; no_more = omega arith; statuses = tt; in_order = refl; to_come = λ _. order; counted = λ _. omega (arith, granted.proposed.count) };
+        honest = record {
+          blocks = fresh_within blocks;
+          steps = omega arith;
+          limits = record {
+            of_blocks = omega (arith, granted.room);
+            of_steps = granted.short;
+            of_requests = short;
+            of_items = omega (arith, items_length items granted.proposed.shape, granted.proposed.count);
+          };
+          no_more = omega arith;
+          statuses = tt;
+          in_order = refl;
+          to_come = λ _. order;
+          counted = λ _. omega (arith, granted.proposed.count);
+        };
         few = few;
         room = omega (arith, granted.room);
         given = omega (arith, granted.room);
       })
 
-  judged_sound : (v : Verdict) → verdict W.config.prefixes W.filestore (leases_of W.table) (spare W) (proposal_of W.config m) ≡ v → IsJust W.config.prefixes W.filestore (leases_of W.table) (spare W) (proposal_of W.config m) v → Sound (judged W h m v).0
+  judged_sound : (v : Verdict) → verdict W.config.prefixes W.filestore (leases_of W.table) (spare W) (proposal_of W.config m) ≡ v →
+      IsJust W.config.prefixes W.filestore (leases_of W.table) (spare W) (proposal_of W.config m) v → Sound (judged W h m v).0
   judged_sound (Refuse r) is just = refused_sound Refused refl refl
   judged_sound (Grant items blocks steps) is just =
-      granted_sound items blocks steps just (granted_order W.config.prefixes W.filestore (leases_of W.table) (spare W) (proposal_of W.config m) items blocks steps is)
+      granted_sound items blocks steps just (granted_order W.config.prefixes W.filestore (leases_of W.table) (spare W)
+      (proposal_of W.config m) items blocks steps is)
 
 module _ (laws : LowerLaws) (W : World) (s : Sound W) (h : Header) (m : MetadataFields) where
   pub metadata_sound : (found : Option Entry) → (found ≡ None → Each (λ d. name_of d ≢ id_of h) W.table) → Sound (metadata_came W h m found).0
@@ -97,9 +132,11 @@ module _ (laws : LowerLaws) (W : World) (s : Sound W) (h : Header) (m : Metadata
       (λ room.
       let few : length W.table < 64 = leb-false _ _ room in
       cond_both (nat_lt 64 (length m.requests)) _ _ (λ (a : World × Reply). Sound a.0) (λ _. s)
-      (λ l. let short : length m.requests ≤ 64 = ltb-false _ _ l in cond_both (has_file m && not (is_known_checksum m.checksum_type)) _ _ (λ (a : World × Reply). Sound a.0)
+      (λ l. let short : length m.requests ≤ 64 = ltb-false _ _ l in cond_both (has_file m && not (is_known_checksum m.checksum_type)) _ _
+      (λ (a : World × Reply). Sound a.0)
       (λ _. refused_sound laws W s h m (absent refl) few short (Ended 11) refl refl)
-      (λ _. judged_sound laws W s h m (absent refl) few short (verdict W.config.prefixes W.filestore (leases_of W.table) (spare W) (proposal_of W.config m)) refl
+      (λ _. judged_sound laws W s h m (absent refl) few short (verdict W.config.prefixes W.filestore (leases_of W.table) (spare W) (proposal_of W.config m))
+      refl
       (verdict_just W.config.prefixes W.filestore (leases_of W.table) (spare W) (proposal_of W.config m)))))
 
   -- the filestore stays as it is

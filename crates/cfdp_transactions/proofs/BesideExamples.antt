@@ -1,4 +1,4 @@
--- Worked examples for the laws beside the headline: where something stands after a step, what is refused for the sake of
+-- Worked examples for the laws beside the headline: where something is after a step, what is refused for the sake of
 -- the paths, and whether the file is installed.
 use Rattle.std.proofs.Common.{◌≡◌, ℕ, List, [], ◌∷◌, map, refl}
 use Rattle.std.specs.Prelude.{Bool, true, false, pos, Some, None, codes, slice_set}
@@ -25,9 +25,10 @@ use Rattle.cfdp_transactions.proofs.ExampleWords.{config, header, id, asks, list
 
 -- keys -----------------------------------------------------------------------------------
 
--- what stands after one item, and whether it stands at a path
+-- what is after one item, and whether it is at a path
 abbrev keys_after : Listed → Item → List (Path × Bool)
-keys_after es item = map (λ (e : Path × Node). (e.0, is_path e.0)) (finite.entries (next (world config es (executing (fresh 12 (list []) (item ∷ []) 9 99) ∷ [])) (Step (id 12))).0.filestore.nodes)
+keys_after es item = map (λ (e : Path × Node). (e.0, is_path e.0)) (finite.entries
+    (next (world config es (executing (fresh 12 (list []) (item ∷ []) 9 99) ∷ [])) (Step (id 12))).0.filestore.nodes)
 
 created : keys_after [] (Perform (CreateFile (codes "a" ∷ []))) ≡ (codes "a" ∷ [], true) ∷ []
 unfolding row free_row table create blocks blocks_of
@@ -39,7 +40,7 @@ moved : keys_after ((codes "d" ∷ [], Directory) ∷ (codes "d" ∷ codes "x" �
 unfolding row free_row table rename blocks blocks_of
 moved = simp look_ups
 
--- to seven names it may move, and what stands in it then stands at eight; to eight names it may not
+-- to seven names it may move, and what is in it then is at eight; to eight names it may not
 abbrev seven : Path
 seven = codes "a" ∷ codes "b" ∷ codes "c" ∷ codes "d" ∷ codes "e" ∷ codes "f" ∷ codes "g" ∷ []
 
@@ -58,7 +59,8 @@ unfolding rename
 too_deep = refl
 
 -- a name that is no path: the list is refused
-dots : replies (start config) (metadata 5 (list (asks action.CreateDirectory (codes "d") ∷ asks action.CreateFile (codes "d/..") ∷ [])) ∷ []) ≡ Reply.Refused (BadPath (places.Request 1)) ∷ []
+dots : replies (start config) (metadata 5 (list (asks action.CreateDirectory (codes "d") ∷ asks action.CreateFile (codes "d/..") ∷ [])) ∷ [])
+    ≡ Reply.Refused (BadPath (places.Request 1)) ∷ []
 dots = refl
 
 no_path : is_path (codes "d" ∷ codes ".." ∷ []) ≡ false
@@ -74,12 +76,13 @@ files table = map (λ (e : Entry). (e.phase, e.installed, has_file e.metadata, f
 abbrev shown : World × Reply → Bool × List (Phase × Bool × Bool × ℕ)
 shown a = (says_installed a.1, files a.0.table)
 
--- four octets for f are there, and behind the install comes a request
+-- four octets for f are there, and after the install comes a request
 abbrev delivered : Entry
-delivered = record (executing (fresh 6 (file_to (codes "f") 4 (asks action.CreateFile (codes "a") ∷ [])) (Install (codes "f" ∷ []) ∷ Perform (CreateFile (codes "a" ∷ [])) ∷ []) 3 9)) {
-  received = Some 1 ∷ Some 2 ∷ Some 3 ∷ Some 4 ∷ [];
-  blocks_spent = pos 1;
-}
+delivered = record (executing (fresh 6 (file_to (codes "f") 4 (asks action.CreateFile (codes "a") ∷ []))
+    (Install (codes "f" ∷ []) ∷ Perform (CreateFile (codes "a" ∷ [])) ∷ []) 3 9)) {
+      received = Some 1 ∷ Some 2 ∷ Some 3 ∷ Some 4 ∷ [];
+      blocks_spent = pos 1;
+    }
 
 abbrev before_install : World
 before_install = record {
@@ -128,7 +131,9 @@ refused : files (refused_entry (header 8) (file_to (codes "f") 4 []) Refused ∷
 refused = refl
 
 -- a whole run, with the Finished PDU at its end
-delivers : replies (start config) (metadata 6 (file_to (codes "f") 4 []) ∷ piece 6 0 (1 ∷ 2 ∷ 3 ∷ 4 ∷ []) ∷ eof 6 0x01020304 4 ∷ Step (id 6) ∷ Take (id 6) ∷ []) ≡
-    Reply.Admitted 2 2 ∷ Reply.Stored ∷ Reply.Complete ∷ Reply.Installed ∷ Reply.Taken (outcome 6 (record { condition = 0; incomplete = false; file_status = 2; responses = []; fault = None })) ∷ []
+delivers : replies (start config) (metadata 6 (file_to (codes "f") 4 []) ∷ piece 6 0 (1 ∷ 2 ∷ 3 ∷ 4 ∷ []) ∷ eof 6 0x01020304 4 ∷ Step (id 6) ∷ Take (id 6) ∷ [])
+    ≡
+    Reply.Admitted 2 2 ∷ Reply.Stored ∷ Reply.Complete ∷ Reply.Installed ∷ Reply.Taken
+    (outcome 6 (record { condition = 0; incomplete = false; file_status = 2; responses = []; fault = None })) ∷ []
 unfolding statuses steps peak row free_row install step_bound blocks blocks_of weighed_from
 delivers = simp look_ups

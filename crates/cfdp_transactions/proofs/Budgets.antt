@@ -40,7 +40,7 @@ closed_elsewhere q slot other ne = get_or-set_other q.reserves slot other None N
 pub reserved_elsewhere : (q : Budget) (slot n other : ℕ) → other ≢ slot → entry_at (reserving q slot n) other ≡ entry_at q other
 reserved_elsewhere q slot n other ne = get_or-set_other q.reserves slot other (Some n) None ne
 
--- so many blocks were free before, and so many are after -------------------------------
+-- this many blocks were free before, and this many are after -------------------------------
 
 module _ (q p : Budget) (slot before after : ℕ) (opened : entry_at q slot ≡ Some (reserve_at q slot)) (apart : spare p ≡ spare q) where
   pub settled_given : before ≤ after → p ≡ giving q slot (after - before) → Settles q p slot before after

@@ -71,14 +71,17 @@ unknown_others W id (Take other) ne none = ap (λ (V : World). entry_of V id) (u
 -- transactions in the table --------------------------------------------------------------
 
 module _ (laws : LowerLaws) (W : World) (s : Sound W) where
-  for_us_moves : (k : ℕ) (e : Entry) → slice_get W.table k ≡ Some e → (h : Header) (a : World × Reply) → Moves false k e W a.0 → Moves false k e W (for_us W h a).0
-  for_us_moves k e at h a moves = cond_both (h.destination == W.config.entity) a _ (λ (b : World × Reply). Moves false k e W b.0) (λ _. moves) (λ _. still false k e W s at)
+  for_us_moves : (k : ℕ) (e : Entry) → slice_get W.table k ≡ Some e → (h : Header) (a : World × Reply) → Moves false k e W a.0 →
+      Moves false k e W (for_us W h a).0
+  for_us_moves k e at h a moves = cond_both (h.destination == W.config.entity) a _ (λ (b : World × Reply). Moves false k e W b.0) (λ _. moves)
+      (λ _. still false k e W s at)
 
   -- it moves on, or is taken out
   abbrev Fate : Bool → ℕ → Entry → World → Type 0
   Fate performing k e V = Moves performing k e W V ⊎ (V ≡ record W { table = remove W.table k })
 
-  at_found : (performing : Bool) (k : ℕ) (e : Entry) (f : Option Entry → World × Reply) → slice_get W.table k ≡ Some e → Moves performing k e W (f (Some e)).0 → Moves performing k e W (f (slice_get W.table k)).0
+  at_found : (performing : Bool) (k : ℕ) (e : Entry) (f : Option Entry → World × Reply) → slice_get W.table k ≡ Some e → Moves performing k e W (f (Some e)).0 →
+      Moves performing k e W (f (slice_get W.table k)).0
   at_found performing k e f at moves = subst (λ (o : Option Entry). Moves performing k e W (f o).0) (sym at) moves
 
   taken_fate : (k : ℕ) (e : Entry) → slice_get W.table k ≡ Some e → Fate false k e (taken_out W k (Some e)).0
@@ -95,7 +98,8 @@ module _ (laws : LowerLaws) (W : World) (s : Sound W) where
       for_us_moves k e found h (metadata_came W h m (entry_of W (id_of h))) (at_found false k e (λ o. metadata_came W h m o) found (still false k e W s found))
   moves_on (DataCame h piece) e other found =
       let k = index_of W (id_of h) in
-      for_us_moves k e found h (data_came W k piece (entry_of W (id_of h))) (at_found false k e (λ o. data_came W k piece o) found (data_moves laws W k e s found piece))
+      for_us_moves k e found h (data_came W k piece (entry_of W (id_of h)))
+      (at_found false k e (λ o. data_came W k piece o) found (data_moves laws W k e s found piece))
   moves_on (EofCame h eof) e other found =
       let k = index_of W (id_of h) in
       for_us_moves k e found h (eof_came W k eof (entry_of W (id_of h))) (at_found false k e (λ o. eof_came W k eof o) found (eof_moves laws W k e s found eof))
@@ -116,7 +120,8 @@ module _ (laws : LowerLaws) (W : World) (s : Sound W) where
   fate (Take id) e found = let k = index_of W id in subst (λ (o : Option Entry). Fate false k e (taken_out W k o).0) (sym found) (taken_fate k e found)
 
   -- once it is taken out its name is free
-  pub gone_unknown : (id : TransactionId) (e now : Entry) → entry_of W id ≡ Some e → slice_get (remove W.table (index_of W id)) (index_of (record W { table = remove W.table (index_of W id) }) id) ≡ Some now → ⊥
+  pub gone_unknown : (id : TransactionId) (e now : Entry) → entry_of W id ≡ Some e →
+      slice_get (remove W.table (index_of W id)) (index_of (record W { table = remove W.table (index_of W id) }) id) ≡ Some now → ⊥
   gone_unknown id e now found after =
       let k = index_of W id in
       let i = index_of (record W { table = remove W.table k }) id in
@@ -134,11 +139,13 @@ module _ (laws : LowerLaws) (W : World) (s : Sound W) where
       IsCarriedOn (performs event e.phase) W.filestore (next W event).0.filestore e now
   next_carried event e now found after = elim (fate event e found) [
     | inl p ↦
-        subst (λ (d : Entry). IsCarriedOn (performs event e.phase) W.filestore (next W event).0.filestore e d) (some_same p.0 now (sym (moved_here event e found p) ∙ after)) p.1.carried
+        subst (λ (d : Entry). IsCarriedOn (performs event e.phase) W.filestore (next W event).0.filestore e d)
+        (some_same p.0 now (sym (moved_here event e found p) ∙ after)) p.1.carried
     | inr gone ↦ absurd (gone_unknown (about event) e now found (rw gone at after))
   ]
 
-  others_found : (event : Event) (id : TransactionId) → id ≢ about event → (o : Option Entry) → entry_of W (about event) ≡ o → entry_of (next W event).0 id ≡ entry_of W id
+  others_found : (event : Event) (id : TransactionId) → id ≢ about event → (o : Option Entry) → entry_of W (about event) ≡ o → entry_of (next W event).0 id
+      ≡ entry_of W id
   others_found event id ne None none = unknown_others W id event ne none
   others_found event id ne (Some e) found =
       let k = index_of W (about event) in

@@ -34,7 +34,7 @@ pub record Goes (k : ℕ) (W V : World) : Type 0 where
   pub sound : Sound V
   pub keeps : (j : ℕ) (d : Entry) → slice_get W.table j ≡ Some d → j ≢ k → IsTrue (is_live d.phase) → Keeps W.filestore V.filestore (footprint d)
 
--- in which the entry e, at k, comes to be `now`, and no other entry changes; `performing`: an item was performed
+-- in which the entry e, at k, becomes `now`, and no other entry changes; `performing`: an item was performed
 pub record MovesTo (performing : Bool) (k : ℕ) (e now : Entry) (W V : World) : Type 0 where
   pub goes : Goes k W V
   pub table : V.table ≡ slice_set W.table k now
@@ -58,7 +58,8 @@ reserve_within (d ∷ t) zero e h = let q : d ≡ e = cc in rw q (omega arith)
 reserve_within (d ∷ t) (suc k) e h = omega (arith, reserve_within t k e h)
 
 pub reserve_at_most : (e : Entry) → reserve e ≤ left_of e.blocks_granted e.blocks_spent
-reserve_at_most e = cond_both (is_live e.phase) (left_of e.blocks_granted e.blocks_spent) 0 (λ (n : ℕ). n ≤ left_of e.blocks_granted e.blocks_spent) (λ _. omega arith) (λ _. omega arith)
+reserve_at_most e = cond_both (is_live e.phase) (left_of e.blocks_granted e.blocks_spent) 0 (λ (n : ℕ). n ≤ left_of e.blocks_granted e.blocks_spent)
+    (λ _. omega arith) (λ _. omega arith)
 
 module _ (laws : LowerLaws) (W : World) (s : Sound W) where
   module _ (performing : Bool) (k : ℕ) (e : Entry) (changes : List Change) (new : Entry) (own : IsOwnChange performing W k e changes new) where
@@ -76,10 +77,15 @@ module _ (laws : LowerLaws) (W : World) (s : Sound W) where
     kept_other j d at ne live =
         let kept = s.live j d at live in
         kept_alike laws W.config W.filestore G d kept
-        (record { kept = keeps_other j d at ne live; staged = sym (after-elsewhere W.filestore e.slot d.slot changes own.in_slot (s.apart j k d e at own.at ne live own.live).slots) })
+        (record {
+          kept = keeps_other j d at ne live;
+          staged = sym (after-elsewhere W.filestore e.slot d.slot changes own.in_slot
+              (s.apart j k d e at own.at ne live own.live).slots);
+        })
         (rw (after-slots W.filestore changes) kept.slot) s.rooted own.rooted
 
-    apart_new : (j : ℕ) (d : Entry) → slice_get W.table j ≡ Some d → j ≢ k → (IsTrue (is_live d.phase) → IsTrue (is_live new.phase) → IsApart d new) × (IsTrue (is_live new.phase) → IsTrue (is_live d.phase) → IsApart new d)
+    apart_new : (j : ℕ) (d : Entry) → slice_get W.table j ≡ Some d → j ≢ k → (IsTrue (is_live d.phase) → IsTrue (is_live new.phase) → IsApart d new)
+        × (IsTrue (is_live new.phase) → IsTrue (is_live d.phase) → IsApart new d)
     apart_new j d at ne = (
       (λ ld _. let a = s.apart j k d e at own.at ne ld own.live in record { paths = rw own.carried.items a.paths; slots = rw own.slot a.slots }),
       (λ _ ld. let a = s.apart k j e d own.at at (λ q. ne (sym q)) own.live ld in record { paths = rw own.carried.items a.paths; slots = rw own.slot a.slots }),
@@ -105,7 +111,8 @@ module _ (laws : LowerLaws) (W : World) (s : Sound W) where
     change_goes : Goes k W V
     change_goes = record {
       sound = record {
-        covered = set_each (λ _ (d : Entry). IsTrue (is_live d.phase) → AllByRecursion (IsWithin (footprint d)) d.items) W.table k new (λ _. laws.own_footprint new.items) (λ j d at ne. s.covered j d at);
+        covered = set_each (λ _ (d : Entry). IsTrue (is_live d.phase) → AllByRecursion (IsWithin (footprint d)) d.items) W.table k new
+            (λ _. laws.own_footprint new.items) (λ j d at ne. s.covered j d at);
         live = set_each (λ _ (d : Entry). IsTrue (is_live d.phase) → IsKept W.config G d) W.table k new own.kept kept_other;
         apart = set_two (λ (d f : Entry). IsTrue (is_live d.phase) → IsTrue (is_live f.phase) → IsApart d f) W.table k new apart_new s.apart;
         honest = set_each (λ _ (d : Entry). IsHonest W.config d) W.table k new own.honest (λ j d at ne. s.honest j d at);
@@ -115,7 +122,8 @@ module _ (laws : LowerLaws) (W : World) (s : Sound W) where
         vacant = vacant_now;
         rooted = own.rooted;
         room = omega (arith, s.room, own.room, reserves-set W.table k e new own.at, reserve_at_most new);
-        given = set_each (λ _ (d : Entry). left_of d.blocks_granted d.blocks_spent ≤ W.config.blocks) W.table k new (omega (arith, s.room, own.room, reserve_within W.table k e own.at)) (λ j d at ne. s.given j d at);
+        given = set_each (λ _ (d : Entry). left_of d.blocks_granted d.blocks_spent ≤ W.config.blocks) W.table k new
+            (omega (arith, s.room, own.room, reserve_within W.table k e own.at)) (λ j d at ne. s.given j d at);
       };
       keeps = keeps_other;
     }

@@ -16,7 +16,8 @@ use Rattle.cfdp_transactions.proofs.Accounts.{Adjusts}
 use Rattle.cfdp_transactions.proofs.Budgets.{given_here, closed_here, given_elsewhere, closed_elsewhere, reserve_is}
 use Rattle.cfdp_transactions.proofs.RowChange.{entry_at_k, reserve_open, blocks-unstaged, table_now, booked_now}
 
-module _ (s : Store) (b : Books) (sound : Sound (world_of s b)) (booked : IsBooked s b) (k : ℕ) (r : Row) (at : slice_get b.table k ≡ Some r) (live : IsTrue (is_live r.phase))
+module _ (s : Store) (b : Books) (sound : Sound (world_of s b)) (booked : IsBooked s b) (k : ℕ) (r : Row) (at : slice_get b.table k ≡ Some r)
+    (live : IsTrue (is_live r.phase))
     (condition : ℕ) (by_eof : Bool) (given : ℕ) (unstaged : given ≡ blocks_of (length (staged_in s.filestore r.slot))) where
   abbrev F : Filestore
   F = s.filestore
@@ -35,7 +36,8 @@ module _ (s : Store) (b : Books) (sound : Sound (world_of s b)) (booked : IsBook
       let same : e ≡ entry_in F r = get_same W.table k k e (entry_in F r) at_e (entry_at_k s b sound booked k r at live) refl in
       rw (same, table_now s b sound booked k r at live (Stages r.slot [] ∷ []) (refl, tt) now, unstaged) refl
 
-  module _ (p q : Budget) (gave : p ≡ giving b.quota r.slot given) (kept : spare p ≡ spare b.quota) (close : q ≡ closing p r.slot) (back : spare q ≡ spare p + reserve_at p r.slot) where
+  module _ (p q : Budget) (gave : p ≡ giving b.quota r.slot given) (kept : spare p ≡ spare b.quota) (close : q ≡ closing p r.slot) (back : spare q ≡ spare p
+      + reserve_at p r.slot) where
     opened : entry_at p r.slot ≡ Some (reserve (entry_in F r) + given)
     opened = rw gave (given_here b.quota r.slot (reserve (entry_in F r)) (reserve_open s b sound booked k r at live) given)
 
@@ -49,5 +51,11 @@ module _ (s : Store) (b : Books) (sound : Sound (world_of s b)) (booked : IsBook
       elsewhere = λ other ne. rw close (closed_elsewhere p r.slot other ne ∙ rw gave (given_elsewhere b.quota r.slot given other ne));
     }
 
-    pub ended_booked : IsBooked (with_changes s (Stages r.slot [] ∷ [])) (record { config = b.config; table = slice_set b.table k now; leases = without b.leases (row_name r); quota = q })
-    ended_booked = booked_now s b sound booked k r at live (Stages r.slot [] ∷ []) (refl, tt) now refl refl refl (λ alive. absurd cc) q adjusts (without b.leases (row_name r)) refl
+    pub ended_booked : IsBooked (with_changes s (Stages r.slot [] ∷ [])) (record {
+      config = b.config;
+      table = slice_set b.table k now;
+      leases = without b.leases (row_name r);
+      quota = q;
+    })
+    ended_booked = booked_now s b sound booked k r at live (Stages r.slot [] ∷ []) (refl, tt) now refl refl refl (λ alive. absurd cc) q adjusts
+        (without b.leases (row_name r)) refl

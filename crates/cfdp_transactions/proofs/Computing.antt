@@ -1,6 +1,6 @@
 -- Look-ups in filestores and footprints, as they compute on lists: what worked examples are rewritten by.
---     Listed, nodes_of es       what stands, as a list in path order, and the finite map of it
---     none_of, node_of, entries_of, len_of      the empty map;  what stands at a path;  the list back, and how long it is
+--     Listed, nodes_of es       what exists, as a list in path order, and the finite map of it
+--     none_of, node_of, entries_of, len_of      the empty map;  what is at a path;  the list back, and how long it is
 --     with_of, without_of, where_of     the map after something was put at a path, or taken from it; those that pass a test
 --     any_in_none, any_in_with, any_in_both     whether a path of a set passes a test
 --     look_ups, conflicts       these
@@ -19,7 +19,7 @@ use Rattle.cfdp_leases.specs.Footprint.{PathSet, any_in}
 use Rattle.cfdp_leases.proofs.Sets.{path_cmp_total, path_cmp-IsAntisymmetric, any_in-from_list, any_in-union}
 use Rattle.cfdp_transactions.proofs.Starting.{no_entries}
 
--- what stands ---------------------------------------------------------------------------
+-- what exists ---------------------------------------------------------------------------
 
 abbrev pub Listed : Type 0
 Listed = List (Path × Node)
@@ -52,7 +52,8 @@ turned : (b : Bool) (o : Option Node) → (if b then None else o) ≡ (if not b 
 turned true o = refl
 turned false o = refl
 
-pub without_of : (es : Listed) (p : Path) → is_sorted path_cmp es ≡ true → finite.remove (nodes_of es) p ≡ nodes_of (where_key path_cmp (λ q. not (eq_by_cmp path_cmp q p)) es)
+pub without_of : (es : Listed) (p : Path) → is_sorted path_cmp es ≡ true → finite.remove (nodes_of es) p
+    ≡ nodes_of (where_key path_cmp (λ q. not (eq_by_cmp path_cmp q p)) es)
 without_of es p s =
     finite.same_map path_cmp_total path_cmp-IsAntisymmetric _ _
     (λ q. finite.get-remove path_cmp_total (nodes_of es) p q ∙ turned (eq_by_cmp path_cmp q p) (finite.get (nodes_of es) q)
@@ -65,7 +66,8 @@ pub any_in_none : (test : Path → Bool) → any_in set.empty test ≡ false
 any_in_none test = any_in-from_list test []
 
 of_items : (s : PathSet) → s ≡ set.from_list (set.items s)
-of_items s = set.same_set path_cmp_total path_cmp-IsAntisymmetric s (set.from_list (set.items s)) (λ q. set.contains-items s q ∙ sym (set.contains-from_list path_cmp_total (set.items s) q))
+of_items s = set.same_set path_cmp_total path_cmp-IsAntisymmetric s (set.from_list (set.items s)) (λ q. set.contains-items s q
+    ∙ sym (set.contains-from_list path_cmp_total (set.items s) q))
 
 pub any_in_with : (s : PathSet) (p : Path) (test : Path → Bool) → any_in (set.insert s p) test ≡ (test p || any_in s test)
 any_in_with s p test = ap (λ (t : PathSet). any_in (set.insert t p) test) (of_items s) ∙ any_in-from_list test (p ∷ set.items s)

@@ -23,29 +23,35 @@ use Rattle.cfdp_transactions.proofs.RowWorld.{row_at}
 
 -- what follows once it is staged ---------------------------------------------------------
 
-pub last_waits : (W : World) (k : ℕ) (e : Entry) (checks : ℕ) (eof : Eof) → e.phase ≡ Awaiting checks → e.eof ≡ Some eof → is_whole eof.size e.received ≡ false → stored e.phase W k e ≡ (W, Reply.Stored)
+pub last_waits : (W : World) (k : ℕ) (e : Entry) (checks : ℕ) (eof : Eof) → e.phase ≡ Awaiting checks → e.eof ≡ Some eof → is_whole eof.size e.received
+    ≡ false → stored e.phase W k e ≡ (W, Reply.Stored)
 last_waits W k e checks eof waits came missing = rw (waits, came, missing) refl
 
-pub last_whole : (W : World) (k : ℕ) (e : Entry) (checks : ℕ) (eof : Eof) → e.phase ≡ Awaiting checks → e.eof ≡ Some eof → is_whole eof.size e.received ≡ true → stored e.phase W k e ≡ whole W k e eof.checksum
+pub last_whole : (W : World) (k : ℕ) (e : Entry) (checks : ℕ) (eof : Eof) → e.phase ≡ Awaiting checks → e.eof ≡ Some eof → is_whole eof.size e.received ≡ true →
+    stored e.phase W k e ≡ whole W k e eof.checksum
 last_whole W k e checks eof waits came all = rw (waits, came, all) refl
 
-pub stored_length : (s t : Store) (b d : Books) (k : ℕ) (r : Row) (piece : FileDataFields) → slice_get b.table k ≡ Some r → StoresAt (world_of s b) (world_of t d) k piece → length d.table ≡ length b.table
+pub stored_length : (s t : Store) (b d : Books) (k : ℕ) (r : Row) (piece : FileDataFields) → slice_get b.table k ≡ Some r →
+    StoresAt (world_of s b) (world_of t d) k piece → length d.table ≡ length b.table
 stored_length s t b d k r piece at stores_is =
     let e = entry_in s.filestore r in
     let is : world_of t d ≡ stores (world_of s b) k e (kept_with e.received piece.offset piece.octets) = stores_is e (row_at s.filestore b.table k r at) in
-    sym (length-map d.table (entry_in t.filestore)) ∙ ap (λ (W : World). length W.table) is ∙ length-set (table_of s.filestore b.table) k (storing s.filestore e (kept_with e.received piece.offset piece.octets))
+    sym (length-map d.table (entry_in t.filestore)) ∙ ap (λ (W : World). length W.table) is
+    ∙ length-set (table_of s.filestore b.table) k (storing s.filestore e (kept_with e.received piece.offset piece.octets))
     ∙ length-map b.table (entry_in s.filestore)
 
 -- how many pieces there would be ------------------------------------------------------------
 
-module _ (s : Store) (b : Books) (booked : IsBooked s b) (k : ℕ) (r : Row) (at : slice_get b.table k ≡ Some r) (live : IsTrue (is_live r.phase)) (piece : FileDataFields) (some : 0 < length piece.octets) where
+module _ (s : Store) (b : Books) (booked : IsBooked s b) (k : ℕ) (r : Row) (at : slice_get b.table k ≡ Some r) (live : IsTrue (is_live r.phase))
+    (piece : FileDataFields) (some : 0 < length piece.octets) where
   abbrev count : ℕ
   count = length (with_range piece.offset (piece.offset + length piece.octets) r.ranges)
 
   pieces_row : pieces (kept_with (entry_in s.filestore r).received piece.offset piece.octets) ≡ count
   pieces_row =
       let is : (entry_in s.filestore r).received ≡ received_in r.ranges (staged_in s.filestore r.slot) = rw live refl in
-      ap (λ (rs : Received). pieces (kept_with rs piece.offset piece.octets)) is ∙ pieces_kept r.ranges (staged_in s.filestore r.slot) piece.offset piece.octets (booked.pieces k r at live).pieces some
+      ap (λ (rs : Received). pieces (kept_with rs piece.offset piece.octets)) is
+      ∙ pieces_kept r.ranges (staged_in s.filestore r.slot) piece.offset piece.octets (booked.pieces k r at live).pieces some
 
   pub many_pieces : nat_le count 32 ≡ false → nat_lt 32 (pieces (kept_with (entry_in s.filestore r).received piece.offset piece.octets)) ≡ true
   many_pieces h = let is = pieces_row in grind (arith, nat_tests)
@@ -63,7 +69,8 @@ module _ (W : World) (k : ℕ) (piece : FileDataFields) (e : Entry) (at : slice_
   data_none opens none = rw (opens, none) refl
 
   module _ (opens : takes_data e.phase ≡ true) (some : (length piece.octets == 0) ≡ false) where
-    pub data_past : (V : World) → nat_lt (limit e.phase W.config e) (piece.offset + length piece.octets) ≡ true → EndsAt W V k false 6 → data_came W k piece (Some e) ≡ (V, Reply.Faulted 6)
+    pub data_past : (V : World) → nat_lt (limit e.phase W.config e) (piece.offset + length piece.octets) ≡ true → EndsAt W V k false 6 →
+        data_came W k piece (Some e) ≡ (V, Reply.Faulted 6)
     data_past V past ended = rw (opens, some, past, plain_end W V k 6 ended e at) refl
 
     module _ (below : nat_lt (limit e.phase W.config e) (piece.offset + length piece.octets) ≡ false) where

@@ -32,7 +32,8 @@ use Rattle.cfdp_transactions.proofs.SlotChanges.{blocks-staged}
 use Rattle.cfdp_transactions.proofs.Turning.{length-staged_of, reserve_live}
 use Rattle.cfdp_transactions.proofs.Writing.{kept_length}
 
-module _ (s : Store) (b : Books) (sound : Sound (world_of s b)) (booked : IsBooked s b) (k : ℕ) (r : Row) (at : slice_get b.table k ≡ Some r) (piece : FileDataFields) (takes : IsTakenAt (world_of s b) k piece) where
+module _ (s : Store) (b : Books) (sound : Sound (world_of s b)) (booked : IsBooked s b) (k : ℕ) (r : Row) (at : slice_get b.table k ≡ Some r)
+    (piece : FileDataFields) (takes : IsTakenAt (world_of s b) k piece) where
   abbrev F : Filestore
   F = s.filestore
 
@@ -110,7 +111,8 @@ module _ (s : Store) (b : Books) (sound : Sound (world_of s b)) (booked : IsBook
 
   -- and once it is staged
 
-  module _ (t : Store) (taken : ℕ) (state : t ≡ with_changes s (Stages r.slot (staged_of received) ∷ [])) (ranges_are : received_in (with_range piece.offset end r.ranges) (staged_in t.filestore r.slot) ≡ received)
+  module _ (t : Store) (taken : ℕ) (state : t ≡ with_changes s (Stages r.slot (staged_of received) ∷ []))
+      (ranges_are : received_in (with_range piece.offset end r.ranges) (staged_in t.filestore r.slot) ≡ received)
       (taken_is : taken ≡ blocks_of (length received) - blocks_of (length xs)) where
     abbrev changes : List Change
     changes = Stages r.slot (staged_of received) ∷ []
@@ -139,13 +141,19 @@ module _ (s : Store) (b : Books) (sound : Sound (world_of s b)) (booked : IsBook
     entry_now : entry_in G now ≡ storing F e received
     entry_now = built_same (received_by G now) received now.blocks_spent _ received_now (ap (λ (n : ℕ). spend r.blocks_spent n 0) taken_is)
 
-    pub stored_world : (q : Budget) → world_of t (record { config = b.config; table = slice_set b.table k now; leases = b.leases; quota = q }) ≡ stores W k e received
+    pub stored_world : (q : Budget) → world_of t (record { config = b.config; table = slice_set b.table k now; leases = b.leases; quota = q })
+        ≡ stores W k e received
     stored_world q = rw (state, table_now s b sound booked k r at live changes (refl, tt) now, entry_now) refl
 
     pub stored_at : (q : Budget) → StoresAt W (world_of t (record { config = b.config; table = slice_set b.table k now; leases = b.leases; quota = q })) k piece
     stored_at q f at_f = rw (entry_is s b k r at f at_f) (stored_world q)
 
-    pub stored_sound : LowerLaws → (q : Budget) → Sound (world_of t (record { config = b.config; table = slice_set b.table k now; leases = b.leases; quota = q }))
+    pub stored_sound : LowerLaws → (q : Budget) → Sound (world_of t (record {
+      config = b.config;
+      table = slice_set b.table k now;
+      leases = b.leases;
+      quota = q;
+    }))
     stored_sound laws q = rw (stored_world q) (storing_moves laws W k e sound at_k piece there.few e.phase refl there.opens there.below).goes.sound
 
     -- the ranges are those of what is staged
@@ -159,7 +167,8 @@ module _ (s : Store) (b : Books) (sound : Sound (world_of s b)) (booked : IsBook
     pieces_now : ArePiecesIn G now
     pieces_now alive = record {
       pieces = pieces_added r.ranges xs (staged_in G r.slot) piece.offset piece.octets pieces_here there.some now_long;
-      to_end = end_added 0 piece.offset end r.ranges (omega (arith, there.some)) pieces_here.runs ∙ ap (λ (n : ℕ). max n end) (booked.pieces k r at live).to_end ∙ sym now_long;
+      to_end = end_added 0 piece.offset end r.ranges (omega (arith, there.some)) pieces_here.runs ∙ ap (λ (n : ℕ). max n end) (booked.pieces k r at live).to_end
+          ∙ sym now_long;
     }
 
     -- the budget

@@ -46,7 +46,8 @@ unfolding blocks_of weighed_from
 out_of_order = refl
 
 -- the null checksum is not looked at, whatever the EOF says
-not_looked_at : replies (with_entry (fresh 10 (record (file 15) { checksum_type = 15 }) (Install (codes "f" ∷ []) ∷ []) 2 2)) (first_part ∷ second_part ∷ eof 10 0 15 ∷ []) ≡ Reply.Stored ∷ Reply.Stored ∷ Reply.Complete ∷ []
+not_looked_at : replies (with_entry (fresh 10 (record (file 15) { checksum_type = 15 }) (Install (codes "f" ∷ []) ∷ []) 2 2))
+    (first_part ∷ second_part ∷ eof 10 0 15 ∷ []) ≡ Reply.Stored ∷ Reply.Stored ∷ Reply.Complete ∷ []
 unfolding blocks_of weighed_from
 not_looked_at = refl
 
@@ -64,7 +65,8 @@ missing_all = refl
 abbrev again : Event
 again = piece 10 0 (255 ∷ [])
 
-first_octet_stays : replies (file_world 15) (first_part ∷ again ∷ second_part ∷ eof 10 0x181c2015 15 ∷ []) ≡ Reply.Stored ∷ Reply.Stored ∷ Reply.Stored ∷ Reply.Complete ∷ []
+first_octet_stays : replies (file_world 15) (first_part ∷ again ∷ second_part ∷ eof 10 0x181c2015 15 ∷ [])
+    ≡ Reply.Stored ∷ Reply.Stored ∷ Reply.Stored ∷ Reply.Complete ∷ []
 unfolding blocks_of weighed_from
 first_octet_stays = refl
 
@@ -84,7 +86,8 @@ unfolding blocks_of weighed_from
 checks_end = refl
 
 -- the missing octets come between the checks; then the EOF comes again
-between_checks : replies (file_world 15) (eof 10 0x181c2015 15 ∷ Check (id 10) ∷ first_part ∷ second_part ∷ eof 10 0x181c2015 15 ∷ Check (id 10) ∷ first_part ∷ []) ≡
+between_checks : replies (file_world 15) (eof 10 0x181c2015 15 ∷ Check (id 10) ∷ first_part ∷ second_part ∷ eof 10 0x181c2015 15 ∷ Check
+    (id 10) ∷ first_part ∷ []) ≡
     Reply.Waiting ∷ Reply.Waiting ∷ Reply.Stored ∷ Reply.Complete ∷ Reply.Duplicate ∷ Reply.Idle ∷ Reply.Idle ∷ []
 unfolding blocks_of weighed_from
 between_checks = refl
@@ -108,12 +111,14 @@ no_octets : replies (file_world 15) (piece 10 99 [] ∷ []) ≡ Reply.Stored ∷
 no_octets = refl
 
 -- for another entity, and of a transaction that is not known
-elsewhere : replies (file_world 15) (DataCame (record (header 10) { destination = 3 }) (record { offset = 0; octets = [] }) ∷ piece 11 0 (1 ∷ []) ∷ eof 11 0 1 ∷ Step (id 11) ∷ Cancel (id 11) ∷ Check (id 11) ∷ Take (id 11) ∷ []) ≡
+elsewhere : replies (file_world 15) (DataCame (record (header 10) { destination = 3 }) (record { offset = 0; octets = [] }) ∷ piece 11 0
+    (1 ∷ []) ∷ eof 11 0 1 ∷ Step (id 11) ∷ Cancel (id 11) ∷ Check (id 11) ∷ Take (id 11) ∷ []) ≡
     Reply.NotForUs ∷ Reply.Unknown ∷ Reply.Unknown ∷ Reply.Unknown ∷ Reply.Unknown ∷ Reply.Unknown ∷ Reply.Unknown ∷ []
 elsewhere = refl
 
 -- the Metadata again; a step before the file is there; its outcome while it is live
-too_early : replies (file_world 15) (metadata 10 (file 15) ∷ Step (id 10) ∷ Check (id 10) ∷ Take (id 10) ∷ []) ≡ Reply.Duplicate ∷ Reply.Idle ∷ Reply.Idle ∷ Reply.Idle ∷ []
+too_early : replies (file_world 15) (metadata 10 (file 15) ∷ Step (id 10) ∷ Check (id 10) ∷ Take (id 10) ∷ [])
+    ≡ Reply.Duplicate ∷ Reply.Idle ∷ Reply.Idle ∷ Reply.Idle ∷ []
 too_early = refl
 
 -- 32 pieces and no more
@@ -138,7 +143,13 @@ items = Perform (CreateFile (codes "a" ∷ [])) ∷ Perform (CreateFile (codes "
 
 -- after the first of three creates
 abbrev midway : Entry
-midway = record (fresh 12 three items 3 6) { phase = Executing 1; complete = true; statuses = Successful action.CreateFile ∷ []; blocks_spent = pos 1; steps_spent = 2 }
+midway = record (fresh 12 three items 3 6) {
+  phase = Executing 1;
+  complete = true;
+  statuses = Successful action.CreateFile ∷ [];
+  blocks_spent = pos 1;
+  steps_spent = 2;
+}
 
 -- a cancel midway: what was performed stays, the rest was not performed
 cancelled_midway : replies (with_entry midway) (Cancel (id 12) ∷ Cancel (id 12) ∷ Take (id 12) ∷ []) ≡
@@ -146,19 +157,22 @@ cancelled_midway : replies (with_entry midway) (Cancel (id 12) ∷ Cancel (id 12
       condition = 15;
       incomplete = false;
       file_status = 3;
-      responses = answers (Successful action.CreateFile) (codes "a") ∷ answers (NotPerformed action.CreateFile) (codes "b") ∷ answers (NotPerformed action.CreateFile) (codes "c") ∷ [];
+      responses = answers (Successful action.CreateFile) (codes "a") ∷ answers (NotPerformed action.CreateFile) (codes "b") ∷ answers
+          (NotPerformed action.CreateFile) (codes "c") ∷ [];
       fault = Some 2;
     })) ∷ []
 unfolding blocks_of weighed_from
 cancelled_midway = refl
 
 -- an EOF with a condition: the sender is at fault
-ended_by_sender : replies (with_entry (fresh 26 three items 3 6)) (EofCame (header 26) (record { condition = 15; checksum = 0; size = 0 }) ∷ Take (id 26) ∷ []) ≡
+ended_by_sender : replies (with_entry (fresh 26 three items 3 6)) (EofCame (header 26) (record { condition = 15; checksum = 0; size = 0 }) ∷ Take (id 26) ∷ [])
+    ≡
     Reply.Faulted 15 ∷ Reply.Taken (outcome 26 (record {
       condition = 15;
       incomplete = true;
       file_status = 3;
-      responses = answers (NotPerformed action.CreateFile) (codes "a") ∷ answers (NotPerformed action.CreateFile) (codes "b") ∷ answers (NotPerformed action.CreateFile) (codes "c") ∷ [];
+      responses = answers (NotPerformed action.CreateFile) (codes "a") ∷ answers (NotPerformed action.CreateFile) (codes "b") ∷ answers
+          (NotPerformed action.CreateFile) (codes "c") ∷ [];
       fault = Some 1;
     })) ∷ []
 unfolding blocks_of weighed_from
@@ -179,12 +193,14 @@ refused : replies (with_entry (refused_entry (header 15) (file 15) Refused)) (pi
 refused = refl
 
 -- a list that was refused: none of its requests was performed, and this entity is at fault
-refused_list : replies (with_entry (refused_entry (header 7) (list (asks action.CreateFile (codes "a") ∷ asks_two action.RenameFile (codes "a") (codes "b") ∷ asks action.DeleteFile (codes "a") ∷ [])) Refused)) (Take (id 7) ∷ []) ≡
+refused_list : replies (with_entry (refused_entry (header 7) (list (asks action.CreateFile (codes "a") ∷ asks_two action.RenameFile (codes "a")
+    (codes "b") ∷ asks action.DeleteFile (codes "a") ∷ [])) Refused)) (Take (id 7) ∷ []) ≡
     Reply.Taken (outcome 7 (record {
       condition = 4;
       incomplete = true;
       file_status = 3;
-      responses = answers (NotPerformed action.CreateFile) (codes "a") ∷ answers_two (NotPerformed action.RenameFile) (codes "a") (codes "b") ∷ answers (NotPerformed action.DeleteFile) (codes "a") ∷ [];
+      responses = answers (NotPerformed action.CreateFile) (codes "a") ∷ answers_two (NotPerformed action.RenameFile) (codes "a") (codes "b") ∷ answers
+          (NotPerformed action.DeleteFile) (codes "a") ∷ [];
       fault = Some 2;
     })) ∷ []
 refused_list = refl
@@ -214,7 +230,8 @@ unsupported_checksum : replies (start config) (metadata 27 (record (file 15) { c
 unsupported_checksum = refl
 
 -- unacknowledged and no closure requested: not sent
-not_sent : replies (with_entry (refused_entry (header 17) (record (file 15) { closure = false }) Refused)) (Take (id 17) ∷ []) ≡ Reply.Taken (record (outcome 17 (faulted 4 1)) { send = false }) ∷ []
+not_sent : replies (with_entry (refused_entry (header 17) (record (file 15) { closure = false }) Refused)) (Take (id 17) ∷ [])
+    ≡ Reply.Taken (record (outcome 17 (faulted 4 1)) { send = false }) ∷ []
 not_sent = refl
 
 -- acknowledged: sent all the same

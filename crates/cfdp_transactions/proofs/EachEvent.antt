@@ -74,8 +74,15 @@ moves_then k e new W V U first next =
     let goes : Goes k W U = record {
       sound = second.goes.sound;
       keeps = λ j d at ne live p covered. first.goes.keeps j d at ne live p covered ∙ second.goes.keeps j d (others j ne ∙ at) ne live p covered;
-    } in
-    (now, record { goes = goes; table = second.table ∙ same; carried = carried_then W.filestore V.filestore U.filestore e new now first.carried second.carried })
+    } in (
+      now,
+      record {
+        goes = goes;
+        table = second.table ∙ same;
+        carried = carried_then W.filestore V.filestore U.filestore e new now first.carried
+            second.carried;
+      },
+    )
 
 receiving_is : (phase : Phase) → IsTrue (is_receiving phase) → phase ≡ Receiving
 receiving_is Receiving h = refl
@@ -104,7 +111,8 @@ module _ (laws : LowerLaws) where
 
     -- it stays while it is live, and then goes
     pub taken_table : ((taken_out W k (Some e)).0 ≡ W) ⊎ ((taken_out W k (Some e)).0 ≡ record W { table = remove W.table k })
-    taken_table = cond_both (is_live e.phase) _ _ (λ (a : World × Reply). (a.0 ≡ W) ⊎ (a.0 ≡ record W { table = remove W.table k })) (λ _. inl refl) (λ _. inr refl)
+    taken_table = cond_both (is_live e.phase) _ _ (λ (a : World × Reply). (a.0 ≡ W) ⊎ (a.0 ≡ record W { table = remove W.table k })) (λ _. inl refl)
+        (λ _. inr refl)
 
     -- check -------------------------------------------------------------------------
 
@@ -115,7 +123,8 @@ module _ (laws : LowerLaws) where
         cond_both (nat_le W.config.checks (checks + 1)) _ _ (λ (a : World × Reply). Moves false k e W a.0) (λ _. ends_here 10 live)
         (λ below. (
           turned e (Awaiting (checks + 1)) e.eof e.complete,
-          turns_moves laws W k e (Awaiting (checks + 1)) e.eof e.complete s at live refl (rw is refl) (rw is at kept.fits) (rw is (omega arith)) (kept.more (rw is refl)) (λ _. kept.eof (rw is refl)) (omega (arith, leb-false _ _ below)),
+          turns_moves laws W k e (Awaiting (checks + 1)) e.eof e.complete s at live refl (rw is refl) (rw is at kept.fits) (rw is (omega arith))
+              (kept.more (rw is refl)) (λ _. kept.eof (rw is refl)) (omega (arith, leb-false _ _ below)),
         ))
     check_moves Receiving is = still_here
     check_moves (Executing next) is = still_here
@@ -129,7 +138,11 @@ module _ (laws : LowerLaws) where
     whole_moves sum live all more =
         let kept = s.live k e at live in
         cond_both (is_right_checksum e sum) _ _ (λ (a : World × Reply). Moves false k e W a.0)
-        (λ _. (turned e (Executing 0) e.eof true, turns_moves laws W k e (Executing 0) e.eof true s at live refl all (omega (arith, length-staged_of e.received)) (omega (arith, length-staged_of e.received, kept.fits)) more (λ no. absurd cc) (omega arith)))
+        (λ _. (
+          turned e (Executing 0) e.eof true,
+          turns_moves laws W k e (Executing 0) e.eof true s at live refl all
+              (omega (arith, length-staged_of e.received)) (omega (arith, length-staged_of e.received, kept.fits)) more (λ no. absurd cc) (omega arith),
+        ))
         (λ _. ends_here 5 live)
 
     -- the EOF -------------------------------------------------------------------------
@@ -145,7 +158,11 @@ module _ (laws : LowerLaws) where
         (λ some.
         let more : rest e ≢ [] = λ q. eqb-false _ _ some (ap length (all ∙ q)) in
         cond_both (not (has_file e.metadata)) _ _ (λ (a : World × Reply). Moves false k e W a.0)
-        (λ _. (turned e (Executing 0) e.eof true, turns_moves laws W k e (Executing 0) e.eof true s at live refl all (omega (arith, length-staged_of e.received)) (omega (arith, length-staged_of e.received, kept.fits)) more (λ no. absurd cc) (omega arith)))
+        (λ _. (
+          turned e (Executing 0) e.eof true,
+          turns_moves laws W k e (Executing 0) e.eof true s at live refl all
+              (omega (arith, length-staged_of e.received)) (omega (arith, length-staged_of e.received, kept.fits)) more (λ no. absurd cc) (omega arith),
+        ))
         (λ _. cond_both (nat_lt (bound W.config e.metadata) eof.size || nat_lt eof.size (length e.received)) _ _ (λ (a : World × Reply). Moves false k e W a.0)
         (λ _. ends_here 6 live)
         (λ inside.
@@ -156,7 +173,8 @@ module _ (laws : LowerLaws) where
         (λ _. (
           turned e (Awaiting 0) (Some eof) e.complete,
           turns_moves laws W k e (Awaiting 0) (Some eof) e.complete s at live refl all (omega (arith, length-replicate {A = ℕ} eof.size 0, above))
-              (rw longest_is (omega (arith, length-replicate {A = ℕ} eof.size 0, length-replicate {A = ℕ} (bound W.config e.metadata) 0, below))) more (λ _. refl) (omega arith),
+              (rw longest_is (omega (arith, length-replicate {A = ℕ} eof.size 0, length-replicate {A = ℕ} (bound W.config e.metadata) 0, below))) more
+              (λ _. refl) (omega arith),
         ))
         (λ _. whole_moves eof.checksum live all more))))
 
@@ -169,7 +187,17 @@ module _ (laws : LowerLaws) where
         (λ _. (
           ended W.filestore (record e { ended_by_eof = true }) eof.condition,
           ends_moves laws W k e (record e { ended_by_eof = true }) eof.condition s at live
-              (record { header = refl; metadata = refl; slot = refl; items = refl; statuses = refl; granted = refl; steps_granted = refl; spent = refl; steps_spent = refl }),
+              (record {
+                header = refl;
+                metadata = refl;
+                slot = refl;
+                items = refl;
+                statuses = refl;
+                granted = refl;
+                steps_granted = refl;
+                spent = refl;
+                steps_spent = refl;
+              }),
         ))
         (λ _. cond_both (not (is_receiving e.phase)) _ _ (λ (a : World × Reply). Moves false k e W a.0) (λ _. still_here)
         (λ r. eof_at_moves eof (receiving_is e.phase (not-false _ r)))))
@@ -200,34 +228,43 @@ module _ (laws : LowerLaws) where
     abbrev new : Entry
     new = storing W.filestore e received
 
-    after_eof_moves : (eof : Option Eof) → IsTrue (is_live new.phase) → new.items ≡ rest new → rest new ≢ [] → MovesTo false k e new W (stores W k e received) → Moves false k e W (after_eof eof (stores W k e received) k new).0
+    after_eof_moves : (eof : Option Eof) → IsTrue (is_live new.phase) → new.items ≡ rest new → rest new ≢ [] → MovesTo false k e new W (stores W k e received) →
+        Moves false k e W (after_eof eof (stores W k e received) k new).0
     after_eof_moves None live all more first = (new, first)
     after_eof_moves (Some eof) live all more first =
         let V = stores W k e received in
         cond_both (is_whole eof.size new.received) _ _ (λ (a : World × Reply). Moves false k e W a.0)
-        (λ _. moves_then k e new W V (whole V k new eof.checksum).0 first (whole_moves V k new first.goes.sound (get_set_same W.table k new e at) eof.checksum live all more))
+        (λ _. moves_then k e new W V (whole V k new eof.checksum).0 first (whole_moves V k new first.goes.sound
+        (get_set_same W.table k new e at) eof.checksum live all more))
         (λ _. (new, first))
 
-    pub storing_moves : pieces received ≤ 32 → (phase : Phase) → e.phase ≡ phase → IsTrue (takes_data phase) → piece.offset + length piece.octets ≤ limit phase W.config e → MovesTo false k e new W (stores W k e received)
+    pub storing_moves : pieces received ≤ 32 → (phase : Phase) → e.phase ≡ phase → IsTrue (takes_data phase) → piece.offset
+        + length piece.octets ≤ limit phase W.config e → MovesTo false k e new W (stores W k e received)
     storing_moves few Receiving is takes below =
         let live : IsTrue (is_live e.phase) = rw is refl in
         let kept = s.live k e at live in
         let within : length received ≤ bound W.config e.metadata =
-        kept_within e.received piece.offset piece.octets (bound W.config e.metadata) (let f = rw is at kept.fits in omega (arith, length-replicate {A = ℕ} (bound W.config e.metadata) 0)) below in
-        stores_moves laws W s k e received at live (kept_grows e.received piece.offset piece.octets) (rw is (omega (arith, length-replicate {A = ℕ} (bound W.config e.metadata) 0, within))) (rw is refl) few
+        kept_within e.received piece.offset piece.octets (bound W.config e.metadata) (let f = rw is at kept.fits in
+        omega (arith, length-replicate {A = ℕ} (bound W.config e.metadata) 0)) below in
+        stores_moves laws W s k e received at live (kept_grows e.received piece.offset piece.octets)
+        (rw is (omega (arith, length-replicate {A = ℕ} (bound W.config e.metadata) 0, within))) (rw is refl) few
     storing_moves few (Awaiting checks) is takes below =
         let live : IsTrue (is_live e.phase) = rw is refl in
         let kept = s.live k e at live in
         let within : length received ≤ awaited e.eof =
-        kept_within e.received piece.offset piece.octets (awaited e.eof) (let f = rw is at kept.fits in omega (arith, length-replicate {A = ℕ} (awaited e.eof) 0)) (omega arith) in
-        stores_moves laws W s k e received at live (kept_grows e.received piece.offset piece.octets) (rw is (omega (arith, length-replicate {A = ℕ} (awaited e.eof) 0, within))) (rw is refl) few
+        kept_within e.received piece.offset piece.octets (awaited e.eof) (let f = rw is at kept.fits in
+        omega (arith, length-replicate {A = ℕ} (awaited e.eof) 0)) (omega arith) in
+        stores_moves laws W s k e received at live (kept_grows e.received piece.offset piece.octets)
+        (rw is (omega (arith, length-replicate {A = ℕ} (awaited e.eof) 0, within))) (rw is refl) few
     storing_moves few (Executing next) is takes below = absurd cc
     storing_moves few Refused is takes below = absurd cc
     storing_moves few Done is takes below = absurd cc
     storing_moves few (Ended condition) is takes below = absurd cc
 
-    stored_moves : (phase : Phase) → e.phase ≡ phase → IsTrue (takes_data phase) → MovesTo false k e new W (stores W k e received) → Moves false k e W (stored phase (stores W k e received) k new).0
-    stored_moves (Awaiting checks) is takes first = let kept = s.live k e at (rw is refl) in after_eof_moves e.eof (rw is refl) (rw is refl) (kept.more (rw is refl)) first
+    stored_moves : (phase : Phase) → e.phase ≡ phase → IsTrue (takes_data phase) → MovesTo false k e new W (stores W k e received) →
+        Moves false k e W (stored phase (stores W k e received) k new).0
+    stored_moves (Awaiting checks) is takes first = let kept = s.live k e at (rw is refl) in
+        after_eof_moves e.eof (rw is refl) (rw is refl) (kept.more (rw is refl)) first
     stored_moves Receiving is takes first = (new, first)
     stored_moves (Executing next) is takes first = absurd cc
     stored_moves Refused is takes first = absurd cc

@@ -42,12 +42,14 @@ is_ending e = record {
 }
 
 module _ (laws : LowerLaws) where
-  pub ends_moves : (W : World) (k : ℕ) (e now : Entry) (condition : ℕ) → Sound W → slice_get W.table k ≡ Some e → IsTrue (is_live e.phase) → IsEnding e now → MovesTo false k e (ended W.filestore now condition) W (ends W k now condition)
+  pub ends_moves : (W : World) (k : ℕ) (e now : Entry) (condition : ℕ) → Sound W → slice_get W.table k ≡ Some e → IsTrue (is_live e.phase) → IsEnding e now →
+      MovesTo false k e (ended W.filestore now condition) W (ends W k now condition)
   ends_moves W k e now condition s at live ending =
       let honest = s.honest k e at in
       let kept = s.live k e at live in
       let F = W.filestore in
-      let ended_left = left-spend now.blocks_granted now.blocks_spent 0 (blocks_of (length (staged_in F now.slot))) (rw (ending.spent, ending.granted) honest.blocks) (omega arith) in
+      let ended_left = left-spend now.blocks_granted now.blocks_spent 0 (blocks_of (length (staged_in F now.slot)))
+      (rw (ending.spent, ending.granted) honest.blocks) (omega arith) in
       let same_left : left_of now.blocks_granted now.blocks_spent ≡ left_of e.blocks_granted e.blocks_spent = rw (ending.spent, ending.granted) refl in
       let inside : now.slot < length F.staged = rw ending.slot kept.slot in
       let given = blocks-staged F now.slot [] inside in
@@ -63,7 +65,8 @@ module _ (laws : LowerLaws) where
           items = ending.items;
           blocks_granted = ending.granted;
           steps_granted = ending.steps_granted;
-          blocks_spent = rw ending.spent (spend-grown e.blocks_spent 0 (blocks_of (length (staged_in F now.slot))) (blocks F) (blocks (changed F (Stages now.slot []))) (omega (arith, given, blocks_of-zero)));
+          blocks_spent = rw ending.spent (spend-grown e.blocks_spent 0 (blocks_of (length (staged_in F now.slot))) (blocks F)
+              (blocks (changed F (Stages now.slot []))) (omega (arith, given, blocks_of-zero)));
           steps_spent = λ _. ending.steps_spent;
           statuses = λ _. ending.statuses;
         };
@@ -71,7 +74,8 @@ module _ (laws : LowerLaws) where
         kept = λ live_now. absurd cc;
         emptied = λ _. rw ending.slot (get_or-set_same F.staged e.slot [] [] kept.slot);
         honest = record {
-          blocks = spend_within now.blocks_granted now.blocks_spent 0 (blocks_of (length (staged_in F now.slot))) (rw (ending.spent, ending.granted) honest.blocks) (omega arith);
+          blocks = spend_within now.blocks_granted now.blocks_spent 0 (blocks_of (length (staged_in F now.slot)))
+              (rw (ending.spent, ending.granted) honest.blocks) (omega arith);
           steps = rw (ending.steps_spent, ending.steps_granted) honest.steps;
           limits = rw (ending.granted, ending.steps_granted, ending.metadata, ending.items) honest.limits;
           no_more = rw (ending.statuses, ending.metadata) honest.no_more;

@@ -27,20 +27,25 @@ or_true false = refl
 pub eof_idle : (W : World) (k : ℕ) (eof : Eof) (e : Entry) → is_live e.phase ≡ false → eof_came W k eof (Some e) ≡ (W, Reply.Idle)
 eof_idle W k eof e final = rw final refl
 
-pub eof_fault : (W V : World) (k : ℕ) (eof : Eof) (e : Entry) → slice_get W.table k ≡ Some e → is_live e.phase ≡ true → (eof.condition == 0) ≡ false → EndsAt W V k true eof.condition →
+pub eof_fault : (W V : World) (k : ℕ) (eof : Eof) (e : Entry) → slice_get W.table k ≡ Some e → is_live e.phase ≡ true → (eof.condition == 0) ≡ false →
+    EndsAt W V k true eof.condition →
     eof_came W k eof (Some e) ≡ (V, Reply.Faulted eof.condition)
 eof_fault W V k eof e at live fault ended = let is = ended e at in rw (live, fault, rw (or_true e.ended_by_eof) at is) refl
 
-pub eof_again : (W : World) (k : ℕ) (eof : Eof) (e : Entry) → is_live e.phase ≡ true → (eof.condition == 0) ≡ true → is_receiving e.phase ≡ false → eof_came W k eof (Some e) ≡ (W, Reply.Duplicate)
+pub eof_again : (W : World) (k : ℕ) (eof : Eof) (e : Entry) → is_live e.phase ≡ true → (eof.condition == 0) ≡ true → is_receiving e.phase ≡ false →
+    eof_came W k eof (Some e) ≡ (W, Reply.Duplicate)
 eof_again W k eof e live good later = rw (live, good, later) refl
 
-pub eof_first : (W : World) (k : ℕ) (eof : Eof) (e : Entry) → is_live e.phase ≡ true → (eof.condition == 0) ≡ true → is_receiving e.phase ≡ true → eof_came W k eof (Some e) ≡ eof_at W k e eof
+pub eof_first : (W : World) (k : ℕ) (eof : Eof) (e : Entry) → is_live e.phase ≡ true → (eof.condition == 0) ≡ true → is_receiving e.phase ≡ true →
+    eof_came W k eof (Some e) ≡ eof_at W k e eof
 eof_first W k eof e live good receiving = rw (live, good, receiving) refl
 
-pub eof_bare : (W V : World) (k : ℕ) (eof : Eof) (e : Entry) → slice_get W.table k ≡ Some e → (length e.items == 0) ≡ true → IsDoneAt W V k → eof_at W k e eof ≡ (V, Reply.Done)
+pub eof_bare : (W V : World) (k : ℕ) (eof : Eof) (e : Entry) → slice_get W.table k ≡ Some e → (length e.items == 0) ≡ true → IsDoneAt W V k → eof_at W k e eof
+    ≡ (V, Reply.Done)
 eof_bare W V k eof e at bare done = rw (bare, done e at) refl
 
-pub eof_no_file : (W V : World) (k : ℕ) (eof : Eof) (e : Entry) → slice_get W.table k ≡ Some e → (length e.items == 0) ≡ false → has_file e.metadata ≡ false → TurnsAt W V k (Executing 0) e.eof true →
+pub eof_no_file : (W V : World) (k : ℕ) (eof : Eof) (e : Entry) → slice_get W.table k ≡ Some e → (length e.items == 0) ≡ false → has_file e.metadata ≡ false →
+    TurnsAt W V k (Executing 0) e.eof true →
     eof_at W k e eof ≡ (V, Reply.Complete)
 eof_no_file W V k eof e at some none turned = rw (some, none, turned e at) refl
 
@@ -57,7 +62,8 @@ by_size W k e eof bare file wrong whole_now =
     else if not whole_now then (turns W k e (Awaiting 0) (Some eof) e.complete, Reply.Waiting)
     else whole W k e eof.checksum
 
-by_tests : (W : World) (k : ℕ) (e : Entry) (eof : Eof) (bare file wrong all : Bool) → (length e.items == 0) ≡ bare → has_file e.metadata ≡ file → is_wrong_size W eof e ≡ wrong → is_whole eof.size e.received ≡ all →
+by_tests : (W : World) (k : ℕ) (e : Entry) (eof : Eof) (bare file wrong all : Bool) → (length e.items == 0) ≡ bare → has_file e.metadata ≡ file →
+    is_wrong_size W eof e ≡ wrong → is_whole eof.size e.received ≡ all →
     eof_at W k e eof ≡ by_size W k e eof bare file wrong all
 by_tests W k e eof bare file wrong all b f w a =
     ap (λ (x : Bool). by_size W k e eof x (has_file e.metadata) (is_wrong_size W eof e) (is_whole eof.size e.received)) b
@@ -65,13 +71,17 @@ by_tests W k e eof bare file wrong all b f w a =
     ∙ ap (λ (x : Bool). by_size W k e eof bare file x (is_whole eof.size e.received)) w
     ∙ ap (λ (x : Bool). by_size W k e eof bare file wrong x) a
 
-pub eof_size : (W V : World) (k : ℕ) (eof : Eof) (e : Entry) → slice_get W.table k ≡ Some e → (length e.items == 0) ≡ false → has_file e.metadata ≡ true → is_wrong_size W eof e ≡ true → EndsAt W V k false 6 →
+pub eof_size : (W V : World) (k : ℕ) (eof : Eof) (e : Entry) → slice_get W.table k ≡ Some e → (length e.items == 0) ≡ false → has_file e.metadata ≡ true →
+    is_wrong_size W eof e ≡ true → EndsAt W V k false 6 →
     eof_at W k e eof ≡ (V, Reply.Faulted 6)
-eof_size W V k eof e at some file wrong ended = by_tests W k e eof false true true (is_whole eof.size e.received) some file wrong refl ∙ ap (λ (X : World). (X, Reply.Faulted 6)) (sym (plain_end W V k 6 ended e at))
+eof_size W V k eof e at some file wrong ended = by_tests W k e eof false true true (is_whole eof.size e.received) some file wrong refl
+    ∙ ap (λ (X : World). (X, Reply.Faulted 6)) (sym (plain_end W V k 6 ended e at))
 
-pub eof_waits : (W V : World) (k : ℕ) (eof : Eof) (e : Entry) → slice_get W.table k ≡ Some e → (length e.items == 0) ≡ false → has_file e.metadata ≡ true → is_wrong_size W eof e ≡ false →
+pub eof_waits : (W V : World) (k : ℕ) (eof : Eof) (e : Entry) → slice_get W.table k ≡ Some e → (length e.items == 0) ≡ false → has_file e.metadata ≡ true →
+    is_wrong_size W eof e ≡ false →
     is_whole eof.size e.received ≡ false → TurnsAt W V k (Awaiting 0) (Some eof) e.complete → eof_at W k e eof ≡ (V, Reply.Waiting)
-eof_waits W V k eof e at some file right missing turned = by_tests W k e eof false true false false some file right missing ∙ ap (λ (X : World). (X, Reply.Waiting)) (sym (turned e at))
+eof_waits W V k eof e at some file right missing turned = by_tests W k e eof false true false false some file right missing
+    ∙ ap (λ (X : World). (X, Reply.Waiting)) (sym (turned e at))
 
 pub eof_whole : (W : World) (k : ℕ) (eof : Eof) (e : Entry) → (length e.items == 0) ≡ false → has_file e.metadata ≡ true → is_wrong_size W eof e ≡ false →
     is_whole eof.size e.received ≡ true → eof_at W k e eof ≡ whole W k e eof.checksum
@@ -83,7 +93,8 @@ received_long : (from : ℕ) (ranges : Ranges) (xs : List ℕ) → length (recei
 received_long from ranges [] = refl
 received_long from ranges (x ∷ xs) = ap suc (received_long (suc from) ranges xs)
 
-module _ (s : Store) (b : Books) (sound : Sound (world_of s b)) (booked : IsBooked s b) (k : ℕ) (r : Row) (at : slice_get b.table k ≡ Some r) (live : IsTrue (is_live r.phase)) where
+module _ (s : Store) (b : Books) (sound : Sound (world_of s b)) (booked : IsBooked s b) (k : ℕ) (r : Row) (at : slice_get b.table k ≡ Some r)
+    (live : IsTrue (is_live r.phase)) where
   abbrev e : Entry
   e = entry_in s.filestore r
 

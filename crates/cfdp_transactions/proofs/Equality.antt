@@ -1,4 +1,4 @@
--- The tests of requests, responses and PDUs tell exactly the equal ones.
+-- The tests of requests, responses and PDUs hold of exactly the equal ones.
 --     request-Decides, response-Decides
 --     metadata-Decides, finished-Decides
 use Rattle.std.proofs.Common.{◌≡◌, ◌&&◌, refl, sym, ◌∙◌, ap, subst, Bool, true, eqb, Option, Some, None}
@@ -18,7 +18,7 @@ use Rattle.cfdp_tlv.specs.Equality as tlv
 use Rattle.cfdp_pdus.specs.Values.{MetadataFields, FinishedFields}
 use Rattle.cfdp_pdus.specs.Equality.{same_options, same_names, same_metadata, metadata_equiv, same_codes, same_finished, finished_equiv}
 
--- a test that is an equivalence, and true of equal ones only, tells them
+-- a test that is an equivalence, and true of equal ones only, holds of them
 by_same : {T : Type 0} {E : T → T → Bool} → IsEquivalence E → ((x y : T) → E x y ≡ true → x ≡ y) → (x y : T) → Decides (E x y) (x ≡ y)
 by_same {E = E} laws same x y = (same x y, λ e. subst (λ z. E x z ≡ true) e (laws.refl x))
 

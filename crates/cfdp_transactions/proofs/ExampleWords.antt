@@ -3,7 +3,7 @@
 --     asks, asks_two            requests, by the spelling of their names;  answers, answers_two: responses to them
 --     list, file_to             Metadata without a file, and with one
 --     metadata, piece, eof      events
---     world c es table          these entries stand, and nothing is staged
+--     world c es table          these entries exist, and nothing is staged
 --     fresh, executing          an entry that was just admitted, in slot 0;  one whose items are performed
 --     outcome n f               a Finished PDU that is sent
 use Rattle.std.proofs.Common.{ℕ, List, []}

@@ -35,9 +35,11 @@ found_name [] id e h = absurd cc
 found_name (d ∷ t) id e h = found_or_later d t id e (is_same (name_of d) id) refl (found_name t id e) h
 
 absent_or_later : (d : Entry) (t : List Entry) (id : TransactionId) (same : Bool) → is_same (name_of d) id ≡ same →
-    (slice_get t (place_of id t) ≡ None → Each (λ e. name_of e ≢ id) t) → slice_get (d ∷ t) (if same then 0 else suc (place_of id t)) ≡ None → Each (λ e. name_of e ≢ id) (d ∷ t)
+    (slice_get t (place_of id t) ≡ None → Each (λ e. name_of e ≢ id) t) → slice_get (d ∷ t) (if same then 0 else suc (place_of id t)) ≡ None →
+    Each (λ e. name_of e ≢ id) (d ∷ t)
 absent_or_later d t id true same later h k e at q = absurd cc
-absent_or_later d t id false same later h zero e at q = let p : d ≡ e = cc in both_ways (is_same (name_of d) id) same (is_same-same (name_of d) id (ap name_of p ∙ q))
+absent_or_later d t id false same later h zero e at q = let p : d ≡ e = cc in
+    both_ways (is_same (name_of d) id) same (is_same-same (name_of d) id (ap name_of p ∙ q))
 absent_or_later d t id false same later h (suc k) e at q = later h k e at q
 
 -- none has it, where none is found

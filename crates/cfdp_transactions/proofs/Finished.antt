@@ -29,7 +29,8 @@ drop_nothing Refused items is = refl
 drop_nothing Done items is = refl
 drop_nothing (Ended condition) items is = refl
 
-module _ (s : Store) (b : Books) (sound : Sound (world_of s b)) (booked : IsBooked s b) (k : ℕ) (r : Row) (at : slice_get b.table k ≡ Some r) (live : IsTrue (is_live r.phase)) (bare : IsBareAt (world_of s b) k) where
+module _ (s : Store) (b : Books) (sound : Sound (world_of s b)) (booked : IsBooked s b) (k : ℕ) (r : Row) (at : slice_get b.table k ≡ Some r)
+    (live : IsTrue (is_live r.phase)) (bare : IsBareAt (world_of s b) k) where
   abbrev now : Row
   now = row_turned r Done r.eof true
 

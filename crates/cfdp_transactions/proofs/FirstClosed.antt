@@ -25,14 +25,22 @@ record IsTakenAt (t : List Entry) (slot : ℕ) : Type 0 where
 taken_at : (t : List Entry) (slot : ℕ) → IsTrue (taken slot t) → IsTakenAt t slot
 taken_at [] slot h = absurd cc
 taken_at (e ∷ t) slot h = elim (or_cases (has_slot slot e) (taken slot t) h) [
-  | inl here ↦ let both = and_parts (is_live e.phase) (e.slot == slot) here in record { place = 0; entry = e; at = refl; live = both.0; same = eqb-true e.slot slot both.1 }
-  | inr later ↦ let behind = taken_at t slot later in record { place = suc behind.place; entry = behind.entry; at = behind.at; live = behind.live; same = behind.same }
+  | inl here ↦ let both = and_parts (is_live e.phase) (e.slot == slot) here in
+      record { place = 0; entry = e; at = refl; live = both.0; same = eqb-true e.slot slot both.1 }
+  | inr later ↦ let behind = taken_at t slot later in record {
+    place = suc behind.place;
+    entry = behind.entry;
+    at = behind.at;
+    live = behind.live;
+    same = behind.same;
+  }
 ]
 
 none_some : IsSome {T = ℕ} None → ⊥
 none_some h = absurd cc
 
-below_step : (more slot : ℕ) (t : List Entry) (s : ℕ) (b : Bool) → taken slot t ≡ b → slot ≤ s → (slot + 1 ≤ s → s < slot_from more (slot + 1) t → IsTrue (taken s t)) →
+below_step : (more slot : ℕ) (t : List Entry) (s : ℕ) (b : Bool) → taken slot t ≡ b → slot ≤ s →
+    (slot + 1 ≤ s → s < slot_from more (slot + 1) t → IsTrue (taken s t)) →
     s < (if b then slot_from more (slot + 1) t else slot) → IsTrue (taken s t)
 below_step more slot t s true is from later below = elim (cases_eq s slot) [ inl q ↦ rw q is | inr ne ↦ later (omega arith) below ]
 below_step more slot t s false is from later below = absurd (omega arith)
@@ -52,7 +60,8 @@ module _ (s : Store) (b : Books) (sound : Sound (world_of s b)) (booked : IsBook
   taken_open slot h = let e = taken_at W.table slot h in rw (← e.same, booked.budget.opened e.place e.entry e.at e.live) refl
 
   -- the first slot that is closed is the first that no live entry has
-  pub first_free : (slot : ℕ) → (slot < 64 → IsOpen b.quota slot → ⊥) → ((before : ℕ) → before < slot → IsOpen b.quota before) → (slot ≡ free_slot W.table) × (slot < 64)
+  pub first_free : (slot : ℕ) → (slot < 64 → IsOpen b.quota slot → ⊥) → ((before : ℕ) → before < slot → IsOpen b.quota before) → (slot ≡ free_slot W.table)
+      × (slot < 64)
   first_free slot closed before =
       let free = free_slot_is W.table few_entries in
       let vacant = free_vacant W.table (free_slot W.table) free.free in

@@ -9,7 +9,7 @@ use Rattle.cfdp_transactions.specs.World.{World}
 use Rattle.cfdp_transactions.specs.Writable.{IsReadable, FitsReply}
 use Rattle.cfdp_transactions.specs.Fitting.{OnlyWritable}
 
-writable_next : (W : World) (event : Event) → OnlyWritable W → IsReadable event → OnlyWritable (next W event).0
+pub writable_next : (W : World) (event : Event) → OnlyWritable W → IsReadable event → OnlyWritable (next W event).0
 writable_next W event h r = λ events rs. (h (event ∷ events) (r, rs)).1
 
 -- the world after a call

@@ -1,4 +1,4 @@
--- From an event of the entry at a place to the next world.
+-- From an event of the entry at an index to the next world.
 use Rattle.std.proofs.Common.{◌≡◌, ℕ, zero, suc, ◌<◌, ◌≤◌, List, [], ◌∷◌, length, refl, ap, sym, ◌∙◌, arith}
 use Rattle.std.specs.Prelude.{Bool, true, false, ◌==◌, if◌then◌else◌, nat_lt, nat_le, Option, Some, None, is_some, is_none, IfSome, IfNone, IsNone, IsTrue, IsFalse, slice_get}
 use Rattle.std.proofs.lemmas.Bool.{and_parts, ltb-true, leb-true, lt-ltb, le-leb, lt-leb}
@@ -39,7 +39,7 @@ module _ (s : Store) (b : Books) (id : TransactionId) where
   abbrev W : World
   W = world_of s b
 
-  index_is : index_of W id ≡ row_place id b.table
+  pub index_is : index_of W id ≡ row_place id b.table
   index_is = place_in s.filestore id b.table
 
   pub found_carries : (f : ℕ → Option Entry → World × Reply) (V : World) (reply : Reply) (place : ℕ) → place ≡ row_place id b.table → place < length b.table →
@@ -66,7 +66,8 @@ over_by : (live : Bool) (o given : Outcome) → (if live then None else Some o) 
 over_by true o given e over = absurd cc
 over_by false o given e over = cc
 
-pub outcome_where_over : (W : World) (id : TransactionId) (e : Entry) (given : Outcome) → entry_of W id ≡ Some e → outcome_in W id ≡ Some given → IsFalse (is_live e.phase) → given ≡ outcome_of e
+pub outcome_where_over : (W : World) (id : TransactionId) (e : Entry) (given : Outcome) → entry_of W id ≡ Some e → outcome_in W id ≡ Some given →
+    IsFalse (is_live e.phase) → given ≡ outcome_of e
 outcome_where_over W id e given there made over = over_by (is_live e.phase) (outcome_of e) given (rw there at made) over
 
 module _ (s : Store) (b : Books) (id : TransactionId) where
@@ -95,10 +96,12 @@ module _ (s : Store) (b : Books) (id : TransactionId) where
       let at = row_at s.filestore b.table place here.0 here.1 in
       (entry_in s.filestore here.0, at, live_where_none (world_of s b) id (entry_in s.filestore here.0) (rw (index_is s b id ∙ sym is) at) none)
 
-pub still_whole : FollowsIsSound → (s t : Store) (b d : Books) (event : Event) (reply : Reply) → IsWhole s b → Follows (world_of s b) event reply (world_of t d) → IsBooked t d → IsWhole t d
+pub still_whole : FollowsIsSound → (s t : Store) (b d : Books) (event : Event) (reply : Reply) → IsWhole s b →
+    Follows (world_of s b) event reply (world_of t d) → IsBooked t d → IsWhole t d
 still_whole law s t b d event reply whole follows booked = record { sound = law (world_of s b) event reply (world_of t d) whole.sound follows; booked = booked }
 
-pub ours : (W V : World) (h : Header) (answer : World × Reply) (reply : Reply) → (h.destination == W.config.entity) ≡ true → Carries W V answer reply → Carries W V (for_us W h answer) reply
+pub ours : (W V : World) (h : Header) (answer : World × Reply) (reply : Reply) → (h.destination == W.config.entity) ≡ true → Carries W V answer reply →
+    Carries W V (for_us W h answer) reply
 ours W V h answer reply mine carried = rw mine carried
 
 -- Metadata that begin a transaction -------------------------------------------------
@@ -123,12 +126,15 @@ begins_so W h m begun =
 pub begins_when : (W : World) (h : Header) (m : MetadataFields) → Begins W h m → IsTrue (begins W h m)
 begins_when W h m b = rw (b.mine, b.absent, lt-ltb (length W.table) 64 b.few, le-leb (length m.requests) 64 b.short) refl
 
-absent_step : (F : Filestore) (id : TransactionId) (r : Row) (rows : List Row) (b : Bool) → (slice_get (table_of F rows) (place_of id (table_of F rows)) ≡ None → row_place id rows ≡ length rows) →
-    slice_get (entry_in F r ∷ table_of F rows) (if b then 0 else suc (place_of id (table_of F rows))) ≡ None → (if b then 0 else suc (row_place id rows)) ≡ suc (length rows)
+absent_step : (F : Filestore) (id : TransactionId) (r : Row) (rows : List Row) (b : Bool) →
+    (slice_get (table_of F rows) (place_of id (table_of F rows)) ≡ None → row_place id rows ≡ length rows) →
+    slice_get (entry_in F r ∷ table_of F rows) (if b then 0 else suc (place_of id (table_of F rows))) ≡ None → (if b then 0 else suc (row_place id rows))
+    ≡ suc (length rows)
 absent_step F id r rows true later none = absurd cc
 absent_step F id r rows false later none = ap suc (later none)
 
-absent_rows : (F : Filestore) (id : TransactionId) (rows : List Row) → slice_get (table_of F rows) (place_of id (table_of F rows)) ≡ None → row_place id rows ≡ length rows
+absent_rows : (F : Filestore) (id : TransactionId) (rows : List Row) → slice_get (table_of F rows) (place_of id (table_of F rows)) ≡ None → row_place id rows
+    ≡ length rows
 absent_rows F id [] none = refl
 absent_rows F id (r ∷ rows) none = absent_step F id r rows (is_same (row_name r) id) (absent_rows F id rows) none
 
@@ -137,10 +143,12 @@ absent_place s b id none = absent_rows s.filestore id b.table none
 
 -- and that begin none: they meet a full table, or have too long a list
 
-pub full_answer : (W : World) (h : Header) (m : MetadataFields) → (h.destination == W.config.entity) ≡ true → entry_of W (id_of h) ≡ None → 64 ≤ length W.table →
+pub full_answer : (W : World) (h : Header) (m : MetadataFields) → (h.destination == W.config.entity) ≡ true → entry_of W (id_of h) ≡ None →
+    64 ≤ length W.table →
     next W (MetadataCame h m) ≡ (W, Reply.TableFull)
 full_answer W h m mine absent full = rw (mine, absent, le-leb 64 (length W.table) full) refl
 
-pub long_answer : (W : World) (h : Header) (m : MetadataFields) → (h.destination == W.config.entity) ≡ true → entry_of W (id_of h) ≡ None → length W.table < 64 →
+pub long_answer : (W : World) (h : Header) (m : MetadataFields) → (h.destination == W.config.entity) ≡ true → entry_of W (id_of h) ≡ None →
+    length W.table < 64 →
     64 < length m.requests → next W (MetadataCame h m) ≡ (W, Reply.Refused TooManyRequests)
 long_answer W h m mine absent few long = rw (mine, absent, lt-leb 64 (length W.table) few, lt-ltb 64 (length m.requests) long) refl

@@ -40,7 +40,7 @@ taken-less : (t : List Entry) (slot other : ℕ) → other ≢ slot → IsTrue (
 taken-less [] slot other ne h = h
 taken-less (e ∷ t) slot other ne h = less_step e t slot other (has_slot slot e) (has_slot other e) refl refl ne (taken-less t slot other ne) h
 
--- so many slots, so many entries
+-- this many slots, this many entries
 taken_count : (n : ℕ) (t : List Entry) → ((slot : ℕ) → slot < n → IsTrue (taken slot t)) → n ≤ length t
 taken_count zero t h = omega arith
 taken_count (suc n) t h =
@@ -63,7 +63,11 @@ searched zero slot t = inr (λ s from below. absurd (omega arith))
 searched (suc more) slot t = search_step more slot t (taken slot t) refl (searched more (slot + 1) t)
 
 pub free_slot_is : (t : List Entry) → length t < 64 → IsFree t (free_slot t) 64
-free_slot_is t few = elim (searched 64 0 t) [ inl found ↦ found | inr all ↦ absurd (let n = taken_count 64 t (λ s below. all s (omega arith) (omega arith)) in omega arith) ]
+free_slot_is t few = elim (searched 64 0 t) [
+  | inl found ↦ found
+  | inr all ↦
+      absurd (let n = taken_count 64 t (λ s below. all s (omega arith) (omega arith)) in omega arith)
+]
 
 pub free_vacant : (t : List Entry) (slot : ℕ) → IsFalse (taken slot t) → IsVacant t slot
 free_vacant [] slot h k e at live q = absurd cc

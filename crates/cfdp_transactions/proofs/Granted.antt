@@ -37,7 +37,7 @@ AreItems [] = ⊤
 AreItems (Install p ∷ items) = AreRequests items
 AreItems (Perform request ∷ items) = AreRequests items
 
--- so many requests
+-- this many requests
 pub record IsListed (n : ℕ) (items : List Item) : Type 0 where
   pub all : AreRequests items
   pub count : requests_in items ≡ n
@@ -97,23 +97,28 @@ items_length (Perform request ∷ items) h = omega (arith, requests_length items
 
 -- no request fails -----------------------------------------------------------------
 
-answer_good : (answer : Answer) (i : ℕ) (behind : List Answer) → HasStatus answer → first_failure i (answer ∷ behind) ≡ None → IsTrue (succeeded answer) × (first_failure (i + 1) behind ≡ None)
+answer_good : (answer : Answer) (i : ℕ) (behind : List Answer) → HasStatus answer → first_failure i (answer ∷ behind) ≡ None → IsTrue (succeeded answer)
+    × (first_failure (i + 1) behind ≡ None)
 answer_good (Performed status) i behind h none =
-    cond_both (is_successful status) (first_failure (i + 1) behind) (Some (i, status)) (λ (o : Option (ℕ × Status)). o ≡ None → IsTrue (is_successful status) × (first_failure (i + 1) behind ≡ None))
+    cond_both (is_successful status) (first_failure (i + 1) behind) (Some (i, status)) (λ (o : Option (ℕ × Status)). o ≡ None → IsTrue (is_successful status)
+    × (first_failure (i + 1) behind ≡ None))
     (λ good e. (good, e)) (λ _ e. absurd cc) none
 answer_good Installed i behind h none = elim h [ ]
 answer_good NotInstalled i behind h none = elim h [ ]
 
-requests_good : (prefixes : List Path) (F : Filestore) (slot i : ℕ) (items : List Item) → AreRequests items → first_failure i (statuses prefixes F slot items) ≡ None → AllSucceeded (statuses prefixes F slot items)
+requests_good : (prefixes : List Path) (F : Filestore) (slot i : ℕ) (items : List Item) → AreRequests items → first_failure i (statuses prefixes F slot items)
+    ≡ None → AllSucceeded (statuses prefixes F slot items)
 unfolding statuses
 requests_good prefixes F slot i [] h none = tt
 requests_good prefixes F slot i (Install p ∷ items) h none = elim h.0 [ ]
 requests_good prefixes F slot i (Perform request ∷ items) h none =
-    let good = answer_good (row prefixes F slot (Perform request)).answer i (statuses prefixes (performed prefixes F slot (Perform request)) slot items) (row_of_request prefixes F slot request).answer none in
+    let good = answer_good (row prefixes F slot (Perform request)).answer i (statuses prefixes (performed prefixes F slot (Perform request)) slot items)
+    (row_of_request prefixes F slot request).answer none in
     (good.0, requests_good prefixes (performed prefixes F slot (Perform request)) slot (i + 1) items h.1 good.1)
 
 -- an install is no request, and is not counted
-install_passed : (answer : Answer) (i : ℕ) (behind : List Answer) → IsTrue (succeeded answer) → first_failure i (answer ∷ behind) ≡ None → (j : ℕ) × (first_failure j behind ≡ None)
+install_passed : (answer : Answer) (i : ℕ) (behind : List Answer) → IsTrue (succeeded answer) → first_failure i (answer ∷ behind) ≡ None → (j : ℕ)
+    × (first_failure j behind ≡ None)
 install_passed (Performed status) i behind good none = (i + 1, rw good at none)
 install_passed Installed i behind good none = (i, none)
 install_passed NotInstalled i behind good none = absurd cc
@@ -129,7 +134,8 @@ items_good prefixes F i (Perform request ∷ items) h allowed none = requests_go
 
 -- the verdict ----------------------------------------------------------------------
 
-pub record IsGranted (prefixes : List Path) (F : Filestore) (leases : List (TransactionId × Footprint)) (spare : ℕ) (P : Proposal) (items : List Item) (granted bound_steps : ℕ) : Type 0 where
+pub record IsGranted (prefixes : List Path) (F : Filestore) (leases : List (TransactionId × Footprint)) (spare : ℕ) (P : Proposal) (items : List Item)
+    (granted bound_steps : ℕ) : Type 0 where
   pub proposed : IsProposed P.destination (length P.requests) items
   pub apart : first_conflict leases (footprint_of items) ≡ None
   pub succeed : AllSucceeded (statuses_alone prefixes F (replicate P.bound 0) items)
@@ -146,8 +152,10 @@ module _ (prefixes : List Path) (F : Filestore) (leases : List (TransactionId ×
   abbrev x : List ℕ
   x = replicate P.bound 0
 
-  judged_just : (items : List Item) → IsProposed P.destination (length P.requests) items → first_conflict leases (footprint_of items) ≡ None → IsTrue (destination_allowed prefixes (alone F x) items) →
-      (failure : Option (ℕ × Status)) → first_failure 0 (statuses_alone prefixes F x items) ≡ failure → IsJust (judged spare items failure (need_alone prefixes F x items) (steps_alone prefixes F x items))
+  judged_just : (items : List Item) → IsProposed P.destination (length P.requests) items → first_conflict leases (footprint_of items) ≡ None →
+      IsTrue (destination_allowed prefixes (alone F x) items) →
+      (failure : Option (ℕ × Status)) → first_failure 0 (statuses_alone prefixes F x items) ≡ failure →
+      IsJust (judged spare items failure (need_alone prefixes F x items) (steps_alone prefixes F x items))
   judged_just items proposed apart allowed (Some f) is = tt
   judged_just items proposed apart allowed None is =
       cond_both (nat_lt 65536 (steps_alone prefixes F x items)) _ _ IsJust (λ _. tt)
@@ -162,11 +170,13 @@ module _ (prefixes : List Path) (F : Filestore) (leases : List (TransactionId ×
         short = ltb-false _ _ short;
       }))
 
-  apart_just : (items : List Item) → IsProposed P.destination (length P.requests) items → (conflict : Option TransactionId) → first_conflict leases (footprint_of items) ≡ conflict →
+  apart_just : (items : List Item) → IsProposed P.destination (length P.requests) items → (conflict : Option TransactionId) →
+      first_conflict leases (footprint_of items) ≡ conflict →
       IsJust (judged_apart prefixes F spare x items conflict)
   apart_just items proposed (Some id) is = tt
   apart_just items proposed None is =
-      cond_both (destination_allowed prefixes (alone F x) items) _ _ IsJust (λ allowed. judged_just items proposed is allowed (first_failure 0 (statuses_alone prefixes F x items)) refl) (λ _. tt)
+      cond_both (destination_allowed prefixes (alone F x) items) _ _ IsJust
+      (λ allowed. judged_just items proposed is allowed (first_failure 0 (statuses_alone prefixes F x items)) refl) (λ _. tt)
 
   verdict_of_just : (q : Parsed) → GoodProposed P.destination (length P.requests) q → IsJust (verdict_of prefixes F leases spare P q)
   verdict_of_just (Bad place) h = tt
@@ -185,12 +195,15 @@ none_step : (e : Entry) (t : List Entry) (fp : Footprint) (live : Bool) → is_l
     (IsTrue (is_live e.phase) → IsFalse (is_conflict fp (footprint e))) × (first_conflict (leases_of t) fp ≡ None)
 none_step e t fp true is none =
     cond_both (is_conflict (footprint e) fp) (Some (name_of e, footprint e)) (find (λ (g : TransactionId × Footprint). is_conflict g.1 fp) (leases_of t))
-    (λ (o : Option (TransactionId × Footprint)). option_map (λ (g : TransactionId × Footprint). g.0) o ≡ None → (IsTrue (is_live e.phase) → IsFalse (is_conflict fp (footprint e))) × (first_conflict (leases_of t) fp ≡ None))
+    (λ (o : Option (TransactionId × Footprint)). option_map (λ (g : TransactionId × Footprint). g.0) o ≡ None →
+    (IsTrue (is_live e.phase) → IsFalse (is_conflict fp (footprint e))) × (first_conflict (leases_of t) fp ≡ None))
     (λ _ q. absurd cc) (λ apart q. ((λ _. conflict_sym (footprint e) fp apart), q)) none
 none_step e t fp false is none = ((λ live. absurd cc), none)
 
 -- where none is found, no live entry conflicts
-pub none_conflicts : (t : List Entry) (fp : Footprint) → first_conflict (leases_of t) fp ≡ None → Each (λ d. IsTrue (is_live d.phase) → IsFalse (is_conflict fp (footprint d))) t
+pub none_conflicts : (t : List Entry) (fp : Footprint) → first_conflict (leases_of t) fp ≡ None →
+    Each (λ d. IsTrue (is_live d.phase) → IsFalse (is_conflict fp (footprint d))) t
 none_conflicts [] fp none k d at = absurd cc
-none_conflicts (e ∷ t) fp none zero d at = let same : e ≡ d = cc in subst (λ (f : Entry). IsTrue (is_live f.phase) → IsFalse (is_conflict fp (footprint f))) same (none_step e t fp (is_live e.phase) refl none).0
+none_conflicts (e ∷ t) fp none zero d at = let same : e ≡ d = cc in subst (λ (f : Entry). IsTrue (is_live f.phase) →
+    IsFalse (is_conflict fp (footprint f))) same (none_step e t fp (is_live e.phase) refl none).0
 none_conflicts (e ∷ t) fp none (suc k) d at = none_conflicts t fp (none_step e t fp (is_live e.phase) refl none).1 k d at

@@ -55,7 +55,8 @@ data_plain W k piece (Some e) =
     (λ _. cond_both (length piece.octets == 0) _ _ IsPlain (λ _. record { plain = refl })
     (λ _. cond_both (nat_lt (limit e.phase W.config e) (piece.offset + length piece.octets)) _ _ IsPlain (λ _. record { plain = refl })
     (λ _. cond_both (nat_lt 32 (pieces (kept_with e.received piece.offset piece.octets))) _ _ IsPlain (λ _. record { plain = refl })
-    (λ _. stored_plain e.phase (stores W k e (kept_with e.received piece.offset piece.octets)) k (storing W.filestore e (kept_with e.received piece.offset piece.octets))))))
+    (λ _. stored_plain e.phase (stores W k e (kept_with e.received piece.offset piece.octets)) k
+    (storing W.filestore e (kept_with e.received piece.offset piece.octets))))))
     (λ _. record { plain = refl })
 
 eof_plain : (W : World) (k : ℕ) (eof : Eof) (o : Option Entry) → IsPlain (eof_came W k eof o)
@@ -90,7 +91,8 @@ replied_plain Answer.NotInstalled = refl
 step_at_plain : (W : World) (k : ℕ) (e : Entry) (n : ℕ) (items : List Item) → IsPlain (step_at W k e n items)
 step_at_plain W k e n [] = record { plain = refl }
 step_at_plain W k e n (item ∷ items) =
-    cond_both (succeeded (act_now W e item).answer) _ _ IsPlain (λ _. record { plain = replied_plain (act_now W e item).answer }) (λ _. record { plain = replied_plain (act_now W e item).answer })
+    cond_both (succeeded (act_now W e item).answer) _ _ IsPlain (λ _. record { plain = replied_plain (act_now W e item).answer })
+    (λ _. record { plain = replied_plain (act_now W e item).answer })
 
 step_plain : (phase : Phase) (W : World) (k : ℕ) (e : Entry) → IsPlain (step_in phase W k e)
 step_plain (Executing n) W k e = step_at_plain W k e n (drop n e.items)

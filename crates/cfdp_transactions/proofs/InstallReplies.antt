@@ -75,7 +75,8 @@ data_quiet W k piece (Some e) =
     (λ _. cond_both (length piece.octets == 0) _ _ IsQuiet (λ _. record { quiet = refl })
     (λ _. cond_both (nat_lt (limit e.phase W.config e) (piece.offset + length piece.octets)) _ _ IsQuiet (λ _. record { quiet = refl })
     (λ _. cond_both (nat_lt 32 (pieces (kept_with e.received piece.offset piece.octets))) _ _ IsQuiet (λ _. record { quiet = refl })
-    (λ _. stored_quiet e.phase (stores W k e (kept_with e.received piece.offset piece.octets)) k (storing W.filestore e (kept_with e.received piece.offset piece.octets))))))
+    (λ _. stored_quiet e.phase (stores W k e (kept_with e.received piece.offset piece.octets)) k
+    (storing W.filestore e (kept_with e.received piece.offset piece.octets))))))
     (λ _. record { quiet = refl })
 
 eof_quiet : (W : World) (k : ℕ) (eof : Eof) (o : Option Entry) → IsQuiet (eof_came W k eof o)
@@ -144,7 +145,8 @@ none_at (x ∷ items) zero item none at = let same : x ≡ item = cc in ap is_in
 none_at (x ∷ items) (suc n) item none at = none_at items n item (or_parts (is_install x) (has_install items) none).1 at
 
 -- which is the first one, where there is a file
-install_is_first : (file : Bool) (items : List Item) (n : ℕ) (item : Item) → is_next_install items ≡ file → has_install (drop 1 items) ≡ false → slice_get items n ≡ Some item →
+install_is_first : (file : Bool) (items : List Item) (n : ℕ) (item : Item) → is_next_install items ≡ file → has_install (drop 1 items) ≡ false →
+    slice_get items n ≡ Some item →
     is_install item ≡ ((n == 0) && file)
 install_is_first file [] n item first behind at = absurd cc
 install_is_first file (x ∷ items) zero item first behind at = let same : x ≡ item = cc in ap is_install (sym same) ∙ sym (first_is x items) ∙ first
@@ -155,7 +157,8 @@ install_is_first file (x ∷ items) (suc n) item first behind at =
 -- steps ----------------------------------------------------------------------------------
 
 module _ (laws : LowerLaws) (W : World) (s : Sound W) (all : Each IsInOrder W.table) where
-  executing_says : (id : TransactionId) (e : Entry) (n : ℕ) → entry_of W id ≡ Some e → e.phase ≡ Executing n → says_installed (next W (Step id)).1 ≡ ((n == 0) && has_file e.metadata)
+  executing_says : (id : TransactionId) (e : Entry) (n : ℕ) → entry_of W id ≡ Some e → e.phase ≡ Executing n → says_installed (next W (Step id)).1
+      ≡ ((n == 0) && has_file e.metadata)
   executing_says id e n found is =
       let p : IsPerformed W id e n = (next_promised laws W s (Step id)).performed id e n refl found is in
       let order = all (index_of W id) e found in
@@ -163,7 +166,8 @@ module _ (laws : LowerLaws) (W : World) (s : Sound W) (all : Each IsInOrder W.ta
       ∙ act_says W.config.prefixes W.filestore (free W) e.slot p.item p.succeeds
       ∙ install_is_first (has_file e.metadata) e.items n p.item (order.first (rw is refl)) order.behind p.is_next
 
-  in_phase : (id : TransactionId) (e : Entry) (phase : Phase) → entry_of W id ≡ Some e → e.phase ≡ phase → says_installed (next W (Step id)).1 ≡ (is_first phase && has_file e.metadata)
+  in_phase : (id : TransactionId) (e : Entry) (phase : Phase) → entry_of W id ≡ Some e → e.phase ≡ phase → says_installed (next W (Step id)).1
+      ≡ (is_first phase && has_file e.metadata)
   in_phase id e (Executing n) found is = executing_says id e n found is
   in_phase id e Receiving found is = rw (found, is) refl
   in_phase id e (Awaiting checks) found is = rw (found, is) refl

@@ -77,7 +77,7 @@ receiving_takes Refused h = absurd cc
 receiving_takes Done h = absurd cc
 receiving_takes (Ended condition) h = absurd cc
 
--- what is left behind an item that went well
+-- what is left after an item that went well
 left_behind : (n : ℕ) (all items : List Item) (item : Item) → drop n all ≡ item ∷ items → rest_in (phase_before (suc n) items) all ≡ items
 left_behind n all [] item left = refl
 left_behind n all (next ∷ items) item left = drop_next n all (next ∷ items) item left
@@ -94,13 +94,16 @@ Ordered a = Each IsInOrder a.0.table
 module _ (W : World) (all : Each IsInOrder W.table) where
   module _ (k : ℕ) (e : Entry) (at : slice_get W.table k ≡ Some e) where
     changed_ordered : (changes : List Change) (new : Entry) → IsLike e new → Each IsInOrder (change_at W k changes new).table
-    changed_ordered changes new like = set_each (λ _ (d : Entry). IsInOrder d) W.table k new (like_ordered e new (all k e at) like) (λ j d here ne. all j d here)
+    changed_ordered changes new like = set_each (λ _ (d : Entry). IsInOrder d) W.table k new (like_ordered e new (all k e at) like)
+        (λ j d here ne. all j d here)
 
     ends_ordered : (now : Entry) (condition : ℕ) → now.metadata ≡ e.metadata → now.items ≡ e.items → Each IsInOrder (ends W k now condition).table
     ends_ordered now condition metadata items =
-        changed_ordered (Stages now.slot [] ∷ []) (ended W.filestore now condition) (record { metadata = metadata; items = items; counted = λ h. absurd cc; due = λ h. absurd cc })
+        changed_ordered (Stages now.slot [] ∷ []) (ended W.filestore now condition)
+        (record { metadata = metadata; items = items; counted = λ h. absurd cc; due = λ h. absurd cc })
 
-    turns_ordered : (phase : Phase) (eof : Option Eof) (complete : Bool) → IsTrue (takes_data e.phase) → rest_in phase e.items ≡ e.items → Each IsInOrder (turns W k e phase eof complete).table
+    turns_ordered : (phase : Phase) (eof : Option Eof) (complete : Bool) → IsTrue (takes_data e.phase) → rest_in phase e.items ≡ e.items →
+        Each IsInOrder (turns W k e phase eof complete).table
     turns_ordered phase eof complete takes still =
         changed_ordered [] (turned e phase eof complete) (record {
           metadata = refl;
@@ -125,7 +128,8 @@ module _ (W : World) (all : Each IsInOrder W.table) where
     check_ordered (Ended condition) is = all
 
     whole_ordered : (sum : ℕ) → IsTrue (takes_data e.phase) → Ordered (whole W k e sum)
-    whole_ordered sum takes = cond_both (is_right_checksum e sum) _ _ Ordered (λ _. turns_ordered (Executing 0) e.eof true takes refl) (λ _. ends_ordered e 5 refl refl)
+    whole_ordered sum takes = cond_both (is_right_checksum e sum) _ _ Ordered (λ _. turns_ordered (Executing 0) e.eof true takes refl)
+        (λ _. ends_ordered e 5 refl refl)
 
     eof_ordered : (eof : Eof) → Ordered (eof_came W k eof (Some e))
     eof_ordered eof =
@@ -175,14 +179,16 @@ module _ (W : World) (all : Each IsInOrder W.table) (k : ℕ) (e : Entry) (at : 
   V = stores W k e received
 
   all_now : Each IsInOrder V.table
-  all_now = changed_ordered W all k e at (Stages e.slot (staged_of received) ∷ []) new (record { metadata = refl; items = refl; counted = λ h. h; due = λ _. refl })
+  all_now = changed_ordered W all k e at (Stages e.slot (staged_of received) ∷ []) new
+      (record { metadata = refl; items = refl; counted = λ h. h; due = λ _. refl })
 
   there : slice_get V.table k ≡ Some new
   there = get_set_same W.table k new e at
 
   after_eof_ordered : (eof : Option Eof) → IsTrue (takes_data e.phase) → Ordered (after_eof eof V k new)
   after_eof_ordered None takes = all_now
-  after_eof_ordered (Some eof) takes = cond_both (is_whole eof.size new.received) _ _ Ordered (λ _. whole_ordered V all_now k new there eof.checksum takes) (λ _. all_now)
+  after_eof_ordered (Some eof) takes = cond_both (is_whole eof.size new.received) _ _ Ordered (λ _. whole_ordered V all_now k new there eof.checksum takes)
+      (λ _. all_now)
 
   stored_ordered : (phase : Phase) → IsTrue (takes_data e.phase) → Ordered (stored phase V k new)
   stored_ordered (Awaiting checks) takes = after_eof_ordered e.eof takes
@@ -207,14 +213,22 @@ module _ (W : World) (all : Each IsInOrder W.table) where
   refused_ordered : (h : Header) (m : MetadataFields) (phase : Phase) → is_counted phase ≡ false → IsInOrder (refused_entry h m phase)
   refused_ordered h m phase final = record { paths = tt; behind = refl; first = λ counted. absurd cc; due = λ counted. absurd cc }
 
-  granted_ordered : (h : Header) (m : MetadataFields) (slot : ℕ) (items : List Item) (blocks steps : ℕ) → IsListed (has_file m) items → IsInOrder (new_entry h m Receiving slot items blocks steps)
-  granted_ordered h m slot items blocks steps l = record { paths = l.paths; behind = l.behind; first = λ _. l.first; due = λ _. install_at_front items l.behind ∙ l.first }
+  granted_ordered : (h : Header) (m : MetadataFields) (slot : ℕ) (items : List Item) (blocks steps : ℕ) → IsListed (has_file m) items →
+      IsInOrder (new_entry h m Receiving slot items blocks steps)
+  granted_ordered h m slot items blocks steps l = record {
+    paths = l.paths;
+    behind = l.behind;
+    first = λ _. l.first;
+    due = λ _. install_at_front items l.behind ∙ l.first;
+  }
 
-  judged_ordered : (h : Header) (m : MetadataFields) (v : Verdict) → verdict W.config.prefixes W.filestore (leases_of W.table) (spare W) (proposal_of W.config m) ≡ v → Ordered (judged W h m v)
+  judged_ordered : (h : Header) (m : MetadataFields) (v : Verdict) → verdict W.config.prefixes W.filestore (leases_of W.table) (spare W)
+      (proposal_of W.config m) ≡ v → Ordered (judged W h m v)
   judged_ordered h m (Refuse r) is = added_ordered (refused_entry h m Refused) (refused_ordered h m Refused refl)
   judged_ordered h m (Grant items blocks steps) is =
       added_ordered (new_entry h m Receiving (free_slot W.table) items blocks steps)
-      (granted_ordered h m (free_slot W.table) items blocks steps (granted_listed W.config m W.config.prefixes W.filestore (leases_of W.table) (spare W) items blocks steps is))
+      (granted_ordered h m (free_slot W.table) items blocks steps (granted_listed W.config m W.config.prefixes W.filestore (leases_of W.table)
+      (spare W) items blocks steps is))
 
   metadata_ordered : (h : Header) (m : MetadataFields) (o : Option Entry) → Ordered (metadata_came W h m o)
   metadata_ordered h m (Some e) = all
@@ -225,7 +239,8 @@ module _ (W : World) (all : Each IsInOrder W.table) where
       (λ _. added_ordered (refused_entry h m (Ended 11)) (refused_ordered h m (Ended 11) refl))
       (λ _. judged_ordered h m (verdict W.config.prefixes W.filestore (leases_of W.table) (spare W) (proposal_of W.config m)) refl)))
 
-  found_ordered : (f : Option Entry → World × Reply) (k : ℕ) → Ordered (f None) → ((e : Entry) → slice_get W.table k ≡ Some e → Ordered (f (Some e))) → (o : Option Entry) → slice_get W.table k ≡ o → Ordered (f o)
+  found_ordered : (f : Option Entry → World × Reply) (k : ℕ) → Ordered (f None) → ((e : Entry) → slice_get W.table k ≡ Some e → Ordered (f (Some e))) →
+      (o : Option Entry) → slice_get W.table k ≡ o → Ordered (f o)
   found_ordered f k unknown known None at = unknown
   found_ordered f k unknown known (Some e) at = known e at
 
@@ -236,13 +251,17 @@ module _ (W : World) (all : Each IsInOrder W.table) where
   next_ordered (MetadataCame h m) = for_us_ordered h _ (metadata_ordered h m (entry_of W (id_of h)))
   next_ordered (DataCame h piece) =
       let k = index_of W (id_of h) in
-      for_us_ordered h (data_came W k piece (entry_of W (id_of h))) (found_ordered (λ o. data_came W k piece o) k all (λ e at. data_ordered W all k e at piece) (entry_of W (id_of h)) refl)
+      for_us_ordered h (data_came W k piece (entry_of W (id_of h))) (found_ordered (λ o. data_came W k piece o) k all (λ e at. data_ordered W all k e at piece)
+      (entry_of W (id_of h)) refl)
   next_ordered (EofCame h eof) =
       let k = index_of W (id_of h) in
-      for_us_ordered h (eof_came W k eof (entry_of W (id_of h))) (found_ordered (λ o. eof_came W k eof o) k all (λ e at. eof_ordered W all k e at eof) (entry_of W (id_of h)) refl)
-  next_ordered (Step id) = let k = index_of W id in found_ordered (λ o. stepped W k o) k all (λ e at. step_ordered W all k e at e.phase refl) (entry_of W id) refl
+      for_us_ordered h (eof_came W k eof (entry_of W (id_of h))) (found_ordered (λ o. eof_came W k eof o) k all (λ e at. eof_ordered W all k e at eof)
+      (entry_of W (id_of h)) refl)
+  next_ordered (Step id) = let k = index_of W id in found_ordered (λ o. stepped W k o) k all (λ e at. step_ordered W all k e at e.phase refl)
+      (entry_of W id) refl
   next_ordered (Cancel id) = let k = index_of W id in found_ordered (λ o. cancelled W k o) k all (λ e at. cancelled_ordered W all k e at) (entry_of W id) refl
-  next_ordered (Check id) = let k = index_of W id in found_ordered (λ o. checked W k o) k all (λ e at. check_ordered W all k e at e.phase refl) (entry_of W id) refl
+  next_ordered (Check id) = let k = index_of W id in found_ordered (λ o. checked W k o) k all (λ e at. check_ordered W all k e at e.phase refl)
+      (entry_of W id) refl
   next_ordered (Take id) = let k = index_of W id in found_ordered (λ o. taken_out W k o) k all (λ e at. taken_ordered W all k e at) (entry_of W id) refl
 
 -- runs ---------------------------------------------------------------------------------

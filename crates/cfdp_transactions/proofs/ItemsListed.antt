@@ -1,4 +1,4 @@
--- What the items of a list are: the install first, where there is a file, and behind it requests alone. Each names paths.
+-- What the items of a list are: the install first, where there is a file, and after it requests alone. Each names paths.
 --     has_install items         one of them is an install
 --     IsListed file items       the items of a list, with a file or without
 --     install_at_front          an install is among them exactly where it is the first
@@ -134,7 +134,8 @@ destination_listed : (file : Bool) (name : List ℕ) (q : Parsed) → OfRequests
 destination_listed true name q h = with_its_file (path_of name) q (path_of_path name (path_of name) refl) h
 destination_listed false name q h = without_file q h
 
-pub granted_listed : (c : Config) (m : MetadataFields) (prefixes : List Path) (F : Filestore) (leases : List (TransactionId × Footprint)) (spare : ℕ) (items : List Item) (blocks steps : ℕ) →
+pub granted_listed : (c : Config) (m : MetadataFields) (prefixes : List Path) (F : Filestore) (leases : List (TransactionId × Footprint)) (spare : ℕ)
+    (items : List Item) (blocks steps : ℕ) →
     verdict prefixes F leases spare (proposal_of c m) ≡ Grant items blocks steps → IsListed (has_file m) items
 granted_listed c m prefixes F leases spare items blocks steps h =
     subst (OfList (has_file m)) (granted_parsed prefixes F leases spare (proposal_of c m) items blocks steps h)

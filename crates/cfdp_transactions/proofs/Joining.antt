@@ -39,16 +39,21 @@ new_sound W e s a = record {
 }
 
 -- the entry at k is final, and goes
-pub taken_sound : (W : World) (k : ℕ) (e : Entry) → Sound W → slice_get W.table k ≡ Some e → IsFalse (is_live e.phase) → Sound (record W { table = remove W.table k })
+pub taken_sound : (W : World) (k : ℕ) (e : Entry) → Sound W → slice_get W.table k ≡ Some e → IsFalse (is_live e.phase) →
+    Sound (record W { table = remove W.table k })
 taken_sound W k e s at final = record {
   covered = λ j d here. s.covered (before k j) d (sym (remove_place W.table k j) ∙ here);
   live = λ j d here. s.live (before k j) d (sym (remove_place W.table k j) ∙ here);
-  apart = λ i j d f h g ne. s.apart (before k i) (before k j) d f (sym (remove_place W.table k i) ∙ h) (sym (remove_place W.table k j) ∙ g) (before_apart k i j ne);
+  apart = λ i j d f h g ne. s.apart (before k i) (before k j) d f (sym (remove_place W.table k i) ∙ h) (sym (remove_place W.table k j) ∙ g)
+      (before_apart k i j ne);
   honest = λ j d here. s.honest (before k j) d (sym (remove_place W.table k j) ∙ here);
-  names = λ i j d f h g ne. s.names (before k i) (before k j) d f (sym (remove_place W.table k i) ∙ h) (sym (remove_place W.table k j) ∙ g) (before_apart k i j ne);
+  names = λ i j d f h g ne. s.names (before k i) (before k j) d f (sym (remove_place W.table k i) ∙ h) (sym (remove_place W.table k j) ∙ g)
+      (before_apart k i j ne);
   few = omega (arith, s.few, length_remove W.table k);
   slots = s.slots;
-  vacant = λ slot vacant. s.vacant slot (λ j d here live. vacant (behind k j) d (remove_others W.table k j (λ q. let same : d ≡ e = get_same W.table j k d e here at q in both_ways (is_live e.phase) final (rw same at live)) ∙ here) live);
+  vacant = λ slot vacant. s.vacant slot (λ j d here live. vacant (behind k j) d
+      (remove_others W.table k j (λ q. let same : d ≡ e = get_same W.table j k d e here at q in both_ways (is_live e.phase) final (rw same at live))
+      ∙ here) live);
   rooted = s.rooted;
   room = omega (arith, s.room, reserves_total W.table, reserves_total (remove W.table k), total-remove reserve W.table k e at);
   given = λ j d here. s.given (before k j) d (sym (remove_place W.table k j) ∙ here);

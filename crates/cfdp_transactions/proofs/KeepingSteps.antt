@@ -21,7 +21,8 @@ use Rattle.cfdp_transactions.proofs.Overwriting.{overwritten-length, overwritten
 pub staged_anew : (s : Store) (slot : ℕ) (x : List ℕ) → slot < length s.filestore.staged → staged_in (with_changes s (Stages slot x ∷ [])).filestore slot ≡ x
 staged_anew s slot x h = get_or-set_same s.filestore.staged slot x [] h
 
-pub staged_twice : (s : Store) (slot : ℕ) (x y : List ℕ) → with_changes (with_changes s (Stages slot x ∷ [])) (Stages slot y ∷ []) ≡ with_changes s (Stages slot y ∷ [])
+pub staged_twice : (s : Store) (slot : ℕ) (x y : List ℕ) → with_changes (with_changes s (Stages slot x ∷ [])) (Stages slot y ∷ [])
+    ≡ with_changes s (Stages slot y ∷ [])
 staged_twice s slot x y = ap (λ (staged : List (List ℕ)). record s { filestore = record s.filestore { staged = staged } }) (set-set s.filestore.staged slot x y)
 
 pub slots_stay : (s : Store) (slot : ℕ) (x : List ℕ) → length (with_changes s (Stages slot x ∷ [])).filestore.staged ≡ length s.filestore.staged
@@ -85,7 +86,8 @@ module _ (ranges : Ranges) (at : ℕ) (octets xs ys : List ℕ) (from start stop
   }
 
 pub puts_more : (ranges : Ranges) (at : ℕ) (octets : List ℕ) (slot : ℕ) (s t u : Store) (from stop : ℕ) (zs : List ℕ) → slot < length s.filestore.staged
-    → Puts ranges at octets slot s t from → u ≡ with_changes t (Stages slot zs ∷ []) → IsPut ranges at octets (staged_in s.filestore slot) zs stop → Puts ranges at octets slot s u stop
+    → Puts ranges at octets slot s t from → u ≡ with_changes t (Stages slot zs ∷ []) → IsPut ranges at octets (staged_in s.filestore slot) zs stop →
+    Puts ranges at octets slot s u stop
 puts_more ranges at octets slot s t u from stop zs there puts e put =
     let whole : u ≡ with_changes s (Stages slot zs ∷ []) =
     e ∙ ap (λ (v : Store). with_changes v (Stages slot zs ∷ [])) puts.store ∙ staged_twice s slot (staged_in t.filestore slot) zs in
@@ -97,10 +99,13 @@ puts_more ranges at octets slot s t u from stop zs there puts e put =
 zero_at : (ranges : Ranges) (xs : List ℕ) (i : ℕ) → staged_of (received_in ranges xs) ≡ xs → i < length xs → IsFalse (is_in i ranges) → get_or xs i 0 ≡ 0
 zero_at ranges xs i e below out =
     let z : 0 + i ≡ i = omega arith in
-    ap (λ (ys : List ℕ). get_or ys i 0) (sym e) ∙ get_or-map (λ (r : Option ℕ). unwrap_or r 0) (received_in ranges xs) i None 0 (omega (arith, length-received 0 ranges xs))
-    ∙ ap (λ (r : Option ℕ). unwrap_or r 0) (received_at 0 ranges xs i below ∙ (let none : (if is_in (0 + i) ranges then Some (get_or xs i 0) else None) ≡ None = rw (z, out) refl in none))
+    ap (λ (ys : List ℕ). get_or ys i 0) (sym e) ∙ get_or-map (λ (r : Option ℕ). unwrap_or r 0) (received_in ranges xs) i None 0
+    (omega (arith, length-received 0 ranges xs))
+    ∙ ap (λ (r : Option ℕ). unwrap_or r 0) (received_at 0 ranges xs i below
+    ∙ (let none : (if is_in (0 + i) ranges then Some (get_or xs i 0) else None) ≡ None = rw (z, out) refl in none))
 
-module _ (ranges : Ranges) (at : ℕ) (octets xs zs : List ℕ) (size : ℕ) (long : size ≡ max (length xs) (at + length octets)) (pieces : ArePieces ranges xs) (some : 0 < length octets)
+module _ (ranges : Ranges) (at : ℕ) (octets xs zs : List ℕ) (size : ℕ) (long : size ≡ max (length xs) (at + length octets)) (pieces : ArePieces ranges xs)
+    (some : 0 < length octets)
     (zeros : staged_of (received_in ranges xs) ≡ xs) (put : IsPut ranges at octets (extended xs size) zs (at + length octets)) where
   extended_long : length (extended xs size) ≡ size
   extended_long = omega (arith, length-append xs (replicate (size - length xs) 0), length-replicate {A = ℕ} (size - length xs) 0, long)
@@ -115,14 +120,15 @@ module _ (ranges : Ranges) (at : ℕ) (octets xs zs : List ℕ) (size : ℕ) (lo
   pub all_ranges : received_in (with_range at (at + length octets) ranges) zs ≡ kept_with (received_in ranges xs) at octets
   all_ranges = ranges_keep ranges xs at octets zs pieces some written
 
-  -- zeros stood there, or stand there now
+  -- zeros were there, or are there now
   zero_before : (i : ℕ) → i < length (extended xs size) → IsFalse (is_in i ranges) → get_or (extended xs size) i 0 ≡ 0
   zero_before i below out = elim (cases_lt i (length xs)) [
     | inl old ↦ get_or_append_left xs (replicate (size - length xs) 0) 0 i old ∙ zero_at ranges xs i zeros old out
     | inr new ↦
         let k : ℕ = i - length xs in
         let place : i ≡ length xs + k = omega arith in
-        ap (λ (j : ℕ). get_or (extended xs size) j 0) place ∙ get_or-append-add xs (replicate (size - length xs) 0) k 0 ∙ get_or-replicate (size - length xs) k 0 0 (omega (arith, extended_long))
+        ap (λ (j : ℕ). get_or (extended xs size) j 0) place ∙ get_or-append-add xs (replicate (size - length xs) 0) k 0
+        ∙ get_or-replicate (size - length xs) k 0 0 (omega (arith, extended_long))
   ]
 
   zeros_still : (i : ℕ) → i < length zs → IsFalse (is_in i (with_range at (at + length octets) ranges)) → get_or zs i 0 ≡ 0
@@ -154,11 +160,13 @@ pub record IsKeptIn (ranges : Ranges) (at : ℕ) (octets : List ℕ) (slot : ℕ
 pub kept_in : (ranges : Ranges) (at : ℕ) (octets : List ℕ) (slot size : ℕ) (s t u : Store) → slot < length s.filestore.staged → 0 < length octets
     → size ≡ max (length (staged_in s.filestore slot)) (at + length octets) → ArePieces ranges (staged_in s.filestore slot)
     → staged_of (received_in ranges (staged_in s.filestore slot)) ≡ staged_in s.filestore slot
-    → t ≡ with_changes s (Stages slot (extended (staged_in s.filestore slot) size) ∷ []) → Puts ranges at octets slot t u (at + length octets) → IsKeptIn ranges at octets slot s u
+    → t ≡ with_changes s (Stages slot (extended (staged_in s.filestore slot) size) ∷ []) → Puts ranges at octets slot t u (at + length octets) →
+    IsKeptIn ranges at octets slot s u
 kept_in ranges at octets slot size s t u there some e pieces zeros f puts =
     let xs = staged_in s.filestore slot in
     let zs = staged_in u.filestore slot in
-    let begun : staged_in t.filestore slot ≡ extended xs size = ap (λ (v : Store). staged_in v.filestore slot) f ∙ staged_anew s slot (extended xs size) there in
+    let begun : staged_in t.filestore slot ≡ extended xs size = ap (λ (v : Store). staged_in v.filestore slot) f
+    ∙ staged_anew s slot (extended xs size) there in
     let put : IsPut ranges at octets (extended xs size) zs (at + length octets) = rw begun at puts.put in
     let whole : u ≡ with_changes s (Stages slot zs ∷ []) =
     puts.store ∙ ap (λ (v : Store). with_changes v (Stages slot zs ∷ [])) f ∙ staged_twice s slot (extended xs size) zs in

@@ -1,4 +1,4 @@
--- A live entry that is left alone stays as it is: its promise holds on every filestore that it cannot tell from its own.
+-- A live entry that is left alone stays as it is: its promise holds on every filestore that it cannot distinguish from its own.
 use Rattle.std.proofs.Common.{◌≡◌, ℕ, zero, suc, ◌<◌, List, [], ◌∷◌, length, drop, sym, ◌∙◌, subst}
 use Rattle.std.specs.Prelude.{IsTrue}
 use Rattle.std.specs.List.{AllByRecursion}
@@ -34,25 +34,29 @@ rest_all P (Ended condition) items h = tt
 abbrev pub AllSucceeded : List Answer → Type 0
 AllSucceeded = AllByRecursion (λ a. IsTrue (succeeded a))
 
-pub answers_succeed : (prefixes : List Path) (F : Filestore) (slot : ℕ) (items : List Item) → Succeed prefixes F slot items → AllSucceeded (statuses prefixes F slot items)
+pub answers_succeed : (prefixes : List Path) (F : Filestore) (slot : ℕ) (items : List Item) → Succeed prefixes F slot items →
+    AllSucceeded (statuses prefixes F slot items)
 unfolding Succeed statuses
 answers_succeed prefixes F slot [] h = tt
 answers_succeed prefixes F slot (item ∷ items) h = (h.0, answers_succeed prefixes (performed prefixes F slot item) slot items h.1)
 
-pub succeed_answers : (prefixes : List Path) (F : Filestore) (slot : ℕ) (items : List Item) → AllSucceeded (statuses prefixes F slot items) → Succeed prefixes F slot items
+pub succeed_answers : (prefixes : List Path) (F : Filestore) (slot : ℕ) (items : List Item) → AllSucceeded (statuses prefixes F slot items) →
+    Succeed prefixes F slot items
 unfolding Succeed statuses
 succeed_answers prefixes F slot [] h = tt
 succeed_answers prefixes F slot (item ∷ items) h = (h.0, succeed_answers prefixes (performed prefixes F slot item) slot items h.1)
 
-pub succeed_same : (prefixes : List Path) (F G : Filestore) (s t : ℕ) (items : List Item) → statuses prefixes F s items ≡ statuses prefixes G t items → Succeed prefixes F s items → Succeed prefixes G t items
+pub succeed_same : (prefixes : List Path) (F G : Filestore) (s t : ℕ) (items : List Item) → statuses prefixes F s items ≡ statuses prefixes G t items →
+    Succeed prefixes F s items → Succeed prefixes G t items
 succeed_same prefixes F G s t items e h = succeed_answers prefixes G t items (subst AllSucceeded e (answers_succeed prefixes F s items h))
 
 module _ (laws : LowerLaws) where
   pub rest_within : (e : Entry) → AllByRecursion (IsWithin (footprint e)) (rest e)
   rest_within e = rest_all (IsWithin (footprint e)) e.phase e.items (laws.own_footprint e.items)
 
-  -- an entry that can't tell F and G apart
-  pub kept_alike : (c : Config) (F G : Filestore) (e : Entry) → IsKept c F e → IsAlike (footprint e) e.slot F G → e.slot < length G.staged → IsRooted F → IsRooted G → IsKept c G e
+  -- an entry that can't distinguish F and G
+  pub kept_alike : (c : Config) (F G : Filestore) (e : Entry) → IsKept c F e → IsAlike (footprint e) e.slot F G → e.slot < length G.staged → IsRooted F →
+      IsRooted G → IsKept c G e
   kept_alike c F G e kept alike slot rooted_F rooted_G =
       let same = laws.foreign_change c.prefixes (footprint e) F G e.slot (longest c e) (rest e) alike rooted_F rooted_G kept.slot slot (rest_within e) in
       record {

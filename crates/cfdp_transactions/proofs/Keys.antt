@@ -1,4 +1,4 @@
--- In each world of a run something stands in the filestore only at paths.
+-- In each world of a run something is in the filestore only at paths.
 --     step_keyed                a step keeps the keys paths, as the names of its item are
 --     next_keyed, run_keyed     each event, and each run, keeps them so
 --     each_key_from             from whatever filestore whose keys are paths
@@ -24,7 +24,7 @@ use Rattle.cfdp_transactions.specs.Beginning.{start_with, EachKeyIsAPathFrom}
 use Rattle.cfdp_transactions.proofs.ItemOrder.{IsInOrder, next_ordered}
 use Rattle.cfdp_transactions.proofs.Starting.{empty_good}
 
--- the nodes alone tell
+-- the nodes alone say
 same_nodes : (F G : Filestore) → G.nodes ≡ F.nodes → KeysArePaths F → KeysArePaths G
 same_nodes F G same keys p there = keys p (sym (ap (λ (nodes : finite.FinMap path_cmp _). is_some (finite.get nodes p)) same) ∙ there)
 

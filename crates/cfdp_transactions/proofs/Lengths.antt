@@ -31,7 +31,8 @@ responses_short (r ∷ rs) [] h = and_from _ _ (response_short r (NotPerformed r
 responses_short (r ∷ rs) (s ∷ ss) h = and_from _ _ (response_short r s h.0) (responses_short rs ss h.1)
 
 -- a type octet and a length octet more
-responses_len : (rs : List RequestFields) (ss : List Status) → AllByRecursion IsShort rs → length (flat_map response_field (responses_of rs ss)) ≤ 257 * length rs
+responses_len : (rs : List RequestFields) (ss : List Status) → AllByRecursion IsShort rs →
+    length (flat_map response_field (responses_of rs ss)) ≤ 257 * length rs
 responses_len [] ss h = omega arith
 responses_len (r ∷ rs) [] h =
     let s = NotPerformed r.action in
@@ -48,18 +49,26 @@ fault_len id_len None = omega arith
 fault_len id_len (Some entity) = omega (arith, length-bytes id_len entity)
 
 -- 2 octets, 64 responses of 257, and a fault location of 10
-field_len : (header : Header) (f : FinishedFields) (rs : List RequestFields) (ss : List Status) → f.responses ≡ responses_of rs ss → header.id_len ≤ 8 → length rs ≤ 64 → AllByRecursion IsShort rs →
+field_len : (header : Header) (f : FinishedFields) (rs : List RequestFields) (ss : List Status) → f.responses ≡ responses_of rs ss → header.id_len ≤ 8 →
+    length rs ≤ 64 → AllByRecursion IsShort rs →
     length (finished_field header f) ≤ 16460
 unfolding finished_field
 field_len header f rs ss is short few h =
-    rw is (omega (arith, fault_len header.id_len f.fault, responses_len rs ss h, length-append (flat_map response_field (responses_of rs ss)) (fault_location header.id_len f.fault)))
+    rw is (omega (
+      arith,
+      fault_len header.id_len f.fault,
+      responses_len rs ss h,
+      length-append (flat_map response_field (responses_of rs ss)) (fault_location header.id_len f.fault),
+    ))
 
-module _ (header : Header) (f : FinishedFields) (rs : List RequestFields) (ss : List Status) (is : f.responses ≡ responses_of rs ss) (short : header.id_len ≤ 8) (few : length rs ≤ 64) (h : AllByRecursion IsShort rs) where
+module _ (header : Header) (f : FinishedFields) (rs : List RequestFields) (ss : List Status) (is : f.responses ≡ responses_of rs ss) (short : header.id_len ≤ 8)
+    (few : length rs ≤ 64) (h : AllByRecursion IsShort rs) where
   pub fields_fit : finished_fits header f ≡ true
   unfolding finished_fits
   fields_fit =
       let field = length (finished_field header f) in
-      and_from (list_all is_short_response f.responses) (nat_le field 65535) (rw is (responses_short rs ss h)) (le-leb field 65535 (omega (arith, field_len header f rs ss is short few h)))
+      and_from (list_all is_short_response f.responses) (nat_le field 65535) (rw is (responses_short rs ss h))
+      (le-leb field 65535 (omega (arith, field_len header f rs ss is short few h)))
 
   pub octets_fit : header.number_len ≤ 8 → length (pdu_octets false header (finished_field header f)) ≤ longest_finished
   octets_fit number = omega (arith, pdu_len false header (finished_field header f), field_len header f rs ss is short few h)

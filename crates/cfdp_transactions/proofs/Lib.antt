@@ -60,6 +60,9 @@ pub mod RangesAdded
 pub mod DataStored
 pub mod DataAnswers
 pub mod TakenOut
+mod PutBefore
+pub mod ResponsesPut
+pub mod FinishedTaken
 pub mod StartWhole
 pub mod Following
 pub mod Finished

@@ -12,8 +12,9 @@ use Rattle.cfdp_transactions.proofs.Finding.{is_same-true, is_same-same}
 pub differs : (a b : TransactionId) → a ≢ b → is_same a b ≡ false
 differs a b ne = elim (cases_Bool (is_same a b)) [ inl same ↦ absurd (ne (is_same-true a b same)) | inr other ↦ other ]
 
--- the entry in front is the one looked for, or the search goes on behind it
-either : (d : Entry) (t u : List Entry) (i j : ℕ) (same : Bool) → slice_get u i ≡ slice_get t j → slice_get (d ∷ u) (if same then 0 else suc i) ≡ slice_get (d ∷ t) (if same then 0 else suc j)
+-- the entry in front is the one looked for, or the search goes on after it
+either : (d : Entry) (t u : List Entry) (i j : ℕ) (same : Bool) → slice_get u i ≡ slice_get t j → slice_get (d ∷ u) (if same then 0 else suc i)
+    ≡ slice_get (d ∷ t) (if same then 0 else suc j)
 either d t u i j true h = refl
 either d t u i j false h = h
 
@@ -26,11 +27,13 @@ set_other (d ∷ t) zero new id ne old = rw (differs (name_of new) id ne, differ
 set_other (d ∷ t) (suc k) new id ne old =
     either d t (slice_set t k new) (place_of id (slice_set t k new)) (place_of id t) (is_same (name_of d) id) (set_other t k new id ne old)
 
-pub append_other : (t : List Entry) (new : Entry) (id : TransactionId) → name_of new ≢ id → slice_get (t ++ new ∷ []) (place_of id (t ++ new ∷ [])) ≡ slice_get t (place_of id t)
+pub append_other : (t : List Entry) (new : Entry) (id : TransactionId) → name_of new ≢ id → slice_get (t ++ new ∷ []) (place_of id (t ++ new ∷ []))
+    ≡ slice_get t (place_of id t)
 append_other [] new id ne = rw (differs (name_of new) id ne) refl
 append_other (d ∷ t) new id ne = either d t (t ++ new ∷ []) (place_of id (t ++ new ∷ [])) (place_of id t) (is_same (name_of d) id) (append_other t new id ne)
 
-pub remove_other : (t : List Entry) (k : ℕ) (id : TransactionId) → ((e : Entry) → slice_get t k ≡ Some e → name_of e ≢ id) → slice_get (remove t k) (place_of id (remove t k)) ≡ slice_get t (place_of id t)
+pub remove_other : (t : List Entry) (k : ℕ) (id : TransactionId) → ((e : Entry) → slice_get t k ≡ Some e → name_of e ≢ id) →
+    slice_get (remove t k) (place_of id (remove t k)) ≡ slice_get t (place_of id t)
 remove_other [] zero id old = refl
 remove_other [] (suc k) id old = refl
 remove_other (d ∷ t) zero id old = rw (differs (name_of d) id (old d refl)) refl
@@ -41,7 +44,8 @@ remove_other (d ∷ t) (suc k) id old = either d t (remove t k) (place_of id (re
 set_step : (d : Entry) (t : List Entry) (id : TransactionId) (e new : Entry) (same : Bool) → is_same (name_of d) id ≡ same → name_of new ≡ id →
     (slice_get t (place_of id t) ≡ Some e → slice_get (slice_set t (place_of id t) new) (place_of id (slice_set t (place_of id t) new)) ≡ Some new) →
     slice_get (d ∷ t) (if same then 0 else suc (place_of id t)) ≡ Some e →
-    slice_get (slice_set (d ∷ t) (if same then 0 else suc (place_of id t)) new) (place_of id (slice_set (d ∷ t) (if same then 0 else suc (place_of id t)) new)) ≡ Some new
+    slice_get (slice_set (d ∷ t) (if same then 0 else suc (place_of id t)) new) (place_of id (slice_set (d ∷ t) (if same then 0 else suc (place_of id t)) new))
+    ≡ Some new
 set_step d t id e new true is name later h = rw (is_same-same (name_of new) id name) refl
 set_step d t id e new false is name later h = rw is (later h)
 

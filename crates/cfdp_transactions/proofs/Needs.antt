@@ -32,7 +32,8 @@ free_reserve : (W : World) (k : ℕ) (e : Entry) → Sound W → slice_get W.tab
 free_reserve W k e s at = omega (arith, s.room, reserve_within W.table k e at)
 
 module _ (laws : LowerLaws) where
-  ready : (W : World) (k : ℕ) (e : Entry) (n : ℕ) → Sound W → slice_get W.table k ≡ Some e → e.phase ≡ Executing n → (left : List Item) → drop n e.items ≡ left → IsReady W e n
+  ready : (W : World) (k : ℕ) (e : Entry) (n : ℕ) → Sound W → slice_get W.table k ≡ Some e → e.phase ≡ Executing n → (left : List Item) → drop n e.items
+      ≡ left → IsReady W e n
   ready W k e n s at is [] left = absurd ((s.live k e at (rw is refl)).more (rw is refl) (rw is left))
   ready W k e n s at is (item ∷ items) left =
       let same : act_now W e item ≡ row W.config.prefixes W.filestore e.slot item = enough laws W s k e n item items at is left in
@@ -85,7 +86,8 @@ data_needs W k e received s at takes short =
       free_blocks = free_reserve W k e s at;
     }
 
-responses_whole : (rs : List RequestFields) (ss : List Status) → AllByRecursion IsRequest rs → ss ≡ take (length ss) (all_successful rs) → AllByRecursion IsResponse (responses_of rs ss)
+responses_whole : (rs : List RequestFields) (ss : List Status) → AllByRecursion IsRequest rs → ss ≡ take (length ss) (all_successful rs) →
+    AllByRecursion IsResponse (responses_of rs ss)
 responses_whole [] ss whole own = tt
 responses_whole (r ∷ rs) [] whole own = (whole.0, responses_whole rs [] whole.1 refl)
 responses_whole (r ∷ rs) (s ∷ ss) whole own =

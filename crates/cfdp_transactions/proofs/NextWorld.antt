@@ -37,17 +37,23 @@ module _ (laws : LowerLaws) (W : World) (s : Sound W) where
       })
   next_goes (DataCame h piece) =
       let k = index_of W (id_of h) in
-      for_us_goes k h (data_came W k piece (entry_of W (id_of h))) (found_goes k (λ o. data_came W k piece o) refl (λ e at. (data_moves laws W k e s at piece).1.goes) (entry_of W (id_of h)) refl)
+      for_us_goes k h (data_came W k piece (entry_of W (id_of h))) (found_goes k (λ o. data_came W k piece o) refl
+      (λ e at. (data_moves laws W k e s at piece).1.goes) (entry_of W (id_of h)) refl)
   next_goes (EofCame h eof) =
       let k = index_of W (id_of h) in
-      for_us_goes k h (eof_came W k eof (entry_of W (id_of h))) (found_goes k (λ o. eof_came W k eof o) refl (λ e at. (eof_moves laws W k e s at eof).1.goes) (entry_of W (id_of h)) refl)
-  next_goes (Step id) = let k = index_of W id in found_goes k (λ o. stepped W k o) refl (λ e at. (step_moves_in laws W k e s at e.phase refl).1.goes) (entry_of W id) refl
-  next_goes (Cancel id) = let k = index_of W id in found_goes k (λ o. cancelled W k o) refl (λ e at. (cancelled_moves laws W k e s at).1.goes) (entry_of W id) refl
-  next_goes (Check id) = let k = index_of W id in found_goes k (λ o. checked W k o) refl (λ e at. (check_moves laws W k e s at e.phase refl).1.goes) (entry_of W id) refl
+      for_us_goes k h (eof_came W k eof (entry_of W (id_of h))) (found_goes k (λ o. eof_came W k eof o) refl (λ e at. (eof_moves laws W k e s at eof).1.goes)
+      (entry_of W (id_of h)) refl)
+  next_goes (Step id) = let k = index_of W id in found_goes k (λ o. stepped W k o) refl (λ e at. (step_moves_in laws W k e s at e.phase refl).1.goes)
+      (entry_of W id) refl
+  next_goes (Cancel id) = let k = index_of W id in found_goes k (λ o. cancelled W k o) refl (λ e at. (cancelled_moves laws W k e s at).1.goes)
+      (entry_of W id) refl
+  next_goes (Check id) = let k = index_of W id in found_goes k (λ o. checked W k o) refl (λ e at. (check_moves laws W k e s at e.phase refl).1.goes)
+      (entry_of W id) refl
   next_goes (Take id) = let k = index_of W id in found_goes k (λ o. taken_out W k o) refl (λ e at. taken_goes laws W k e s at) (entry_of W id) refl
 
   pub next_sound : (event : Event) → Sound (next W event).0
   next_sound event = (next_goes event).sound
 
-  pub next_isolated : (event : Event) → Each (λ d. IsTrue (is_live d.phase) → name_of d ≢ about event → Keeps W.filestore (next W event).0.filestore (footprint d)) W.table
+  pub next_isolated : (event : Event) → Each (λ d. IsTrue (is_live d.phase) → name_of d ≢ about event →
+      Keeps W.filestore (next W event).0.filestore (footprint d)) W.table
   next_isolated event j d at live other = (next_goes event).keeps j d at (λ here. other (found_name W.table (about event) d (rw here at at))) live

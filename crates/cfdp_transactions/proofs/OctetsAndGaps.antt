@@ -72,7 +72,8 @@ later_missing left at r rs i m = record { k = suc m.k; below = omega (arith, m.b
 later_missing_end : (left at i : ℕ) → IsMissing left (at + 1) [] i → IsMissing (suc left) at [] i
 later_missing_end left at i m = record { k = suc m.k; below = omega (arith, m.below); is = omega (arith, m.is); none = refl }
 
-begun_missing : (begun : Option ℕ) (left at : ℕ) (rs : Received) (i : ℕ) → octet_at rs 0 ≡ None → IsBegun (begun_by begun at) (at + 1) i → IsBegun begun at i ⊎ IsMissing (suc left) at rs i
+begun_missing : (begun : Option ℕ) (left at : ℕ) (rs : Received) (i : ℕ) → octet_at rs 0 ≡ None → IsBegun (begun_by begun at) (at + 1) i → IsBegun begun at i
+    ⊎ IsMissing (suc left) at rs i
 begun_missing None left at rs i none h = inr (record { k = 0; below = omega arith; is = omega arith; none = none })
 begun_missing (Some start) left at rs i none h = elim (cases_lt i at)
     [ inl lt ↦ inl (h.0, lt) | inr ge ↦ inr (record { k = 0; below = omega arith; is = omega arith; none = none }) ]
@@ -119,12 +120,15 @@ begun_gap (suc left) at begun [] i h = begun_gap left (at + 1) (begun_by begun a
 begun_gap (suc left) at begun (None ∷ rs) i h = begun_gap left (at + 1) (begun_by begun at) rs i (begun_on begun at i h)
 begun_gap (suc left) at begun (Some r ∷ rs) i h = in_left i (closed begun at) (gaps_from left (at + 1) None rs) (begun_closed begun at i h)
 
-missing_gap : (left at : ℕ) (begun : Option ℕ) (rs : Received) (i k : ℕ) → BegunBefore begun at → k < left → i ≡ at + k → octet_at rs k ≡ None → IsIn i (gaps_from left at begun rs)
+missing_gap : (left at : ℕ) (begun : Option ℕ) (rs : Received) (i k : ℕ) → BegunBefore begun at → k < left → i ≡ at + k → octet_at rs k ≡ None →
+    IsIn i (gaps_from left at begun rs)
 missing_gap zero at begun rs i k h below is none = absurd (omega arith)
 missing_gap (suc left) at begun [] i zero h below is none = begun_gap left (at + 1) (begun_by begun at) [] i (begun_here begun at i h (omega arith))
-missing_gap (suc left) at begun [] i (suc k) h below is none = missing_gap left (at + 1) (begun_by begun at) [] i k (still_before begun at h) (omega arith) (omega arith) refl
+missing_gap (suc left) at begun [] i (suc k) h below is none = missing_gap left (at + 1) (begun_by begun at) [] i k (still_before begun at h) (omega arith)
+    (omega arith) refl
 missing_gap (suc left) at begun (None ∷ rs) i zero h below is none = begun_gap left (at + 1) (begun_by begun at) rs i (begun_here begun at i h (omega arith))
-missing_gap (suc left) at begun (None ∷ rs) i (suc k) h below is none = missing_gap left (at + 1) (begun_by begun at) rs i k (still_before begun at h) (omega arith) (omega arith) none
+missing_gap (suc left) at begun (None ∷ rs) i (suc k) h below is none = missing_gap left (at + 1) (begun_by begun at) rs i k (still_before begun at h)
+    (omega arith) (omega arith) none
 missing_gap (suc left) at begun (Some r ∷ rs) i zero h below is none = absurd cc
 missing_gap (suc left) at begun (Some r ∷ rs) i (suc k) h below is none =
     in_right i (closed begun at) (gaps_from left (at + 1) None rs) (missing_gap left (at + 1) None rs i k tt (omega arith) (omega arith) none)
@@ -138,7 +142,7 @@ gaps_are_missing limit rs i = (
     all_of : (m : IsMissing limit 0 rs i) → i ≡ m.k
     all_of m = omega (arith, m.is)
 
--- from the place where a gap may begin
+-- from the offset where a gap may begin
 abbrev MayBegin : ℕ → Option ℕ → ℕ → Type 0
 MayBegin from None at = from ≤ at
 MayBegin from (Some start) at = (from ≤ start) × (start < at)

@@ -34,8 +34,14 @@ pub record IsSendable (e : Entry) : Type 0 where
   pub few : length e.metadata.requests ≤ 64
   pub condition : condition_of e.phase < 16
 
-sendable_in : (e : Entry) (phase : Phase) (new : Entry) → IsSendable e → new.header ≡ e.header → new.metadata ≡ e.metadata → new.phase ≡ phase → condition_of phase < 16 → IsSendable new
-sendable_in e phase new s header metadata is small = record { header = rw header s.header; requests = rw metadata s.requests; few = rw metadata s.few; condition = rw is small }
+sendable_in : (e : Entry) (phase : Phase) (new : Entry) → IsSendable e → new.header ≡ e.header → new.metadata ≡ e.metadata → new.phase ≡ phase →
+    condition_of phase < 16 → IsSendable new
+sendable_in e phase new s header metadata is small = record {
+  header = rw header s.header;
+  requests = rw metadata s.requests;
+  few = rw metadata s.few;
+  condition = rw is small;
+}
 
 -- the outcome -------------------------------------------------------------------------
 
@@ -47,12 +53,21 @@ file_status_small e =
 
 fault_fits : (e : Entry) → IsHeader e.header → IfSome (fault_of e) (λ entity. entity < 256 ^ e.header.id_len)
 fault_fits e h =
-    cond_both ((condition_of e.phase == 0) || (condition_of e.phase == 11)) _ _ (λ (o : Option ℕ). IfSome o (λ entity. entity < 256 ^ e.header.id_len)) (λ _. tt)
+    cond_both ((condition_of e.phase == 0) || (condition_of e.phase == 11)) _ _ (λ (o : Option ℕ). IfSome o (λ entity. entity < 256 ^ e.header.id_len))
+    (λ _. tt)
     (λ _. cond_both e.ended_by_eof _ _ (λ (o : Option ℕ). IfSome o (λ entity. entity < 256 ^ e.header.id_len)) (λ _. h.source) (λ _. h.destination))
 
 pub outcome_fits : (e : Entry) → IsSendable e → IsWritable (outcome_of e)
 outcome_fits e s = record {
-  header = record { id_low = s.header.id_low; id_high = s.header.id_high; number_low = s.header.number_low; number_high = s.header.number_high; source = s.header.source; number = s.header.number; destination = s.header.destination };
+  header = record {
+    id_low = s.header.id_low;
+    id_high = s.header.id_high;
+    number_low = s.header.number_low;
+    number_high = s.header.number_high;
+    source = s.header.source;
+    number = s.header.number;
+    destination = s.header.destination;
+  };
   sized = record { condition = s.condition; file_status = file_status_small e; fault = fault_fits e s.header };
   fits = fields_fit (outcome_of e).header (finished e) e.metadata.requests e.statuses refl s.header.id_high s.few s.requests;
   most = octets_fit (outcome_of e).header (finished e) e.metadata.requests e.statuses refl s.header.id_high s.few s.requests s.header.number_high;
@@ -70,15 +85,19 @@ module _ (W : World) (all : Each IsSendable W.table) where
     changed_fits changes new s = set_each (λ _ (d : Entry). IsSendable d) W.table k new s (λ j d here ne. all j d here)
 
     -- to a phase with a small condition
-    goes_to : (changes : List Change) (new : Entry) (phase : Phase) (reply : Reply) → new.header ≡ e.header → new.metadata ≡ e.metadata → new.phase ≡ phase → condition_of phase < 16 → FitsReply reply →
+    goes_to : (changes : List Change) (new : Entry) (phase : Phase) (reply : Reply) → new.header ≡ e.header → new.metadata ≡ e.metadata → new.phase ≡ phase →
+        condition_of phase < 16 → FitsReply reply →
         AnswerFits (change_at W k changes new, reply)
-    goes_to changes new phase reply header metadata is small fits = record { table = changed_fits changes new (sendable_in e phase new (all k e at) header metadata is small); reply = fits }
+    goes_to changes new phase reply header metadata is small fits = record
+        { table = changed_fits changes new (sendable_in e phase new (all k e at) header metadata is small); reply = fits }
 
     stays_fit : (reply : Reply) → FitsReply reply → AnswerFits (W, reply)
     stays_fit reply fits = record { table = all; reply = fits }
 
-    ends_fit : (now : Entry) (condition : ℕ) (reply : Reply) → now.header ≡ e.header → now.metadata ≡ e.metadata → condition < 16 → FitsReply reply → AnswerFits (ends W k now condition, reply)
-    ends_fit now condition reply header metadata small fits = goes_to (Stages now.slot [] ∷ []) (ended W.filestore now condition) (Ended condition) reply header metadata refl small fits
+    ends_fit : (now : Entry) (condition : ℕ) (reply : Reply) → now.header ≡ e.header → now.metadata ≡ e.metadata → condition < 16 → FitsReply reply →
+        AnswerFits (ends W k now condition, reply)
+    ends_fit now condition reply header metadata small fits = goes_to (Stages now.slot [] ∷ []) (ended W.filestore now condition)
+        (Ended condition) reply header metadata refl small fits
 
     cancelled_fits : AnswerFits (cancelled W k (Some e))
     cancelled_fits = cond_both (is_live e.phase) _ _ AnswerFits (λ _. ends_fit e 15 Reply.Cancelled refl refl (omega arith) tt) (λ _. stays_fit Reply.Idle tt)
@@ -89,7 +108,8 @@ module _ (W : World) (all : Each IsSendable W.table) where
 
     check_fits : (phase : Phase) → AnswerFits (check_at phase W k e)
     check_fits (Awaiting checks) = cond_both (nat_le W.config.checks (checks + 1)) _ _ AnswerFits
-        (λ _. ends_fit e 10 (Reply.Faulted 10) refl refl (omega arith) tt) (λ _. goes_to [] _ (Awaiting (checks + 1)) Reply.Waiting refl refl refl (omega arith) tt)
+        (λ _. ends_fit e 10 (Reply.Faulted 10) refl refl (omega arith) tt) (λ _.
+        goes_to [] _ (Awaiting (checks + 1)) Reply.Waiting refl refl refl (omega arith) tt)
     check_fits Receiving = stays_fit Reply.Idle tt
     check_fits (Executing next) = stays_fit Reply.Idle tt
     check_fits Refused = stays_fit Reply.Idle tt
@@ -108,7 +128,8 @@ module _ (W : World) (all : Each IsSendable W.table) where
         (λ _. cond_both (not (is_receiving e.phase)) _ _ AnswerFits (λ _. stays_fit Reply.Duplicate tt)
         (λ _. cond_both (length e.items == 0) _ _ AnswerFits (λ _. goes_to [] _ Done Reply.Done refl refl refl (omega arith) tt)
         (λ _. cond_both (not (has_file e.metadata)) _ _ AnswerFits (λ _. goes_to [] _ (Executing 0) Reply.Complete refl refl refl (omega arith) tt)
-        (λ _. cond_both (nat_lt (bound W.config e.metadata) eof.size || nat_lt eof.size (length e.received)) _ _ AnswerFits (λ _. ends_fit e 6 (Reply.Faulted 6) refl refl (omega arith) tt)
+        (λ _. cond_both (nat_lt (bound W.config e.metadata) eof.size || nat_lt eof.size (length e.received)) _ _ AnswerFits
+        (λ _. ends_fit e 6 (Reply.Faulted 6) refl refl (omega arith) tt)
         (λ _. cond_both (not (is_whole eof.size e.received)) _ _ AnswerFits (λ _. goes_to [] _ (Awaiting 0) Reply.Waiting refl refl refl (omega arith) tt)
         (λ _. whole_fits eof.checksum)))))))
 
@@ -126,7 +147,8 @@ module _ (W : World) (all : Each IsSendable W.table) where
     step_items_fit n (item ∷ items) =
         let o = act_now W e item in
         cond_both (succeeded o.answer) _ _ AnswerFits
-        (λ _. goes_to o.changes (entry_after e n item items o) (phase_before (suc n) items) (replied o.answer) refl refl refl (small_before (suc n) items) (replied_fits o.answer))
+        (λ _. goes_to o.changes (entry_after e n item items o) (phase_before (suc n) items) (replied o.answer) refl refl refl (small_before (suc n) items)
+        (replied_fits o.answer))
         (λ _. ends_fit (entry_failed e o) 4 (replied o.answer) refl refl (omega arith) (replied_fits o.answer))
 
     step_fits : (phase : Phase) → AnswerFits (step_in phase W k e)
@@ -158,7 +180,8 @@ module _ (W : World) (all : Each IsSendable W.table) (k : ℕ) (e : Entry) (at :
 
   after_eof_fits : (eof : Option Eof) → AnswerFits (after_eof eof V k new)
   after_eof_fits None = stays_fit V all_now k new there Reply.Stored tt
-  after_eof_fits (Some eof) = cond_both (is_whole eof.size new.received) _ _ AnswerFits (λ _. whole_fits V all_now k new there eof.checksum) (λ _. stays_fit V all_now k new there Reply.Stored tt)
+  after_eof_fits (Some eof) = cond_both (is_whole eof.size new.received) _ _ AnswerFits (λ _. whole_fits V all_now k new there eof.checksum)
+      (λ _. stays_fit V all_now k new there Reply.Stored tt)
 
   stored_fits : (phase : Phase) → AnswerFits (stored phase V k new)
   stored_fits (Awaiting checks) = after_eof_fits e.eof
@@ -172,7 +195,8 @@ module _ (W : World) (all : Each IsSendable W.table) (k : ℕ) (e : Entry) (at :
   data_fits =
       cond_both (takes_data e.phase) _ _ AnswerFits
       (λ _. cond_both (length piece.octets == 0) _ _ AnswerFits (λ _. stays_fit W all k e at Reply.Stored tt)
-      (λ _. cond_both (nat_lt (limit e.phase W.config e) (piece.offset + length piece.octets)) _ _ AnswerFits (λ _. ends_fit W all k e at e 6 (Reply.Faulted 6) refl refl (omega arith) tt)
+      (λ _. cond_both (nat_lt (limit e.phase W.config e) (piece.offset + length piece.octets)) _ _ AnswerFits
+      (λ _. ends_fit W all k e at e 6 (Reply.Faulted 6) refl refl (omega arith) tt)
       (λ _. cond_both (nat_lt 32 (pieces received)) _ _ AnswerFits (λ _. stays_fit W all k e at Reply.Dropped tt) (λ _. stored_fits e.phase))))
       (λ _. stays_fit W all k e at Reply.Idle tt)
 
@@ -189,15 +213,23 @@ module _ (W : World) (all : Each IsSendable W.table) where
       cond_both (nat_le 64 (length W.table)) _ _ AnswerFits (λ _. nothing_changes Reply.TableFull tt)
       (λ _. cond_both (nat_lt 64 (length m.requests)) _ _ AnswerFits (λ _. nothing_changes (Reply.Refused TooManyRequests) tt)
       (λ few. cond_both (has_file m && not (is_known_checksum m.checksum_type)) _ _ AnswerFits
-      (λ _. added_fits (refused_entry h m (Ended 11)) (Reply.Faulted 11) (record { header = header; requests = requests; few = ltb-false _ _ few; condition = omega arith }) tt)
+      (λ _. added_fits (refused_entry h m (Ended 11)) (Reply.Faulted 11) (record {
+        header = header;
+        requests = requests;
+        few = ltb-false _ _ few;
+        condition = omega arith;
+      }) tt)
       (λ _. judged_fits (ltb-false _ _ few) (verdict W.config.prefixes W.filestore (leases_of W.table) (spare W) (proposal_of W.config m)))))
     where
       judged_fits : length m.requests ≤ 64 → (v : Verdict) → AnswerFits (judged W h m v)
-      judged_fits few (Refuse r) = added_fits (refused_entry h m Refused) (Reply.Refused r) (record { header = header; requests = requests; few = few; condition = omega arith }) tt
+      judged_fits few (Refuse r) = added_fits (refused_entry h m Refused) (Reply.Refused r)
+          (record { header = header; requests = requests; few = few; condition = omega arith }) tt
       judged_fits few (Grant items blocks steps) =
-          added_fits (new_entry h m Receiving (free_slot W.table) items blocks steps) (Reply.Admitted blocks steps) (record { header = header; requests = requests; few = few; condition = omega arith }) tt
+          added_fits (new_entry h m Receiving (free_slot W.table) items blocks steps) (Reply.Admitted blocks steps)
+          (record { header = header; requests = requests; few = few; condition = omega arith }) tt
 
-  found_fits : (f : Option Entry → World × Reply) (k : ℕ) → AnswerFits (f None) → ((e : Entry) → slice_get W.table k ≡ Some e → AnswerFits (f (Some e))) → (o : Option Entry) → slice_get W.table k ≡ o → AnswerFits (f o)
+  found_fits : (f : Option Entry → World × Reply) (k : ℕ) → AnswerFits (f None) → ((e : Entry) → slice_get W.table k ≡ Some e → AnswerFits (f (Some e))) →
+      (o : Option Entry) → slice_get W.table k ≡ o → AnswerFits (f o)
   found_fits f k unknown known None at = unknown
   found_fits f k unknown known (Some e) at = known e at
 
@@ -208,14 +240,20 @@ module _ (W : World) (all : Each IsSendable W.table) where
   next_fits (MetadataCame h m) fits = for_us_fits h _ (metadata_fits h m fits.0 fits.1 (entry_of W (id_of h)))
   next_fits (DataCame h piece) fits =
       let k = index_of W (id_of h) in
-      for_us_fits h (data_came W k piece (entry_of W (id_of h))) (found_fits (λ o. data_came W k piece o) k (nothing_changes Reply.Unknown tt) (λ e at. data_fits W all k e at piece) (entry_of W (id_of h)) refl)
+      for_us_fits h (data_came W k piece (entry_of W (id_of h))) (found_fits (λ o. data_came W k piece o) k (nothing_changes Reply.Unknown tt)
+      (λ e at. data_fits W all k e at piece) (entry_of W (id_of h)) refl)
   next_fits (EofCame h eof) fits =
       let k = index_of W (id_of h) in
-      for_us_fits h (eof_came W k eof (entry_of W (id_of h))) (found_fits (λ o. eof_came W k eof o) k (nothing_changes Reply.Unknown tt) (λ e at. eof_fits W all k e at eof fits.1) (entry_of W (id_of h)) refl)
-  next_fits (Step id) fits = let k = index_of W id in found_fits (λ o. stepped W k o) k (nothing_changes Reply.Unknown tt) (λ e at. step_fits W all k e at e.phase) (entry_of W id) refl
-  next_fits (Cancel id) fits = let k = index_of W id in found_fits (λ o. cancelled W k o) k (nothing_changes Reply.Unknown tt) (λ e at. cancelled_fits W all k e at) (entry_of W id) refl
-  next_fits (Check id) fits = let k = index_of W id in found_fits (λ o. checked W k o) k (nothing_changes Reply.Unknown tt) (λ e at. check_fits W all k e at e.phase) (entry_of W id) refl
-  next_fits (Take id) fits = let k = index_of W id in found_fits (λ o. taken_out W k o) k (nothing_changes Reply.Unknown tt) (λ e at. taken_fits W all k e at) (entry_of W id) refl
+      for_us_fits h (eof_came W k eof (entry_of W (id_of h))) (found_fits (λ o. eof_came W k eof o) k (nothing_changes Reply.Unknown tt)
+      (λ e at. eof_fits W all k e at eof fits.1) (entry_of W (id_of h)) refl)
+  next_fits (Step id) fits = let k = index_of W id in found_fits (λ o. stepped W k o) k (nothing_changes Reply.Unknown tt)
+      (λ e at. step_fits W all k e at e.phase) (entry_of W id) refl
+  next_fits (Cancel id) fits = let k = index_of W id in found_fits (λ o. cancelled W k o) k (nothing_changes Reply.Unknown tt)
+      (λ e at. cancelled_fits W all k e at) (entry_of W id) refl
+  next_fits (Check id) fits = let k = index_of W id in found_fits (λ o. checked W k o) k (nothing_changes Reply.Unknown tt)
+      (λ e at. check_fits W all k e at e.phase) (entry_of W id) refl
+  next_fits (Take id) fits = let k = index_of W id in found_fits (λ o. taken_out W k o) k (nothing_changes Reply.Unknown tt) (λ e at. taken_fits W all k e at)
+      (entry_of W id) refl
 
 pub replies_fit : (W : World) (events : List Event) → Each IsSendable W.table → AllByRecursion IsReadable events → AllByRecursion FitsReply (replies W events)
 replies_fit W [] all readable = tt

@@ -1,4 +1,4 @@
--- What stands where, once a piece of a list is written over.
+-- What is where, once a piece of a list is written over.
 use Rattle.std.proofs.Common.{◌≡◌, ℕ, ◌+◌, ◌-◌, ◌≤◌, ◌<◌, List, ◌++◌, length, take, drop, get_or, ap, sym, ◌∙◌, arith, length-append, length-drop}
 use Rattle.std.proofs.lemmas.List.{get_or_append_left, get_or-append-add, get_or-take, get_or-drop, length-take-le}
 use Rattle.cfdp_actions.specs.Store.{overwritten}
@@ -8,7 +8,14 @@ module _ (ys : List ℕ) (a : ℕ) (p : List ℕ) (fits : a + length p ≤ lengt
   front = length-take-le a ys (omega (arith, fits))
 
   pub overwritten-length : length (overwritten ys a p) ≡ length ys
-  overwritten-length = omega (arith, length-append (take a ys ++ p) (drop (a + length p) ys), length-append (take a ys) p, front, length-drop (a + length p) ys, fits)
+  overwritten-length = omega (
+    arith,
+    length-append (take a ys ++ p) (drop (a + length p) ys),
+    length-append (take a ys) p,
+    front,
+    length-drop (a + length p) ys,
+    fits,
+  )
 
   pub overwritten-before : (i : ℕ) → i < a → get_or (overwritten ys a p) i 0 ≡ get_or ys i 0
   overwritten-before i h =
@@ -25,4 +32,5 @@ module _ (ys : List ℕ) (a : ℕ) (p : List ℕ) (fits : a + length p ≤ lengt
       let whole : length (take a ys ++ p) ≡ a + length p = omega (arith, length-append (take a ys) p, front) in
       let place : i ≡ length (take a ys ++ p) + (i - (a + length p)) = omega (arith, whole) in
       ap (λ (k : ℕ). get_or (overwritten ys a p) k 0) place ∙ get_or-append-add (take a ys ++ p) (drop (a + length p) ys) (i - (a + length p)) 0
-      ∙ get_or-drop (a + length p) ys (i - (a + length p)) 0 ∙ ap (λ (k : ℕ). get_or ys k 0) (let e : a + length p + (i - (a + length p)) ≡ i = omega arith in e)
+      ∙ get_or-drop (a + length p) ys (i - (a + length p)) 0 ∙ ap (λ (k : ℕ). get_or ys k 0) (let e : a + length p + (i - (a + length p)) ≡ i = omega arith in
+      e)

@@ -26,7 +26,8 @@ own_delete p None = λ h. absurd cc
 own_delete p (Some Directory) = λ h. absurd cc
 own_delete p (Some (File octets)) = λ h. refl
 
-own_rename : (p q : Path) (there taken : Option Node) (good below : Bool) (es : List (Path × Node)) → IsOwn action.RenameFile (rename p q there taken good below es)
+own_rename : (p q : Path) (there taken : Option Node) (good below : Bool) (es : List (Path × Node)) →
+    IsOwn action.RenameFile (rename p q there taken good below es)
 unfolding rename
 own_rename p q None _ good below es = λ h. absurd cc
 own_rename p q (Some node) (Some _) good below es = λ h. absurd cc

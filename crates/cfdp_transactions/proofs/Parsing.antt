@@ -49,14 +49,16 @@ abbrev InOrder : List RequestFields → Parsed → Type 0
 InOrder rs (Bad place) = ⊤
 InOrder rs (Good items) = successes items ≡ all_successful rs
 
-and_then_order : (f : RequestFields) (rs : List RequestFields) (r : Option Request) (i : ℕ) (rest : Parsed) → IsOfAction f.action r → InOrder rs rest → InOrder (f ∷ rs) (and_then r i rest)
+and_then_order : (f : RequestFields) (rs : List RequestFields) (r : Option Request) (i : ℕ) (rest : Parsed) → IsOfAction f.action r → InOrder rs rest →
+    InOrder (f ∷ rs) (and_then r i rest)
 and_then_order f rs None i rest own h = tt
 and_then_order f rs (Some r) i (Bad place) own h = tt
 and_then_order f rs (Some r) i (Good items) own h = rw (own, h) refl
 
 from_order : (i : ℕ) (rs : List RequestFields) → InOrder rs (parsed_from i rs)
 from_order i [] = refl
-from_order i (r ∷ rs) = and_then_order r rs (request_by r) i (parsed_from (i + 1) rs) (of_action r.action (path_of r.first) (named r.second)) (from_order (i + 1) rs)
+from_order i (r ∷ rs) = and_then_order r rs (request_by r) i (parsed_from (i + 1) rs) (of_action r.action (path_of r.first) (named r.second))
+    (from_order (i + 1) rs)
 
 file_order : (p : Option Path) (rs : List RequestFields) (q : Parsed) → InOrder rs q → InOrder rs (with_file p q)
 file_order None rs q h = tt
@@ -87,7 +89,8 @@ module _ (prefixes : List Path) (F : Filestore) (leases : List (TransactionId ×
   apart_of items (Some id) = λ granted b s q. absurd cc
   apart_of items None =
       cond_both (destination_allowed prefixes (alone F x) items) _ _ (λ (v : Verdict). IsOfItems items v)
-      (λ _. judged_of items (first_failure 0 (statuses_alone prefixes F x items)) (need_alone prefixes F x items) (steps_alone prefixes F x items)) (λ _ granted b s q. absurd cc)
+      (λ _. judged_of items (first_failure 0 (statuses_alone prefixes F x items)) (need_alone prefixes F x items) (steps_alone prefixes F x items))
+      (λ _ granted b s q. absurd cc)
 
   granted_of : (q : Parsed) (items : List Item) (blocks steps : ℕ) → verdict_of prefixes F leases spare P q ≡ Grant items blocks steps → q ≡ Good items
   granted_of (Bad place) items b s h = absurd cc
@@ -95,8 +98,10 @@ module _ (prefixes : List Path) (F : Filestore) (leases : List (TransactionId ×
 
   pub granted_parsed : (items : List Item) (blocks steps : ℕ) → verdict prefixes F leases spare P ≡ Grant items blocks steps → parsed P ≡ Good items
   granted_parsed items b s =
-      cond_both (nat_lt 64 (length P.requests)) _ _ (λ (v : Verdict). v ≡ Grant items b s → parsed P ≡ Good items) (λ _ h. absurd cc) (λ _ h. granted_of (parsed P) items b s h)
+      cond_both (nat_lt 64 (length P.requests)) _ _ (λ (v : Verdict). v ≡ Grant items b s → parsed P ≡ Good items) (λ _ h. absurd cc)
+      (λ _ h. granted_of (parsed P) items b s h)
 
-  pub granted_order : (items : List Item) (blocks steps : ℕ) → verdict prefixes F leases spare P ≡ Grant items blocks steps → successes items ≡ all_successful P.requests
+  pub granted_order : (items : List Item) (blocks steps : ℕ) → verdict prefixes F leases spare P ≡ Grant items blocks steps → successes items
+      ≡ all_successful P.requests
   granted_order items b s h =
       subst (InOrder P.requests) (granted_parsed items b s h) (destination_order P.destination P.requests (parsed_from 0 P.requests) (from_order 0 P.requests))

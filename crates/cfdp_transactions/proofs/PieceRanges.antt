@@ -23,7 +23,8 @@ behind_false s e i from = and_right _ _ (le-ltb i e from)
 -- the runs begin later
 pub not_yet : (from i : ℕ) (ranges : Ranges) → AreRuns from ranges → i < from → is_in i ranges ≡ false
 not_yet from i [] runs below = refl
-not_yet from i (r ∷ rs) runs below = or_from (is_inside r.0 r.1 i) (is_in i rs) (before_false r.0 r.1 i (omega (arith, runs.0))) (not_yet (r.1 + 1) i rs runs.2 (omega (arith, runs.0, runs.1)))
+not_yet from i (r ∷ rs) runs below = or_from (is_inside r.0 r.1 i) (is_in i rs) (before_false r.0 r.1 i (omega (arith, runs.0)))
+    (not_yet (r.1 + 1) i rs runs.2 (omega (arith, runs.0, runs.1)))
 
 pub runs_sooner : (from sooner : ℕ) (ranges : Ranges) → sooner ≤ from → AreRuns from ranges → AreRuns sooner ranges
 runs_sooner from sooner [] h runs = tt
@@ -49,7 +50,8 @@ within_more end more [] h w = tt
 within_more end more (r ∷ rs) h w = (omega (arith, w.0), within_more end more rs h w.1)
 
 abbrev CountsOut : List ℕ → Type 0
-CountsOut xs = (at : ℕ) (ranges : Ranges) → AreRuns at ranges → AreWithin (at + length xs) ranges → pieces_from false (received_from at ranges xs) ≡ length ranges
+CountsOut xs = (at : ℕ) (ranges : Ranges) → AreRuns at ranges → AreWithin (at + length xs) ranges → pieces_from false (received_from at ranges xs)
+    ≡ length ranges
 
 abbrev CountsIn : List ℕ → Type 0
 CountsIn xs =
@@ -66,17 +68,25 @@ count_out_step : (x : ℕ) (xs : List ℕ) → CountsOut xs → CountsIn xs → 
 count_out_step x xs out inn at [] runs within = none_pieces at (x ∷ xs)
 count_out_step x xs out inn at ((s, e) ∷ rs) runs within = elim (cases_lt at s) [
   | inl later ↦ rw (not_yet s at ((s, e) ∷ rs) (omega arith, runs.1, runs.2) later)
-      (out (suc at) ((s, e) ∷ rs) (omega arith, runs.1, runs.2) (omega (arith, within.0), within_more (at + length (x ∷ xs)) (suc at + length xs) rs (omega arith) within.1))
+      (out (suc at) ((s, e) ∷ rs) (omega arith, runs.1, runs.2) (
+        omega (arith, within.0),
+        within_more (at + length (x ∷ xs)) (suc at + length xs) rs (omega arith) within.1,
+      ))
   | inr begun ↦
       let here : is_inside s e at || is_in at rs ≡ true = or_left _ _ (inside_true s e at (omega arith) (omega (arith, runs.0, runs.1))) in
-      rw here (omega (arith, inn (suc at) s e rs (omega (arith, runs.0)) (omega (arith, runs.0, runs.1)) runs.2 (omega (arith, within.0)) (within_more (at + length (x ∷ xs)) (suc at + length xs) rs (omega arith) within.1)))
+      rw here (omega (
+        arith,
+        inn (suc at) s e rs (omega (arith, runs.0)) (omega (arith, runs.0, runs.1)) runs.2 (omega (arith, within.0))
+            (within_more (at + length (x ∷ xs)) (suc at + length xs) rs (omega arith) within.1),
+      ))
 ]
 
 count_in_step : (x : ℕ) (xs : List ℕ) → CountsOut xs → CountsIn xs → CountsIn (x ∷ xs)
 count_in_step x xs out inn at s e rs from to runs ends within = elim (cases_lt at e) [
   | inl more ↦
       let here : is_inside s e at || is_in at rs ≡ true = or_left _ _ (inside_true s e at from more) in
-      rw here (inn (suc at) s e rs (omega arith) (omega arith) runs (omega arith) (within_more (at + length (x ∷ xs)) (suc at + length xs) rs (omega arith) within))
+      rw here (inn (suc at) s e rs (omega arith) (omega arith) runs (omega arith)
+      (within_more (at + length (x ∷ xs)) (suc at + length xs) rs (omega arith) within))
   | inr over ↦
       let gone : is_inside s e at || is_in at rs ≡ false = or_from _ _ (behind_false s e at over) (not_yet (e + 1) at rs runs (omega arith)) in
       rw (gone, passed (suc at) s e rs xs (omega arith))
@@ -119,7 +129,8 @@ closed_alone (Some start) at h = rw (lt-ltb start at h) refl
 
 abbrev GapsOut : ℕ → Type 0
 GapsOut left =
-    (xs : List ℕ) (at : ℕ) (begun : Option ℕ) (ranges : Ranges) → BegunEarlier begun at → AreRuns at ranges → AreWithin (at + length xs) ranges → length xs ≤ left →
+    (xs : List ℕ) (at : ℕ) (begun : Option ℕ) (ranges : Ranges) → BegunEarlier begun at → AreRuns at ranges → AreWithin (at + length xs) ranges →
+    length xs ≤ left →
     gaps_from left at begun (received_from at ranges xs) ≡ between (start_of begun at) ranges (at + left)
 
 abbrev GapsIn : ℕ → Type 0
@@ -161,8 +172,10 @@ gaps_out_step left out inn (x ∷ xs) at begun ((s, e) ∷ rs) earlier runs with
       | inr reached ↦
           let first : s ≡ at = omega (arith, runs.0) in
           let here : is_inside s e at || is_in at rs ≡ true = or_left _ _ (inside_true s e at (omega arith) (omega (arith, runs.0, runs.1))) in
-          let next = inn xs (at + 1) s e rs (omega arith) (omega (arith, runs.1)) runs.2 (omega (arith, within.0)) (within_more (at + length (x ∷ xs)) (at + 1 + length xs) rs (omega arith) within.1) (omega arith) in
-          rw (here, same, one, next) (closed_range begun at (between e rs (at + 1 + left)) earlier ∙ ap (λ (a : ℕ). range (start_of begun at) a (between e rs (at + 1 + left))) (sym first))
+          let next = inn xs (at + 1) s e rs (omega arith) (omega (arith, runs.1)) runs.2 (omega (arith, within.0))
+          (within_more (at + length (x ∷ xs)) (at + 1 + length xs) rs (omega arith) within.1) (omega arith) in
+          rw (here, same, one, next) (closed_range begun at (between e rs (at + 1 + left)) earlier
+          ∙ ap (λ (a : ℕ). range (start_of begun at) a (between e rs (at + 1 + left))) (sym first))
     ]
 
 gaps_in_step : (left : ℕ) → GapsOut left → GapsIn left → GapsIn (suc left)
@@ -173,13 +186,15 @@ gaps_in_step left out inn xs at s e rs from to runs ends within short = elim (ca
       rw (passed at s e rs xs over, here) (gaps_out_step left out inn xs at None rs tt (runs_sooner (e + 1) at rs (omega arith) runs) within short)
 ]
   where
-    inside : (xs : List ℕ) → e ≤ at + length xs → AreWithin (at + length xs) rs → length xs ≤ suc left → at < e → gaps_from (suc left) at None (received_from at ((s, e) ∷ rs) xs) ≡ between e rs (at + suc left)
+    inside : (xs : List ℕ) → e ≤ at + length xs → AreWithin (at + length xs) rs → length xs ≤ suc left → at < e →
+        gaps_from (suc left) at None (received_from at ((s, e) ∷ rs) xs) ≡ between e rs (at + suc left)
     inside [] ends within short more = absurd (omega arith)
     inside (x ∷ xs) ends within short more =
         let same : at + suc left ≡ at + 1 + left = omega arith in
         let one : suc at ≡ at + 1 = omega arith in
         let here : is_inside s e at || is_in at rs ≡ true = or_left _ _ (inside_true s e at from more) in
-        rw (here, same, one) (inn xs (at + 1) s e rs (omega arith) (omega arith) runs (omega arith) (within_more (at + length (x ∷ xs)) (at + 1 + length xs) rs (omega arith) within) (omega arith))
+        rw (here, same, one) (inn xs (at + 1) s e rs (omega arith) (omega arith) runs (omega arith)
+        (within_more (at + length (x ∷ xs)) (at + 1 + length xs) rs (omega arith) within) (omega arith))
 
 gaps_of_ranges : (left : ℕ) → GapsOut left × GapsIn left
 gaps_of_ranges zero = (gaps_out_end, gaps_in_end)

@@ -1,10 +1,11 @@
--- Lists by place: what stands at a place after one element is replaced, added at the end, or taken out; and sums.
+-- Lists by index: what is at an index after one element is replaced, added at the end, or taken out; and sums.
 use Rattle.std.proofs.Common.{◌≡◌, ◌≢◌, ℕ, zero, suc, ◌+◌, ◌≤◌, ◌<◌, List, [], ◌∷◌, ◌++◌, length, ◌⊎◌, refl, ap, arith}
 use Rattle.std.specs.Prelude.{Some, slice_get, slice_set, remove}
 use mathlib.Core.Logic.{inl, inr}
 
 -- what is at j after x is put at k
-pub set_cases : {X : Type 0} (t : List X) (k : ℕ) (new : X) (j : ℕ) (x : X) → slice_get (slice_set t k new) j ≡ Some x → ((j ≡ k) × (x ≡ new)) ⊎ ((j ≢ k) × (slice_get t j ≡ Some x))
+pub set_cases : {X : Type 0} (t : List X) (k : ℕ) (new : X) (j : ℕ) (x : X) → slice_get (slice_set t k new) j ≡ Some x → ((j ≡ k) × (x ≡ new))
+    ⊎ ((j ≢ k) × (slice_get t j ≡ Some x))
 set_cases [] k new j x h = inr ((λ e. cc), h)
 set_cases (y ∷ t) zero new zero x h = inl (refl, cc)
 set_cases (y ∷ t) zero new (suc j) x h = inr ((λ e. absurd (omega arith)), h)
@@ -27,7 +28,8 @@ set_two {X} R t k new one two i j x y g h ne =
     i x g ne
 
 -- what is at j after x is added at the end
-pub append_cases : {X : Type 0} (t : List X) (new : X) (j : ℕ) (x : X) → slice_get (t ++ new ∷ []) j ≡ Some x → ((j ≡ length t) × (x ≡ new)) ⊎ ((j < length t) × (slice_get t j ≡ Some x))
+pub append_cases : {X : Type 0} (t : List X) (new : X) (j : ℕ) (x : X) → slice_get (t ++ new ∷ []) j ≡ Some x → ((j ≡ length t) × (x ≡ new))
+    ⊎ ((j < length t) × (slice_get t j ≡ Some x))
 append_cases [] new zero x h = inl (refl, cc)
 append_cases [] new (suc j) x h = absurd cc
 append_cases (y ∷ t) new zero x h = inr (omega arith, h)
@@ -47,7 +49,7 @@ append_two {X} R t new one two i j x y g h ne =
     (λ a u at aj. append_each (λ (b : ℕ) (v : X). a ≢ b → R u v) t new (λ _. (one a u at).0) (λ b v at_b ab. two a b u v at at_b ab) j y h aj)
     i x g ne
 
--- where the element that is at j after one was taken out at k stood before
+-- where the element that is at j after one was taken out at k was before
 abbrev pub before : ℕ → ℕ → ℕ
 before zero j = suc j
 before (suc k) zero = zero

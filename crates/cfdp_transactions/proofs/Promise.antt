@@ -38,7 +38,7 @@ done_good c e honest is =
     let all : e.statuses ≡ all_successful e.metadata.requests = sym (append-nil e.statuses) ∙ (let h = honest.to_come (rw is refl) in rw is at h) in
     record { statuses = all; responses = rw all (responses_all e.metadata.requests) }
 
--- places -----------------------------------------------------------------------------
+-- indexes -----------------------------------------------------------------------------
 
 pub get_drop : {X : Type 0} (n : ℕ) (xs ys : List X) (x : X) → drop n xs ≡ x ∷ ys → slice_get xs n ≡ Some x
 get_drop zero [] ys x h = absurd cc
@@ -46,8 +46,9 @@ get_drop zero (z ∷ xs) ys x h = cc
 get_drop (suc n) [] ys x h = absurd cc
 get_drop (suc n) (z ∷ xs) ys x h = get_drop n xs ys x h
 
--- an entry stands where its name is found
-place_there : (W : World) → Sound W → (k : ℕ) (e : Entry) → slice_get W.table k ≡ Some e → (o : Option Entry) → slice_get W.table (index_of W (name_of e)) ≡ o → k ≡ index_of W (name_of e)
+-- an entry is where its name is found
+place_there : (W : World) → Sound W → (k : ℕ) (e : Entry) → slice_get W.table k ≡ Some e → (o : Option Entry) → slice_get W.table (index_of W (name_of e)) ≡ o →
+    k ≡ index_of W (name_of e)
 place_there W s k e at None none = absurd (absent_name W.table (name_of e) none k e at refl)
 place_there W s k e at (Some d) there = elim (cases_eq k (index_of W (name_of e)))
     [ inl same ↦ same | inr other ↦ absurd (s.names k (index_of W (name_of e)) e d at there other (sym (found_name W.table (name_of e) d there))) ]
@@ -58,13 +59,16 @@ found_itself W s k e at = place_there W s k e at (slice_get W.table (index_of W 
 -- steps ------------------------------------------------------------------------------
 
 module _ (laws : LowerLaws) (W : World) (s : Sound W) where
-  step_is : (k : ℕ) (e : Entry) (n : ℕ) (item : Item) (items : List Item) → slice_get W.table k ≡ Some e → e.phase ≡ Executing n → drop n e.items ≡ item ∷ items →
+  step_is : (k : ℕ) (e : Entry) (n : ℕ) (item : Item) (items : List Item) → slice_get W.table k ≡ Some e → e.phase ≡ Executing n → drop n e.items
+      ≡ item ∷ items →
       stepped W k (Some e) ≡ (change_at W k (act_now W e item).changes (entry_after e n item items (act_now W e item)), replied (act_now W e item).answer)
   step_is k e n item items at is left =
-      let good : succeeded (act_now W e item).answer ≡ true = rw (enough laws W s k e n item items at is left) (succeeded_now laws W s k e n item items at is left) in
+      let good : succeeded (act_now W e item).answer ≡ true = rw (enough laws W s k e n item items at is left)
+      (succeeded_now laws W s k e n item items at is left) in
       rw (is, left, good) refl
 
-  performed_now : (id : TransactionId) (e : Entry) (n : ℕ) → entry_of W id ≡ Some e → e.phase ≡ Executing n → (left : List Item) → drop n e.items ≡ left → IsPerformed W id e n
+  performed_now : (id : TransactionId) (e : Entry) (n : ℕ) → entry_of W id ≡ Some e → e.phase ≡ Executing n → (left : List Item) → drop n e.items ≡ left →
+      IsPerformed W id e n
   performed_now id e n found is [] left = absurd ((s.live (index_of W id) e found (rw is refl)).more (rw is refl) (rw is left))
   performed_now id e n found is (item ∷ items) left =
       let step = step_is (index_of W id) e n item items found is left in
@@ -90,7 +94,8 @@ module _ (laws : LowerLaws) (W : World) (s : Sound W) where
   abbrev AfterStep : TransactionId → ℕ → Entry → Type 0
   AfterStep id j now = (slice_get W.table j ≡ Some now) ⊎ ((n : ℕ) × (items : List Item) × (now.phase ≡ phase_before n items))
 
-  after_items : (id : TransactionId) (e : Entry) (n : ℕ) (j : ℕ) (now : Entry) → entry_of W id ≡ Some e → e.phase ≡ Executing n → (left : List Item) → drop n e.items ≡ left →
+  after_items : (id : TransactionId) (e : Entry) (n : ℕ) (j : ℕ) (now : Entry) → entry_of W id ≡ Some e → e.phase ≡ Executing n → (left : List Item) →
+      drop n e.items ≡ left →
       slice_get (step_at W (index_of W id) e n left).0.table j ≡ Some now → AfterStep id j now
   after_items id e n j now found is [] left h = inl h
   after_items id e n j now found is (item ∷ items) left h =
@@ -101,7 +106,8 @@ module _ (laws : LowerLaws) (W : World) (s : Sound W) where
       elim (set_cases W.table k (entry_after e n item items o) j now h')
       [ inl here ↦ inr (suc n, items, ap (λ (d : Entry). d.phase) here.1) | inr other ↦ inl other.1 ]
 
-  after_phase : (id : TransactionId) (e : Entry) (j : ℕ) (now : Entry) → entry_of W id ≡ Some e → (phase : Phase) → e.phase ≡ phase → slice_get (step_in phase W (index_of W id) e).0.table j ≡ Some now → AfterStep id j now
+  after_phase : (id : TransactionId) (e : Entry) (j : ℕ) (now : Entry) → entry_of W id ≡ Some e → (phase : Phase) → e.phase ≡ phase →
+      slice_get (step_in phase W (index_of W id) e).0.table j ≡ Some now → AfterStep id j now
   after_phase id e j now found (Executing n) is h = after_items id e n j now found is (drop n e.items) refl h
   after_phase id e j now found Receiving is h = inl h
   after_phase id e j now found (Awaiting checks) is h = inl h
@@ -109,7 +115,8 @@ module _ (laws : LowerLaws) (W : World) (s : Sound W) where
   after_phase id e j now found Done is h = inl h
   after_phase id e j now found (Ended condition) is h = inl h
 
-  after_found : (id : TransactionId) (j : ℕ) (now : Entry) (o : Option Entry) → entry_of W id ≡ o → slice_get (stepped W (index_of W id) o).0.table j ≡ Some now → AfterStep id j now
+  after_found : (id : TransactionId) (j : ℕ) (now : Entry) (o : Option Entry) → entry_of W id ≡ o → slice_get (stepped W (index_of W id) o).0.table j
+      ≡ Some now → AfterStep id j now
   after_found id j now None found h = inl h
   after_found id j now (Some e) found h = after_phase id e j now found e.phase refl h
 
@@ -120,7 +127,8 @@ module _ (laws : LowerLaws) (W : World) (s : Sound W) where
   not_ended n [] condition h = cc
   not_ended n (item ∷ items) condition h = cc
 
-  ends_none : (id : TransactionId) (condition : ℕ) (j : ℕ) (now : Entry) → slice_get (next W (Step id)).0.table j ≡ Some now → now.phase ≡ Ended condition → slice_get W.table j ≡ Some now
+  ends_none : (id : TransactionId) (condition : ℕ) (j : ℕ) (now : Entry) → slice_get (next W (Step id)).0.table j ≡ Some now → now.phase ≡ Ended condition →
+      slice_get W.table j ≡ Some now
   ends_none id condition j now h ended = elim (after_step id j now h) [ inl same ↦ same | inr p ↦ absurd (not_ended p.0 p.1 condition (sym p.2 ∙ ended)) ]
 
   -- completion -----------------------------------------------------------------------
@@ -129,7 +137,8 @@ module _ (laws : LowerLaws) (W : World) (s : Sound W) where
   done_before n [] h = refl
   done_before n (item ∷ items) h = absurd cc
 
-  step_completes : (id : TransactionId) (k : ℕ) (e now : Entry) → slice_get W.table k ≡ Some e → slice_get (next W (Step id)).0.table k ≡ Some now → IsTrue (is_executing e.phase) → IsFalse (is_executing now.phase) → now.phase ≡ Done
+  step_completes : (id : TransactionId) (k : ℕ) (e now : Entry) → slice_get W.table k ≡ Some e → slice_get (next W (Step id)).0.table k ≡ Some now →
+      IsTrue (is_executing e.phase) → IsFalse (is_executing now.phase) → now.phase ≡ Done
   step_completes id k e now at h before after = elim (after_step id k now h) [
     | inl same ↦ let q : now ≡ e = get_same W.table k k now e same at refl in absurd (both_ways (is_executing e.phase) (rw q at after) before)
     | inr p ↦ p.2 ∙ done_before p.0 p.1 (rw p.2 at after)
@@ -143,8 +152,10 @@ module _ (laws : LowerLaws) (W : World) (s : Sound W) where
   is_done_done Refused h = absurd cc
   is_done_done (Ended condition) h = absurd cc
 
-  completes_done : (event : Event) (k : ℕ) (e now : Entry) → slice_get W.table k ≡ Some e → slice_get (next W event).0.table k ≡ Some now → IsTrue (completes event e.phase now.phase) → now.phase ≡ Done
-  completes_done (Step id) k e now at h c = let p = and_parts (is_executing e.phase) (not (is_executing now.phase)) c in step_completes id k e now at h p.0 (not-true _ p.1)
+  completes_done : (event : Event) (k : ℕ) (e now : Entry) → slice_get W.table k ≡ Some e → slice_get (next W event).0.table k ≡ Some now →
+      IsTrue (completes event e.phase now.phase) → now.phase ≡ Done
+  completes_done (Step id) k e now at h c = let p = and_parts (is_executing e.phase) (not (is_executing now.phase)) c in
+      step_completes id k e now at h p.0 (not-true _ p.1)
   completes_done (EofCame header eof) k e now at h c = is_done_done now.phase (and_parts (is_receiving e.phase) (is_done now.phase) c).1
   completes_done (MetadataCame header m) k e now at h c = absurd cc
   completes_done (DataCame header piece) k e now at h c = absurd cc

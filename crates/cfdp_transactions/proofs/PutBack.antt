@@ -44,7 +44,8 @@ parent_first (n ∷ p) some = after_parent n p
 apart_from : (k q : Path) → path_cmp k q ≡ Greater → same_path q k ≡ false
 apart_from k q greater =
     elim (cases_Bool (same_path q k)) [
-      | inl tie ↦ absurd (let tied : path_cmp k k ≡ Equal = tied_itself path_cmp-total k in let again : path_cmp k k ≡ Greater = sym (ap (path_cmp k) ((same_path-Decides q k).0 tie)) ∙ greater in cc)
+      | inl tie ↦ absurd (let tied : path_cmp k k ≡ Equal = tied_itself path_cmp-total k in let again : path_cmp k k
+          ≡ Greater = sym (ap (path_cmp k) ((same_path-Decides q k).0 tie)) ∙ greater in cc)
       | inr apart ↦ apart
     ]
 
@@ -96,7 +97,8 @@ module _ (c : Config) (F : Filestore) (rooted : IsRooted F) where
     parent_there : node_at G (parent e.0) ≡ node_at F (parent e.0)
     parent_there =
         let greater = parent_first e.0 (no_root F e.0 good) in
-        let none : find path_cmp (parent e.0) left ≡ None = none_after e.0 (parent e.0) left after (λ less. let no : Less ≡ Greater = sym less ∙ greater in absurd (cc)) in
+        let none : find path_cmp (parent e.0) left ≡ None = none_after e.0 (parent e.0) left after (λ less. let no : Less ≡ Greater = sym less ∙ greater in
+        absurd (cc)) in
         rest (parent e.0)
         ∙ ap (λ b. cond (is_some (cond b (Some e.1) (find path_cmp (parent e.0) left))) None (node_at F (parent e.0))) (apart_from e.0 (parent e.0) greater)
         ∙ ap (λ (o : Option Node). cond (is_some o) None (node_at F (parent e.0))) none
@@ -120,7 +122,8 @@ module _ (c : Config) (F : Filestore) (rooted : IsRooted F) where
     can_be : blocks G + (weight (Some e.1) + weights left) ≤ c.blocks → CanPut (start_with c G) e.0 e.1
     can_be room = record { idle = refl; absent = absent; parent = parent_same F G e.0 parent_there ∙ good; room = omega (arith, room) }
 
-  put_left : (left : List Entry) (G : Filestore) → is_sorted path_cmp left ≡ true → AllByRecursion IsOf left → IsLeft left G → blocks G + weights left ≤ c.blocks → ArePut left G
+  put_left : (left : List Entry) (G : Filestore) → is_sorted path_cmp left ≡ true → AllByRecursion IsOf left → IsLeft left G → blocks G
+      + weights left ≤ c.blocks → ArePut left G
   put_left [] G sorted of rest room = record { can = tt; same = rest }
   put_left (e ∷ left) G sorted of rest room =
       let parts : (below_all path_cmp e.0 left ≡ true) × (is_sorted path_cmp left ≡ true) = and_parts _ _ sorted in
@@ -140,7 +143,8 @@ module _ (F : Filestore) where
   nodes_of (e ∷ es) all = (all.0.1, nodes_of es all.1)
 
   each_of : AllByRecursion (λ (e : Entry). node_at F e.0 ≡ Some e.1) (finite.entries F.nodes)
-  each_of = subst (λ (nodes : finite.FinMap path_cmp Node). AllByRecursion (λ (e : Entry). node_at F e.0 ≡ Some e.1) (finite.entries nodes)) all_kept (nodes_of (tree_at F []) (tree_at-of F []))
+  each_of = subst (λ (nodes : finite.FinMap path_cmp Node). AllByRecursion (λ (e : Entry). node_at F e.0 ≡ Some e.1) (finite.entries nodes)) all_kept
+      (nodes_of (tree_at F []) (tree_at-of F []))
 
   none_or : (o : Option Node) → cond (is_some o) None o ≡ None
   none_or None = refl
@@ -148,7 +152,8 @@ module _ (F : Filestore) where
 
   all_left : (q : Path) → node_at empty_filestore q ≡ cond (is_some (find path_cmp q (finite.entries F.nodes))) None (node_at F q)
   all_left q =
-      nowhere q ∙ sym (ap (λ (o : Option Node). cond (is_some (find path_cmp q (finite.entries F.nodes))) None o) (finite.get-entries F.nodes q) ∙ none_or (find path_cmp q (finite.entries F.nodes)))
+      nowhere q ∙ sym (ap (λ (o : Option Node). cond (is_some (find path_cmp q (finite.entries F.nodes))) None o) (finite.get-entries F.nodes q)
+      ∙ none_or (find path_cmp q (finite.entries F.nodes)))
 
   within : weights (finite.entries F.nodes) ≤ blocks F
   unfolding blocks
@@ -158,8 +163,10 @@ pub put_back : PutBackIsSame
 put_back W s =
     let F = W.filestore in
     let room : blocks empty_filestore + weights (finite.entries F.nodes) ≤ W.config.blocks = omega (arith, blocks-empty, within F, s.room) in
-    let put = put_left W.config F s.rooted (finite.entries F.nodes) empty_filestore (true_from_T _ (finite.entries_sorted F.nodes)) (each_of F) (all_left F) room in (
+    let put = put_left W.config F s.rooted (finite.entries F.nodes) empty_filestore (true_from_T _ (finite.entries_sorted F.nodes)) (each_of F)
+    (all_left F) room in (
       put.can,
       put_all_is W.config empty_filestore (finite.entries F.nodes)
-          ∙ ap (λ (nodes : finite.FinMap path_cmp Node). start_with W.config (record { nodes = nodes; staged = replicate 64 [] })) (same_map path_cmp-total path_antisym _ F.nodes put.same),
+          ∙ ap (λ (nodes : finite.FinMap path_cmp Node). start_with W.config (record { nodes = nodes; staged = replicate 64 [] }))
+          (same_map path_cmp-total path_antisym _ F.nodes put.same),
     )

@@ -63,7 +63,8 @@ no_fault W p node can =
     (skipped _ NoRoom None (le-ltb (free W) (weight (Some node)) can.room) refl)))
 
 -- a reason that is found is never that memory was refused
-found : (b : Bool) (say : NotPut) (x : Option NotPut) (why : NotPut) → say ≢ Memory → (x ≡ Some why → why ≢ Memory) → (if b then Some say else x) ≡ Some why → why ≢ Memory
+found : (b : Bool) (say : NotPut) (x : Option NotPut) (why : NotPut) → say ≢ Memory → (x ≡ Some why → why ≢ Memory) → (if b then Some say else x) ≡ Some why →
+    why ≢ Memory
 found true say x why other later is = λ memory. other (let same : say ≡ why = cc in same ∙ memory)
 found false say x why other later is = later is
 
@@ -92,7 +93,8 @@ none_good : (F : Filestore) (p : Path) → p ≢ [] → node_at F p ≡ None →
 none_good F [] some none good = some refl
 none_good F (n ∷ p) some none good = true≢false (sym good ∙ ap is_directory none)
 
-rooted_put : (F : Filestore) (p : Path) (node : Node) → IsRooted F → node_at F p ≡ None → parent_is_good F p ≡ true → IsRooted (changed F (Becomes p (Some node)))
+rooted_put : (F : Filestore) (p : Path) (node : Node) → IsRooted F → node_at F p ≡ None → parent_is_good F p ≡ true →
+    IsRooted (changed F (Becomes p (Some node)))
 rooted_put F p node rooted none good =
     rooted_becomes F p (Some node) rooted (λ _. good)
     (λ x some above there. absurd (none_good F p (no_root F p good) none (subst (λ (a : Path). is_good F a ≡ true) above (above_good F x (rooted x there)))))

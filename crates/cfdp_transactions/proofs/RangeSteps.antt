@@ -26,7 +26,7 @@ runs_drop zero from rs h = h
 runs_drop (suc k) from [] h = h
 runs_drop (suc k) from (r ∷ rs) h = runs_drop k from rs (runs_sooner (r.1 + 1) from rs (omega (arith, h.0, h.1)) h.2)
 
--- joining: the range that comes stands before the pending one, touches it, or stands behind it
+-- joining: the range that comes is before the pending one, touches it, or is after it
 pub joins_apart : (a b : ℕ) (r : ℕ × ℕ) (rs : Ranges) → r.1 < a → with_range a b (r ∷ rs) ≡ r ∷ with_range a b rs
 joins_apart a b r rs h = rw (lt-ltb r.1 a h) refl
 
@@ -60,7 +60,8 @@ pub record IsSearched (ranges : Ranges) (from at : ℕ) (left : Ranges) : Type 0
   pub later : (i : ℕ) → at ≤ i → is_in i ranges ≡ is_in i left
   pub runs : AreRuns 0 left
 
-pub searched_on : (ranges : Ranges) (from at : ℕ) (r : ℕ × ℕ) (left : Ranges) → r.0 ≤ at → IsSearched ranges from at (r ∷ left) → IsSearched ranges from (max at r.1) left
+pub searched_on : (ranges : Ranges) (from at : ℕ) (r : ℕ × ℕ) (left : Ranges) → r.0 ≤ at → IsSearched ranges from at (r ∷ left) →
+    IsSearched ranges from (max at r.1) left
 searched_on ranges from at r left h s = record {
   reached = omega (arith, s.reached);
   all = λ i lo hi. elim (cases_lt i at) [
@@ -72,7 +73,8 @@ searched_on ranges from at r left h s = record {
 }
 
 -- what begins later leaves a gap
-pub gap_found : (ranges : Ranges) (from at to : ℕ) (r : ℕ × ℕ) (left : Ranges) → at < r.0 → at < to → IsSearched ranges from at (r ∷ left) → IsNextGap ranges from to (at, min r.0 to)
+pub gap_found : (ranges : Ranges) (from at to : ℕ) (r : ℕ × ℕ) (left : Ranges) → at < r.0 → at < to → IsSearched ranges from at (r ∷ left) →
+    IsNextGap ranges from to (at, min r.0 to)
 gap_found ranges from at to r left h room s = record {
   from = s.reached;
   some = omega arith;
@@ -80,13 +82,21 @@ gap_found ranges from at to r left h room s = record {
   before = s.all;
   missing = λ i lo hi. s.later i lo ∙ not_yet r.0 i (r ∷ left) (omega arith, s.runs.1, s.runs.2) (omega arith);
   longest = elim (cases_lt r.0 to) [
-    | inl sooner ↦ inr (let e : min r.0 to ≡ r.0 = omega arith in rw e (s.later r.0 (omega arith) ∙ or_left _ _ (inside_true r.0 r.1 r.0 (omega arith) s.runs.1)))
+    | inl sooner ↦ inr (let e : min r.0 to ≡ r.0 = omega arith in rw e (s.later r.0 (omega arith)
+        ∙ or_left _ _ (inside_true r.0 r.1 r.0 (omega arith) s.runs.1)))
     | inr later ↦ inl (omega arith)
   ];
 }
 
 pub last_gap : (ranges : Ranges) (from at to : ℕ) → at < to → IsSearched ranges from at [] → IsNextGap ranges from to (at, to)
-last_gap ranges from at to room s = record { from = s.reached; some = room; to = omega arith; before = s.all; missing = λ i lo hi. s.later i lo; longest = inl refl }
+last_gap ranges from at to room s = record {
+  from = s.reached;
+  some = room;
+  to = omega arith;
+  before = s.all;
+  missing = λ i lo hi. s.later i lo;
+  longest = inl refl;
+}
 
 pub all_found : (ranges : Ranges) (from at to : ℕ) (left : Ranges) → to ≤ at → IsSearched ranges from at left → HasAll ranges from to
 all_found ranges from at to left h s i lo hi = s.all i lo (omega arith)
@@ -99,7 +109,7 @@ last_end (r ∷ s ∷ rs) h =
     let next : suc (suc (length rs)) - 1 ≡ suc (suc (length rs) - 1) = omega arith in
     rw next behind
 
--- and at the place k of the ranges
+-- and at the index k of the ranges
 module _ (items : Ranges) (from at k : ℕ) (there : k < length items) (s : IsSearched items from at (drop k items)) where
   abbrev here : ℕ × ℕ
   here = slice_index_or items k (0, 0)
@@ -110,7 +120,8 @@ module _ (items : Ranges) (from at k : ℕ) (there : k < length items) (s : IsSe
   pub search_on : (m : ℕ) → (slice_index_or items k (0, 0)).0 ≤ at → m ≡ max at (slice_index_or items k (0, 0)).1 → IsSearched items from m (drop (k + 1) items)
   search_on m h e = rw (e, add-one) (searched_on items from at here (drop (suc k) items) h at_here)
 
-  pub search_finds : (ranges : Ranges) (to n : ℕ) (r : Option (ℕ × ℕ)) → items ≡ ranges → at < (slice_index_or items k (0, 0)).0 → n ≡ min (slice_index_or items k (0, 0)).0 to
+  pub search_finds : (ranges : Ranges) (to n : ℕ) (r : Option (ℕ × ℕ)) → items ≡ ranges → at < (slice_index_or items k (0, 0)).0 → n
+      ≡ min (slice_index_or items k (0, 0)).0 to
       → r ≡ (if nat_lt at n then Some (at, n) else None) → IfSome r (IsNextGap ranges from to)
   search_finds ranges to n r same h e f = elim (cases_lt at to) [
     | inl more ↦
@@ -142,7 +153,8 @@ none_all size (r ∷ s ∷ rs) runs h =
       | inr first ↦ let none : (r.1, s.0) ∷ between s.1 rs size ≡ [] = sym gap ∙ sym (no_gap_before 0 r (s ∷ rs) size first) ∙ h.1 in absurd (cc)
     ]
 
-pub all_is_whole : (size : ℕ) (ranges : Ranges) (xs : List ℕ) → ArePieces ranges xs → end_of ranges ≡ length xs → is_whole size (received_in ranges xs) ≡ is_all size ranges
+pub all_is_whole : (size : ℕ) (ranges : Ranges) (xs : List ℕ) → ArePieces ranges xs → end_of ranges ≡ length xs → is_whole size (received_in ranges xs)
+    ≡ is_all size ranges
 all_is_whole size ranges xs p e = elim (cases_Bool (is_all size ranges)) [
   | inl all ↦
       let both = all_none size ranges p.runs all in

@@ -30,7 +30,7 @@ some_added a b (r ∷ rs) =
     cond_both (nat_lt r.1 a) _ _ (λ (out : Ranges). 0 < length out) (λ _. omega arith)
     (λ _. cond_both (nat_lt b r.0) _ _ (λ (out : Ranges). 0 < length out) (λ _. omega arith) (λ _. some_added (min a r.0) (max b r.1) rs))
 
--- behind a range that ends before them, or is one of them
+-- after a range that ends before them, or is one of them
 end_behind : (from b : ℕ) (r : Range) (rs : Ranges) → AreRuns from (r ∷ rs) → r.1 ≤ b → max (end_of rs) b ≡ max (end_of (r ∷ rs)) b
 end_behind from b r [] runs h = omega arith
 end_behind from b r (q ∷ rs) runs h = refl
@@ -43,7 +43,8 @@ pub end_added : (from a b : ℕ) (rs : Ranges) → a < b → AreRuns from rs →
 end_added from a b [] ab runs = omega arith
 end_added from a b (r ∷ rs) ab runs =
     cond_both (nat_lt r.1 a) _ _ (λ (out : Ranges). end_of out ≡ max (end_of (r ∷ rs)) b)
-    (λ early. end_one r (with_range a b rs) (some_added a b rs) ∙ end_added (r.1 + 1) a b rs ab runs.2 ∙ end_behind from b r rs runs (let h = ltb-true _ _ early in omega arith))
+    (λ early. end_one r (with_range a b rs) (some_added a b rs) ∙ end_added (r.1 + 1) a b rs ab runs.2
+    ∙ end_behind from b r rs runs (let h = ltb-true _ _ early in omega arith))
     (λ _. cond_both (nat_lt b r.0) _ _ (λ (out : Ranges). end_of out ≡ max (end_of (r ∷ rs)) b)
     (λ late. let h = ltb-true _ _ late in omega (arith, runs.1, end_from from r rs runs))
     (λ _. end_added (r.1 + 1) (min a r.0) (max b r.1) rs (omega arith) runs.2 ∙ end_joined from b r rs runs))
@@ -63,7 +64,8 @@ within_added a b m n (r ∷ rs) within mn bn =
     longer [] h = tt
     longer (q ∷ qs) h = (omega (arith, h.0), longer qs h.1)
 
-pub pieces_added : (ranges : Ranges) (xs ys : List ℕ) (at : ℕ) (octets : List ℕ) → ArePieces ranges xs → 0 < length octets → length ys ≡ max (length xs) (at + length octets) →
+pub pieces_added : (ranges : Ranges) (xs ys : List ℕ) (at : ℕ) (octets : List ℕ) → ArePieces ranges xs → 0 < length octets → length ys
+    ≡ max (length xs) (at + length octets) →
     ArePieces (with_range at (at + length octets) ranges) ys
 pieces_added ranges xs ys at octets p some long = record {
   runs = (range_is_added at (at + length octets) ranges (omega arith) p.runs).0;
@@ -83,7 +85,8 @@ module _ (ranges : Ranges) (xs : List ℕ) (at : ℕ) (octets : List ℕ) (p : A
   rs_long = kept_length (received_in ranges xs) at octets some ∙ ap (λ (n : ℕ). max n (at + length octets)) (length-received 0 ranges xs)
 
   ys_at : (i : ℕ) → i < length rs → get_or ys i 0 ≡ unwrap_or (or_else (octet_at (received_in ranges xs) i) (brought at octets i)) 0
-  ys_at i below = get_or-map (λ (r : Option ℕ). unwrap_or r 0) rs i None 0 below ∙ ap (λ (r : Option ℕ). unwrap_or r 0) (first_stays (received_in ranges xs) at octets i)
+  ys_at i below = get_or-map (λ (r : Option ℕ). unwrap_or r 0) rs i None 0 below
+      ∙ ap (λ (r : Option ℕ). unwrap_or r 0) (first_stays (received_in ranges xs) at octets i)
 
   was_there : (i : ℕ) → i < length xs → IsTrue (is_in i ranges) → octet_at (received_in ranges xs) i ≡ Some (get_or xs i 0)
   was_there i below old = received_at 0 ranges xs i below ∙ (let z : 0 + i ≡ i = omega arith in rw (z, old) refl)
@@ -108,4 +111,5 @@ module _ (ranges : Ranges) (xs : List ℕ) (at : ℕ) (octets : List ℕ) (p : A
   }
 
   pub pieces_kept : pieces rs ≡ length (with_range at (at + length octets) ranges)
-  pieces_kept = ap pieces (sym (ranges_keep ranges xs at octets ys p some are_written)) ∙ pieces_are_ranges (with_range at (at + length octets) ranges) ys (pieces_added ranges xs ys at octets p some ys_long)
+  pieces_kept = ap pieces (sym (ranges_keep ranges xs at octets ys p some are_written))
+      ∙ pieces_are_ranges (with_range at (at + length octets) ranges) ys (pieces_added ranges xs ys at octets p some ys_long)

@@ -21,13 +21,17 @@ came_from true event e is = absurd cc
 came_from false event e is = cc
 
 pub read_is_readable : ReadIsReadable
-read_is_readable (pdus.Metadata h m) event s is = rw (← came_from h.toward_sender (MetadataCame h m) event is) (s.header_fits, answerable_short m.requests s.answerable)
+read_is_readable (pdus.Metadata h m) event s is = rw (← came_from h.toward_sender (MetadataCame h m) event is) (
+  s.header_fits,
+  answerable_short m.requests s.answerable,
+)
 read_is_readable (pdus.FileData h piece) event s is = rw (← came_from h.toward_sender (DataCame h piece) event is) s.0
 read_is_readable (pdus.Eof h eof) event s is = rw (← came_from h.toward_sender (EofCame h eof) event is) (s.0, s.1.condition)
 read_is_readable (pdus.Finished h finished) event s is = absurd cc
 read_is_readable (pdus.NotOurs h directive) event s is = absurd cc
 
 -- the event that is made of a PDU that was read, where one is
-pub made_readable : (pdu : Pdu) (made : Result Event NotOurs) → IsSound pdu → IfOk made (λ event. event_of pdu ≡ Some event) → IfSome (result_ok made) IsReadable
+pub made_readable : (pdu : Pdu) (made : Result Event NotOurs) → IsSound pdu → IfOk made (λ event. event_of pdu ≡ Some event) →
+    IfSome (result_ok made) IsReadable
 made_readable pdu (Ok event) sound is = read_is_readable pdu event sound is
 made_readable pdu (Err why) sound is = tt

@@ -12,7 +12,8 @@ kept_grows (Some r ∷ rs) zero (x ∷ xs) = omega (arith, kept_grows rs zero xs
 kept_grows (r ∷ rs) (suc at) (x ∷ xs) = omega (arith, kept_grows rs at (x ∷ xs))
 
 -- no further than the limit, where the octets end below it
-pub kept_within : (rs : Received) (at : ℕ) (octets : List ℕ) (limit : ℕ) → length rs ≤ limit → at + length octets ≤ limit → length (kept_with rs at octets) ≤ limit
+pub kept_within : (rs : Received) (at : ℕ) (octets : List ℕ) (limit : ℕ) → length rs ≤ limit → at + length octets ≤ limit →
+    length (kept_with rs at octets) ≤ limit
 kept_within rs at [] limit h e = h
 kept_within [] zero (x ∷ xs) zero h e = absurd (omega arith)
 kept_within [] zero (x ∷ xs) (suc limit) h e = omega (arith, kept_within [] zero xs limit (omega arith) (omega arith))

@@ -28,7 +28,8 @@ world_added s b r = ap (λ (t : List Entry). record (world_of s b) { table = t }
 
 -- one that never was live ------------------------------------------------------------------
 
-pub final_entry : (F : Filestore) (h : Header) (m : MetadataFields) (phase : Phase) → IsFalse (is_live phase) → entry_in F (fresh_row h m phase 0 [] 0 0) ≡ refused_entry h m phase
+pub final_entry : (F : Filestore) (h : Header) (m : MetadataFields) (phase : Phase) → IsFalse (is_live phase) → entry_in F (fresh_row h m phase 0 [] 0 0)
+    ≡ refused_entry h m phase
 final_entry F h m phase over = rw over refl
 
 module _ (s : Store) (b : Books) (booked : IsBooked s b) (h : Header) (m : MetadataFields) (phase : Phase) (over : IsFalse (is_live phase)) where
@@ -49,7 +50,8 @@ module _ (s : Store) (b : Books) (booked : IsBooked s b) (h : Header) (m : Metad
     in_all = booked.budget.in_all;
     not_used = booked.budget.not_used;
     not_granted = let none : reserve new ≡ 0 = rw over refl in omega (arith, booked.budget.not_granted, reserves_added W.table new, none);
-    opened = append_each (λ _ (d : Entry). IsTrue (is_live d.phase) → entry_at b.quota d.slot ≡ Some (reserve d)) W.table new (λ live. absurd (never live)) booked.budget.opened;
+    opened = append_each (λ _ (d : Entry). IsTrue (is_live d.phase) → entry_at b.quota d.slot ≡ Some (reserve d)) W.table new
+        (λ live. absurd (never live)) booked.budget.opened;
     closed = λ slot vacant. booked.budget.closed slot (λ j d there. vacant j d (get_append W.table new j d there));
   }
 
@@ -61,8 +63,10 @@ module _ (s : Store) (b : Books) (booked : IsBooked s b) (h : Header) (m : Metad
 
   pub final_booked : IsBooked s (record b { table = b.table ++ fresh_row h m phase 0 [] 0 0 ∷ [] })
   final_booked = record {
-    leases = booked.leases ∙ sym (ap (λ (t : List Entry). leases_of t) (append_in s.filestore b.table (fresh_row h m phase 0 [] 0 0) ∙ ap (λ e. W.table ++ e ∷ []) (final_entry s.filestore h m phase over)) ∙ final_leases);
-    budget = subst (λ (V : World). FitsBudget b.quota V) (sym (world_added s b (fresh_row h m phase 0 [] 0 0) ∙ ap (with_new W) (final_entry s.filestore h m phase over))) final_fits;
+    leases = booked.leases ∙ sym (ap (λ (t : List Entry). leases_of t) (append_in s.filestore b.table (fresh_row h m phase 0 [] 0 0)
+        ∙ ap (λ e. W.table ++ e ∷ []) (final_entry s.filestore h m phase over)) ∙ final_leases);
+    budget = subst (λ (V : World). FitsBudget b.quota V) (sym (world_added s b (fresh_row h m phase 0 [] 0 0)
+        ∙ ap (with_new W) (final_entry s.filestore h m phase over))) final_fits;
     capacity = booked.capacity;
     few = booked.few;
     pieces = final_pieces;

@@ -58,7 +58,8 @@ of_rename p q (Some node) (Some _) good below es = record { answer = tt; changes
 of_rename p q (Some node) None false below es = record { answer = tt; changes = tt }
 of_rename p q (Some node) None true true es = record { answer = tt; changes = tt }
 of_rename p q (Some node) None true false es =
-    cond_both (is_too_deep p q es) _ _ IsOfRequest (λ _. record { answer = tt; changes = tt }) (λ _. record { answer = tt; changes = vacated_paths es (settled p q es) (settled_paths p q es) })
+    cond_both (is_too_deep p q es) _ _ IsOfRequest (λ _. record { answer = tt; changes = tt })
+    (λ _. record { answer = tt; changes = vacated_paths es (settled p q es) (settled_paths p q es) })
 
 of_append : (p : Path) (there other : Option Node) → IsOfRequest (append p there other)
 unfolding append
@@ -166,5 +167,6 @@ paths_staged F slot (Becomes p what ∷ cs) h = paths_staged (changed F (Becomes
 paths_staged F slot (Stages other octets ∷ cs) h = elim h.0 [ ]
 
 -- a request stages nothing
-pub request_keeps_staged : (prefixes : List Path) (F : Filestore) (slot other : ℕ) (request : Request) → staged_in (performed prefixes F slot (Perform request)) other ≡ staged_in F other
+pub request_keeps_staged : (prefixes : List Path) (F : Filestore) (slot other : ℕ) (request : Request) →
+    staged_in (performed prefixes F slot (Perform request)) other ≡ staged_in F other
 request_keeps_staged prefixes F slot other request = paths_staged F other _ (row_of_request prefixes F slot request).changes

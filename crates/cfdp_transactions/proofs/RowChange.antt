@@ -21,12 +21,14 @@ use Rattle.cfdp_transactions.proofs.RowWorld.{row_at, set_in}
 
 pub live_row : (s : Store) (b : Books) (k : ℕ) (r : Row) → IsLiveAt (world_of s b) k → slice_get b.table k ≡ Some r → IsTrue (is_live r.phase)
 live_row s b k r there at =
-    let same : there.0 ≡ entry_in s.filestore r = get_same (world_of s b).table k k there.0 (entry_in s.filestore r) there.1 (row_at s.filestore b.table k r at) refl in
+    let same : there.0 ≡ entry_in s.filestore r = get_same (world_of s b).table k k there.0 (entry_in s.filestore r) there.1
+    (row_at s.filestore b.table k r at) refl in
     rw (← ap (λ (e : Entry). e.phase) same) there.2
 
 -- what is known of a live row --------------------------------------------------------
 
-module _ (s : Store) (b : Books) (sound : Sound (world_of s b)) (booked : IsBooked s b) (k : ℕ) (r : Row) (at : slice_get b.table k ≡ Some r) (live : IsTrue (is_live r.phase)) where
+module _ (s : Store) (b : Books) (sound : Sound (world_of s b)) (booked : IsBooked s b) (k : ℕ) (r : Row) (at : slice_get b.table k ≡ Some r)
+    (live : IsTrue (is_live r.phase)) where
   abbrev F : Filestore
   F = s.filestore
 
@@ -43,7 +45,8 @@ module _ (s : Store) (b : Books) (sound : Sound (world_of s b)) (booked : IsBook
   slot_below = omega (arith, kept_row.slot, sound.slots)
 
   pub least_spent : negsuc 65535 ≤ℤ r.blocks_spent
-  least_spent = let h = sound.honest k e entry_at_k in let l = left_is r.blocks_granted r.blocks_spent h.blocks in omega (arith, ints, sound.given k e entry_at_k, booked.few)
+  least_spent = let h = sound.honest k e entry_at_k in let l = left_is r.blocks_granted r.blocks_spent h.blocks in
+      omega (arith, ints, sound.given k e entry_at_k, booked.few)
 
   pub most_spent : r.blocks_spent ≤ℤ pos 65536
   most_spent = let h = sound.honest k e entry_at_k in omega (arith, ints, h.blocks, h.limits.of_blocks, booked.few)
@@ -75,11 +78,14 @@ module _ (s : Store) (b : Books) (sound : Sound (world_of s b)) (booked : IsBook
     abbrev with_table : List Entry → World
     with_table table = record { config = b.config; filestore = G; table = table }
 
-    module _ (header : now.header ≡ r.header) (items : now.items ≡ r.items) (slot : now.slot ≡ r.slot) (pieces : ArePiecesIn G now) (q : Budget) (adjusts : Adjusts b.quota q (world_of s b) V e (entry_in G now)) where
-      lease_case : (alive : Bool) → is_live now.phase ≡ alive → leases_of (slice_set (table_of F b.table) k (entry_in G now)) ≡ (if alive then b.leases else without b.leases (row_name r))
+    module _ (header : now.header ≡ r.header) (items : now.items ≡ r.items) (slot : now.slot ≡ r.slot) (pieces : ArePiecesIn G now) (q : Budget)
+        (adjusts : Adjusts b.quota q (world_of s b) V e (entry_in G now)) where
+      lease_case : (alive : Bool) → is_live now.phase ≡ alive → leases_of (slice_set (table_of F b.table) k (entry_in G now))
+          ≡ (if alive then b.leases else without b.leases (row_name r))
       lease_case true still = leases_changed (table_of F b.table) k e (entry_in G now) entry_at_k live still header items ∙ sym booked.leases
       lease_case false final =
-          leases_ended (table_of F b.table) k e (entry_in G now) entry_at_k live final sound.names ∙ ap (λ (g : Grants). without g (row_name r)) (sym booked.leases)
+          leases_ended (table_of F b.table) k e (entry_in G now) entry_at_k live final sound.names
+          ∙ ap (λ (g : Grants). without g (row_name r)) (sym booked.leases)
 
       pieces_other : (j : ℕ) (o : Row) → slice_get b.table j ≡ Some o → j ≢ k → ArePiecesIn G o
       pieces_other j o there ne alive = rw (staged_other j o there ne alive) (booked.pieces j o there alive)
@@ -88,7 +94,8 @@ module _ (s : Store) (b : Books) (sound : Sound (world_of s b)) (booked : IsBook
           IsBooked (with_changes s changes) (record { config = b.config; table = slice_set b.table k now; leases = leases; quota = q })
       booked_now leases is = record {
         leases = rw table_now (is ∙ sym (lease_case (is_live now.phase) refl));
-        budget = subst (λ (t : List Entry). FitsBudget q (with_table t)) (sym table_now) (fits_after (world_of s b) sound k e (entry_in G now) entry_at_k live slot changes b.quota q booked.budget adjusts);
+        budget = subst (λ (t : List Entry). FitsBudget q (with_table t)) (sym table_now)
+            (fits_after (world_of s b) sound k e (entry_in G now) entry_at_k live slot changes b.quota q booked.budget adjusts);
         capacity = booked.capacity;
         few = booked.few;
         pieces = set_each (λ _ (o : Row). ArePiecesIn G o) b.table k now pieces pieces_other;

@@ -29,14 +29,22 @@ module _ (s : Store) (b : Books) (sound : Sound (world_of s b)) (booked : IsBook
   gaps_by Receiving is =
       let live : IsTrue (is_live r.phase) = rw is refl in
       let all = booked.pieces k r at live in
-      ap (λ (rs : Received). gaps_below (length rs) rs) (is_received live) ∙ ap (λ (n : ℕ). gaps_below n (received_in r.ranges xs)) (length-received 0 r.ranges xs ∙ sym all.to_end)
+      ap (λ (rs : Received). gaps_below (length rs) rs) (is_received live) ∙ ap (λ (n : ℕ). gaps_below n (received_in r.ranges xs))
+      (length-received 0 r.ranges xs ∙ sym all.to_end)
       ∙ gaps_are_between (end_of r.ranges) r.ranges xs all.pieces (omega (arith, all.to_end))
   gaps_by (Awaiting checks) is =
       let live : IsTrue (is_live r.phase) = rw is refl in
       let all = booked.pieces k r at live in
       let fits = rw is at (kept_row s b sound booked k r at live).fits in
       let long = ap (λ (rs : Received). length rs) (is_received live) ∙ length-received 0 r.ranges xs in
-      ap (λ (rs : Received). gaps_below (awaited r.eof) rs) (is_received live) ∙ gaps_are_between (awaited r.eof) r.ranges xs all.pieces (omega (arith, fits, long, length-received 0 r.ranges xs, length-replicate {A = ℕ} (awaited r.eof) 0))
+      ap (λ (rs : Received). gaps_below (awaited r.eof) rs) (is_received live)
+      ∙ gaps_are_between (awaited r.eof) r.ranges xs all.pieces (omega (
+        arith,
+        fits,
+        long,
+        length-received 0 r.ranges xs,
+        length-replicate {A = ℕ} (awaited r.eof) 0,
+      ))
   gaps_by (Executing next) is = refl
   gaps_by Refused is = refl
   gaps_by Done is = refl
@@ -45,7 +53,7 @@ module _ (s : Store) (b : Books) (sound : Sound (world_of s b)) (booked : IsBook
   pub gaps_row : gaps e ≡ row_gaps r
   gaps_row = gaps_by r.phase refl
 
-  -- the end of the last octet, and up to where the gaps tell
+  -- the end of the last octet, and up to where the gaps say
   progress_by : (live : Bool) → is_live r.phase ≡ live → progress e ≡ (if live then end_of r.ranges else 0)
   progress_by true is =
       let live : IsTrue (is_live r.phase) = is in

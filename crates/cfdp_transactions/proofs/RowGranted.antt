@@ -55,7 +55,8 @@ pub unheld : (s : Store) (b : Books) → IsBooked s b → (id : TransactionId) �
 unheld s b booked id absent =
     rw booked.leases (holds_none (table_of s.filestore b.table) id (place_in s.filestore id b.table ∙ absent ∙ sym (length_in s.filestore b.table)))
 
-module _ (s : Store) (b : Books) (sound : Sound (world_of s b)) (booked : IsBooked s b) (few : length b.table < 64) (h : Header) (m : MetadataFields) (slot blocks steps : ℕ) (items : List Item)
+module _ (s : Store) (b : Books) (sound : Sound (world_of s b)) (booked : IsBooked s b) (few : length b.table < 64) (h : Header) (m : MetadataFields)
+    (slot blocks steps : ℕ) (items : List Item)
     (free_is : slot ≡ free_slot (world_of s b).table) where
   abbrev W : World
   W = world_of s b
@@ -89,7 +90,8 @@ module _ (s : Store) (b : Books) (sound : Sound (world_of s b)) (booked : IsBook
       in_all = rw reserved booked.budget.in_all;
       not_used = rw reserved booked.budget.not_used;
       not_granted = let own : reserve new ≡ blocks = omega arith in omega (arith, booked.budget.not_granted, reserves_added W.table new, own, kept);
-      opened = append_each (λ _ (d : Entry). IsTrue (is_live d.phase) → entry_at q d.slot ≡ Some (reserve d)) W.table new (λ _. opened ∙ (let own : Some blocks ≡ Some (reserve new) = ap (λ n. Some n) (omega arith) in own)) old_open;
+      opened = append_each (λ _ (d : Entry). IsTrue (is_live d.phase) → entry_at q d.slot ≡ Some (reserve d)) W.table new (λ _. opened
+          ∙ (let own : Some blocks ≡ Some (reserve new) = ap (λ n. Some n) (omega arith) in own)) old_open;
       closed = closed_now;
     }
 
@@ -99,11 +101,17 @@ module _ (s : Store) (b : Books) (sound : Sound (world_of s b)) (booked : IsBook
       | inr before ↦ booked.pieces k r before.1
     ]
 
-    pub granted_booked : IsBooked s (record { config = b.config; table = b.table ++ row ∷ []; leases = b.leases ++ (id_of h, footprint_of items) ∷ []; quota = q })
+    pub granted_booked : IsBooked s (record {
+      config = b.config;
+      table = b.table ++ row ∷ [];
+      leases = b.leases ++ (id_of h, footprint_of items) ∷ [];
+      quota = q;
+    })
     granted_booked =
         let world : world_of s (record b { table = b.table ++ row ∷ [] }) ≡ with_new W new = world_added s b row ∙ ap (with_new W) granted_entry in
         record {
-          leases = ap (λ (ls : Grants). ls ++ (id_of h, footprint_of items) ∷ []) booked.leases ∙ sym (ap (λ (V : World). leases_of V.table) world ∙ leases_added W.table new);
+          leases = ap (λ (ls : Grants). ls ++ (id_of h, footprint_of items) ∷ []) booked.leases
+              ∙ sym (ap (λ (V : World). leases_of V.table) world ∙ leases_added W.table new);
           budget = rw world granted_fits;
           capacity = booked.capacity;
           few = booked.few;
@@ -113,7 +121,8 @@ module _ (s : Store) (b : Books) (sound : Sound (world_of s b)) (booked : IsBook
 -- the ruling -------------------------------------------------------------------------------
 
 -- the verdict by the books is that of the world
-pub verdict_in : (s : Store) (b : Books) → IsBooked s b → (m : MetadataFields) (v : Verdict) → v ≡ verdict b.config.prefixes s.filestore b.leases (spare b.quota) (proposal_of b.config m) →
+pub verdict_in : (s : Store) (b : Books) → IsBooked s b → (m : MetadataFields) (v : Verdict) → v
+    ≡ verdict b.config.prefixes s.filestore b.leases (spare b.quota) (proposal_of b.config m) →
     v ≡ verdict b.config.prefixes s.filestore (leases_of (world_of s b).table) (worlds.spare (world_of s b)) (proposal_of b.config m)
 verdict_in s b booked m v is =
     let W = world_of s b in

@@ -19,7 +19,8 @@ rows_of es = map (λ e. e.1) es
 
 -- a value that is replaced by one of the same name -----------------------------------
 
-pub set_named : (es : Named) (k : ℕ) (w : Row) → AreNamed es → ((r : Row) → slice_get (rows_of es) k ≡ Some r → row_name w ≡ row_name r) → AreNamed (set_value_at es k w)
+pub set_named : (es : Named) (k : ℕ) (w : Row) → AreNamed es → ((r : Row) → slice_get (rows_of es) k ≡ Some r → row_name w ≡ row_name r) →
+    AreNamed (set_value_at es k w)
 set_named [] k w named same = named
 set_named (e ∷ es) zero w named same = (named.0 ∙ sym (same e.1 refl), named.1)
 set_named (e ∷ es) (suc k) w named same = (named.0, set_named es k w named.1 same)
@@ -59,7 +60,8 @@ cond_suc : (b : Bool) (n : ℕ) → (if b then 0 else suc n) ≡ cond b 0 (1 + n
 cond_suc true n = refl
 cond_suc false n = omega arith
 
-place_is : (id : TransactionId) (test : TransactionId → Bool) → ((k : TransactionId) → test k ≡ is_same k id) → (ks : List TransactionId) → key_place id ks ≡ position_or_len test ks
+place_is : (id : TransactionId) (test : TransactionId → Bool) → ((k : TransactionId) → test k ≡ is_same k id) → (ks : List TransactionId) → key_place id ks
+    ≡ position_or_len test ks
 unfolding key_place
 place_is id test same ks = is_position_or_len (key_place id) test refl (λ k ks. rw (same k) (cond_suc (is_same k id) (key_place id ks))) ks
 
@@ -71,7 +73,8 @@ found_case : (b : Bool) (n m : ℕ) → m ≡ n → IfSome (cond b (Some n) None
 found_case true n m h = sym h
 found_case false n m h = tt
 
-pub found_place : (id : TransactionId) (test : TransactionId → Bool) → ((k : TransactionId) → test k ≡ is_same k id) → (es : Named) → AreNamed es → (result : Option ℕ) →
+pub found_place : (id : TransactionId) (test : TransactionId → Bool) → ((k : TransactionId) → test k ≡ is_same k id) → (es : Named) → AreNamed es →
+    (result : Option ℕ) →
     result ≡ position test (names_of es) → IfSome result (λ place. place ≡ row_place id (rows_of es))
 found_place id test same es named result is =
     rw is (found_case (nat_lt (position_or_len test (names_of es)) (length (names_of es))) (position_or_len test (names_of es)) (row_place id (rows_of es))
@@ -90,11 +93,13 @@ absent_case : (b : Bool) (n m len : ℕ) → m ≡ n → n ≤ len → nat_lt n 
 absent_case true n m len h le is = tt
 absent_case false n m len h le is = grind (arith, nat_tests)
 
-pub absent_place : (id : TransactionId) (test : TransactionId → Bool) → ((k : TransactionId) → test k ≡ is_same k id) → (es : Named) → AreNamed es → (result : Option ℕ) →
+pub absent_place : (id : TransactionId) (test : TransactionId → Bool) → ((k : TransactionId) → test k ≡ is_same k id) → (es : Named) → AreNamed es →
+    (result : Option ℕ) →
     result ≡ position test (names_of es) → IfNone result (row_place id (rows_of es) ≡ length (rows_of es))
 absent_place id test same es named result is =
     rw (is, ← length_names es)
-    (absent_case (nat_lt (position_or_len test (names_of es)) (length (names_of es))) (position_or_len test (names_of es)) (row_place id (rows_of es)) (length (names_of es))
+    (absent_case (nat_lt (position_or_len test (names_of es)) (length (names_of es))) (position_or_len test (names_of es)) (row_place id (rows_of es))
+    (length (names_of es))
     (rows_as_keys id es named ∙ place_is id test same (names_of es)) (rw (← place_is id test same (names_of es)) (place_le id (names_of es))) refl)
 
 either_way : (a b : ℕ) → eqb a b ≡ eqb b a
@@ -108,13 +113,15 @@ same_either_way id k = rw (either_way id.source k.source, either_way id.number k
 
 push_step : (e : TransactionId × Row) (es : Named) (id : TransactionId) (new : Row) (b : Bool) → is_same (row_name e.1) id ≡ b →
     (row_place id (rows_of es) ≡ length (rows_of es) → insert_entry (λ a k. is_same k a) es id new ≡ es ++ (id, new) ∷ []) → e.0 ≡ row_name e.1 →
-    (if b then 0 else suc (row_place id (rows_of es))) ≡ suc (length (rows_of es)) → insert_entry (λ a k. is_same k a) (e ∷ es) id new ≡ e ∷ es ++ (id, new) ∷ []
+    (if b then 0 else suc (row_place id (rows_of es))) ≡ suc (length (rows_of es)) → insert_entry (λ a k. is_same k a) (e ∷ es) id new ≡ e ∷ es
+    ++ (id, new) ∷ []
 push_step e es id new true is later named h = absurd (omega arith)
 push_step e es id new false is later named h =
     let here : is_same e.0 id ≡ false = ap (λ k. is_same k id) named ∙ is in
     rw here (ap (λ (xs : Named). e ∷ xs) (later (omega (arith, h))))
 
-pushed : (es : Named) (id : TransactionId) (new : Row) → AreNamed es → row_place id (rows_of es) ≡ length (rows_of es) → insert_entry (λ a k. is_same k a) es id new ≡ es ++ (id, new) ∷ []
+pushed : (es : Named) (id : TransactionId) (new : Row) → AreNamed es → row_place id (rows_of es) ≡ length (rows_of es) →
+    insert_entry (λ a k. is_same k a) es id new ≡ es ++ (id, new) ∷ []
 pushed [] id new named h = refl
 pushed (e ∷ es) id new named h = push_step e es id new (is_same (row_name e.1) id) refl (pushed es id new named.1) named.0 h
 
@@ -123,7 +130,8 @@ same_inserted : (eq : TransactionId → TransactionId → Bool) → ((a k : Tran
 same_inserted eq same [] id new = refl
 same_inserted eq same (e ∷ es) id new = rw (same id e.0, same_inserted eq same es id new) refl
 
-pub push_entry : (eq : TransactionId → TransactionId → Bool) → ((a k : TransactionId) → eq a k ≡ is_same k a) → (es : Named) (id : TransactionId) (new : Row) → AreNamed es →
+pub push_entry : (eq : TransactionId → TransactionId → Bool) → ((a k : TransactionId) → eq a k ≡ is_same k a) → (es : Named) (id : TransactionId) (new : Row) →
+    AreNamed es →
     row_place id (rows_of es) ≡ length (rows_of es) → insert_entry eq es id new ≡ es ++ (id, new) ∷ []
 push_entry eq same es id new named h = same_inserted eq same es id new ∙ pushed es id new named h
 

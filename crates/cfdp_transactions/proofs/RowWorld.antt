@@ -26,14 +26,17 @@ length_in F (r ∷ rows) = ap suc (length_in F rows)
 
 -- the filestore changes elsewhere ----------------------------------------------------
 
-same_received : (F G : Filestore) (r : Row) (live : Bool) → is_live r.phase ≡ live → (IsTrue (is_live r.phase) → staged_in G r.slot ≡ staged_in F r.slot) → received_by G r ≡ received_by F r
+same_received : (F G : Filestore) (r : Row) (live : Bool) → is_live r.phase ≡ live → (IsTrue (is_live r.phase) → staged_in G r.slot ≡ staged_in F r.slot) →
+    received_by G r ≡ received_by F r
 same_received F G r true is same = rw (is, same is) refl
 same_received F G r false is same = rw is refl
 
 pub same_entry : (F G : Filestore) (r : Row) → (IsTrue (is_live r.phase) → staged_in G r.slot ≡ staged_in F r.slot) → entry_in G r ≡ entry_in F r
-same_entry F G r same = let received = same_received F G r (is_live r.phase) refl same in ap (λ (xs : Received). record (entry_in F r) { received = xs }) received
+same_entry F G r same = let received = same_received F G r (is_live r.phase) refl same in
+    ap (λ (xs : Received). record (entry_in F r) { received = xs }) received
 
-pub same_table : (F G : Filestore) (rows : List Row) → ((j : ℕ) (r : Row) → slice_get rows j ≡ Some r → IsTrue (is_live r.phase) → staged_in G r.slot ≡ staged_in F r.slot) → table_of G rows ≡ table_of F rows
+pub same_table : (F G : Filestore) (rows : List Row) → ((j : ℕ) (r : Row) → slice_get rows j ≡ Some r → IsTrue (is_live r.phase) → staged_in G r.slot
+    ≡ staged_in F r.slot) → table_of G rows ≡ table_of F rows
 same_table F G [] same = refl
 same_table F G (r ∷ rows) same = rw (same_entry F G r (same 0 r refl), same_table F G rows (λ j q at. same (suc j) q at)) refl
 
@@ -57,7 +60,8 @@ remove_in F (r ∷ rows) (suc k) = ap (λ (t : List Entry). entry_in F r ∷ t) 
 
 -- the first one in Executing -----------------------------------------------------------
 
-pub executing_here : (rows : List Row) (k : ℕ) (r : Row) (n : ℕ) → slice_get rows k ≡ Some r → r.phase ≡ Executing n → first_executing (drop k rows) ≡ Some (row_name r)
+pub executing_here : (rows : List Row) (k : ℕ) (r : Row) (n : ℕ) → slice_get rows k ≡ Some r → r.phase ≡ Executing n → first_executing (drop k rows)
+    ≡ Some (row_name r)
 executing_here [] k r n at phase = absurd cc
 executing_here (q ∷ rows) zero r n at phase = let same : q ≡ r = cc in rw (same, phase) refl
 executing_here (q ∷ rows) (suc k) r n at phase = executing_here rows k r n at phase
@@ -70,7 +74,8 @@ passed r rows Refused is not = rw is refl
 passed r rows Done is not = rw is refl
 passed r rows (Ended condition) is not = rw is refl
 
-pub executing_later : (rows : List Row) (k : ℕ) (r : Row) → slice_get rows k ≡ Some r → ((n : ℕ) → r.phase ≡ Executing n → ⊥) → first_executing (drop k rows) ≡ first_executing (drop (suc k) rows)
+pub executing_later : (rows : List Row) (k : ℕ) (r : Row) → slice_get rows k ≡ Some r → ((n : ℕ) → r.phase ≡ Executing n → ⊥) → first_executing (drop k rows)
+    ≡ first_executing (drop (suc k) rows)
 executing_later [] k r at not = absurd cc
 executing_later (q ∷ rows) zero r at not = let same : q ≡ r = cc in rw same (passed r rows r.phase refl not)
 executing_later (q ∷ rows) (suc k) r at not = executing_later rows k r at not
@@ -88,7 +93,8 @@ over_here [] k r at over = absurd cc
 over_here (q ∷ rows) zero r at over = let same : q ≡ r = cc in rw (same, over) refl
 over_here (q ∷ rows) (suc k) r at over = over_here rows k r at over
 
-pub over_later : (rows : List Row) (k : ℕ) (r : Row) → slice_get rows k ≡ Some r → is_live r.phase ≡ true → first_over (drop k rows) ≡ first_over (drop (suc k) rows)
+pub over_later : (rows : List Row) (k : ℕ) (r : Row) → slice_get rows k ≡ Some r → is_live r.phase ≡ true → first_over (drop k rows)
+    ≡ first_over (drop (suc k) rows)
 over_later [] k r at live = absurd cc
 over_later (q ∷ rows) zero r at live = let same : q ≡ r = cc in rw (same, live) refl
 over_later (q ∷ rows) (suc k) r at live = over_later rows k r at live

@@ -29,17 +29,25 @@ creates_one = simp look_ups
 
 -- no file and no request
 empty : replies (start config) (metadata 6 (list []) ∷ eof 6 0 0 ∷ Step (id 6) ∷ Take (id 6) ∷ []) ≡
-    Reply.Admitted 0 0 ∷ Reply.Done ∷ Reply.Idle ∷ Reply.Taken (outcome 6 (record { condition = 0; incomplete = false; file_status = 3; responses = []; fault = None })) ∷ []
+    Reply.Admitted 0 0 ∷ Reply.Done ∷ Reply.Idle ∷ Reply.Taken (outcome 6 (record {
+      condition = 0;
+      incomplete = false;
+      file_status = 3;
+      responses = [];
+      fault = None;
+    })) ∷ []
 unfolding statuses steps peak blocks blocks_of
 empty = simp look_ups
 
 -- a list that is refused
-third_fails : replies (start config) (metadata 7 (list (asks action.CreateFile (codes "a") ∷ asks_two action.RenameFile (codes "a") (codes "b") ∷ asks action.DeleteFile (codes "a") ∷ [])) ∷ Take (id 7) ∷ []) ≡
+third_fails : replies (start config) (metadata 7 (list (asks action.CreateFile (codes "a") ∷ asks_two action.RenameFile (codes "a")
+    (codes "b") ∷ asks action.DeleteFile (codes "a") ∷ [])) ∷ Take (id 7) ∷ []) ≡
     Reply.Refused (WouldFail 2 DeleteAbsent) ∷ Reply.Taken (outcome 7 (record {
       condition = 4;
       incomplete = true;
       file_status = 3;
-      responses = answers (NotPerformed action.CreateFile) (codes "a") ∷ answers_two (NotPerformed action.RenameFile) (codes "a") (codes "b") ∷ answers (NotPerformed action.DeleteFile) (codes "a") ∷ [];
+      responses = answers (NotPerformed action.CreateFile) (codes "a") ∷ answers_two (NotPerformed action.RenameFile) (codes "a") (codes "b") ∷ answers
+          (NotPerformed action.DeleteFile) (codes "a") ∷ [];
       fault = Some 2;
     })) ∷ []
 unfolding statuses steps peak row free_row table create rename delete_file step_bound blocks blocks_of

@@ -15,7 +15,8 @@ after-slots F [] = refl
 after-slots F (Becomes p what ∷ cs) = after-slots (changed F (Becomes p what)) cs
 after-slots F (Stages slot octets ∷ cs) = after-slots (changed F (Stages slot octets)) cs ∙ length-set F.staged slot octets
 
-pub after-elsewhere : (F : Filestore) (slot other : ℕ) (changes : List Change) → AllByRecursion (IsInSlot slot) changes → other ≢ slot → staged_in (after F changes) other ≡ staged_in F other
+pub after-elsewhere : (F : Filestore) (slot other : ℕ) (changes : List Change) → AllByRecursion (IsInSlot slot) changes → other ≢ slot →
+    staged_in (after F changes) other ≡ staged_in F other
 after-elsewhere F slot other [] own ne = refl
 after-elsewhere F slot other (Becomes p what ∷ cs) own ne = after-elsewhere (changed F (Becomes p what)) slot other cs own.1 ne
 after-elsewhere F slot other (Stages at octets ∷ cs) own ne =

@@ -1,4 +1,4 @@
--- No event but a step changes what stands in the filestore.
+-- No event but a step changes what is in the filestore.
 use Rattle.cfdp_actions.specs.Filestore.{Filestore}
 use Rattle.cfdp_transactions.specs.Beside.{is_step, OnlyStepsChange}
 use Rattle.std.proofs.Common.{◌≡◌, ℕ, ◌+◌, length, refl}
@@ -37,7 +37,8 @@ whole_stays W k e sum = cond_both (is_right_checksum e sum) _ _ (Stays W.filesto
 
 after_eof_stays : (W : World) (k : ℕ) (e : Entry) (eof : Option Eof) → (Stays W.filestore) (after_eof eof W k e)
 after_eof_stays W k e None = record { stays = refl }
-after_eof_stays W k e (Some eof) = cond_both (is_whole eof.size e.received) _ _ (Stays W.filestore) (λ _. whole_stays W k e eof.checksum) (λ _. record { stays = refl })
+after_eof_stays W k e (Some eof) = cond_both (is_whole eof.size e.received) _ _ (Stays W.filestore) (λ _. whole_stays W k e eof.checksum)
+    (λ _. record { stays = refl })
 
 stored_stays : (phase : Phase) (W : World) (k : ℕ) (e : Entry) → (Stays W.filestore) (stored phase W k e)
 stored_stays (Awaiting checks) W k e = after_eof_stays W k e e.eof
@@ -54,7 +55,10 @@ data_stays W k piece (Some e) =
     (λ _. cond_both (length piece.octets == 0) _ _ (Stays W.filestore) (λ _. record { stays = refl })
     (λ _. cond_both (nat_lt (limit e.phase W.config e) (piece.offset + length piece.octets)) _ _ (Stays W.filestore) (λ _. record { stays = refl })
     (λ _. cond_both (nat_lt 32 (pieces (kept_with e.received piece.offset piece.octets))) _ _ (Stays W.filestore) (λ _. record { stays = refl })
-    (λ _. record { stays = (stored_stays e.phase (stores W k e (kept_with e.received piece.offset piece.octets)) k (storing W.filestore e (kept_with e.received piece.offset piece.octets))).stays }))))
+    (λ _. record {
+      stays = (stored_stays e.phase (stores W k e (kept_with e.received piece.offset piece.octets)) k
+          (storing W.filestore e (kept_with e.received piece.offset piece.octets))).stays;
+    }))))
     (λ _. record { stays = refl })
 
 eof_stays : (W : World) (k : ℕ) (eof : Eof) (o : Option Entry) → (Stays W.filestore) (eof_came W k eof o)
@@ -70,7 +74,8 @@ eof_stays W k eof (Some e) =
     (λ _. whole_stays W k e eof.checksum)))))))
 
 check_stays : (phase : Phase) (W : World) (k : ℕ) (e : Entry) → (Stays W.filestore) (check_at phase W k e)
-check_stays (Awaiting checks) W k e = cond_both (nat_le W.config.checks (checks + 1)) _ _ (Stays W.filestore) (λ _. record { stays = refl }) (λ _. record { stays = refl })
+check_stays (Awaiting checks) W k e = cond_both (nat_le W.config.checks (checks + 1)) _ _ (Stays W.filestore) (λ _. record { stays = refl })
+    (λ _. record { stays = refl })
 check_stays Receiving W k e = record { stays = refl }
 check_stays (Executing next) W k e = record { stays = refl }
 check_stays Refused W k e = record { stays = refl }
@@ -90,7 +95,8 @@ taken_stays W k None = record { stays = refl }
 taken_stays W k (Some e) = cond_both (is_live e.phase) _ _ (Stays W.filestore) (λ _. record { stays = refl }) (λ _. record { stays = refl })
 
 ours_stays : (W : World) (h : Header) (answer : World × Reply) → Stays W.filestore answer → Stays W.filestore (for_us W h answer)
-ours_stays W h answer stays = cond_both (h.destination == W.config.entity) answer (W, Reply.NotForUs) (Stays W.filestore) (λ _. stays) (λ _. record { stays = refl })
+ours_stays W h answer stays = cond_both (h.destination == W.config.entity) answer (W, Reply.NotForUs) (Stays W.filestore) (λ _. stays)
+    (λ _. record { stays = refl })
 
 next_stays : (W : World) (event : Event) → IsFalse (is_step event) → (Stays W.filestore) (next W event)
 next_stays W (MetadataCame h m) other = ours_stays W h _ (metadata_stays W h m (entry_of W (id_of h)))

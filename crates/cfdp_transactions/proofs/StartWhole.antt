@@ -44,8 +44,15 @@ begun_booked s b none unleased capacity few quota = record {
   budget = record {
     in_all = ap (λ (q : Budget). q.capacity) quota;
     not_used = ap (λ (q : Budget). q.free) quota ∙ ap (λ (n : ℕ). n - blocks s.filestore) capacity;
-    not_granted = omega (arith, ap spare quota, ap (λ (rows : List Row). reserves (table_of s.filestore rows)) none, capacity, sum_by-replicate reserve_of 64 None);
-    opened = λ k e at. absurd (let empty : slice_get (table_of s.filestore b.table) k ≡ None = ap (λ (rows : List Row). slice_get (table_of s.filestore rows) k) none in cc);
+    not_granted = omega (
+      arith,
+      ap spare quota,
+      ap (λ (rows : List Row). reserves (table_of s.filestore rows)) none,
+      capacity,
+      sum_by-replicate reserve_of 64 None,
+    );
+    opened = λ k e at. absurd (let empty : slice_get (table_of s.filestore b.table) k
+        ≡ None = ap (λ (rows : List Row). slice_get (table_of s.filestore rows) k) none in cc);
     closed = λ slot vacant. ap (λ (q : Budget). entry_at q slot) quota ∙ none_in 64 slot;
   };
   capacity = capacity;
@@ -71,7 +78,8 @@ put_booked s t b p node q booked none put is =
 abbrev begun : Config → Store → Books
 begun c s = record { config = c; table = []; leases = []; quota = unreserved c.blocks (free_blocks s) }
 
-pub start_whole : (c : Config) (s : Store) → IsGoodStart c s.filestore → s.capacity ≡ c.blocks → first_fault c.blocks c.cap c.checks c.journal ≡ None → IsWhole s (begun c s)
+pub start_whole : (c : Config) (s : Store) → IsGoodStart c s.filestore → s.capacity ≡ c.blocks → first_fault c.blocks c.cap c.checks c.journal ≡ None →
+    IsWhole s (begun c s)
 start_whole c s good capacity limits = record {
   sound = good_sound c s.filestore good;
   booked = begun_booked s (begun c s) refl refl capacity (few_blocks c limits) refl;

@@ -50,8 +50,9 @@ drop_length [] (suc n) = omega arith
 drop_length (x ∷ xs) zero = omega arith
 drop_length (x ∷ xs) (suc n) = omega (arith, drop_length xs n)
 
--- the last item, and what stands behind it
-behind_last : (n : ℕ) (items : List Item) (last : Bool) → (IsTrue last → length items ≡ 0) → (IsFalse last → length items ≢ 0) → (if last then Done else Executing (suc n)) ≡ phase_before (suc n) items
+-- the last item, and what is after it
+behind_last : (n : ℕ) (items : List Item) (last : Bool) → (IsTrue last → length items ≡ 0) → (IsFalse last → length items ≢ 0) →
+    (if last then Done else Executing (suc n)) ≡ phase_before (suc n) items
 behind_last n [] true all some = refl
 behind_last n [] false all some = absurd (some refl refl)
 behind_last n (item ∷ items) true all some = absurd (let h = all refl in omega arith)
@@ -161,7 +162,12 @@ module _ (laws : LowerLaws) (s : Store) (b : Books) (sound : Sound (world_of s b
       let counted = (sound.honest k e at_k).counted (live_counted r.phase live) in
       let rest = rest_is laws W sound k e n item items at_k executing left in
       let more = rw (rest, counted_request item items h) at counted in
-      omega (arith, more, length-take r.performed (all_successful r.metadata.requests), length-map r.metadata.requests (λ (q : RequestFields). Successful q.action))
+      omega (
+        arith,
+        more,
+        length-take r.performed (all_successful r.metadata.requests),
+        length-map r.metadata.requests (λ (q : RequestFields). Successful q.action),
+      )
 
   pub can_advance : (t : ℕ) (install : Bool) → t ≡ ticks o → install ≡ is_install item → CanAdvance r install t
   can_advance t install is_t is_i = record {
@@ -171,7 +177,8 @@ module _ (laws : LowerLaws) (s : Store) (b : Books) (sound : Sound (world_of s b
     most = most_spent s b sound booked k r at live;
   }
 
-  module _ (before later t : ℕ) (last install : Bool) (is_before : before ≡ free_blocks s) (is_later : later ≡ free_blocks (with_changes s o.changes)) (is_t : t ≡ ticks o)
+  module _ (before later t : ℕ) (last install : Bool) (is_before : before ≡ free_blocks s) (is_later : later ≡ free_blocks (with_changes s o.changes)) (is_t : t
+      ≡ ticks o)
       (is_i : install ≡ is_install item) (is_last : last ≡ (suc n == length r.items)) where
     abbrev now : Row
     now = row_stepped r n last install before later t
@@ -183,14 +190,16 @@ module _ (laws : LowerLaws) (s : Store) (b : Books) (sound : Sound (world_of s b
     built phase installed received statuses spent steps =
         record e { phase = phase; installed = installed; received = received; statuses = statuses; blocks_spent = spent; steps_spent = steps }
 
-    built_same : (p q : Phase) (i j : Bool) (a c : Received) (u v : List Status) (x y : ℤ) (m l : ℕ) → p ≡ q → i ≡ j → a ≡ c → u ≡ v → x ≡ y → m ≡ l → built p i a u x m ≡ built q j c v y l
+    built_same : (p q : Phase) (i j : Bool) (a c : Received) (u v : List Status) (x y : ℤ) (m l : ℕ) → p ≡ q → i ≡ j → a ≡ c → u ≡ v → x ≡ y → m ≡ l →
+        built p i a u x m ≡ built q j c v y l
     built_same p q i j a c u v x y m l e1 e2 e3 e4 e5 e6 = rw (e1, e2, e3, e4, e5, e6) refl
 
     none_staged : staged_in G r.slot ≡ []
     none_staged = let g = gone laws W sound k e n item items at_k executing left in g.staged ∙ ap staged_of (empty_by_length _ g.none)
 
     spent_same : spend r.blocks_spent before later ≡ spend r.blocks_spent o.taken o.given
-    spent_same = spend-free r.blocks_spent before later o.taken o.given (rw (is_before, is_later) (omega (arith, grown, sound.room, booked.capacity, room_after)))
+    spent_same = spend-free r.blocks_spent before later o.taken o.given (rw (is_before, is_later)
+        (omega (arith, grown, sound.room, booked.capacity, room_after)))
 
     entry_now : entry_in G now ≡ entry_after e n item items o
     entry_now =
@@ -198,15 +207,22 @@ module _ (laws : LowerLaws) (s : Store) (b : Books) (sound : Sound (world_of s b
         let behind = drop_length r.items (suc n) in
         let received = both_none (is_live now.phase) (staged_in G r.slot) none_staged ∙ sym (empty_by_length _ g.none) in
         let all : IsTrue last → length items ≡ 0 = λ h. let q : (suc n == length r.items) ≡ true = sym is_last ∙ h in grind (arith, nat_tests, behind) in
-        let some : IsFalse last → length items ≢ 0 = λ h z. let q : (suc n == length r.items) ≡ false = sym is_last ∙ h in grind (arith, nat_tests, behind, number_below) in
-        let statuses = sym (statuses_after b.config.prefixes F r.slot item r.performed (all_successful r.metadata.requests) (honest_now laws W sound k e n item items at_k executing left).in_order
+        let some : IsFalse last → length items ≢ 0 = λ h z. let q : (suc n == length r.items) ≡ false = sym is_last ∙ h in
+        grind (arith, nat_tests, behind, number_below) in
+        let statuses = sym (statuses_after b.config.prefixes F r.slot item r.performed (all_successful r.metadata.requests)
+        (honest_now laws W sound k e n item items at_k executing left).in_order
         (λ h. omega (arith, requests_left h, length-map r.metadata.requests (λ (q : RequestFields). Successful q.action)))) in
-        let noted_same : take (if install then r.performed else suc r.performed) (all_successful r.metadata.requests) ≡ noted e.statuses o.answer = rw is_i statuses in
-        built_same now.phase (phase_before (suc n) items) now.installed (e.installed || is_install item) (received_by G now) (if is_install item then [] else e.received)
-        (take now.performed (all_successful r.metadata.requests)) (noted e.statuses o.answer) now.blocks_spent (spend r.blocks_spent o.taken o.given) now.steps_spent (e.steps_spent + (1 + ticks o))
-        (behind_last n items last all some) (ap (λ (x : Bool). r.installed || x) is_i) received noted_same spent_same (ap (λ (x : ℕ). r.steps_spent + (1 + x)) is_t)
+        let noted_same : take (if install then r.performed else suc r.performed) (all_successful r.metadata.requests) ≡ noted e.statuses o.answer =
+        rw is_i statuses in
+        built_same now.phase (phase_before (suc n) items) now.installed (e.installed || is_install item) (received_by G now) (if is_install item then []
+        else e.received)
+        (take now.performed (all_successful r.metadata.requests)) (noted e.statuses o.answer) now.blocks_spent
+        (spend r.blocks_spent o.taken o.given) now.steps_spent (e.steps_spent + (1 + ticks o))
+        (behind_last n items last all some) (ap (λ (x : Bool). r.installed || x) is_i) received noted_same spent_same
+        (ap (λ (x : ℕ). r.steps_spent + (1 + x)) is_t)
 
-    pub stepped_world : world_of (with_changes s o.changes) (record b { table = slice_set b.table k now }) ≡ change_at W k o.changes (entry_after e n item items o)
+    pub stepped_world : world_of (with_changes s o.changes) (record b { table = slice_set b.table k now })
+        ≡ change_at W k o.changes (entry_after e n item items o)
     stepped_world = rw (table_now s b sound booked k r at live o.changes (row_in_slot b.config.prefixes F r.slot item) now, entry_now) refl
 
     pieces_now : ArePiecesIn G now
@@ -215,7 +231,8 @@ module _ (laws : LowerLaws) (s : Store) (b : Books) (sound : Sound (world_of s b
     left_now : left_of r.blocks_granted now.blocks_spent + before ≡ reserve e + later
     left_now =
         let honest = sound.honest k e at_k in
-        let h = left-spend r.blocks_granted r.blocks_spent before later honest.blocks (rw (is_before, is_later) (omega (arith, taken_within, in_reserve, reserve_now))) in
+        let h = left-spend r.blocks_granted r.blocks_spent before later honest.blocks
+        (rw (is_before, is_later) (omega (arith, taken_within, in_reserve, reserve_now))) in
         omega (arith, h, reserve_now)
 
     module _ (p : Budget) (settles : Settles b.quota p r.slot before later) where
@@ -234,8 +251,14 @@ module _ (laws : LowerLaws) (s : Store) (b : Books) (sound : Sound (world_of s b
         elsewhere = settles.elsewhere;
       }
 
-      pub booked_more : last ≡ false → IsBooked (with_changes s o.changes) (record { config = b.config; table = slice_set b.table k now; leases = b.leases; quota = p })
-      booked_more h = booked_now s b sound booked k r at live o.changes (row_in_slot b.config.prefixes F r.slot item) now refl refl refl pieces_now p (adjusts_more h) b.leases (rw (alive_now h) refl)
+      pub booked_more : last ≡ false → IsBooked (with_changes s o.changes) (record {
+        config = b.config;
+        table = slice_set b.table k now;
+        leases = b.leases;
+        quota = p;
+      })
+      booked_more h = booked_now s b sound booked k r at live o.changes (row_in_slot b.config.prefixes F r.slot item) now refl refl refl pieces_now p
+          (adjusts_more h) b.leases (rw (alive_now h) refl)
 
       final_now : last ≡ true → is_live now.phase ≡ false
       final_now h = rw h refl
@@ -252,15 +275,24 @@ module _ (laws : LowerLaws) (s : Store) (b : Books) (sound : Sound (world_of s b
 
       pub booked_done : (q : Budget) → q ≡ closing p r.slot → spare q ≡ spare p + reserve_at p r.slot → last ≡ true →
           IsBooked (with_changes s o.changes) (record { config = b.config; table = slice_set b.table k now; leases = without b.leases (row_name r); quota = q })
-      booked_done q close back h = booked_now s b sound booked k r at live o.changes (row_in_slot b.config.prefixes F r.slot item) now refl refl refl pieces_now q (adjusts_done q close back h) (without b.leases (row_name r)) (rw (final_now h) refl)
+      booked_done q close back h = booked_now s b sound booked k r at live o.changes
+          (row_in_slot b.config.prefixes F r.slot item) now refl refl refl pieces_now q (adjusts_done q close back h) (without b.leases (row_name r))
+          (rw (final_now h) refl)
 
     stepped_is : stepped W k (Some e) ≡ (change_at W k o.changes (entry_after e n item items o), replied o.answer)
-    stepped_is = rw (executing, left, enough laws W sound k e n item items at_k executing left, succeeded_now laws W sound k e n item items at_k executing left) refl
+    stepped_is = rw (
+      executing,
+      left,
+      enough laws W sound k e n item items at_k executing left,
+      succeeded_now laws W sound k e n item items at_k executing left,
+    ) refl
 
-    pub step_answer : (reply : Reply) → reply ≡ replied o.answer → AnswersAt W (world_of (with_changes s o.changes) (record b { table = slice_set b.table k now })) k (stepped W k) reply
+    pub step_answer : (reply : Reply) → reply ≡ replied o.answer → AnswersAt W
+        (world_of (with_changes s o.changes) (record b { table = slice_set b.table k now })) k (stepped W k) reply
     step_answer reply is f at_f =
         let same : f ≡ e = entry_is s b k r at f at_f in
-        let answered : stepped W k (Some f) ≡ (world_of (with_changes s o.changes) (record b { table = slice_set b.table k now }), reply) = rw (same, is, stepped_world) stepped_is in
+        let answered : stepped W k (Some f) ≡ (world_of (with_changes s o.changes) (record b { table = slice_set b.table k now }), reply) =
+        rw (same, is, stepped_world) stepped_is in
         carry W _ (stepped W k (Some f)) reply (rw is (answered_reply o.answer)) answered
 
 drop_none : {X : Type 0} (n : ℕ) (xs : List X) → slice_get xs n ≡ None → drop n xs ≡ []

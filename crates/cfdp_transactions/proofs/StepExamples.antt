@@ -1,4 +1,4 @@
--- Worked examples of steps, one for each kind of item: the reply, what stands after it, and the blocks and steps that
+-- Worked examples of steps, one for each kind of item: the reply, what is after it, and the blocks and steps that
 -- the transaction has spent then.
 use Rattle.std.proofs.Common.{◌≡◌, ℕ, ℤ, List, [], ◌∷◌, map}
 use Rattle.std.specs.Prelude.{pos, negsuc, Some, codes, replicate, slice_set}
@@ -22,12 +22,17 @@ abbrev stepped : Listed → Item → Reply × Listed × List (ℤ × ℕ)
 stepped es item = shown (next (world config es (executing (fresh 12 (list []) (item ∷ []) 9 99) ∷ [])) (Step (id 12)))
 
 -- one block for the node
-creates_file : stepped [] (Perform (CreateFile (codes "a" ∷ []))) ≡ (Reply.Performed (Successful action.CreateFile), (codes "a" ∷ [], File []) ∷ [], (pos 1, 2) ∷ [])
+creates_file : stepped [] (Perform (CreateFile (codes "a" ∷ []))) ≡ (
+  Reply.Performed (Successful action.CreateFile),
+  (codes "a" ∷ [], File []) ∷ [],
+  (pos 1, 2) ∷ [],
+)
 unfolding row free_row table create blocks blocks_of
 creates_file = simp look_ups
 
 -- 600 octets and the node: six blocks given back
-deletes_file : stepped ((codes "old" ∷ [], File (replicate 600 6)) ∷ []) (Perform (DeleteFile (codes "old" ∷ []))) ≡ (Reply.Performed (Successful action.DeleteFile), [], (negsuc 5, 7) ∷ [])
+deletes_file : stepped ((codes "old" ∷ [], File (replicate 600 6)) ∷ []) (Perform (DeleteFile (codes "old" ∷ [])))
+    ≡ (Reply.Performed (Successful action.DeleteFile), [], (negsuc 5, 7) ∷ [])
 unfolding row free_row table delete_file blocks blocks_of
 deletes_file = simp look_ups
 
@@ -36,8 +41,9 @@ renames_file : stepped ((codes "a" ∷ [], File (5 ∷ [])) ∷ []) (Perform (Re
 unfolding row free_row table rename blocks blocks_of
 renames_file = simp look_ups
 
--- with all that stands below it
-renames_directory : stepped ((codes "d" ∷ [], Directory) ∷ (codes "d" ∷ codes "x" ∷ [], File (5 ∷ [])) ∷ []) (Perform (RenameFile (codes "d" ∷ []) (codes "e" ∷ []))) ≡
+-- with all that is below it
+renames_directory : stepped ((codes "d" ∷ [], Directory) ∷ (codes "d" ∷ codes "x" ∷ [], File (5 ∷ [])) ∷ [])
+    (Perform (RenameFile (codes "d" ∷ []) (codes "e" ∷ []))) ≡
     (Reply.Performed (Successful action.RenameFile), (codes "e" ∷ [], Directory) ∷ (codes "e" ∷ codes "x" ∷ [], File (5 ∷ [])) ∷ [], (pos 0, 1) ∷ [])
 unfolding row free_row table rename blocks blocks_of
 renames_directory = simp look_ups
@@ -59,15 +65,18 @@ replaces_itself : stepped ((codes "a" ∷ [], File (replicate 120 1)) ∷ []) (P
 unfolding row free_row table replace blocks blocks_of
 replaces_itself = simp look_ups
 
-creates_directory : stepped [] (Perform (CreateDirectory (codes "d" ∷ []))) ≡ (Reply.Performed (Successful action.CreateDirectory), (codes "d" ∷ [], Directory) ∷ [], (pos 1, 2) ∷ [])
+creates_directory : stepped [] (Perform (CreateDirectory (codes "d" ∷ [])))
+    ≡ (Reply.Performed (Successful action.CreateDirectory), (codes "d" ∷ [], Directory) ∷ [], (pos 1, 2) ∷ [])
 unfolding row free_row table create blocks blocks_of
 creates_directory = simp look_ups
 
-removes_directory : stepped ((codes "d" ∷ [], Directory) ∷ []) (Perform (RemoveDirectory (codes "d" ∷ []))) ≡ (Reply.Performed (Successful action.RemoveDirectory), [], (negsuc 0, 2) ∷ [])
+removes_directory : stepped ((codes "d" ∷ [], Directory) ∷ []) (Perform (RemoveDirectory (codes "d" ∷ [])))
+    ≡ (Reply.Performed (Successful action.RemoveDirectory), [], (negsuc 0, 2) ∷ [])
 unfolding row free_row table remove_directory blocks blocks_of
 removes_directory = simp look_ups
 
-denies_file : stepped ((codes "z" ∷ [], File (replicate 120 1)) ∷ []) (Perform (DenyFile (codes "z" ∷ []))) ≡ (Reply.Performed (Successful action.DenyFile), [], (negsuc 1, 3) ∷ [])
+denies_file : stepped ((codes "z" ∷ [], File (replicate 120 1)) ∷ []) (Perform (DenyFile (codes "z" ∷ [])))
+    ≡ (Reply.Performed (Successful action.DenyFile), [], (negsuc 1, 3) ∷ [])
 unfolding row free_row table deny_file blocks blocks_of
 denies_file = simp look_ups
 
@@ -76,11 +85,13 @@ denies_absent_file : stepped [] (Perform (DenyFile (codes "z" ∷ []))) ≡ (Rep
 unfolding row free_row table deny_file blocks blocks_of
 denies_absent_file = simp look_ups
 
-denies_directory : stepped ((codes "d" ∷ [], Directory) ∷ []) (Perform (DenyDirectory (codes "d" ∷ []))) ≡ (Reply.Performed (Successful action.DenyDirectory), [], (negsuc 0, 2) ∷ [])
+denies_directory : stepped ((codes "d" ∷ [], Directory) ∷ []) (Perform (DenyDirectory (codes "d" ∷ [])))
+    ≡ (Reply.Performed (Successful action.DenyDirectory), [], (negsuc 0, 2) ∷ [])
 unfolding row free_row table deny_directory blocks blocks_of
 denies_directory = simp look_ups
 
-denies_absent_directory : stepped [] (Perform (DenyDirectory (codes "y" ∷ codes "z" ∷ []))) ≡ (Reply.Performed (Successful action.DenyDirectory), [], (pos 0, 1) ∷ [])
+denies_absent_directory : stepped [] (Perform (DenyDirectory (codes "y" ∷ codes "z" ∷ [])))
+    ≡ (Reply.Performed (Successful action.DenyDirectory), [], (pos 0, 1) ∷ [])
 unfolding row free_row table deny_directory blocks blocks_of
 denies_absent_directory = simp look_ups
 
@@ -92,12 +103,15 @@ appends_less = simp look_ups
 
 -- the install ------------------------------------------------------------------------
 
--- these entries stand, 15 octets are staged and were received, and the install is next
+-- these entries exist, 15 octets are staged and were received, and the install is next
 abbrev delivered : Config → Listed → World
 delivered c es = record {
   config = c;
   filestore = record { nodes = nodes_of es; staged = slice_set empty_filestore.staged 0 (replicate 15 7) };
-  table = record (executing (fresh 10 (file_to (codes "f") 15 []) (Install (codes "f" ∷ []) ∷ []) 2 9)) { received = replicate 15 (Some 7); blocks_spent = pos 1 } ∷ [];
+  table = record (executing (fresh 10 (file_to (codes "f") 15 []) (Install (codes "f" ∷ []) ∷ []) 2 9)) {
+    received = replicate 15 (Some 7);
+    blocks_spent = pos 1;
+  } ∷ [];
 }
 
 installs : shown (next (delivered config []) (Step (id 10))) ≡ (Reply.Installed, (codes "f" ∷ [], File (replicate 15 7)) ∷ [], (pos 2, 2) ∷ [])
@@ -105,7 +119,8 @@ unfolding row free_row install blocks blocks_of
 installs = simp look_ups
 
 -- in place of a file of two blocks
-installs_over : shown (next (delivered config ((codes "f" ∷ [], File (replicate 121 5)) ∷ [])) (Step (id 10))) ≡ (Reply.Installed, (codes "f" ∷ [], File (replicate 15 7)) ∷ [], (negsuc 0, 3) ∷ [])
+installs_over : shown (next (delivered config ((codes "f" ∷ [], File (replicate 121 5)) ∷ [])) (Step (id 10)))
+    ≡ (Reply.Installed, (codes "f" ∷ [], File (replicate 15 7)) ∷ [], (negsuc 0, 3) ∷ [])
 unfolding row free_row install blocks blocks_of
 installs_over = simp look_ups
 
@@ -116,7 +131,8 @@ fails : stepped [] (Perform (DeleteFile (codes "a" ∷ []))) ≡ (Reply.Performe
 unfolding row free_row table delete_file blocks blocks_of
 fails = simp look_ups
 
-not_installed : shown (next (delivered (record config { prefixes = (codes "f" ∷ []) ∷ [] }) ((codes "f" ∷ [], File []) ∷ [])) (Step (id 10))) ≡ (Reply.Faulted 4, (codes "f" ∷ [], File []) ∷ [], (pos 0, 1) ∷ [])
+not_installed : shown (next (delivered (record config { prefixes = (codes "f" ∷ []) ∷ [] }) ((codes "f" ∷ [], File []) ∷ [])) (Step (id 10)))
+    ≡ (Reply.Faulted 4, (codes "f" ∷ [], File []) ∷ [], (pos 0, 1) ∷ [])
 unfolding row free_row install blocks blocks_of
 not_installed = simp look_ups
 
@@ -125,12 +141,14 @@ not_installed = simp look_ups
 -- while old of 600 octets is deleted and src of 600 is appended to log: the blocks that are free, and those to spare
 abbrev cleaning : Listed → ℕ → ℤ → World
 cleaning es n spent =
-    world (record config { blocks = 16 }) es (record (fresh 30 (list []) (Perform (DeleteFile (codes "old" ∷ [])) ∷ Perform (AppendFile (codes "log" ∷ []) (codes "src" ∷ [])) ∷ []) 0 18) { phase = Executing n; blocks_spent = spent } ∷ [])
+    world (record config { blocks = 16 }) es (record (fresh 30 (list []) (Perform (DeleteFile (codes "old" ∷ [])) ∷ Perform
+    (AppendFile (codes "log" ∷ []) (codes "src" ∷ [])) ∷ []) 0 18) { phase = Executing n; blocks_spent = spent } ∷ [])
 
 abbrev rooms : World → ℕ × ℕ
 rooms W = (free W, spare W)
 
-before : rooms (cleaning ((codes "log" ∷ [], File []) ∷ (codes "old" ∷ [], File (replicate 600 6)) ∷ (codes "src" ∷ [], File (replicate 600 5)) ∷ []) 0 (pos 0)) ≡ (3, 3)
+before : rooms (cleaning ((codes "log" ∷ [], File []) ∷ (codes "old" ∷ [], File (replicate 600 6)) ∷ (codes "src" ∷ [], File (replicate 600 5)) ∷ []) 0 (pos 0))
+    ≡ (3, 3)
 unfolding blocks blocks_of
 before = simp look_ups
 

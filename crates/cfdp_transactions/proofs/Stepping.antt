@@ -51,16 +51,19 @@ noted_counts prefixes F slot (Install p) items ss = rw (noted_none ss _ (row_of_
 noted_counts prefixes F slot (Perform request) items ss = omega (arith, noted_one ss _ (row_of_request prefixes F slot request).answer)
 
 -- 'successful' of its own action, in its place
-noted_in_order : (prefixes : List Path) (F : Filestore) (slot : ℕ) (item : Item) (items : List Item) (ss : List Status) → IsTrue (succeeded (row prefixes F slot item).answer) →
+noted_in_order : (prefixes : List Path) (F : Filestore) (slot : ℕ) (item : Item) (items : List Item) (ss : List Status) →
+    IsTrue (succeeded (row prefixes F slot item).answer) →
     noted ss (row prefixes F slot item).answer ++ successes items ≡ ss ++ successes (item ∷ items)
 noted_in_order prefixes F slot (Install p) items ss good = rw (noted_none ss _ (row_of_install prefixes F slot p).answer) refl
-noted_in_order prefixes F slot (Perform request) items ss good = rw (own_row prefixes F slot request good) (append_assoc ss (Successful (action_in request) ∷ []) (successes items))
+noted_in_order prefixes F slot (Perform request) items ss good = rw (own_row prefixes F slot request good)
+    (append_assoc ss (Successful (action_in request) ∷ []) (successes items))
 
 all_with : (P : Status → Type 0) (ss : List Status) (status : Status) → AllByRecursion P ss → P status → AllByRecursion P (ss ++ status ∷ [])
 all_with P [] status h here = (here, tt)
 all_with P (x ∷ ss) status h here = (h.0, all_with P ss status h.1 here)
 
-noted_successful : (ss : List Status) (answer : Answer) → AllByRecursion (λ x. IsTrue (is_successful x)) ss → IsTrue (succeeded answer) → AllByRecursion (λ x. IsTrue (is_successful x)) (noted ss answer)
+noted_successful : (ss : List Status) (answer : Answer) → AllByRecursion (λ x. IsTrue (is_successful x)) ss → IsTrue (succeeded answer) →
+    AllByRecursion (λ x. IsTrue (is_successful x)) (noted ss answer)
 noted_successful ss (Answer.Performed status) h good = all_with _ ss status h good
 noted_successful ss Answer.Installed h good = h
 noted_successful ss Answer.NotInstalled h good = h
@@ -73,11 +76,18 @@ pub record IsGone (F : Filestore) (slot : ℕ) (received : Received) : Type 0 wh
   pub none : length received ≡ 0
   pub few : pieces received ≤ 32
 
-staged_after : (prefixes : List Path) (F : Filestore) (slot : ℕ) (received : Received) (item : Item) (items : List Item) → slot < length F.staged → staged_in F slot ≡ staged_of received →
+staged_after : (prefixes : List Path) (F : Filestore) (slot : ℕ) (received : Received) (item : Item) (items : List Item) → slot < length F.staged →
+    staged_in F slot ≡ staged_of received →
     IsTrue (succeeded (row prefixes F slot item).answer) → (IsFalse (is_next_install (item ∷ items)) → length received ≡ 0) →
     IsGone (performed prefixes F slot item) slot (if is_install item then [] else received)
-staged_after prefixes F slot received (Install p) items inside there good nothing = record { staged = install_empties prefixes F slot p inside good; none = refl; few = omega arith }
-staged_after prefixes F slot received (Perform request) items inside there good nothing = record { staged = request_keeps_staged prefixes F slot slot request ∙ there; none = nothing refl; few = rw (empty_by_length received (nothing refl)) (omega arith) }
+staged_after prefixes F slot received (Install p) items inside there good nothing =
+    record { staged = install_empties prefixes F slot p inside good; none = refl; few = omega arith }
+staged_after prefixes F slot received (Perform request) items inside there good nothing =
+    record {
+      staged = request_keeps_staged prefixes F slot slot request ∙ there;
+      none = nothing refl;
+      few = rw (empty_by_length received (nothing refl)) (omega arith);
+    }
 
 live_before : (n : ℕ) (items : List Item) → IsTrue (is_live (phase_before n items)) → (items ≢ []) × (phase_before n items ≡ Executing n)
 live_before n [] h = absurd cc
@@ -87,11 +97,13 @@ rest_before : (n : ℕ) (items behind : List Item) → drop n items ≡ behind �
 rest_before n items [] h = refl
 rest_before n items (item ∷ behind) h = h
 
-first_succeeds : (prefixes : List Path) (F : Filestore) (slot : ℕ) (item : Item) (items : List Item) → Succeed prefixes F slot (item ∷ items) → IsTrue (succeeded (row prefixes F slot item).answer)
+first_succeeds : (prefixes : List Path) (F : Filestore) (slot : ℕ) (item : Item) (items : List Item) → Succeed prefixes F slot (item ∷ items) →
+    IsTrue (succeeded (row prefixes F slot item).answer)
 unfolding Succeed
 first_succeeds prefixes F slot item items h = h.0
 
-rest_succeeds : (prefixes : List Path) (F : Filestore) (slot : ℕ) (item : Item) (items : List Item) → Succeed prefixes F slot (item ∷ items) → Succeed prefixes (performed prefixes F slot item) slot items
+rest_succeeds : (prefixes : List Path) (F : Filestore) (slot : ℕ) (item : Item) (items : List Item) → Succeed prefixes F slot (item ∷ items) →
+    Succeed prefixes (performed prefixes F slot item) slot items
 unfolding Succeed
 rest_succeeds prefixes F slot item items h = h.1
 
@@ -139,12 +151,14 @@ module _ (laws : LowerLaws) (W : World) (s : Sound W) (k : ℕ) (e : Entry) (n :
 
   -- the row is what is done
   pub enough : act_item c.prefixes F (free W) e.slot item ≡ o
-  enough = laws.enough_room c.prefixes F (free W) e.slot item items s.rooted kept.slot (omega (arith, room, s.room, reserve_within W.table k e at, reserve_live e live))
+  enough = laws.enough_room c.prefixes F (free W) e.slot item items s.rooted kept.slot
+      (omega (arith, room, s.room, reserve_within W.table k e at, reserve_live e live))
 
   pub succeeded_now : IsTrue (succeeded o.answer)
   succeeded_now = let h : Succeed c.prefixes F e.slot (item ∷ items) = succeed in first_succeeds c.prefixes F e.slot item items h
 
-  own : (need c.prefixes G e.slot items + o.taken ≤ need c.prefixes F e.slot (item ∷ items) + o.given) × (steps c.prefixes F e.slot (item ∷ items) ≡ (1 + step_bound F item) + steps c.prefixes G e.slot items) × (ticks o ≤ step_bound F item)
+  own : (need c.prefixes G e.slot items + o.taken ≤ need c.prefixes F e.slot (item ∷ items) + o.given)
+      × (steps c.prefixes F e.slot (item ∷ items) ≡ (1 + step_bound F item) + steps c.prefixes G e.slot items) × (ticks o ≤ step_bound F item)
   own = laws.own_step c.prefixes F e.slot item items s.rooted kept.slot
 
   pub takes_within : o.taken ≤ left_of e.blocks_granted e.blocks_spent + o.given
@@ -190,7 +204,8 @@ module _ (laws : LowerLaws) (W : World) (s : Sound W) (k : ℕ) (e : Entry) (n :
       let honest = s.honest k e at in
       let in_order : new.statuses ++ successes items ≡ all_successful e.metadata.requests =
       noted_in_order c.prefixes F e.slot item items e.statuses succeeded_now ∙ (rw rest_is at (honest.to_come (live_counted e.phase live))) in
-      let counted : length new.statuses + requests_in items ≡ length e.metadata.requests = noted_counts c.prefixes F e.slot item items e.statuses ∙ (rw rest_is at (honest.counted (live_counted e.phase live))) in
+      let counted : length new.statuses + requests_in items ≡ length e.metadata.requests = noted_counts c.prefixes F e.slot item items e.statuses
+      ∙ (rw rest_is at (honest.counted (live_counted e.phase live))) in
       record {
         blocks = spend_within e.blocks_granted e.blocks_spent o.taken o.given honest.blocks takes_within;
         steps = omega (arith, own.1, own.2, steps_left);
@@ -204,7 +219,11 @@ module _ (laws : LowerLaws) (W : World) (s : Sound W) (k : ℕ) (e : Entry) (n :
 
   room_now : blocks G + left_of new.blocks_granted new.blocks_spent ≤ blocks F + reserve e
   room_now =
-      rw live (omega (arith, left-spend e.blocks_granted e.blocks_spent o.taken o.given (s.honest k e at).blocks takes_within, laws.growth c.prefixes F e.slot item s.rooted kept.slot))
+      rw live (omega (
+        arith,
+        left-spend e.blocks_granted e.blocks_spent o.taken o.given (s.honest k e at).blocks takes_within,
+        laws.growth c.prefixes F e.slot item s.rooted kept.slot,
+      ))
 
   pub step_moves : MovesTo true k e new W (change_at W k o.changes new)
   step_moves = change_moves laws W s true k e o.changes new (record {

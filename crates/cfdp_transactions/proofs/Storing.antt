@@ -36,7 +36,8 @@ pub stage-same : (F : Filestore) (slot : ℕ) (x : List ℕ) → staged_in F slo
 stage-same F slot x e = ap (λ (staged : List (List ℕ)). record F { staged = staged }) (rw (← e) (set-get_or F.staged slot []))
 
 module _ (laws : LowerLaws) (W : World) (s : Sound W) (k : ℕ) (e : Entry) (received : Received)
-    (at : slice_get W.table k ≡ Some e) (live : IsTrue (is_live e.phase)) (grown : length e.received ≤ length received) (fits : length received ≤ length (longest W.config (storing W.filestore e received)))
+    (at : slice_get W.table k ≡ Some e) (live : IsTrue (is_live e.phase)) (grown : length e.received ≤ length received)
+    (fits : length received ≤ length (longest W.config (storing W.filestore e received)))
     (same : longest W.config (storing W.filestore e received) ≡ longest W.config e) (few : pieces received ≤ 32) where
   abbrev F : Filestore
   F = W.filestore
@@ -66,7 +67,13 @@ module _ (laws : LowerLaws) (W : World) (s : Sound W) (k : ℕ) (e : Entry) (rec
   stores_room =
       let x = longest W.config e in
       let shorter : length received ≤ length x = rw same at fits in
-      omega (arith, kept.promise.blocks, peak_from W.config.prefixes (stage F e.slot x) e.slot (rest e), blocks-staged F e.slot x kept.slot, blocks_of-le (length received) (length x) shorter)
+      omega (
+        arith,
+        kept.promise.blocks,
+        peak_from W.config.prefixes (stage F e.slot x) e.slot (rest e),
+        blocks-staged F e.slot x kept.slot,
+        blocks_of-le (length received) (length x) shorter,
+      )
 
   stored_kept : IsKept W.config G new
   stored_kept = record {
@@ -80,7 +87,14 @@ module _ (laws : LowerLaws) (W : World) (s : Sound W) (k : ℕ) (e : Entry) (rec
     checks = kept.checks;
     promise = record {
       succeeds = rw (same, stage-stage F e.slot (staged_of received) (longest W.config e)) kept.promise.succeeds;
-      blocks = rw (same, stage-stage F e.slot (staged_of received) (longest W.config e)) (omega (arith, kept.promise.blocks, grows, left-spend e.blocks_granted e.blocks_spent more 0 (s.honest k e at).blocks (omega (arith, stores_room)), stores_room));
+      blocks = rw (same, stage-stage F e.slot (staged_of received) (longest W.config e))
+          (omega (
+            arith,
+            kept.promise.blocks,
+            grows,
+            left-spend e.blocks_granted e.blocks_spent more 0 (s.honest k e at).blocks (omega (arith, stores_room)),
+            stores_room,
+          ));
       steps = rw (same, stage-stage F e.slot (staged_of received) (longest W.config e)) kept.promise.steps;
     };
   }

@@ -29,13 +29,15 @@ abbrev pub status_at : ℕ → RequestFields → Status
 status_at zero r = NotPerformed r.action
 status_at (suc left) r = Successful r.action
 
-one_response : (left : ℕ) (r : RequestFields) (rs : List RequestFields) → responses_of (r ∷ rs) (statuses_of left (r ∷ rs)) ≡ answered r (status_at left r) ∷ responses_of rs (statuses_of (left - 1) rs)
+pub one_response : (left : ℕ) (r : RequestFields) (rs : List RequestFields) → responses_of (r ∷ rs) (statuses_of left (r ∷ rs))
+    ≡ answered r (status_at left r) ∷ responses_of rs (statuses_of (left - 1) rs)
 one_response zero r rs = refl
 one_response (suc left) r rs = let e : suc left - 1 ≡ left = omega arith in rw e refl
 
 -- where the next request has its response
 pub next_answer : (r : RequestFields) (rs : List RequestFields) (performed n : ℕ) (done now total : List ResponseFields) (response : ResponseFields)
-    → response ≡ answered r (status_at (performed - n) r) → now ≡ done ++ response ∷ [] → done ++ responses_of (r ∷ rs) (statuses_of (performed - n) (r ∷ rs)) ≡ total
+    → response ≡ answered r (status_at (performed - n) r) → now ≡ done ++ response ∷ [] → done ++ responses_of (r ∷ rs) (statuses_of (performed - n) (r ∷ rs))
+    ≡ total
     → now ++ responses_of rs (statuses_of (performed - (n + 1)) rs) ≡ total
 next_answer r rs performed n done now total response is pushed all =
     let less : performed - n - 1 ≡ performed - (n + 1) = omega arith in
@@ -45,7 +47,8 @@ next_answer r rs performed n done now total response is pushed all =
     ap (λ (xs : List ResponseFields). xs ++ responses_of rs (statuses_of (performed - (n + 1)) rs)) pushed
     ∙ append_assoc done (response ∷ []) (responses_of rs (statuses_of (performed - (n + 1)) rs)) ∙ ap (λ (xs : List ResponseFields). done ++ xs) (sym one) ∙ all
 
-pub next_response : (requests : List RequestFields) (performed place : ℕ) (d : RequestFields) (done now total : List ResponseFields) (response : ResponseFields) → place < length requests
+pub next_response : (requests : List RequestFields) (performed place : ℕ) (d : RequestFields) (done now total : List ResponseFields)
+    (response : ResponseFields) → place < length requests
     → response ≡ answered (get_or requests place d) (status_at (performed - place) (get_or requests place d)) → now ≡ done ++ response ∷ []
     → done ++ responses_of (drop place requests) (statuses_of (performed - place) (drop place requests)) ≡ total
     → now ++ responses_of (drop (place + 1) requests) (statuses_of (performed - (place + 1)) (drop (place + 1) requests)) ≡ total
@@ -82,7 +85,8 @@ module _ (s : Store) (b : Books) (booked : IsBooked s b) (k : ℕ) (r : Row) (at
   at_k : slice_get W.table k ≡ Some e
   at_k = row_at s.filestore b.table k r at
 
-  pub taken_answer : (o : Outcome) → o ≡ outcome_of e → (f : Entry) → slice_get W.table k ≡ Some f → taken_out W k (Some f) ≡ (world_of s (record b { table = remove b.table k }), Reply.Taken o)
+  pub taken_answer : (o : Outcome) → o ≡ outcome_of e → (f : Entry) → slice_get W.table k ≡ Some f → taken_out W k (Some f)
+      ≡ (world_of s (record b { table = remove b.table k }), Reply.Taken o)
   taken_answer o is f there =
       let same : f ≡ e = entry_is s b k r at f there in
       let table : remove W.table k ≡ table_of s.filestore (remove b.table k) = sym (remove_in s.filestore b.table k) in
@@ -98,10 +102,18 @@ module _ (s : Store) (b : Books) (booked : IsBooked s b) (k : ℕ) (r : Row) (at
   fits = record {
     in_all = booked.budget.in_all;
     not_used = booked.budget.not_used;
-    not_granted = let none : reserve e ≡ 0 = rw over refl in omega (arith, booked.budget.not_granted, reserves_total W.table, reserves_total (remove W.table k), total-remove reserve W.table k e at_k, none);
+    not_granted = let none : reserve e ≡ 0 = rw over refl in omega (
+      arith,
+      booked.budget.not_granted,
+      reserves_total W.table,
+      reserves_total (remove W.table k),
+      total-remove reserve W.table k e at_k,
+      none,
+    );
     opened = λ j d there. booked.budget.opened (before k j) d (sym (remove_place W.table k j) ∙ there);
     closed = λ slot vacant. booked.budget.closed slot (λ j d there live. vacant (behind k j) d
-        (remove_others W.table k j (λ q. let same : d ≡ e = get_same W.table j k d e there at_k q in both_ways (is_live r.phase) over (subst (λ (x : Entry). IsTrue (is_live x.phase)) same live)) ∙ there) live);
+        (remove_others W.table k j (λ q. let same : d ≡ e = get_same W.table j k d e there at_k q in
+        both_ways (is_live r.phase) over (subst (λ (x : Entry). IsTrue (is_live x.phase)) same live)) ∙ there) live);
   }
 
   pub taken_booked : IsBooked s (record b { table = remove b.table k })

@@ -13,17 +13,20 @@ use Rattle.cfdp_transactions.proofs.Places.{get_same}
 use Rattle.cfdp_transactions.proofs.Accounts.{Adjusts}
 use Rattle.cfdp_transactions.proofs.RowChange.{entry_at_k, reserve_open, table_now, booked_now}
 
-module _ (s : Store) (b : Books) (sound : Sound (world_of s b)) (booked : IsBooked s b) (k : ℕ) (r : Row) (at : slice_get b.table k ≡ Some r) (live : IsTrue (is_live r.phase))
+module _ (s : Store) (b : Books) (sound : Sound (world_of s b)) (booked : IsBooked s b) (k : ℕ) (r : Row) (at : slice_get b.table k ≡ Some r)
+    (live : IsTrue (is_live r.phase))
     (phase : Phase) (still : IsTrue (is_live phase)) (eof : Option Eof) (complete : Bool) where
   abbrev now : Row
   now = row_turned r phase eof complete
 
   pub turned_world : TurnsAt (world_of s b) (world_of s (record b { table = slice_set b.table k now })) k phase eof complete
   turned_world e at_e =
-      let same : e ≡ entry_in s.filestore r = get_same (world_of s b).table k k e (entry_in s.filestore r) at_e (entry_at_k s b sound booked k r at live) refl in
+      let same : e ≡ entry_in s.filestore r = get_same (world_of s b).table k k e (entry_in s.filestore r) at_e
+      (entry_at_k s b sound booked k r at live) refl in
       rw (same, table_now s b sound booked k r at live [] tt now, live, still) refl
 
-  adjusts : Adjusts b.quota b.quota (world_of s b) (change_at (world_of s b) k [] (entry_in s.filestore now)) (entry_in s.filestore r) (entry_in s.filestore now)
+  adjusts : Adjusts b.quota b.quota (world_of s b) (change_at (world_of s b) k [] (entry_in s.filestore now)) (entry_in s.filestore r)
+      (entry_in s.filestore now)
   adjusts = record {
     in_all = refl;
     not_used = booked.budget.not_used;

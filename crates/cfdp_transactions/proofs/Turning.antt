@@ -1,4 +1,4 @@
--- Events that change no path: an entry comes to another phase, or is done without having had an item.
+-- Events that change no path: an entry moves to another phase, or is done without having had an item.
 use Rattle.std.proofs.Common.{◌≡◌, ◌≢◌, ℕ, suc, ◌≤◌, List, [], ◌∷◌, length, refl, ap, sym, ◌∙◌, arith}
 use Rattle.std.specs.Prelude.{Option, Some, slice_get, Bool, true, false, IsTrue, IsFalse, IsSome}
 use Rattle.std.proofs.lemmas.Bool.{both_ways}
@@ -59,7 +59,8 @@ turned_carried F e phase eof complete = record {
 module _ (laws : LowerLaws) where
   -- a phase in which no longer list may come
   pub kept_turned : (c : Config) (F : Filestore) (e : Entry) (phase : Phase) (eof : Option Eof) (complete : Bool) → IsKept c F e → IsRooted F →
-      rest_in phase e.items ≡ rest e → length e.received ≤ length (longest c (turned e phase eof complete)) → length (longest c (turned e phase eof complete)) ≤ length (longest c e) →
+      rest_in phase e.items ≡ rest e → length e.received ≤ length (longest c (turned e phase eof complete)) →
+      length (longest c (turned e phase eof complete)) ≤ length (longest c e) →
       rest e ≢ [] → (IsTrue (is_awaiting phase) → IsSome eof) → checks_in phase ≤ c.checks → IsKept c F (turned e phase eof complete)
   kept_turned c F e phase eof complete kept rooted same fits shorter more waits few =
       let new = turned e phase eof complete in
@@ -74,15 +75,19 @@ module _ (laws : LowerLaws) where
         eof = waits;
         checks = few;
         promise = record {
-          succeeds = rw same (succeed_same c.prefixes (stage F e.slot (longest c e)) (stage F e.slot (longest c new)) e.slot e.slot (rest e) (sym law.0) kept.promise.succeeds);
+          succeeds = rw same (succeed_same c.prefixes (stage F e.slot (longest c e)) (stage F e.slot (longest c new)) e.slot e.slot (rest e)
+              (sym law.0) kept.promise.succeeds);
           blocks = rw same (omega (arith, kept.promise.blocks, law.1));
           steps = rw same (omega (arith, kept.promise.steps, law.2));
         };
       }
 
-  pub turns_moves : (W : World) (k : ℕ) (e : Entry) (phase : Phase) (eof : Option Eof) (complete : Bool) → Sound W → slice_get W.table k ≡ Some e → IsTrue (is_live e.phase) → IsTrue (is_live phase) →
-      rest_in phase e.items ≡ rest e → length e.received ≤ length (longest W.config (turned e phase eof complete)) → length (longest W.config (turned e phase eof complete)) ≤ length (longest W.config e) →
-      rest e ≢ [] → (IsTrue (is_awaiting phase) → IsSome eof) → checks_in phase ≤ W.config.checks → MovesTo false k e (turned e phase eof complete) W (turns W k e phase eof complete)
+  pub turns_moves : (W : World) (k : ℕ) (e : Entry) (phase : Phase) (eof : Option Eof) (complete : Bool) → Sound W → slice_get W.table k ≡ Some e →
+      IsTrue (is_live e.phase) → IsTrue (is_live phase) →
+      rest_in phase e.items ≡ rest e → length e.received ≤ length (longest W.config (turned e phase eof complete)) →
+      length (longest W.config (turned e phase eof complete)) ≤ length (longest W.config e) →
+      rest e ≢ [] → (IsTrue (is_awaiting phase) → IsSome eof) → checks_in phase ≤ W.config.checks →
+      MovesTo false k e (turned e phase eof complete) W (turns W k e phase eof complete)
   turns_moves W k e phase eof complete s at live live_now same fits shorter more waits few =
       let honest = s.honest k e at in
       change_moves laws W s false k e [] (turned e phase eof complete) (record {
@@ -95,12 +100,22 @@ module _ (laws : LowerLaws) where
         rooted = s.rooted;
         kept = λ _. kept_turned W.config W.filestore e phase eof complete (s.live k e at live) s.rooted same fits shorter more waits few;
         emptied = λ final. absurd (both_ways (is_live phase) final live_now);
-        honest = record { blocks = honest.blocks; steps = honest.steps; limits = honest.limits; no_more = honest.no_more; statuses = honest.statuses; in_order = honest.in_order; to_come = λ _. rw same (honest.to_come (live_counted e.phase live)); counted = λ _. rw same (honest.counted (live_counted e.phase live)) };
+        honest = record {
+          blocks = honest.blocks;
+          steps = honest.steps;
+          limits = honest.limits;
+          no_more = honest.no_more;
+          statuses = honest.statuses;
+          in_order = honest.in_order;
+          to_come = λ _. rw same (honest.to_come (live_counted e.phase live));
+          counted = λ _. rw same (honest.counted (live_counted e.phase live));
+        };
         room = rw live (omega arith);
       })
 
   -- a list without items is done at its EOF
-  pub done_moves : (W : World) (k : ℕ) (e : Entry) (eof : Option Eof) → Sound W → slice_get W.table k ≡ Some e → IsTrue (is_live e.phase) → rest e ≡ [] → MovesTo false k e (turned e Done eof true) W (turns W k e Done eof true)
+  pub done_moves : (W : World) (k : ℕ) (e : Entry) (eof : Option Eof) → Sound W → slice_get W.table k ≡ Some e → IsTrue (is_live e.phase) → rest e ≡ [] →
+      MovesTo false k e (turned e Done eof true) W (turns W k e Done eof true)
   done_moves W k e eof s at live none =
       let honest = s.honest k e at in
       let kept = s.live k e at live in
@@ -115,6 +130,15 @@ module _ (laws : LowerLaws) where
         rooted = s.rooted;
         kept = λ now. absurd cc;
         emptied = λ _. kept.staged ∙ ap staged_of empty;
-        honest = record { blocks = honest.blocks; steps = honest.steps; limits = honest.limits; no_more = honest.no_more; statuses = honest.statuses; in_order = honest.in_order; to_come = λ _. rw none at (honest.to_come (live_counted e.phase live)); counted = λ _. rw none at (honest.counted (live_counted e.phase live)) };
+        honest = record {
+          blocks = honest.blocks;
+          steps = honest.steps;
+          limits = honest.limits;
+          no_more = honest.no_more;
+          statuses = honest.statuses;
+          in_order = honest.in_order;
+          to_come = λ _. rw none at (honest.to_come (live_counted e.phase live));
+          counted = λ _. rw none at (honest.counted (live_counted e.phase live));
+        };
         room = rw live (omega arith);
       })

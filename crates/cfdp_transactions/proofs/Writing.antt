@@ -11,14 +11,15 @@ use Rattle.cfdp_transactions.specs.PieceLaws.{AreWithin, ArePieces, AreWritten, 
 use Rattle.cfdp_transactions.proofs.OctetsAndGaps.{first_stays, greatest_end}
 use Rattle.cfdp_transactions.proofs.PieceRanges.{is_inside, inside_true, before_false, behind_false, runs_sooner, gaps_are_between}
 
--- what stands at an offset ------------------------------------------------------------------
+-- what is at an offset ------------------------------------------------------------------
 
 pub length-received : (at : ℕ) (ranges : Ranges) (xs : List ℕ) → length (received_from at ranges xs) ≡ length xs
 length-received at ranges [] = refl
 length-received at ranges (x ∷ xs) = ap suc (length-received (suc at) ranges xs)
 
 -- an octet of the list, where its offset is in a range
-pub received_at : (at : ℕ) (ranges : Ranges) (xs : List ℕ) (k : ℕ) → k < length xs → octet_at (received_from at ranges xs) k ≡ (if is_in (at + k) ranges then Some (get_or xs k 0) else None)
+pub received_at : (at : ℕ) (ranges : Ranges) (xs : List ℕ) (k : ℕ) → k < length xs → octet_at (received_from at ranges xs) k
+    ≡ (if is_in (at + k) ranges then Some (get_or xs k 0) else None)
 received_at at ranges [] k below = absurd (omega arith)
 received_at at ranges (x ∷ xs) zero below = let z : at + 0 ≡ at = omega arith in rw z refl
 received_at at ranges (x ∷ xs) (suc k) below = let z : at + suc k ≡ suc at + k = omega arith in rw z (received_at (suc at) ranges xs k (omega arith))
@@ -62,9 +63,11 @@ brought_there (suc at) octets (suc i) h = let z : suc i - suc at ≡ i - at = om
 -- the offsets of two ranges that touch are those of one
 touching : (a b s e i : ℕ) → a ≤ e → s ≤ b → a < b → s < e → is_inside (min a s) (max b e) i ≡ (is_inside a b i || is_inside s e i)
 touching a b s e i ae sb ab se = elim (cases_lt i (min a s)) [
-  | inl below ↦ before_false (min a s) (max b e) i below ∙ sym (or_from (is_inside a b i) (is_inside s e i) (before_false a b i (omega arith)) (before_false s e i (omega arith)))
+  | inl below ↦ before_false (min a s) (max b e) i below ∙ sym (or_from (is_inside a b i) (is_inside s e i) (before_false a b i (omega arith))
+      (before_false s e i (omega arith)))
   | inr from ↦ elim (cases_lt i (max b e)) [
-    | inr behind ↦ behind_false (min a s) (max b e) i behind ∙ sym (or_from (is_inside a b i) (is_inside s e i) (behind_false a b i (omega arith)) (behind_false s e i (omega arith)))
+    | inr behind ↦ behind_false (min a s) (max b e) i behind ∙ sym (or_from (is_inside a b i) (is_inside s e i) (behind_false a b i (omega arith))
+        (behind_false s e i (omega arith)))
     | inl below ↦ inside_true (min a s) (max b e) i from below ∙ sym (either i from below)
   ]
 ]
@@ -96,7 +99,8 @@ members_added a b from i ((s, e) ∷ rs) ab runs =
     (λ ae. cond_both (nat_lt b s) _ _ (λ (out : Ranges). is_in i out ≡ (is_inside a b i || is_in i ((s, e) ∷ rs)))
     (λ _. refl)
     (λ sb. members_added (min a s) (max b e) (e + 1) i rs (omega arith) runs.2 ∙
-    ap (λ (here : Bool). here || is_in i rs) (touching a b s e i (ltb-false _ _ ae) (ltb-false _ _ sb) ab runs.1) ∙ or_regroup (is_inside a b i) (is_inside s e i) (is_in i rs)))
+    ap (λ (here : Bool). here || is_in i rs) (touching a b s e i (ltb-false _ _ ae) (ltb-false _ _ sb) ab runs.1)
+    ∙ or_regroup (is_inside a b i) (is_inside s e i) (is_in i rs)))
 
 runs_added : (a b from : ℕ) (ranges : Ranges) → from ≤ a → a < b → AreRuns from ranges → AreRuns from (with_range a b ranges)
 runs_added a b from [] fa ab runs = (fa, ab, tt)
@@ -115,12 +119,17 @@ range_is_added a b ranges ab runs = (runs_added a b 0 ranges (omega arith) ab ru
 -- no offset of a range is past the octets
 member_below : (ranges : Ranges) (end i : ℕ) → AreWithin end ranges → IsTrue (is_in i ranges) → i < end
 member_below [] end i within h = absurd cc
-member_below ((s, e) ∷ rs) end i within h = elim (or_cases (is_inside s e i) (is_in i rs) h)
-    [ inl here ↦ (let p = and_parts (nat_le s i) (nat_lt i e) here in let lt = ltb-true i e p.1 in omega (arith, within.0)) | inr later ↦ member_below rs end i within.1 later ]
+member_below ((s, e) ∷ rs) end i within h = elim (or_cases (is_inside s e i) (is_in i rs) h) [
+  | inl here ↦ (let p = and_parts (nat_le s i) (nat_lt i e) here in let lt = ltb-true i e p.1 in omega (arith, within.0))
+  | inr later ↦
+      member_below rs end i within.1 later
+]
 
 -- what the new ranges and list have at an offset is what is kept there
-kept_at : (ranges : Ranges) (xs : List ℕ) (at : ℕ) (octets ys : List ℕ) → ArePieces ranges xs → 0 < length octets → AreWritten ranges xs at octets ys → (i : ℕ) → i < length ys →
-    (if is_in i (with_range at (at + length octets) ranges) then Some (get_or ys i 0) else None) ≡ or_else (octet_at (received_in ranges xs) i) (brought at octets i)
+kept_at : (ranges : Ranges) (xs : List ℕ) (at : ℕ) (octets ys : List ℕ) → ArePieces ranges xs → 0 < length octets → AreWritten ranges xs at octets ys →
+    (i : ℕ) → i < length ys →
+    (if is_in i (with_range at (at + length octets) ranges) then Some (get_or ys i 0) else None)
+    ≡ or_else (octet_at (received_in ranges xs) i) (brought at octets i)
 kept_at ranges xs at octets ys p some w i below = elim (cases_Bool (is_in i ranges)) [
   | inl old ↦
       let inside : i < length xs = member_below ranges (length xs) i p.within old in
@@ -132,9 +141,11 @@ kept_at ranges xs at octets ys p some w i below = elim (cases_Bool (is_in i rang
       | inl inside ↦
           let j : ℕ = i - at in
           let place : i ≡ at + j = omega arith in
-          let now : is_in i (with_range at (at + length octets) ranges) ≡ true = added ∙ or_left (is_inside at (at + length octets) i) (is_in i ranges) (inside_true at (at + length octets) i late inside) in
+          let now : is_in i (with_range at (at + length octets) ranges) ≡ true = added
+          ∙ or_left (is_inside at (at + length octets) i) (is_in i ranges) (inside_true at (at + length octets) i late inside) in
           let value : get_or ys (at + j) 0 ≡ get_or octets j 0 = w.written j (omega arith) (rw (← place) new) in
-          rw now (ap (λ (k : ℕ). Some (get_or ys k 0)) place ∙ ap (λ (x : ℕ). Some x) value ∙ sym (brought_there at octets i late ∙ get_there octets j (omega arith)))
+          rw now (ap (λ (k : ℕ). Some (get_or ys k 0)) place ∙ ap (λ (x : ℕ). Some x) value
+          ∙ sym (brought_there at octets i late ∙ get_there octets j (omega arith)))
       | inr past ↦ rw (gone new (behind_false at (at + length octets) i past)) (sym (brought_there at octets i late ∙ get_behind octets (i - at) (omega arith)))
     ]
   ])
@@ -162,19 +173,23 @@ kept_length rs at (x ∷ xs) h = greatest_end rs at x xs
 pub ranges_keep : RangesKeep
 ranges_keep ranges xs at octets ys p some w =
     let left = received_in (with_range at (at + length octets) ranges) ys in
-    let same_length : length ys ≡ length (kept_with (received_in ranges xs) at octets) = omega (arith, w.long, kept_length (received_in ranges xs) at octets some, length-received 0 ranges xs) in
+    let same_length : length ys ≡ length (kept_with (received_in ranges xs) at octets) =
+    omega (arith, w.long, kept_length (received_in ranges xs) at octets some, length-received 0 ranges xs) in
     same_received left (kept_with (received_in ranges xs) at octets) (length-received 0 (with_range at (at + length octets) ranges) ys ∙ same_length)
     (λ i below.
     let inside : i < length ys = omega (arith, length-received 0 (with_range at (at + length octets) ranges) ys) in
     let z : 0 + i ≡ i = omega arith in
-    (rw z at (received_at 0 (with_range at (at + length octets) ranges) ys i inside)) ∙ kept_at ranges xs at octets ys p some w i inside ∙ sym (first_stays (received_in ranges xs) at octets i))
+    (rw z at (received_at 0 (with_range at (at + length octets) ranges) ys i inside)) ∙ kept_at ranges xs at octets ys p some w i inside
+    ∙ sym (first_stays (received_in ranges xs) at octets i))
 
 -- the staged list ---------------------------------------------------------------------------
 
-staged_from : (at : ℕ) (ranges : Ranges) (xs : List ℕ) → ((k : ℕ) → k < length xs → IsFalse (is_in (at + k) ranges) → get_or xs k 0 ≡ 0) → staged_of (received_from at ranges xs) ≡ xs
+staged_from : (at : ℕ) (ranges : Ranges) (xs : List ℕ) → ((k : ℕ) → k < length xs → IsFalse (is_in (at + k) ranges) → get_or xs k 0 ≡ 0) →
+    staged_of (received_from at ranges xs) ≡ xs
 staged_from at ranges [] h = refl
 staged_from at ranges (x ∷ xs) h =
-    let first : unwrap_or (if is_in at ranges then Some x else None) 0 ≡ x = cond_both (is_in at ranges) (Some x) None (λ (o : Option ℕ). unwrap_or o 0 ≡ x) (λ _. refl)
+    let first : unwrap_or (if is_in at ranges then Some x else None) 0 ≡ x =
+    cond_both (is_in at ranges) (Some x) None (λ (o : Option ℕ). unwrap_or o 0 ≡ x) (λ _. refl)
     (λ out. sym (h 0 (omega arith) (let z : at + 0 ≡ at = omega arith in rw z out))) in
     let others : staged_of (received_from (suc at) ranges xs) ≡ xs =
     staged_from (suc at) ranges xs (λ k below out. h (suc k) (omega arith) (let z : at + suc k ≡ suc at + k = omega arith in rw z out)) in

@@ -1,4 +1,4 @@
--- The admission of a transaction by its Metadata PDU (CCSDS 727.0-B-5 §4.6.1.1 and §5.2.5).
+-- The admission of a transaction by its Metadata PDU (CCSDS 727.0-B-5 §5.2.5, copy file procedures).
 --     new_entry                 an entry of the table, with nothing received and nothing spent
 --     proposal_of               what the verdict judges
 --     metadata_came
@@ -40,11 +40,18 @@ abbrev pub with_new : World → Entry → World
 with_new W e = record W { table = W.table ++ e ∷ [] }
 
 abbrev pub proposal_of : Config → MetadataFields → Proposal
-proposal_of c m = record { destination = if has_file m then Some m.destination_name else None; bound = bound c m; requests = m.requests }
+proposal_of c m = record {
+  destination = if has_file m then Some m.destination_name else None;
+  bound = bound c m;
+  requests = m.requests;
+}
 
 abbrev pub judged : World → Header → MetadataFields → Verdict → World × Reply
 judged W h m (Refuse r) = (with_new W (refused_entry h m Refused), Reply.Refused r)
-judged W h m (Grant items blocks steps) = (with_new W (new_entry h m Receiving (free_slot W.table) items blocks steps), Reply.Admitted blocks steps)
+judged W h m (Grant items blocks steps) = (
+  with_new W (new_entry h m Receiving (free_slot W.table) items blocks steps),
+  Reply.Admitted blocks steps,
+)
 
 -- the modular checksum, and the null checksum
 abbrev pub is_known_checksum : ℕ → Bool
@@ -56,5 +63,6 @@ metadata_came W h m (Some e) = (W, Reply.Duplicate)
 metadata_came W h m None =
     if nat_le 64 (length W.table) then (W, Reply.TableFull)
     else if nat_lt 64 (length m.requests) then (W, Reply.Refused TooManyRequests)
-    else if has_file m && not (is_known_checksum m.checksum_type) then (with_new W (refused_entry h m (Ended 11)), Reply.Faulted 11)
+    else if has_file m && not (is_known_checksum m.checksum_type)
+    then (with_new W (refused_entry h m (Ended 11)), Reply.Faulted 11)
     else judged W h m (verdict W.config.prefixes W.filestore (leases_of W.table) (spare W) (proposal_of W.config m))

@@ -1,16 +1,17 @@
--- Where a run begins. No transaction is known, and the filestore may have directories and files already: those that were
--- loaded before launch, or kept over a restart.
+-- Where a run begins. No transaction is known, and the filestore may have directories and files already: those that
+-- were loaded before launch, or kept over a restart.
 --     start_with c F            the entity over this filestore
 --     IsGoodStart c F           a filestore as an entity of this configuration may begin with
 --     with_node W p node        a directory or a file is put at a path, and nothing else changes
---     put_fault W p node        the first reason, in the order of tests, for which it can't be put there;  filestore_fault: by
---                               a filestore with `free` free blocks
+--     put_fault W p node        the first reason, in the order of tests, for which it can't be put
+--                               there;  filestore_fault: by a filestore with `free` free blocks
 --     IsNotPut W p node why     it is this reason, or memory was refused
 --     StartIsEmpty              `start` is the start over the empty filestore
 --     EmptyIsGood, PutIsGood    that one is good;  and one stays good with what is put there
 --     PutIsSound                what is put keeps an entity sound
 --     put_all, ArePut           several are put, one after the other;  each of them can be
---     PutBackIsSame             what a filestore has, in path order, can be put into an empty one, which is then the same
+--     PutBackIsSame             what a filestore has, in path order, can be put into an empty one, which is then the
+--                               same
 --     GoodStartIsSound          an entity over a good filestore is sound
 --     HeadlineFrom, EachKeyIsAPathFrom, DoneIsInstalledFrom, FirstIsInstalledFrom, OutcomesFitFrom
 --                               the laws of the same names, of each run from such an entity
@@ -54,7 +55,8 @@ filestore_fault F free p node =
 
 -- a transaction counts until its outcome is taken
 abbrev pub put_fault : World → Path → Node → Option NotPut
-put_fault W p node = if not (length W.table == 0) then Some HasTransactions else filestore_fault W.filestore (free W) p node
+put_fault W p node = if not (length W.table == 0) then Some HasTransactions
+    else filestore_fault W.filestore (free W) p node
 
 abbrev pub IsNotPut : World → Path → Node → NotPut → Type 0
 IsNotPut W p node why = why ≢ Memory → put_fault W p node ≡ Some why
@@ -67,7 +69,8 @@ EmptyIsGood = (c : Config) → IsGoodStart c empty_filestore
 
 abbrev pub PutIsGood : Type 0
 PutIsGood =
-    (c : Config) (F : Filestore) (p : Path) (node : Node) → IsGoodStart c F → IsPath p → put_fault (start_with c F) p node ≡ None →
+    (c : Config) (F : Filestore) (p : Path) (node : Node) → IsGoodStart c F → IsPath p →
+    put_fault (start_with c F) p node ≡ None →
     IsGoodStart c (with_node (start_with c F) p node).filestore
 
 abbrev pub PutIsSound : Type 0
@@ -80,14 +83,17 @@ GoodStartIsSound = (c : Config) (F : Filestore) → IsGoodStart c F → Sound (s
 
 -- for every configuration, every filestore to begin with, and every list of events
 abbrev pub HeadlineFrom : Type 0
-HeadlineFrom = (c : Config) (F : Filestore) (events : List Event) → IsGoodStart c F → AtEach Sound Promised (start_with c F) events
+HeadlineFrom = (c : Config) (F : Filestore) (events : List Event) → IsGoodStart c F →
+    AtEach Sound Promised (start_with c F) events
 
 abbrev pub EachKeyIsAPathFrom : Type 0
-EachKeyIsAPathFrom = (c : Config) (F : Filestore) (events : List Event) → KeysArePaths F → KeysArePaths (run (start_with c F) events).filestore
+EachKeyIsAPathFrom = (c : Config) (F : Filestore) (events : List Event) → KeysArePaths F →
+    KeysArePaths (run (start_with c F) events).filestore
 
 -- whatever the filestore
 abbrev pub DoneIsInstalledFrom : Type 0
-DoneIsInstalledFrom = (c : Config) (F : Filestore) (events : List Event) → Each (λ e. e.phase ≡ Done → HasItsFile e) (run (start_with c F) events).table
+DoneIsInstalledFrom = (c : Config) (F : Filestore) (events : List Event) →
+    Each (λ e. e.phase ≡ Done → HasItsFile e) (run (start_with c F) events).table
 
 abbrev pub FirstIsInstalledFrom : Type 0
 FirstIsInstalledFrom =

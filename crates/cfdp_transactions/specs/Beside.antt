@@ -1,11 +1,12 @@
 -- Laws beside the headline.
 --     is_step                   the event that performs an item
---     OnlyStepsChange           no other event changes what stands in the filestore
---     EachKeyIsAPath            something stands only at paths
+--     OnlyStepsChange           no other event changes what is in the filestore
+--     EachKeyIsAPath            something is only at paths
 --     HasItsFile e              the file was installed exactly where there is one, and the Finished PDU says so
 --     DoneIsInstalled           this holds of each entry that is done
 --     says_installed reply      the reply to an install that went well
---     installs W event          a step at the first item of a transaction with a file: installs_next, is_first, by its entry
+--     installs W event          a step at the first item of a transaction with a file: installs_next, is_first, by its
+--                               entry
 --     FirstIsInstalled          just these events have that reply
 use Rattle.std.specs.Prelude.{◌≡◌, Bool, true, false, ◌&&◌, ◌==◌, if◌then◌else◌, IsFalse, List, Option, Some, None}
 use Rattle.cfdp_leases.specs.Laws.{KeysArePaths}
@@ -22,11 +23,12 @@ is_step (Step id) = true
 is_step event = false
 
 abbrev pub OnlyStepsChange : Type 0
-OnlyStepsChange = (W : World) (event : Event) → IsFalse (is_step event) → (next W event).0.filestore.nodes ≡ W.filestore.nodes
+OnlyStepsChange = (W : World) (event : Event) → IsFalse (is_step event) → (next W event).0.filestore.nodes
+    ≡ W.filestore.nodes
 
--- In each world of each run, which is the last one of a shorter list of events, something stands only at a path: at 1 to 8
--- names, each within the limits. Nothing is asked of the events: they carry octets, and a list with octets that spell no
--- path is refused.
+-- In each world of each run, which is the last one of a shorter list of events, something is only at a path: at 1
+-- to 8 names, each within the limits. Nothing is asked of the events: they carry octets, and a list with octets that
+-- spell no path is refused.
 abbrev pub EachKeyIsAPath : Type 0
 EachKeyIsAPath = (c : Config) (events : List Event) → KeysArePaths (run (start c) events).filestore
 
@@ -37,7 +39,8 @@ pub record HasItsFile (e : Entry) : Type 0 where
 
 -- in each world of each run
 abbrev pub DoneIsInstalled : Type 0
-DoneIsInstalled = (c : Config) (events : List Event) → Each (λ e. e.phase ≡ Done → HasItsFile e) (run (start c) events).table
+DoneIsInstalled = (c : Config) (events : List Event) →
+    Each (λ e. e.phase ≡ Done → HasItsFile e) (run (start c) events).table
 
 abbrev pub says_installed : Reply → Bool
 says_installed Reply.Installed = true
@@ -55,7 +58,9 @@ abbrev pub installs : World → Event → Bool
 installs W (Step id) = installs_next (entry_of W id)
 installs W event = false
 
--- so the answers to a transaction's items begin with 'installed' exactly where there is a file, and no other is 'installed'
+-- so the answers to a transaction's items begin with 'installed' exactly where there is a file, and no other is
+-- 'installed'
 abbrev pub FirstIsInstalled : Type 0
 FirstIsInstalled =
-    (c : Config) (events : List Event) (event : Event) → says_installed (next (run (start c) events) event).1 ≡ installs (run (start c) events) event
+    (c : Config) (events : List Event) (event : Event) → says_installed (next (run (start c) events) event).1
+    ≡ installs (run (start c) events) event

@@ -1,16 +1,17 @@
--- What the program keeps of the receiving entity beside the store: its configuration, the table, and what follows from the
--- table, the leases and the budget of blocks.
+-- What the program keeps of the receiving entity beside the store: its configuration, the table, and what follows from
+-- the table, the leases and the budget of blocks.
 --     world_of s b              the world that a store and the books are
 --     FitsBudget q W            the quota has the free blocks, and the reserve of each live transaction in its slot
 --     AreAllOf ranges xs        the ranges are pieces of the octets, and the last of them ends where these do
 --     ArePiecesIn F r           a live transaction's ranges are those of what is staged for it
 --     IsBooked s b              leases, quota and pieces say what the world says
 --     IsLiveAt W k              the entry at k is live
---     EndsAt, TurnsAt           the entry at k ends;  comes to another phase;  and nothing else changes
+--     EndsAt, TurnsAt           the entry at k ends;  moves to another phase;  and nothing else changes
 --     IsDoneAt, IsBareAt        the entry at k is done;  it has no items
 --     Carries W V answer reply  a call answered so, or memory was refused
 --     AnswersAt W V k f reply   to an event of the entry at k the reply and the next world are what f says
---     IsTakenAt W k piece       file data that the entry at k takes;  StoresAt: it is staged for it, and nothing else changes
+--     IsTakenAt W k piece       file data that the entry at k takes;  StoresAt: it is staged for it, and nothing else
+--                               changes
 --     IsAnswered reply          memory was not refused
 --     IsSteady                  of the store before and after: its capacity stays, and whether it takes memory
 use Rattle.std.specs.Prelude.{◌≡◌, ◌≢◌, ⊤, ℕ, ◌+◌, ◌-◌, ◌≤◌, ◌<◌, Bool, true, ◌||◌, IsTrue, List, [], length, Option, Some, None, slice_get}
@@ -60,7 +61,8 @@ IsLiveAt W k = (e : Entry) × (slice_get W.table k ≡ Some e) × IsTrue (is_liv
 
 abbrev pub EndsAt : World → World → ℕ → Bool → ℕ → Type 0
 EndsAt W V k by_eof condition =
-    (e : Entry) → slice_get W.table k ≡ Some e → V ≡ ends W k (record e { ended_by_eof = e.ended_by_eof || by_eof }) condition
+    (e : Entry) → slice_get W.table k ≡ Some e → V ≡ ends W k
+    (record e { ended_by_eof = e.ended_by_eof || by_eof }) condition
 
 abbrev pub TurnsAt : World → World → ℕ → Phase → Option Eof → Bool → Type 0
 TurnsAt W V k phase eof complete = (e : Entry) → slice_get W.table k ≡ Some e → V ≡ turns W k e phase eof complete
@@ -82,7 +84,7 @@ Carries W V answer reply = answer ≡ (V, reply)
 abbrev pub AnswersAt : World → World → ℕ → (Option Entry → World × Reply) → Reply → Type 0
 AnswersAt W V k answer reply = (e : Entry) → slice_get W.table k ≡ Some e → Carries W V (answer (Some e)) reply
 
--- file data that comes to its place: some octets, within the limit, in few pieces
+-- file data that is put at its offset: some octets, within the limit, in few pieces
 pub record Takes (W : World) (e : Entry) (piece : FileDataFields) : Type 0 where
   pub opens : IsTrue (takes_data e.phase)
   pub some : 0 < length piece.octets
@@ -93,7 +95,8 @@ abbrev pub IsTakenAt : World → ℕ → FileDataFields → Type 0
 IsTakenAt W k piece = (e : Entry) × (slice_get W.table k ≡ Some e) × Takes W e piece
 
 abbrev pub StoresAt : World → World → ℕ → FileDataFields → Type 0
-StoresAt W V k piece = (e : Entry) → slice_get W.table k ≡ Some e → V ≡ stores W k e (kept_with e.received piece.offset piece.octets)
+StoresAt W V k piece = (e : Entry) → slice_get W.table k ≡ Some e → V
+    ≡ stores W k e (kept_with e.received piece.offset piece.octets)
 
 abbrev pub IsAnswered : Reply → Type 0
 IsAnswered Reply.Memory = ⊥
@@ -103,7 +106,7 @@ IsAnswered reply = ⊤
 abbrev pub IsSteady : Store → Store → Type 0
 IsSteady old new = (new.takes_no_memory ≡ old.takes_no_memory) × (new.capacity ≡ old.capacity)
 
--- of the budget q and the later one p: so many blocks were free before, and so many are after
+-- of the budget q and the later one p: this many blocks were free before, and this many are after
 pub record Settles (q p : Budget) (slot before after : ℕ) : Type 0 where
   pub all : p.capacity ≡ q.capacity
   pub unused : p.free + before ≡ q.free + after

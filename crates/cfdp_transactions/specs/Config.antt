@@ -10,9 +10,9 @@ pub record Config : Type 0 where
   pub entity : ℕ  -- this entity's ID
   pub blocks : ℕ  -- of the filestore
   pub cap : ℕ  -- octets of a file of unbounded size
-  pub checks : ℕ  -- the check limit (CCSDS 727.0-B-5 §4.6.4)
+  pub checks : ℕ  -- the check limit (CCSDS 727.0-B-5, timer procedures)
   pub journal : ℕ  -- entries
-  pub prefixes : List Path  -- what stands at or below them is protected
+  pub prefixes : List Path  -- what is at or below them is protected
 
 abbrev pub first_fault : (blocks cap checks journal : ℕ) → Option ConfigFault
 first_fault blocks cap checks journal =

@@ -9,7 +9,8 @@ use Rattle.cfdp_actions.specs.Prefixes.{same_paths}
 use Rattle.cfdp_transactions.specs.Config.{Config}
 
 unfoldable pub same_store : Config → Config → Bool
-same_store = eq_of_both (on (λ c. c.blocks) nat_eq) (eq_of_both (on (λ c. c.cap) nat_eq) (on (λ c. c.prefixes) same_paths))
+same_store = eq_of_both (on (λ c. c.blocks) nat_eq) (eq_of_both (on (λ c. c.cap) nat_eq)
+    (on (λ c. c.prefixes) same_paths))
 
 unfoldable pub same_counts : Config → Config → Bool
 same_counts = eq_of_both (on (λ c. c.checks) nat_eq) (on (λ c. c.journal) nat_eq)
@@ -28,7 +29,8 @@ same_store_equiv =
 
 same_counts_equiv : IsEquivalence same_counts
 unfolding same_counts
-same_counts_equiv = and_equiv (on_equiv (λ (c : Config). c.checks) nat_eq_equiv) (on_equiv (λ (c : Config). c.journal) nat_eq_equiv)
+same_counts_equiv = and_equiv (on_equiv (λ (c : Config). c.checks) nat_eq_equiv)
+    (on_equiv (λ (c : Config). c.journal) nat_eq_equiv)
 
 pub config_equiv : IsEquivalence same_config
 config_equiv =

@@ -1,8 +1,11 @@
--- The delivery of a transaction's file: file data, the EOF, and checks for what is missing (CCSDS 727.0-B-5 §4.6.1 and §4.6.4).
---     turned, turns W k e phase eof complete      an entry that comes to another phase;  the world after it
+-- The delivery of a transaction's file: file data, the EOF, and checks for what is missing (CCSDS 727.0-B-5, copy file
+-- and timer procedures).
+--     turned, turns W k e phase eof complete      an entry that moves to another phase;  the world after it
 --     is_right_checksum e sum           the octets have the EOF's checksum, or it is not looked at
 --     whole W k e checksum              all octets are there: Executing, where the checksum is right
---     storing, stores W k e received    an entry for which what came is staged, its blocks being taken;  the world after it
+--     storing, stores W k e received    an entry for which what came is staged, its blocks being taken;
+--                                       the world after
+--                                       it
 --     limit phase c e                   where octets may end
 --     stored, after_eof                 what follows once they are staged: in Awaiting they may have been the last
 --     data_came, data_at                file data;  for an entry that takes data
@@ -81,7 +84,8 @@ abbrev pub eof_at : World → ℕ → Entry → Eof → World × Reply
 eof_at W k e eof =
     if length e.items == 0 then (turns W k e Done e.eof true, Reply.Done)
     else if not (has_file e.metadata) then (turns W k e (Executing 0) e.eof true, Reply.Complete)
-    else if nat_lt (bound W.config e.metadata) eof.size || nat_lt eof.size (length e.received) then (ends W k e 6, Reply.Faulted 6)
+    else if nat_lt (bound W.config e.metadata) eof.size || nat_lt eof.size (length e.received)
+    then (ends W k e 6, Reply.Faulted 6)
     else if not (is_whole eof.size e.received) then (turns W k e (Awaiting 0) (Some eof) e.complete, Reply.Waiting)
     else whole W k e eof.checksum
 
@@ -89,7 +93,10 @@ abbrev pub eof_came : World → ℕ → Eof → Option Entry → World × Reply
 eof_came W k eof None = (W, Reply.Unknown)
 eof_came W k eof (Some e) =
     if not (is_live e.phase) then (W, Reply.Idle)
-    else if not (eof.condition == 0) then (ends W k (record e { ended_by_eof = true }) eof.condition, Reply.Faulted eof.condition)
+    else if not (eof.condition == 0) then (
+      ends W k (record e { ended_by_eof = true }) eof.condition,
+      Reply.Faulted eof.condition,
+    )
     else if not (is_receiving e.phase) then (W, Reply.Duplicate)
     else eof_at W k e eof
 

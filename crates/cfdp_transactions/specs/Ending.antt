@@ -1,4 +1,5 @@
--- How a transaction ends before it is done (CCSDS 727.0-B-5 §4.11, and the faults of §4.8), and how its outcome is taken.
+-- How a transaction ends before it is done (CCSDS 727.0-B-5, cancel and fault handling procedures), and how its outcome
+-- is taken.
 --     ends W k e condition      the entry ends: what is staged is given back; the reserve and the leases go
 --     cancelled, taken_out      a request to cancel;  a request for the outcome, with which the entry goes
 use Rattle.std.specs.Prelude.{ℕ, if◌then◌else◌, [], ◌∷◌, length, Option, Some, None, remove}

@@ -1,13 +1,13 @@
 -- The core as its callers see it.
---     nodes_code                how the nodes of a filestore are told apart
+--     nodes_code                how the nodes of a filestore are distinguished
 --     Engine                    the world, and whether its store takes no memory
 --     IsWhole s b               a sound world, and books that say what it says: what is true of the core at all times
 --     read_of f W id            what is read of an entry, where the transaction is there
 --     outcome_in W id           the outcome of a transaction, where it is there and over
---     begins W h m              a Metadata PDU may begin a transaction: it is for this entity, its transaction is not there, and
---                               there is room for it and its list
---     AsksForNone W event       an event that takes no memory, whatever the store: a Metadata PDU that begins none, and a request
---                               for the outcome of a transaction that is live or not there
+--     begins W h m              a Metadata PDU may begin a transaction: it is for this entity, its transaction is not
+--                               there, and there is room for it and its list
+--     AsksForNone W event       an event that takes no memory, whatever the store: a Metadata PDU that begins none, and
+--                               a request for the outcome of a transaction that is live or not there
 use Rattle.std.specs.Prelude.{Bool, ◌&&◌, ◌==◌, if◌then◌else◌, nat_lt, nat_le, length, Option, Some, None, is_none, IsNone, IsFalse}
 use Rattle.std.specs.Coded.{Coded, coded_list, coded_ℕ}
 use Rattle.std.specs.FinMap as finite
@@ -56,7 +56,8 @@ outcome_in W id = where_any (read_of outcome_when_over W id)
 
 abbrev pub begins : World → Header → MetadataFields → Bool
 begins W h m =
-    (h.destination == W.config.entity) && is_none (entry_of W (id_of h)) && nat_lt (length W.table) 64 && nat_le (length m.requests) 64
+    (h.destination == W.config.entity) && is_none (entry_of W (id_of h)) && nat_lt (length W.table) 64
+    && nat_le (length m.requests) 64
 
 abbrev pub AsksForNone : World → Event → Type 0
 AsksForNone W (MetadataCame h m) = IsFalse (begins W h m)

@@ -1,6 +1,7 @@
--- Transactions at the receiving entity, from their Metadata to their outcome (CCSDS 727.0-B-5 §4.6).
+-- Transactions at the receiving entity, from their Metadata to their outcome (CCSDS 727.0-B-5, copy file procedures).
 --     Phase                     how far it is;  is_live: not yet refused, done or ended
---     is_receiving, is_awaiting, takes_data, is_executing      in Receiving;  in Awaiting;  in one of these;  in Executing
+--     is_receiving, is_awaiting, takes_data, is_executing      in Receiving;  in Awaiting;  in one of these;
+--                                                              in Executing
 --     Entry                     a transaction of the table
 --     id_of h, name_of e        its name: source entity ID and transaction sequence number
 --     has_file m                the Metadata has a destination
@@ -10,9 +11,9 @@
 --     left_of granted spent     the blocks granted less those spent
 --     reserve e                 these, while the entry is live, else 0
 --     awaited eof               the size that the EOF gave
---     gaps e, gaps_in           the offsets that a NAK would ask for (§4.6.4.3);  by the phase
+--     gaps e, gaps_in           the offsets that a NAK would ask for (lost segment procedures);  by the phase
 --     progress e                the end of the last octet kept: 0 where none is kept
---     reach e, reach_in         the offset up to which gaps tells;  by the phase
+--     reach e, reach_in         the offset up to which gaps say;  by the phase
 use Rattle.std.specs.Prelude.{ℕ, suc, ◌+◌, ◌-◌, ℤ, pos, negsuc, ◌+ℤ◌, ◌-ℤ◌, Bool, true, false, ◌==◌, if◌then◌else◌, List, [], drop, length, Option, Some, None}
 use Rattle.cfdp_status.specs.declared.status.Status.{Status}
 use Rattle.cfdp_status.specs.declared.transaction.TransactionId.{TransactionId}

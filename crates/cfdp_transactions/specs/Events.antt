@@ -1,14 +1,14 @@
 -- What happens to the receiving entity, and what it replies.
---     Event      a PDU that came (CCSDS 727.0-B-5 §5.2, §5.3), a step, a request to cancel (§4.11), a check timer's
---                expiry (§4.6.4), or a request for the outcome
+--     Event      a PDU that came (CCSDS 727.0-B-5 §5.2, §5.3), a step, a request to cancel (cancel procedures), a check
+--                timer's expiry (timer procedures), or a request for the outcome
 --     Outcome    the Finished PDU, its header, and whether it is sent
 --     Reply
 --     about      whose transaction an event is
 --     is_metadata             a Metadata PDU came
 --     is_take, hands_out      the request for the outcome;  the reply that has one
 --     event_of   the event that a PDU is: none, where it goes toward the sender or the core does not take it
---     event_at octets         the event of the PDU that they spell, if it is one, or the first fault where they spell none
---                             (event_from read, of what reading them gives)
+--     event_at octets         the event of the PDU that they spell, if it is one, or the first fault where they spell
+--                             none (event_from read, of what reading them gives)
 use Rattle.std.specs.Prelude.{ℕ, Bool, true, false, if◌then◌else◌, List, Option, Some, None, Result, Ok}
 use Rattle.cfdp_status.specs.declared.transaction.TransactionId.{TransactionId}
 use Rattle.cfdp_tlv.specs.Reading.{◌>>=◌}

@@ -1,6 +1,6 @@
 -- The items of a transaction, performed one at a time once its file is there: the install, and the filestore requests
--- in the order of the Metadata PDU (CCSDS 727.0-B-5 §4.9).
---     entry_after e next items o        the entry after its item `next` went well; `items` are those behind it
+-- in the order of the Metadata PDU (CCSDS 727.0-B-5, filestore procedures).
+--     entry_after e next items o        the entry after its item `next` went well; `items` are those after it
 --     act_now W e item                  an item on the filestore and the free blocks of the moment
 --     stepped                           a step: the next item is performed
 use Rattle.std.specs.Prelude.{ℕ, suc, ◌+◌, ◌||◌, Bool, true, false, if◌then◌else◌, List, [], ◌∷◌, ◌++◌, drop, Option, Some, None}

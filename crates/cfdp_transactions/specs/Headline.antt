@@ -1,8 +1,10 @@
 -- What is promised of the receiving entity, over every list of events and however transactions interleave.
 --     performs event phase      a Step of an entry in Executing: the one event that performs an item
---     IsAdmitted W V event b s  the entry that an admission makes in the next world V, with b blocks and s steps granted
+--     IsAdmitted W V event b s  the entry that an admission makes in the next world V, with b blocks and s steps
+--                               granted
 --     IsPerformed W id e n      a Step of the entry performs its item n as the action table says, and it succeeds
---     IsCarriedOn performing F G e now        the entry of one transaction before and after an event: of the same Metadata and grant
+--     IsCarriedOn performing F G e now        the entry of one transaction before and after an event: of the same
+--                                             Metadata and grant
 --     IsSuccessful e            'successful' for each request, in order, and so one successful response for each
 --     IsWithinGrant e           no more blocks and steps spent than granted
 --     Promised W event          what holds from a world to the next
@@ -50,7 +52,7 @@ pub record IsPerformed (W : World) (id : TransactionId) (e : Entry) (n : ℕ) : 
   pub succeeds : IsTrue (succeeded (act_now W e item).answer)
   pub filestore : (next W (Step id)).0.filestore ≡ after W.filestore (act_now W e item).changes
   pub reply : (next W (Step id)).1 ≡ replied (act_now W e item).answer
-  -- the entry notes the answer and spends what it took, and the item behind is the next one
+  -- the entry notes the answer and spends what it took, and the item after it is the next one
   pub now : Entry
   pub here : entry_of (next W (Step id)).0 id ≡ Some now
   pub statuses : now.statuses ≡ noted e.statuses (act_now W e item).answer
@@ -82,24 +84,31 @@ pub record IsWithinGrant (e : Entry) : Type 0 where
 
 pub record Promised (W : World) (event : Event) : Type 0 where
   -- a transaction that is admitted has what the reply says, and has spent nothing
-  pub admitted : (granted steps : ℕ) → (next W event).1 ≡ Reply.Admitted granted steps → IsAdmitted W (next W event).0 event granted steps
+  pub admitted : (granted steps : ℕ) → (next W event).1 ≡ Reply.Admitted granted steps →
+      IsAdmitted W (next W event).0 event granted steps
   -- each item is performed as the action table says, and succeeds
-  pub performed : (id : TransactionId) (e : Entry) (n : ℕ) → event ≡ Step id → entry_of W id ≡ Some e → e.phase ≡ Executing n → IsPerformed W id e n
-  -- an event leaves its transaction's requests, items and grant as they are, and adds to what is spent just what it took
-  pub carried : (e now : Entry) → entry_of W (about event) ≡ Some e → entry_of (next W event).0 (about event) ≡ Some now →
+  pub performed : (id : TransactionId) (e : Entry) (n : ℕ) → event ≡ Step id → entry_of W id ≡ Some e → e.phase
+      ≡ Executing n → IsPerformed W id e n
+  -- an event leaves its transaction's requests, items and grant as they are, and adds to what is spent just what it
+  -- took
+  pub carried : (e now : Entry) → entry_of W (about event) ≡ Some e → entry_of (next W event).0 (about event)
+      ≡ Some now →
       IsCarriedOn (performs event e.phase) W.filestore (next W event).0.filestore e now
   -- and every other transaction stays just as it is
   pub others : (id : TransactionId) → id ≢ about event → entry_of (next W event).0 id ≡ entry_of W id
   -- a transaction that completes has 'successful' for every request and 'not performed' for none
-  pub completed : (k : ℕ) (e now : Entry) → slice_get W.table k ≡ Some e → slice_get (next W event).0.table k ≡ Some now → name_of e ≡ about event →
+  pub completed : (k : ℕ) (e now : Entry) → slice_get W.table k ≡ Some e → slice_get (next W event).0.table k
+      ≡ Some now → name_of e ≡ about event →
       IsTrue (completes event e.phase now.phase) → IsSuccessful now
   pub done : Each (λ e. e.phase ≡ Done → IsSuccessful e) (next W event).0.table
   -- no entry is ended by a Step: what is Ended after it was so before
   pub step_ends_none : (id : TransactionId) (condition : ℕ) → event ≡ Step id →
-      (k : ℕ) (e : Entry) → slice_get (next W event).0.table k ≡ Some e → e.phase ≡ Ended condition → slice_get W.table k ≡ Some e
+      (k : ℕ) (e : Entry) → slice_get (next W event).0.table k ≡ Some e → e.phase ≡ Ended condition →
+      slice_get W.table k ≡ Some e
   pub within : Each IsWithinGrant (next W event).0.table
   -- no event of one transaction changes a path leased to another
-  pub isolated : Each (λ d. IsTrue (is_live d.phase) → name_of d ≢ about event → Keeps W.filestore (next W event).0.filestore (footprint d)) W.table
+  pub isolated : Each (λ d. IsTrue (is_live d.phase) → name_of d ≢ about event →
+      Keeps W.filestore (next W event).0.filestore (footprint d)) W.table
 
 abbrev pub AtEach : (World → Type 0) → (World → Event → Type 0) → World → List Event → Type 0
 AtEach P Q W [] = P W

@@ -13,7 +13,8 @@ pub record IsPut (ranges : Ranges) (at : ℕ) (octets xs ys : List ℕ) (from : 
   pub kept : (i : ℕ) → i < length xs → IsTrue (is_in i ranges) → slice_index ys i ≡ slice_index xs i
   pub before : (i : ℕ) → i < at → i < length xs → slice_index ys i ≡ slice_index xs i
   pub behind : (i : ℕ) → from ≤ i → i < length xs → slice_index ys i ≡ slice_index xs i
-  pub written : (j : ℕ) → j < length octets → at + j < from → IsFalse (is_in (at + j) ranges) → slice_index ys (at + j) ≡ slice_index octets j
+  pub written : (j : ℕ) → j < length octets → at + j < from → IsFalse (is_in (at + j) ranges) → slice_index ys (at + j)
+      ≡ slice_index octets j
 
 pub record Puts (ranges : Ranges) (at : ℕ) (octets : List ℕ) (slot : ℕ) (s t : Store) (from : ℕ) : Type 0 where
   pub store : t ≡ with_changes s (Stages slot (staged_in t.filestore slot) ∷ [])

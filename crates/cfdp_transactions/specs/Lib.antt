@@ -27,6 +27,7 @@ pub mod Books
 pub mod Adding
 pub mod Items
 pub mod Taking
+pub mod Issuing
 pub mod Engine
 pub mod Beside
 pub mod Fitting

@@ -32,7 +32,8 @@ pub record IsReady (W : World) (e : Entry) (n : ℕ) : Type 0 where
   pub free_blocks : reserve e ≤ free W
 
 abbrev pub StepNeeds : Type 0
-StepNeeds = (W : World) (k : ℕ) (e : Entry) (n : ℕ) → Sound W → slice_get W.table k ≡ Some e → e.phase ≡ Executing n → IsReady W e n
+StepNeeds = (W : World) (k : ℕ) (e : Entry) (n : ℕ) → Sound W → slice_get W.table k ≡ Some e → e.phase ≡ Executing n →
+    IsReady W e n
 
 pub record HasRoomFor (W : World) (e : Entry) (received : Received) : Type 0 where
   pub staged : staged_in W.filestore e.slot ≡ staged_of e.received
@@ -41,13 +42,15 @@ pub record HasRoomFor (W : World) (e : Entry) (received : Received) : Type 0 whe
 
 abbrev pub DataNeeds : Type 0
 DataNeeds =
-    (W : World) (k : ℕ) (e : Entry) (received : Received) → Sound W → slice_get W.table k ≡ Some e → IsTrue (takes_data e.phase) →
+    (W : World) (k : ℕ) (e : Entry) (received : Received) → Sound W → slice_get W.table k ≡ Some e →
+    IsTrue (takes_data e.phase) →
     length received ≤ max (length e.received) (limit e.phase W.config e) → HasRoomFor W e received
 
 -- a response has a second name exactly where its action has one, where the requests do
 abbrev pub TakeNeeds : Type 0
 TakeNeeds =
-    (W : World) (k : ℕ) (e : Entry) → Sound W → slice_get W.table k ≡ Some e → AllByRecursion IsRequest e.metadata.requests →
+    (W : World) (k : ℕ) (e : Entry) → Sound W → slice_get W.table k ≡ Some e →
+    AllByRecursion IsRequest e.metadata.requests →
     AllByRecursion IsResponse (finished e).responses
 
 abbrev pub Follows : World → Event → Reply → World → Type 0
@@ -58,7 +61,8 @@ abbrev pub FollowsIsSound : Type 0
 FollowsIsSound = (W : World) (event : Event) (reply : Reply) (V : World) → Sound W → Follows W event reply V → Sound V
 
 abbrev pub OnlyTakeHandsOut : Type 0
-OnlyTakeHandsOut = (W : World) (event : Event) (reply : Reply) (V : World) → Follows W event reply V → IsFalse (is_take event) → IsFalse (hands_out reply)
+OnlyTakeHandsOut = (W : World) (event : Event) (reply : Reply) (V : World) → Follows W event reply V →
+    IsFalse (is_take event) → IsFalse (hands_out reply)
 
 -- a new entry and an outcome take memory; octets that come and items do where the store does
 abbrev pub may_want_memory : (takes_no_memory : Bool) → Event → Bool

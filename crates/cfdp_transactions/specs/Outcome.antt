@@ -1,4 +1,4 @@
--- The outcome of a transaction, as its Finished PDU tells it (CCSDS 727.0-B-5 §5.2.3, filestore responses §5.4.2).
+-- The outcome of a transaction, as its Finished PDU reports it (CCSDS 727.0-B-5 §5.2.3, filestore responses §5.4.2).
 --     condition_of              the condition code: 4, filestore rejection, for a list that was refused
 --     file_status_of            3 unreported (no file), 2 retained, 1 rejected by the filestore, 0 discarded
 --     responses_of              one response for each request, in order

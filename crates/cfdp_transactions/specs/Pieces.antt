@@ -1,5 +1,6 @@
 -- Received octets, as the ranges in which they lie and the staged list that holds them.
---     is_in i ranges            an offset is in one of the ranges; a range is a start and an end, which it does not hold
+--     is_in i ranges            an offset is in one of the ranges; a range is a start and an end, which it does not
+--                               hold
 --     received_in ranges xs     what was received, where the octets of xs lie in these ranges
 --     with_range a b ranges     the ranges once a to b is there too: what it touches becomes one with it
 --     rest_of, count_of         the ranges with one that is pending, if any is;  how many are pending

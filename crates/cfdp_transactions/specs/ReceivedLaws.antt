@@ -4,7 +4,8 @@
 --     GreatestEnd               what is kept reaches to the greatest end
 --     IsIn i ranges             an offset is in one of the ranges
 --     AreRuns from ranges       none is empty, and at least one offset is between any two, from `from` on
---     GapsAreMissing, GapsAreRuns, FewGaps      the gaps are the longest runs of what was not received, and one more than the pieces at most
+--     GapsAreMissing, GapsAreRuns, FewGaps      the gaps are the longest runs of what was not received, and one more
+--                                               than the pieces at most
 use Rattle.std.specs.Prelude.{◌≡◌, ⊤, ℕ, ◌+◌, max, ◌≤◌, ◌<◌, ◌↔◌, ◌⊎◌, List, [], ◌∷◌, length, Option, Some, None, slice_index_or}
 use Rattle.cfdp_transactions.specs.Received.{Received, kept_with, brought, pieces, gaps_below}
 
@@ -16,10 +17,12 @@ or_else None later = later
 or_else (Some x) later = Some x
 
 abbrev pub FirstStays : Type 0
-FirstStays = (rs : Received) (at : ℕ) (octets : List ℕ) (i : ℕ) → octet_at (kept_with rs at octets) i ≡ or_else (octet_at rs i) (brought at octets i)
+FirstStays = (rs : Received) (at : ℕ) (octets : List ℕ) (i : ℕ) → octet_at (kept_with rs at octets) i
+    ≡ or_else (octet_at rs i) (brought at octets i)
 
 abbrev pub GreatestEnd : Type 0
-GreatestEnd = (rs : Received) (at : ℕ) (x : ℕ) (xs : List ℕ) → length (kept_with rs at (x ∷ xs)) ≡ max (length rs) (at + length (x ∷ xs))
+GreatestEnd = (rs : Received) (at : ℕ) (x : ℕ) (xs : List ℕ) → length (kept_with rs at (x ∷ xs))
+    ≡ max (length rs) (at + length (x ∷ xs))
 
 abbrev pub IsIn : ℕ → List (ℕ × ℕ) → Type 0
 IsIn i [] = ⊥
@@ -30,7 +33,8 @@ AreRuns from [] = ⊤
 AreRuns from (r ∷ rs) = (from ≤ r.0) × (r.0 < r.1) × AreRuns (r.1 + 1) rs
 
 abbrev pub GapsAreMissing : Type 0
-GapsAreMissing = (limit : ℕ) (rs : Received) (i : ℕ) → IsIn i (gaps_below limit rs) ↔ ((i < limit) × (octet_at rs i ≡ None))
+GapsAreMissing = (limit : ℕ) (rs : Received) (i : ℕ) → IsIn i (gaps_below limit rs)
+    ↔ ((i < limit) × (octet_at rs i ≡ None))
 
 abbrev pub GapsAreRuns : Type 0
 GapsAreRuns = (limit : ℕ) (rs : Received) → AreRuns 0 (gaps_below limit rs)

@@ -1,10 +1,10 @@
--- A filestore that is kept over a restart: what it has is read out in path order, and put into the empty filestore of a new
--- entity.
+-- A filestore that is kept over a restart: what it has is read out in path order, and put into the empty filestore of a
+-- new entity.
 --     put_all W es              directories and files are put, one after the other
 --     CanPutAll W es            each of them can be put when its turn comes
 --     without_staged F          the filestore once nothing is staged
---     PutBackIsSame             all that the filestore of a sound entity has can be put into a new one, which is then the same,
---                               but that nothing is staged
+--     PutBackIsSame             all that the filestore of a sound entity has can be put into a new one, which is then
+--                               the same, but that nothing is staged
 use Rattle.std.specs.Prelude.{◌≡◌, ⊤, List, [], ◌∷◌, replicate, None}
 use Rattle.std.specs.FinMap as finite
 use Rattle.cfdp_paths.specs.Paths.{Path}

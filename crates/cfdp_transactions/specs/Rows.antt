@@ -1,15 +1,15 @@
--- Transactions as the program keeps them: received octets are ranges, whose octets lie in the filestore, and statuses are a
--- number, since each request that was performed was successful.
+-- Transactions as the program keeps them: received octets are ranges, whose octets lie in the filestore, and statuses
+-- are a number, since each request that was performed was successful.
 --     Row                       a transaction of the program's table
 --     received_by F r           what was received, by its ranges and what is staged in its slot
 --     entry_in F r, table_of    the entry that it is, over a filestore;  all of them
 --     row_name, row_place       its name;  where a transaction is in the table: the length where it is not there
 --     first_executing           the first one in Executing
 --     first_over                the first one that is over
---     row_progress, row_reach, row_reach_in     the end of its last octet;  up to where its gaps tell, by its phase
+--     row_progress, row_reach, row_reach_in     the end of its last octet;  up to where its gaps say, by its phase
 --     row_gaps r, row_gaps_in   what is missing between its ranges, and up to the size of its EOF;  by its phase
 --     fresh_row                 a row with nothing received and nothing spent
---     row_ended, row_turned     a row that ends, as `ended` says;  that comes to another phase
+--     row_ended, row_turned     a row that ends, as `ended` says;  that moves to another phase
 --     row_stored                a row for which octets were staged
 --     row_stepped               a row whose next item went well
 use Rattle.std.specs.Prelude.{ℕ, suc, ◌+◌, ℤ, pos, Bool, false, ◌||◌, if◌then◌else◌, List, [], ◌∷◌, map, take, Option, Some, None}
@@ -133,11 +133,14 @@ row_ended r condition by_eof given = record r {
 abbrev pub row_turned : Row → Phase → Option Eof → Bool → Row
 row_turned r phase eof complete = record r { phase = phase; eof = eof; complete = complete }
 
--- the octets of a range were staged, for which so many blocks were taken
+-- the octets of a range were staged, for which this many blocks were taken
 abbrev pub row_stored : Row → (start end taken : ℕ) → Row
-row_stored r start end taken = record r { ranges = with_range start end r.ranges; blocks_spent = spend r.blocks_spent taken 0 }
+row_stored r start end taken = record r {
+  ranges = with_range start end r.ranges;
+  blocks_spent = spend r.blocks_spent taken 0;
+}
 
--- its item `next` went well: it was the install, or a request; the free blocks were so many before and after
+-- its item `next` went well: it was the install, or a request; the free blocks were this many before and after
 abbrev pub row_stepped : Row → (next : ℕ) (last install : Bool) (before after ticks : ℕ) → Row
 row_stepped r next last install before after ticks = record r {
   phase = if last then Done else Executing (suc next);

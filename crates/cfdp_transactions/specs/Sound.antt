@@ -10,10 +10,11 @@
 --     requests_in items, successes items      how many requests are among the items;  'successful' for each of them
 --     all_successful requests   'successful' for each request as it was sent
 --     IsLimited                 a grant, its requests and its items within the limits
---     IsHonest c e              of every entry, final ones too: no more spent than granted, no request failed, all within the limits
+--     IsHonest c e              of every entry, final ones too: no more spent than granted, no request failed, all
+--                               within the limits
 --     IsVacant table slot       no live entry has the slot
---     Sound W                   of the whole entity: what its live entries lease, that it does not conflict, that their reserves fit
---                               into the free blocks, and that each keeps its promise
+--     Sound W                   of the whole entity: what its live entries lease, that it does not conflict, that their
+--                               reserves fit into the free blocks, and that each keeps its promise
 use Rattle.std.specs.Prelude.{◌≡◌, ◌≢◌, ℕ, suc, ◌+◌, ◌≤◌, ◌<◌, pos, ◌≤ℤ◌, Bool, true, false, IsTrue, IsFalse, IsSome, List, [], ◌∷◌, ◌++◌, length, map, replicate, take, Some, slice_get}
 use Rattle.std.specs.List.{AllByRecursion}
 use Rattle.cfdp_status.specs.declared.status.Status.{Status}
@@ -112,7 +113,8 @@ pub record IsHonest (c : Config) (e : Entry) : Type 0 where
   pub limits : IsLimited c.blocks e.blocks_granted e.steps_granted (length e.metadata.requests) (length e.items)
   pub no_more : length e.statuses ≤ length e.metadata.requests
   pub statuses : AllByRecursion (λ s. IsTrue (is_successful s)) e.statuses
-  pub in_order : e.statuses ≡ take (length e.statuses) (all_successful e.metadata.requests)  -- each of its own request's action
+  -- each of its own request's action
+  pub in_order : e.statuses ≡ take (length e.statuses) (all_successful e.metadata.requests)
   pub to_come : IsTrue (is_counted e.phase) → e.statuses ++ successes (rest e) ≡ all_successful e.metadata.requests
   pub counted : IsTrue (is_counted e.phase) → length e.statuses + requests_in (rest e) ≡ length e.metadata.requests
 
@@ -133,4 +135,5 @@ pub record Sound (W : World) : Type 0 where
   pub rooted : IsRooted W.filestore
   -- what was granted and is not spent, never less than 0 by `honest`, fits into the free blocks
   pub room : blocks W.filestore + reserves W.table ≤ W.config.blocks
-  pub given : Each (λ e. left_of e.blocks_granted e.blocks_spent ≤ W.config.blocks) W.table  -- no more blocks given back than there are
+  -- no more blocks given back than there are
+  pub given : Each (λ e. left_of e.blocks_granted e.blocks_spent ≤ W.config.blocks) W.table

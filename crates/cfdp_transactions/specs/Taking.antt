@@ -15,10 +15,12 @@ abbrev pub statuses_of : ℕ → List RequestFields → List Status
 statuses_of performed requests = take performed (all_successful requests)
 
 abbrev pub status_by : Bool → Bool → Phase → ℕ
-status_by has_file installed phase = if not has_file then 3 else if installed then 2 else if is_refused phase then 1 else 0
+status_by has_file installed phase = if not has_file then 3 else if installed then 2 else if is_refused phase then 1
+    else 0
 
 abbrev pub fault_by : ℕ → Bool → Header → Option ℕ
-fault_by condition by_eof h = if (condition == 0) || (condition == 11) then None else if by_eof then Some h.source else Some h.destination
+fault_by condition by_eof h = if (condition == 0) || (condition == 11) then None else if by_eof then Some h.source
+    else Some h.destination
 
 abbrev pub answered_by : List ResponseFields → Outcome → Outcome
 answered_by responses o = record o { finished = record o.finished { responses = responses } }

@@ -3,7 +3,7 @@
 --     free, reserves, spare     free blocks;  the live transactions' reserves;  the blocks that nobody was granted
 --     place_of, index_of, entry_of      where a transaction is in the table, and its entry
 --     leases_of                 the live transactions' footprints
---     has_slot, slot_from       a live transaction has the slot;  the least from a slot on, of so many, that none has
+--     has_slot, slot_from       a live transaction has the slot;  the least from a slot on, of this many, that none has
 --     free_slot                 the least slot that no live transaction has
 --     bound                     how long a transaction's file may be
 --     next_runnable             the first transaction in Executing
@@ -55,7 +55,7 @@ leases_of (e ∷ es) = if is_live e.phase then (name_of e, footprint e) ∷ leas
 abbrev pub has_slot : ℕ → Entry → Bool
 has_slot slot e = is_live e.phase && (e.slot == slot)
 
--- the first from `slot` on, of so many, that no live entry has
+-- the first from `slot` on, of this many, that no live entry has
 abbrev pub slot_from : ℕ → ℕ → List Entry → ℕ
 slot_from zero slot table = slot
 slot_from (suc more) slot table = if list_any (has_slot slot) table then slot_from more (slot + 1) table else slot

@@ -1,6 +1,7 @@
 -- Which outcomes can be written as a Finished PDU, and from which events only such come (CCSDS 727.0-B-5 §5.1 for the
 -- header, §5.2.3 for the Finished PDU, §5.4.1 and §5.4.2 for requests and responses).
---     IsWritable o              the outcome may be handed to the writer of Finished PDUs, which then has no length to refuse
+--     IsWritable o              the outcome may be handed to the writer of Finished PDUs, which then has no length to
+--                               refuse
 --     longest_finished          how many octets a Finished PDU has at most
 --     finished_octets o         the octets of its Finished PDU, where it is sent, and else none
 --     FitsReply reply           the outcome that it hands out, if any, can be written
@@ -47,7 +48,8 @@ IsReadable (EofCame h eof) = IsHeader h × (eof.condition < 16)
 IsReadable event = ⊤
 
 abbrev pub OutcomesFit : Type 0
-OutcomesFit = (c : Config) (events : List Event) → AllByRecursion IsReadable events → AllByRecursion FitsReply (replies (start c) events)
+OutcomesFit = (c : Config) (events : List Event) → AllByRecursion IsReadable events →
+    AllByRecursion FitsReply (replies (start c) events)
 
 abbrev pub ReadIsReadable : Type 0
 ReadIsReadable = (pdu : Pdu) (event : Event) → IsSound pdu → event_of pdu ≡ Some event → IsReadable event

@@ -1,4 +1,4 @@
-//! The admission of a transaction by its Metadata PDU (CCSDS 727.0-B-5 §4.6.1.1 and §5.2.5).
+//! The admission of a transaction by its Metadata PDU (CCSDS 727.0-B-5 §5.2.5, copy file procedures).
 
 ghost use Rattle.std.specs.Prelude.{◌≡◌, ◌<◌, ◌≤◌, ℕ, None, IsFalse, IfOk, OnOk, OnErr, length};
 ghost use Rattle.cfdp_leases.specs.Footprint.{footprint_of};
@@ -25,10 +25,10 @@ use cfdp_quota::{Quota, SLOTS};
 use cfdp_verifier::{Grant, Proposal, Verdict, verify};
 use std::alloc::Global;
 
-/// The modular checksum (§4.2.2).
+/// The modular checksum (checksum procedures).
 const MODULAR_CHECKSUM: u8 = 0;
 
-/// The null checksum, which is not looked at (§4.2.2).
+/// The null checksum, which is not looked at (checksum procedures).
 pub(crate) const NULL_CHECKSUM: u8 = 15;
 
 /// What becomes of Metadata whose transaction may begin.
@@ -141,7 +141,8 @@ fn judge_list<S: Filestore>(
     books: &Books,
     metadata: &Metadata,
 ) -> Result<Verdict, Memory>
-    ensures verdict { IfOk result (λ answer. answered answer ≡ verdict books.now.config.prefixes (S.state store.now).filestore
+    ensures verdict { IfOk result (λ answer. answered answer
+        ≡ verdict books.now.config.prefixes (S.state store.now).filestore
         books.now.leases (spare books.now.quota) (proposal_of books.now.config metadata.now)) }
     ensures footprint { IfOk result HasFootprint }
 {
@@ -177,7 +178,8 @@ fn add_final<S: Filestore>(
     requires booked { IsBooked (S.state store.now) books.old }
     requires absent { row_place (id_of header.now) books.old.table ≡ length books.old.table }
     requires over { IsFalse (is_live phase) }
-    ensures adds { OnOk result (AddsEntry (world_of (S.state store.now) books.old) (world_of (S.state store.now) books.new)
+    ensures adds { OnOk result (AddsEntry (world_of (S.state store.now) books.old)
+        (world_of (S.state store.now) books.new)
         (refused_entry header.now metadata phase)) }
     ensures err { OnErr result (world_of (S.state store.now) books.new ≡ world_of (S.state store.now) books.old) }
     ensures booked { IsBooked (S.state store.now) books.new }
@@ -203,7 +205,8 @@ fn add_granted<S: Filestore>(
     requires footprint { grant.footprint ≡ footprint_of (granted_items grant) }
     requires apart { first_conflict books.old.leases grant.footprint ≡ None }
     requires room { grant.blocks ≤ spare books.old.quota }
-    ensures adds { let W = world_of (S.state store.now) books.old in OnOk result (AddsEntry W (world_of (S.state store.now) books.new)
+    ensures adds { let W = world_of (S.state store.now) books.old in
+        OnOk result (AddsEntry W (world_of (S.state store.now) books.new)
         (new_entry header.now metadata Receiving (free_slot W.table) (granted_items grant) grant.blocks grant.steps)) }
     ensures err { OnErr result (world_of (S.state store.now) books.new ≡ world_of (S.state store.now) books.old) }
     ensures booked { IsBooked (S.state store.now) books.new }

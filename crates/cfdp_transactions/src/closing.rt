@@ -1,6 +1,6 @@
 //! How a live transaction changes its phase: it ends before it is done, it is done with nothing to perform, or it goes
-//! on. Two events do no more than that: a request to cancel it (CCSDS 727.0-B-5 §4.11), and the expiry of its check
-//! timer (§4.6.4). Its items are performed in `step`, and its outcome is handed out in `taking`.
+//! on. Two events do no more than that: a request to cancel it (CCSDS 727.0-B-5, cancel procedures), and the expiry of
+//! its check timer (timer procedures). Its items are performed in `step`, and its outcome is handed out in `taking`.
 
 ghost use Rattle.std.specs.Prelude.{◌≡◌, ◌<◌, IsTrue, length};
 ghost use Rattle.cfdp_transactions.specs.Entry.{is_live};
@@ -15,8 +15,8 @@ use crate::{Phase, Reply};
 use cfdp_actions::Filestore;
 use cfdp_pdus::Eof;
 
-/// The transaction at a place ends (CCSDS 727.0-B-5 §4.11): what is staged for it is given back, and its reserve and its
-/// leases go.
+/// The transaction at an index ends (CCSDS 727.0-B-5, cancel procedures): what is staged for it is given back, and its
+/// reserve and its leases go.
 pub(crate) fn end<S: Filestore>(
     store: &mut S,
     books: &mut Books,
@@ -27,7 +27,8 @@ pub(crate) fn end<S: Filestore>(
     requires sound { Sound (world_of (S.state store.old) books.old) }
     requires booked { IsBooked (S.state store.old) books.old }
     requires live { IsLiveAt (world_of (S.state store.old) books.old) place }
-    ensures ends { EndsAt (world_of (S.state store.old) books.old) (world_of (S.state store.new) books.new) place by_eof condition }
+    ensures ends { EndsAt (world_of (S.state store.old) books.old)
+        (world_of (S.state store.new) books.new) place by_eof condition }
     ensures booked { IsBooked (S.state store.new) books.new }
     ensures steady { IsSteady (S.state store.old) (S.state store.new) }
 {
@@ -41,7 +42,7 @@ pub(crate) fn end<S: Filestore>(
     books.table.end(place, condition, by_eof, given);
 }
 
-/// The transaction at a place comes to another phase.
+/// The transaction at an index moves to another phase.
 pub(crate) fn turn<S: Filestore>(
     store: &S,
     books: &mut Books,
@@ -54,14 +55,15 @@ pub(crate) fn turn<S: Filestore>(
     requires booked { IsBooked (S.state store.now) books.old }
     requires live { IsLiveAt (world_of (S.state store.now) books.old) place }
     requires still { IsTrue (is_live phase) }
-    ensures turns { TurnsAt (world_of (S.state store.now) books.old) (world_of (S.state store.now) books.new) place phase eof complete }
+    ensures turns { TurnsAt (world_of (S.state store.now) books.old)
+        (world_of (S.state store.now) books.new) place phase eof complete }
     ensures booked { IsBooked (S.state store.now) books.new }
 {
     let _entry = books.table.at(place);
     books.table.turn(place, phase, eof, complete);
 }
 
-/// A request to cancel the transaction at a place (CCSDS 727.0-B-5 §4.11).
+/// A request to cancel the transaction at an index (CCSDS 727.0-B-5, cancel procedures).
 pub(crate) fn cancel<S: Filestore>(store: &mut S, books: &mut Books, place: usize) -> Reply
     requires sound { Sound (world_of (S.state store.old) books.old) }
     requires booked { IsBooked (S.state store.old) books.old }
@@ -79,7 +81,7 @@ pub(crate) fn cancel<S: Filestore>(store: &mut S, books: &mut Books, place: usiz
     Reply::Cancelled
 }
 
-/// A check timer of the transaction at a place expired (§4.6.4).
+/// A check timer of the transaction at an index expired (timer procedures).
 pub(crate) fn check<S: Filestore>(store: &mut S, books: &mut Books, place: usize) -> Reply
     requires sound { Sound (world_of (S.state store.old) books.old) }
     requires booked { IsBooked (S.state store.old) books.old }
@@ -110,7 +112,7 @@ pub(crate) fn check<S: Filestore>(store: &mut S, books: &mut Books, place: usize
     Reply::Waiting
 }
 
-/// The transaction at a place, which has no items, is done: its reserve and its leases go.
+/// The transaction at an index, which has no items, is done: its reserve and its leases go.
 pub(crate) fn finish<S: Filestore>(store: &S, books: &mut Books, place: usize)
     requires sound { Sound (world_of (S.state store.now) books.old) }
     requires booked { IsBooked (S.state store.now) books.old }

@@ -10,8 +10,8 @@ use std::error::Error;
 use std::fmt;
 use std::marker::Model;
 
-/// What CCSDS 727.0-B-5 §8 leaves to the management information base of a receiving entity. All numbers are within their
-/// limits. Contracts see its values.
+/// What CCSDS 727.0-B-5 §8 leaves to the management information base of a receiving entity. All numbers are within
+/// their limits. Contracts see its values.
 #[derive(Debug, Drop)]
 pub struct Config {
     entity: u64,
@@ -28,7 +28,14 @@ impl Model for Config {
 
     ghost Value = { words.Config };
 
-    ghost view = { λ c. record { entity = c.entity; blocks = c.blocks; cap = c.cap; checks = c.checks; journal = c.journal; prefixes = c.protected } };
+    ghost view = { λ c. record {
+      entity = c.entity;
+      blocks = c.blocks;
+      cap = c.cap;
+      checks = c.checks;
+      journal = c.journal;
+      prefixes = c.protected;
+    } };
 
     ghost invariant = { λ c. words.first_fault c.blocks c.cap c.checks c.journal ≡ None };
 }
@@ -102,9 +109,9 @@ impl fmt::Display for ConfigFault {
 impl Error for ConfigFault {}
 
 impl Config {
-    /// A configuration: this entity's ID, the blocks of its filestore, how many octets a file of unbounded size may have,
-    /// how often a check timer may expire (§4.6.4), how many entries the journal has room for, and the prefixes that are
-    /// protected. Takes no memory.
+    /// A configuration: this entity's ID, the blocks of its filestore, how many octets a file of unbounded size may
+    /// have, how often a check timer may expire (timer procedures), how many entries the journal has room for, and the
+    /// prefixes that are protected. Takes no memory.
     ///
     /// # Errors
     ///
@@ -117,7 +124,14 @@ impl Config {
         journal: u32,
         protected: Protected,
     ) -> Result<Config, ConfigFault>
-        ensures values { IfOk result (λ config. config ≡ record { entity = entity; blocks = blocks; cap = cap; checks = checks; journal = journal; prefixes = protected }) }
+        ensures values { IfOk result (λ config. config ≡ record {
+          entity = entity;
+          blocks = blocks;
+          cap = cap;
+          checks = checks;
+          journal = journal;
+          prefixes = protected;
+        }) }
         ensures ok { OnOk result (first_fault blocks cap checks journal ≡ None) }
         ensures err { IfErr result (λ fault. first_fault blocks cap checks journal ≡ Some fault) }
     {

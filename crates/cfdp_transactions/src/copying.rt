@@ -11,7 +11,7 @@ use std::alloc::Global;
 ///
 /// # Errors
 ///
-/// Want of memory. Cost: an allocation for each name and each request, and one for the list.
+/// Out of memory. Cost: an allocation for each name and each request, and one for the list.
 pub(crate) fn copy_metadata(alloc: Global, metadata: &Metadata) -> Result<Metadata, Memory>
     ensures { IfOk result (λ copy. copy ≡ metadata.now) }
 {

@@ -18,7 +18,8 @@ use crate::{Config, Phase, Reply};
 use cfdp_actions::Filestore;
 use cfdp_pdus::Eof;
 
-/// The EOF of the transaction at a place (§4.6.1). If all octets are there, the store is asked for their checksum, once.
+/// The EOF of the transaction at an index (copy file procedures). If all octets are there, the store is asked for their
+/// checksum, once.
 pub(crate) fn eof<S: Filestore>(store: &mut S, books: &mut Books, place: usize, eof: Eof) -> Reply
     requires sound { Sound (world_of (S.state store.old) books.old) }
     requires booked { IsBooked (S.state store.old) books.old }
@@ -63,7 +64,8 @@ pub(crate) fn eof<S: Filestore>(store: &mut S, books: &mut Books, place: usize, 
 /// Whether a transaction's file cannot have this size: it is above the bound, or octets came past it.
 fn has_wrong_size<S: Filestore>(store: &S, config: &Config, entry: &Entry, size: u64) -> bool
     requires { entry.now.slot < 64 }
-    ensures { result ≡ (nat_lt (bound config.now entry.now.metadata) size || nat_lt size (length (staged_in (S.state store.now).filestore entry.now.slot))) }
+    ensures { result ≡ (nat_lt (bound config.now entry.now.metadata) size
+        || nat_lt size (length (staged_in (S.state store.now).filestore entry.now.slot))) }
 {
     size > bound_of(config, entry.metadata()) || size < store.staged_size(entry.slot())
 }
@@ -71,19 +73,21 @@ fn has_wrong_size<S: Filestore>(store: &S, config: &Config, entry: &Entry, size:
 /// Whether what is staged for a transaction has the checksum, or it is not looked at.
 fn is_right<S: Filestore>(store: &S, entry: &Entry, sum: u32) -> bool
     requires { entry.now.slot < 64 }
-    ensures { result ≡ ((entry.now.metadata.checksum_type == 15) || (checksum (staged_in (S.state store.now).filestore entry.now.slot) == sum)) }
+    ensures { result ≡ ((entry.now.metadata.checksum_type == 15)
+        || (checksum (staged_in (S.state store.now).filestore entry.now.slot) == sum)) }
 {
     entry.metadata().checksum_type == NULL_CHECKSUM || store.staged_checksum(entry.slot()) == sum
 }
 
-/// All octets of the file of the transaction at a place are there (§4.6.1): its items are performed from now on where they have
-/// the checksum, and else it ends. The store is asked for the checksum of what is staged, once.
+/// All octets of the file of the transaction at an index are there (copy file procedures): its items are performed from
+/// now on where they have the checksum, and else it ends. The store is asked for the checksum of what is staged, once.
 pub(crate) fn judge<S: Filestore>(store: &mut S, books: &mut Books, place: usize, sum: u32) -> Reply
     requires sound { Sound (world_of (S.state store.old) books.old) }
     requires booked { IsBooked (S.state store.old) books.old }
     requires live { IsLiveAt (world_of (S.state store.old) books.old) place }
     ensures answer { let W = world_of (S.state store.old) books.old in
-        (e : Transaction) → slice_get W.table place ≡ Some e → whole W place e sum ≡ (world_of (S.state store.new) books.new, result) }
+        (e : Transaction) → slice_get W.table place ≡ Some e → whole W place e sum
+        ≡ (world_of (S.state store.new) books.new, result) }
     ensures answered { IsAnswered result }
     ensures booked { IsBooked (S.state store.new) books.new }
     ensures steady { IsSteady (S.state store.old) (S.state store.new) }

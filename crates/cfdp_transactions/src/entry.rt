@@ -240,7 +240,7 @@ impl Entry {
         }
     }
 
-    /// The offset up to which its gaps tell what is missing.
+    /// The offset up to which its gaps say what is missing.
     pub(crate) fn reach(&self) -> u64
         ensures { result ≡ row_reach self.now }
     {
@@ -302,7 +302,7 @@ impl Entry {
         }
     }
 
-    /// Its item `next` went well, and took so many ticks: the free blocks were `before` and are `after`.
+    /// Its item `next` went well, and took this many ticks: the free blocks were `before` and are `after`.
     pub(crate) fn advance(
         &mut self,
         next: u8,
@@ -339,7 +339,7 @@ impl Entry {
         self.blocks_spent += i64::from(taken);
     }
 
-    /// It comes to another phase.
+    /// It moves to another phase.
     pub(crate) fn turn(&mut self, phase: Phase, eof: Option<Eof>, complete: bool)
         ensures { self.new ≡ row_turned self.old phase eof complete }
     {
@@ -349,7 +349,7 @@ impl Entry {
     }
 }
 
-/// The request at a place, as an item.
+/// The request at an index, as an item.
 fn request_at(requests: &[Request], place: usize) -> Option<Item<'_>>
     ensures { option_map item_of result ≡ slice_get (map Perform requests.now) place }
 {
@@ -359,7 +359,7 @@ fn request_at(requests: &[Request], place: usize) -> Option<Item<'_>>
     }
 }
 
-/// The phase behind an item.
+/// The phase after an item.
 fn phase_behind(next: u8, last: bool) -> Phase
     requires { next < 255 }
     ensures { result ≡ (if last then Done else Executing (suc next)) }

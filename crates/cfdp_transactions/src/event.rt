@@ -24,11 +24,11 @@ pub enum Event {
     Data(Header, FileData),
     /// An EOF PDU (§5.2.2).
     Eof(Header, Eof),
-    /// The next item of the transaction is to be performed (§4.9).
+    /// The next item of the transaction is to be performed (filestore procedures).
     Step(TransactionId),
-    /// The transaction is to be cancelled (§4.11).
+    /// The transaction is to be cancelled (cancel procedures).
     Cancel(TransactionId),
-    /// The transaction's check timer expired (§4.6.4).
+    /// The transaction's check timer expired (timer procedures).
     Check(TransactionId),
     /// The transaction's outcome is to be handed out.
     Take(TransactionId),
@@ -58,8 +58,8 @@ impl Event {
     }
 }
 
-/// A PDU that is no event of the receiving entity: it goes toward the sender, or is neither a Metadata nor a File Data nor
-/// an EOF PDU.
+/// A PDU that is no event of the receiving entity: it goes toward the sender, or is neither a Metadata nor a File Data
+/// nor an EOF PDU.
 #[derive(Clone, Copy, Debug, PartialEq, Eq)]
 pub struct NotOurs;
 
@@ -77,8 +77,8 @@ impl Error for NotOurs {}
 ///
 /// # Errors
 ///
-/// [`NotOurs`] exactly for a Finished PDU, for one that is handed over unread, and for one whose direction is toward the
-/// sender.
+/// [`NotOurs`] exactly for a Finished PDU, for one that is handed over unread, and for one whose direction is toward
+/// the sender.
 pub fn event_of(pdu: Pdu) -> Result<Event, NotOurs>
     ensures ok { IfOk result (λ event. event_of pdu ≡ Some event) }
     ensures err { OnErr result (event_of pdu ≡ None) }
@@ -100,7 +100,7 @@ pub fn event_of(pdu: Pdu) -> Result<Event, NotOurs>
 ///
 /// # Errors
 ///
-/// The first fault, where they spell no PDU; want of memory, of a Metadata PDU or a File Data PDU alone.
+/// The first fault, where they spell no PDU; out of memory, of a Metadata PDU or a File Data PDU alone.
 ///
 /// Cost: that of [`read_for_receiver`].
 pub fn read_event(alloc: Global, octets: &[u8]) -> Result<Option<Event>, PduFault>

@@ -1,4 +1,4 @@
-//! File data that comes for a transaction (CCSDS 727.0-B-5 §4.6.1 and §5.3).
+//! File data that comes for a transaction (CCSDS 727.0-B-5 §5.3, copy file procedures).
 
 ghost use Rattle.std.specs.Prelude.{◌≡◌, ◌+◌, ◌<◌, ◌^◌, IsTrue, IsOk, OnOk, OnErr, nat_lt, length, slice_get, Some};
 ghost use Rattle.cfdp_actions.specs.Filestore.{Filestore as Files};
@@ -21,8 +21,8 @@ use cfdp_actions::Filestore;
 use cfdp_paths::Memory;
 use cfdp_pdus::Piece;
 
-/// File data of the transaction at a place. Where memory is refused, nothing has changed. Costs by its octets and the pieces
-/// that they touch. If no octet is missing any more after an EOF PDU, the store is asked for the checksum, once.
+/// File data of the transaction at an index. Where memory is refused, nothing has changed. Costs by its octets and the
+/// pieces that they touch. If no octet is missing any more after an EOF PDU, the store is asked for the checksum, once.
 pub(crate) fn receive<S: Filestore>(
     store: &mut S,
     books: &mut Books,
@@ -74,18 +74,18 @@ fn limit_of(config: &Config, entry: &Entry) -> u64
     }
 }
 
-/// Whether so many octets at an offset end past the limit.
+/// Whether this many octets at an offset end past the limit.
 fn ends_past(limit: u64, offset: u64, count: u64) -> bool
     ensures { result ≡ nat_lt limit (offset + count) }
 {
     count > limit || offset > limit - count
 }
 
-/// Stages file data of the transaction at a place, and takes its blocks out of the transaction's reserve.
+/// Stages file data of the transaction at an index, and takes its blocks out of the transaction's reserve.
 ///
 /// # Errors
 ///
-/// Want of memory, where the store takes any: nothing has changed then.
+/// Out of memory, where the store takes any: nothing has changed then.
 fn stage<S: Filestore>(
     store: &mut S,
     books: &mut Books,
@@ -97,7 +97,8 @@ fn stage<S: Filestore>(
     requires booked { IsBooked (S.state store.old) books.old }
     requires taken { IsTakenAt (world_of (S.state store.old) books.old) place piece.now }
     requires fits { piece.now.offset + length piece.now.octets < 2 ^ 64 }
-    ensures stored { OnOk result (StoresAt (world_of (S.state store.old) books.old) (world_of (S.state store.new) books.new) place piece.now) }
+    ensures stored { OnOk result (StoresAt (world_of (S.state store.old) books.old)
+        (world_of (S.state store.new) books.new) place piece.now) }
     ensures sound { OnOk result (Sound (world_of (S.state store.new) books.new)) }
     ensures booked { IsBooked (S.state store.new) books.new }
     ensures err { OnErr result (world_of (S.state store.new) books.new ≡ world_of (S.state store.old) books.old) }
@@ -113,14 +114,15 @@ fn stage<S: Filestore>(
     Ok(())
 }
 
-/// What follows once file data of the transaction at a place is staged: where its EOF PDU came, it may have been the last
-/// that was missing.
+/// What follows once file data of the transaction at an index is staged: where its EOF PDU came, it may have been the
+/// last that was missing.
 fn judge_last<S: Filestore>(store: &mut S, books: &mut Books, place: usize) -> Reply
     requires sound { Sound (world_of (S.state store.old) books.old) }
     requires booked { IsBooked (S.state store.old) books.old }
     requires within { place < length books.old.table }
     ensures answer { let W = world_of (S.state store.old) books.old in
-        (e : Transaction) → slice_get W.table place ≡ Some e → stored e.phase W place e ≡ (world_of (S.state store.new) books.new, result) }
+        (e : Transaction) → slice_get W.table place ≡ Some e → stored e.phase W place e
+        ≡ (world_of (S.state store.new) books.new, result) }
     ensures answered { IsAnswered result }
     ensures booked { IsBooked (S.state store.new) books.new }
     ensures steady { IsSteady (S.state store.old) (S.state store.new) }

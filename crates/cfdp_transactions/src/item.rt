@@ -7,10 +7,10 @@ ghost use Rattle.cfdp_transactions.specs.Execution.{is_install, replied};
 ghost use Rattle.cfdp_transactions.specs.Items.{item_of};
 
 use crate::Reply;
-use cfdp_actions::{Filestore, Protected, Request, perform};
+use cfdp_actions::{Filestore, Protected, Request, perform_allowed};
 use cfdp_paths::{Memory, Path};
 
-/// What a transaction performs once its file is there (CCSDS 727.0-B-5 §4.9).
+/// What a transaction performs once its file is there (CCSDS 727.0-B-5, filestore procedures).
 #[derive(Clone, Copy)]
 pub(crate) enum Item<'a> {
     /// Its file is installed at the path.
@@ -28,26 +28,30 @@ impl<'a> Item<'a> {
     }
 }
 
-/// Performs an item of the transaction that stages in the slot, one that succeeds: the reply, and the ticks that it took.
+/// Performs an item of the transaction that stages in the slot, one that succeeds: the reply, and the ticks that it
+/// took. What is protected was looked at when the transaction was admitted, and is here for the contract alone.
 ///
 /// # Errors
 ///
-/// Want of memory, where the store takes any: it is as before. Cost: that of the store's change.
+/// Out of memory, where the store takes any: it is as before. Cost: that of the store's change.
 pub(crate) fn act<S: Filestore>(
     store: &mut S,
-    protected: &Protected,
+    _protected: &Protected,
     slot: u8,
     item: Item<'_>,
 ) -> Result<(Reply, u32), Memory>
     requires slot { slot < 64 }
     requires succeeds { let s = S.state store.old in
-        IsTrue (succeeded (act_item protected.now s.filestore (free_blocks s) slot (item_of item)).answer) }
+        IsTrue (succeeded (act_item _protected.now s.filestore (free_blocks s) slot (item_of item)).answer) }
     ensures reply { let s = S.state store.old in
-        IfOk result (λ done. done.0 ≡ replied (act_item protected.now s.filestore (free_blocks s) slot (item_of item.entry)).answer) }
+        IfOk result (λ done. done.0 ≡ replied (act_item _protected.now s.filestore (free_blocks s) slot
+        (item_of item.entry)).answer) }
     ensures ticks { let s = S.state store.old in
-        IfOk result (λ done. done.1 ≡ ticks (act_item protected.now s.filestore (free_blocks s) slot (item_of item.entry))) }
+        IfOk result (λ done. done.1 ≡ ticks (act_item _protected.now s.filestore (free_blocks s) slot
+        (item_of item.entry))) }
     ensures state { let s = S.state store.old in
-        OnOk result (S.state store.new ≡ with_changes s (act_item protected.now s.filestore (free_blocks s) slot (item_of item.entry)).changes) }
+        OnOk result (S.state store.new ≡ with_changes s (act_item _protected.now s.filestore (free_blocks s) slot
+        (item_of item.entry)).changes) }
     ensures err { OnErr result (S.state store.new ≡ S.state store.old) }
     ensures thrifty { IsTrue (S.state store.old).takes_no_memory → IsOk result }
 {
@@ -57,7 +61,7 @@ pub(crate) fn act<S: Filestore>(
             Ok((Reply::Installed, ticks))
         }
         Item::Perform(request) => {
-            let done = perform(store, protected, request)?;
+            let done = perform_allowed(store, request)?;
             Ok((Reply::Performed(done.status), done.ticks))
         }
     }

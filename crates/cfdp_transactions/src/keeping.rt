@@ -1,4 +1,5 @@
-//! File data that comes (CCSDS 727.0-B-5 §4.6.1): its octets are staged, but for those that are there already.
+//! File data that comes (CCSDS 727.0-B-5, copy file procedures): its octets are staged, but for those that are there
+//! already.
 
 ghost use Rattle.std.specs.Prelude.{◌≡◌, ◌+◌, ◌-◌, ◌≤◌, ◌<◌, ◌^◌, max, IsTrue, IsOk, IfOk, OnOk, OnErr, [], ◌∷◌, length};
 ghost use Rattle.cfdp_actions.specs.Filestore.{staged_in, blocks_of, Stages};
@@ -12,13 +13,14 @@ use crate::ranges::Ranges;
 use cfdp_actions::Filestore;
 use cfdp_paths::Memory;
 
-/// Keeps octets that came at an offset: those that were received before stay, and the staged list reaches to the greatest
-/// end, with zeros where nothing was received. Answers the blocks that were taken. The ranges are those before: the caller
-/// adds the new one.
+/// Keeps octets that came at an offset: those that were received before stay, and the staged list reaches to the
+/// greatest end, with zeros where nothing was received. Returns the blocks that were taken. The ranges are those
+/// before: the caller adds the new one.
 ///
 /// # Errors
 ///
-/// Want of memory, where the store takes any: nothing has changed then. Cost: by the octets and the gaps that they fill.
+/// Out of memory, where the store takes any: nothing has changed then. Cost: by the octets and the gaps that they
+/// fill.
 pub(crate) fn keep<S: Filestore>(
     store: &mut S,
     slot: u8,
@@ -36,7 +38,8 @@ pub(crate) fn keep<S: Filestore>(
         blocks_of (max size (at + length octets.now)) - blocks_of size ≤ free_blocks (S.state store.old) }
     ensures kept { OnOk result (S.state store.new ≡ with_changes (S.state store.old)
         (Stages slot (staged_of (kept (S.state store.old).filestore slot ranges.now at octets.now)) ∷ [])) }
-    ensures ranges { OnOk result (received_in (with_range at (at + length octets.now) ranges.now) (staged_in (S.state store.new).filestore slot)
+    ensures ranges { OnOk result (received_in (with_range at (at + length octets.now) ranges.now)
+        (staged_in (S.state store.new).filestore slot)
         ≡ kept (S.state store.old).filestore slot ranges.now at octets.now) }
     ensures taken { IfOk result (λ taken. taken
         ≡ blocks_of (length (kept (S.state store.old).filestore slot ranges.now at octets.now))
@@ -51,7 +54,7 @@ pub(crate) fn keep<S: Filestore>(
     Ok(taken)
 }
 
-/// Puts the octets whose offsets are in none of the ranges into their places.
+/// Puts the octets whose offsets are in none of the ranges into the file.
 fn put_missing<S: Filestore>(store: &mut S, slot: u8, ranges: &Ranges, at: u64, octets: &[u8])
     requires slot { slot < 64 }
     requires within { at + length octets.now < 2 ^ 64 }

@@ -131,12 +131,12 @@ pub fn only_take_hands_out()
     ensures { OnlyTakeHandsOut }
 {}
 
-/// No event but a step changes what stands in the filestore.
+/// No event but a step changes what is in the filestore.
 pub fn only_steps_change()
     ensures { OnlyStepsChange }
 {}
 
-/// Whatever the events, something stands in the filestore only at paths: at 1 to 8 names, each within
+/// Whatever the events, something is in the filestore only at paths: at 1 to 8 names, each within
 /// the limits.
 pub fn each_key_is_a_path()
     ensures { EachKeyIsAPath }

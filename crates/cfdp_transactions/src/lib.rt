@@ -1,7 +1,7 @@
 //! The core of a CFDP receiving entity (CCSDS 727.0-B-5): what each event does to the transactions
 //! and the filestore, and what holds over every list of events.
 //!
-//! The definitions stand in `specs/`: `Next.antt` has the table of events, `Sound.antt` what is true
+//! The definitions are in `specs/`: `Next.antt` has the table of events, `Sound.antt` what is true
 //! at all times, `Headline.antt` what is promised. The module [`laws`] proves it of the definitions:
 //! its functions do nothing, and their contracts are the laws.
 #![tactic(auto)]
@@ -16,6 +16,7 @@ mod delivery;
 mod entry;
 mod event;
 mod file_data;
+mod issuing;
 mod item;
 mod keeping;
 pub mod laws;
@@ -32,6 +33,7 @@ mod taking;
 
 pub use config::{Config, ConfigFault};
 pub use event::{Event, NotOurs, event_of, read_event, transaction_of};
+pub use issuing::{ShortBuffer, TakenFinished};
 pub use outcome::{Outcome, SharedOutcome};
 pub use phase::Phase;
 pub use putting::NotPut;

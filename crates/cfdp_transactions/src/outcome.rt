@@ -25,7 +25,7 @@ impl Outcome {
     ///
     /// # Errors
     ///
-    /// Want of memory. Cost: an allocation of their length, where there are any, and a copy of the requests' names.
+    /// Out of memory. Cost: an allocation of their length, where there are any, and a copy of the requests' names.
     pub fn octets(&self, alloc: Global) -> Result<Vec<u8>, Memory>
         requires { IsWritable self.now }
         ensures { IfOk result (λ octets. octets.items ≡ finished_octets self.now) }
@@ -62,7 +62,7 @@ impl SharedOutcome {
     ///
     /// # Errors
     ///
-    /// Want of memory: the outcome is dropped. Cost: one allocation.
+    /// Out of memory: the outcome is dropped. Cost: one allocation.
     pub fn new(alloc: Global, outcome: Outcome) -> Result<SharedOutcome, Memory>
         ensures { IfOk result (λ made. made ≡ outcome) }
     {
@@ -75,7 +75,7 @@ impl SharedOutcome {
     ///
     /// # Errors
     ///
-    /// Want of memory: there are as many handles as can be counted.
+    /// Out of memory: there are as many handles as can be counted.
     pub fn share(&self) -> Result<SharedOutcome, Memory>
         ensures { IfOk result (λ other. other ≡ self.now) }
     {

@@ -3,20 +3,20 @@
 ghost use Rattle.std.specs.Prelude.{◌≡◌};
 ghost use Rattle.cfdp_transactions.specs.Entry.{is_live, is_receiving, takes_data};
 
-/// How far a transaction is at the receiving entity (CCSDS 727.0-B-5 §4.6).
+/// How far a transaction is at the receiving entity (CCSDS 727.0-B-5, copy file procedures).
 #[derive(Clone, Copy, Debug, PartialEq, Eq)]
 pub enum Phase {
     /// File data is taken, and no EOF PDU has come.
     Receiving,
-    /// The EOF PDU came and octets are missing (§4.6.4); so many checks were made since.
+    /// The EOF PDU came and octets are missing (timer procedures); this many checks were made since.
     Awaiting(u32),
-    /// The file is there; the item of this number is performed next (§4.9).
+    /// The file is there; the item of this number is performed next (filestore procedures).
     Executing(u8),
     /// Its list of requests was refused.
     Refused,
     /// All its items were performed.
     Done,
-    /// It ended before it was done, with this condition code (§4.11 and §4.8).
+    /// It ended before it was done, with this condition code (cancel and fault handling procedures).
     Ended(u8),
 }
 

@@ -1,5 +1,5 @@
-//! Directories and files that are put into the filestore while no transaction is known: those that are there before launch,
-//! or that were kept over a restart.
+//! Directories and files that are put into the filestore while no transaction is known: those that are there before
+//! launch, or that were kept over a restart.
 
 ghost use Rattle.std.specs.Prelude.{◌≡◌, ◌≢◌, ◌≤◌, IsTrue, IsOk, IfErr, OnErr, OnOk, None, Some, [], ◌∷◌, length};
 ghost use Rattle.cfdp_actions.specs.Filestore.{Becomes, Directory, File, Node, node_at, parent_is_good, staged_in, weight};
@@ -28,7 +28,8 @@ pub enum NotPut {
     Memory,
 }
 
-/// The slot through which the octets of a file come to their path. While no transaction is known, nothing is staged in it.
+/// The slot through which the octets of a file come to their path. While no transaction is known, nothing is staged in
+/// it.
 const SLOT: u8 = 0;
 
 /// Puts an empty directory at a path.
@@ -40,7 +41,8 @@ pub(crate) fn put_directory<S: Filestore>(
     requires sound { Sound (world_of (S.state store.old) books.old) }
     requires booked { IsBooked (S.state store.old) books.old }
     ensures ok { OnOk result (put_fault (world_of (S.state store.old) books.old) path.now Directory ≡ None) }
-    ensures put { OnOk result (world_of (S.state store.new) books.new ≡ with_node (world_of (S.state store.old) books.old) path.now Directory) }
+    ensures put { OnOk result (world_of (S.state store.new) books.new
+        ≡ with_node (world_of (S.state store.old) books.old) path.now Directory) }
     ensures err { IfErr result (IsNotPut (world_of (S.state store.old) books.old) path.now Directory) }
     ensures unchanged { OnErr result (world_of (S.state store.new) books.new ≡ world_of (S.state store.old) books.old) }
     ensures thrifty { IsTrue (S.state store.old).takes_no_memory → IfErr result (λ why. why ≢ NoMemory) }
@@ -67,7 +69,8 @@ pub(crate) fn put_file<S: Filestore>(
     requires sound { Sound (world_of (S.state store.old) books.old) }
     requires booked { IsBooked (S.state store.old) books.old }
     ensures ok { OnOk result (put_fault (world_of (S.state store.old) books.old) path.now (File octets.now) ≡ None) }
-    ensures put { OnOk result (world_of (S.state store.new) books.new ≡ with_node (world_of (S.state store.old) books.old) path.now (File octets.now)) }
+    ensures put { OnOk result (world_of (S.state store.new) books.new
+        ≡ with_node (world_of (S.state store.old) books.old) path.now (File octets.now)) }
     ensures err { IfErr result (IsNotPut (world_of (S.state store.old) books.old) path.now (File octets.now)) }
     ensures unchanged { OnErr result (world_of (S.state store.new) books.new ≡ world_of (S.state store.old) books.old) }
     ensures thrifty { IsTrue (S.state store.old).takes_no_memory → IfErr result (λ why. why ≢ NoMemory) }
@@ -88,7 +91,8 @@ pub(crate) fn put_file<S: Filestore>(
 /// Why nothing that takes `blocks` blocks can be put at a path: the first reason.
 fn fault<S: Filestore>(store: &S, books: &Books, path: &Path, blocks: u64) -> Option<NotPut>
     requires booked { IsBooked (S.state store.now) books.now }
-    ensures { (node : Node) → weight (Some node) ≡ blocks → result ≡ put_fault (world_of (S.state store.now) books.now) path.now node }
+    ensures { (node : Node) → weight (Some node) ≡ blocks → result
+        ≡ put_fault (world_of (S.state store.now) books.now) path.now node }
 {
     if books.table.len() != 0 {
         return Some(NotPut::HasTransactions);
@@ -116,7 +120,8 @@ fn write_file<S: Filestore>(store: &mut S, path: &Path, octets: &[u8]) -> Result
     requires slots { length (S.state store.old).filestore.staged ≡ 64 }
     requires unstaged { staged_in (S.state store.old).filestore 0 ≡ [] }
     requires room { weight (Some (File octets.now)) ≤ free_blocks (S.state store.old) }
-    ensures made { OnOk result (S.state store.new ≡ with_changes (S.state store.old) (Becomes path.now (Some (File octets.now)) ∷ [])) }
+    ensures made { OnOk result (S.state store.new ≡ with_changes (S.state store.old)
+        (Becomes path.now (Some (File octets.now)) ∷ [])) }
     ensures err { OnErr result (S.state store.new ≡ S.state store.old) }
     ensures thrifty { IsTrue (S.state store.old).takes_no_memory → IsOk result }
 {

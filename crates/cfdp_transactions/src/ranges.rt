@@ -1,4 +1,4 @@
-//! The offsets of a file that were received (CCSDS 727.0-B-5 §4.6.1), as ranges.
+//! The offsets of a file that were received (CCSDS 727.0-B-5, copy file procedures), as ranges.
 
 ghost use Rattle.std.specs.Prelude.{◌≡◌, ◌+◌, ◌≤◌, ◌<◌, nat_le, nat_lt, if◌then◌else◌, List, [], ◌∷◌, ◌++◌, length, IfSome, IfNone, Some, None};
 ghost use Rattle.arrayvec.specs.ArrayVec.{array_vec_len};
@@ -10,7 +10,8 @@ use std::marker::Model;
 /// How many separate pieces of one file may be received at most.
 pub(crate) const MOST_PIECES: usize = 32;
 
-/// The most gaps between so many pieces, before the first and behind the last: also the pieces that there are with one more.
+/// The most gaps between this many pieces, before the first and after the last: also the pieces that there are with one
+/// more.
 pub const MOST_GAPS: usize = MOST_PIECES + 1;
 
 /// A start, and an end that is no longer part of it: offsets in octets.
@@ -111,7 +112,7 @@ impl Ranges {
         run(at, to)
     }
 
-    /// What is missing between the ranges, from offset 0 up to the limit (CCSDS 727.0-B-5 §4.6.4.3).
+    /// What is missing between the ranges, from offset 0 up to the limit (CCSDS 727.0-B-5, lost segment procedures).
     pub(crate) fn gaps(&self, limit: u64) -> ArrayVec<Range, MOST_GAPS>
         ensures { result.items ≡ between 0 self.now limit }
     {
@@ -126,15 +127,16 @@ impl Ranges {
     }
 }
 
-/// Puts the next range behind those that are joined: it becomes one with the pending range where they touch, and a pending
-/// range that ends before it is put first. Answers what is pending then.
+/// Puts the next range after those that are joined: it becomes one with the pending range where they touch, and a
+/// pending range that ends before it is put first. Returns what is pending then.
 fn join_next(
     joined: &mut ArrayVec<Range, MOST_GAPS>,
     pending: Option<Range>,
     range: Range,
 ) -> Option<Range>
     requires { array_vec_len joined.old + (count_of pending + 1) ≤ 33 }
-    ensures joined { (rest : List Range) → joined.new.items ++ rest_of result rest ≡ joined.old.items ++ rest_of pending (range ∷ rest) }
+    ensures joined { (rest : List Range) → joined.new.items ++ rest_of result rest ≡ joined.old.items
+        ++ rest_of pending (range ∷ rest) }
     ensures count { array_vec_len joined.new + count_of result ≤ array_vec_len joined.old + (count_of pending + 1) }
 {
     match pending {

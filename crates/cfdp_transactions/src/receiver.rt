@@ -1,12 +1,16 @@
 //! The core of a receiving entity.
 
-ghost use Rattle.std.specs.Prelude.{◌≡◌, ◌≢◌, ◌∷◌, [], None, Some, IfOk, IfErr, IsOk, IsNone, IsTrue, IsFalse, OnErr, OnOk, map, slice_get};
+ghost use Rattle.std.specs.Prelude.{◌≡◌, ◌≢◌, ◌<◌, ◌≤◌, ◌∷◌, [], None, Some, length, IfOk, IfErr, IfSome, IsOk, IsNone, IsTrue, IsFalse, OnErr, OnOk, map, slice_get};
 ghost use Rattle.cfdp_actions.specs.Filestore.{Directory, File};
 ghost use Rattle.cfdp_actions.specs.Store.{empty_store};
 ghost use Rattle.cfdp_transactions.specs.Beginning.{IsGoodStart, IsNotPut, Memory as NoMemory, put_fault, start_with, with_node};
 ghost use Rattle.cfdp_transactions.specs.Sound.{Sound};
 ghost use Rattle.cfdp_transactions.specs.World.{leases_of, next_outcome, next_runnable, spare, start};
 ghost use Rattle.cfdp_transactions.specs.Events.{Cancel, Check, DataCame, EofCame, MetadataCame, Step, Take};
+ghost use Rattle.cfdp_pdus.specs.Placing.{filled};
+ghost use Rattle.cfdp_transactions.specs.Issuing.{sent, taken_by};
+ghost use Rattle.cfdp_transactions.specs.Next.{next};
+ghost use Rattle.cfdp_transactions.specs.Writable.{IsWritable};
 ghost use Rattle.cfdp_transactions.specs.Needs.{Follows, may_want_memory};
 ghost use Rattle.cfdp_transactions.specs.Adding.{IsRuled};
 ghost use Rattle.cfdp_transactions.specs.Books.{IsAnswered};
@@ -21,8 +25,8 @@ use crate::event::transaction_of;
 use crate::ranges::{MOST_GAPS, Range};
 use crate::table::{MOST_TRANSACTIONS, Table};
 use crate::{
-    Config, Event, NotPut, Outcome, Phase, Reply, admission, closing, delivery, file_data, laws,
-    putting, step, taking,
+    Config, Event, NotPut, Outcome, Phase, Reply, ShortBuffer, TakenFinished, admission, closing,
+    delivery, file_data, laws, putting, step, taking,
 };
 use arrayvec::ArrayVec;
 use cfdp_actions::Filestore;
@@ -35,7 +39,8 @@ use cfdp_verifier::{MOST_REQUESTS, Refusal};
 use std::alloc::Global;
 use std::marker::Model;
 
-/// The core of a receiving entity (CCSDS 727.0-B-5 §4.6): its store, and at most 64 transactions in order of admission.
+/// The core of a receiving entity (CCSDS 727.0-B-5, copy file procedures): its store, and at most 64 transactions in
+/// order of admission.
 ///
 /// Contracts see it as its `world` and whether its store takes no memory. The world is sound at all times: what live
 /// transactions lease does not conflict, their reserves are free, and what is left of each succeeds within its grant.
@@ -64,7 +69,7 @@ impl<S: Filestore> Core<S> {
     ///
     /// # Errors
     ///
-    /// Want of memory: both are dropped. Cost: the room of 64 transactions.
+    /// Out of memory: both are dropped. Cost: the room of 64 transactions.
     pub fn new(alloc: Global, config: Config, store: S) -> Result<Core<S>, Memory>
         requires { S.state store ≡ empty_store config.blocks (S.state store).takes_no_memory }
         ensures world { IfOk result (λ core. core.world ≡ start config) }
@@ -74,8 +79,8 @@ impl<S: Filestore> Core<S> {
         Core::over(alloc, config, store)
     }
 
-    /// A receiving entity that has just begun, over a store of the configuration's capacity that may have directories and files
-    /// already: each parent is a directory, each path has 1 to 8 names, and nothing is staged.
+    /// A receiving entity that has just begun, over a store of the configuration's capacity that may have directories
+    /// and files already: each parent is a directory, each path has 1 to 8 names, and nothing is staged.
     ///
     /// # Errors
     ///
@@ -91,7 +96,7 @@ impl<S: Filestore> Core<S> {
         let books = Books {
             config,
             table: Table::new(alloc)?,
-            leases: Leases::new(alloc),
+            leases: Leases::with_capacity(alloc, MOST_TRANSACTIONS)?,
             quota,
         };
         Ok(Core {
@@ -101,8 +106,8 @@ impl<S: Filestore> Core<S> {
         })
     }
 
-    /// Puts an empty directory at a path of the filestore, while no transaction is known: before launch, or after a restart. It is out
-    /// of memory only over a store that takes some. Cost: a look-up of the path and of its parent.
+    /// Puts an empty directory at a path of the filestore, while no transaction is known: before launch, or after a
+    /// restart. It is out of memory only over a store that takes some. Cost: a look-up of the path and of its parent.
     ///
     /// # Errors
     ///
@@ -119,8 +124,8 @@ impl<S: Filestore> Core<S> {
         putting::put_directory(&mut self.store, &mut self.books, path)
     }
 
-    /// Puts a file with these octets at a path of the filestore, as [`put_directory`](Core::put_directory) puts a directory. Cost:
-    /// the look-ups, and two passes over its blocks: zeros are written, and then the octets.
+    /// Puts a file with these octets at a path of the filestore, as [`put_directory`](Core::put_directory) puts a
+    /// directory. Cost: the look-ups, and two passes over its blocks: zeros are written, and then the octets.
     ///
     /// # Errors
     ///
@@ -151,8 +156,8 @@ impl<S: Filestore> Core<S> {
         self.books.table.next_runnable()
     }
 
-    /// How far a transaction is. Like each of these readers it takes no memory and costs a look-up; it is `None` where the
-    /// transaction is not known.
+    /// How far a transaction is. Like each of these readers it takes no memory and costs a look-up; it is `None` where
+    /// the transaction is not known.
     pub fn phase(&self, id: TransactionId) -> Option<Phase>
         ensures { result ≡ read_of (λ e. e.phase) self.now.world id }
     {
@@ -192,8 +197,8 @@ impl<S: Filestore> Core<S> {
         Some(entry.steps_spent())
     }
 
-    /// What is missing of a transaction's file, as starts and ends in order: between the octets that came, and once its EOF PDU
-    /// came up to the size that it gave (§4.6.4.3). There are none where no file data is taken.
+    /// What is missing of a transaction's file, as starts and ends in order: between the octets that came, and once its
+    /// EOF PDU came up to the size that it gave (lost segment procedures). There are none where no file data is taken.
     pub fn gaps(&self, id: TransactionId) -> Option<ArrayVec<Range, MOST_GAPS>>
         ensures { option_map (λ gaps. gaps.items) result ≡ read_of gaps self.now.world id }
     {
@@ -213,8 +218,8 @@ impl<S: Filestore> Core<S> {
         Some(entry.progress())
     }
 
-    /// The offset up to which [`gaps`](Core::gaps) tells what is missing: the end of the last octet kept, and once the EOF PDU came
-    /// the size that it gave. 0 where no file data is taken.
+    /// The offset up to which [`gaps`](Core::gaps) says what is missing: the end of the last octet kept, and once the
+    /// EOF PDU came the size that it gave. 0 where no file data is taken.
     pub fn reach(&self, id: TransactionId) -> Option<u64>
         ensures { result ≡ read_of reach self.now.world id }
     {
@@ -224,8 +229,8 @@ impl<S: Filestore> Core<S> {
         Some(entry.reach())
     }
 
-    /// A transaction's Metadata (CCSDS 727.0-B-5 §5.2.5) as it came: the names, the size, whether closure was requested, the checksum
-    /// type and the requests. It is lent.
+    /// A transaction's Metadata (CCSDS 727.0-B-5 §5.2.5) as it came: the names, the size, whether closure was
+    /// requested, the checksum type and the requests. It is lent.
     pub fn metadata(&self, id: TransactionId) -> Option<&Metadata>
         ensures { option_copied result ≡ read_of (λ e. e.metadata) self.now.world id }
     {
@@ -235,28 +240,28 @@ impl<S: Filestore> Core<S> {
         Some(entry.metadata())
     }
 
-    /// The transaction with this number in order of admission, counted from 0: `None` where there are not that many. Those
-    /// that are refused, done or ended count too, until their outcome is taken. Takes no memory. Cost: constant.
+    /// The transaction with this number in order of admission, counted from 0: `None` where there are not that many.
+    /// Those that are refused, done or ended count too, until their outcome is taken. Takes no memory. Cost: constant.
     pub fn transaction_at(&self, index: usize) -> Option<TransactionId>
         ensures { result ≡ slice_get (map name_of self.now.world.table) index }
     {
         self.books.table.name_at(index)
     }
 
-    /// The first transaction, in order of admission, whose outcome can be taken: it is refused, done or ended. Goes through the
-    /// table. Takes no memory.
+    /// The first transaction, in order of admission, whose outcome can be taken: it is refused, done or ended. Goes
+    /// through the table. Takes no memory.
     pub fn next_outcome(&self) -> Option<TransactionId>
         ensures { result ≡ next_outcome self.now.world.table }
     {
         self.books.table.next_outcome()
     }
 
-    /// The outcome of a transaction that is over, as it will be handed out when it is taken: `None` where the transaction is
-    /// live or not known.
+    /// The outcome of a transaction that is over, as it will be handed out when it is taken: `None` where the
+    /// transaction is live or not known.
     ///
     /// # Errors
     ///
-    /// Want of memory, where there is an outcome. Cost: a copy of its requests' names.
+    /// Out of memory, where there is an outcome. Cost: a copy of its requests' names.
     pub fn outcome(&self, id: TransactionId) -> Result<Option<Outcome>, Memory>
         ensures outcome { IfOk result (λ outcome. outcome ≡ outcome_in self.now.world id) }
         ensures lean { IsNone (outcome_in self.now.world id) → IsOk result }
@@ -277,8 +282,8 @@ impl<S: Filestore> Core<S> {
         self.books.quota.spare()
     }
 
-    /// The store. It has as many blocks as the configuration says, and takes no memory exactly where the core's store takes
-    /// none.
+    /// The store. It has as many blocks as the configuration says, and takes no memory exactly where the core's store
+    /// takes none.
     pub fn store(&self) -> &S
         ensures filestore { (S.state result.now).filestore ≡ self.now.world.filestore }
         ensures capacity { (S.state result.now).capacity ≡ self.now.world.config.blocks }
@@ -301,20 +306,21 @@ impl<S: Filestore> Core<S> {
         &self.books.config
     }
 
-    /// Takes an event (CCSDS 727.0-B-5, the procedures at the receiving entity): the reply, and the world after it, are those of the table of events.
+    /// Takes an event (CCSDS 727.0-B-5, the procedures at the receiving entity): the reply, and the world after it, are
+    /// those of the table of events.
     ///
-    /// Where memory is refused the reply is [`Reply::Memory`] and the world is as before: the event can be handed in again.
-    /// Over a store that takes no memory only Metadata and Take get that reply. Over any store an EOF PDU, a request to cancel and
-    /// a check never get it. Nor does Take of a transaction that is live or not known, nor a Metadata PDU that is for another
-    /// entity, that came before, that has more than 64 requests, or that comes while the table is full. Journal-full is no
-    /// reply of the core.
+    /// Where memory is refused the reply is [`Reply::Memory`] and the world is as before: the event can be handed in
+    /// again. Over a store that takes no memory only Metadata and Take get that reply. Over any store an EOF PDU, a
+    /// request to cancel and a check never get it. Nor does Take of a transaction that is live or not known, nor a
+    /// Metadata PDU that is for another entity, that came before, that has more than 64 requests, or that comes while
+    /// the table is full. Journal-full is no reply of the core.
     ///
-    /// Cost: that of what the event brings. Metadata costs what [`verify`](cfdp_verifier::verify) does and one copy of it.
-    /// File data costs its octets and the pieces that they touch, and what the store takes to reach its offset. Where no octet
-    /// is missing any more, the EOF PDU or the file data that came last asks the store for the checksum of what is staged:
-    /// constant time in a store that keeps it, else one pass. A step costs what its request says, and the rename of a
-    /// directory also a pass over all below it. The outcome costs two allocations, and a move of each request. All else
-    /// costs a look-up.
+    /// Cost: that of what the event brings. Metadata costs what [`verify`](cfdp_verifier::verify) does and one copy of
+    /// it. File data costs its octets and the pieces that they touch, and what the store takes to reach its offset.
+    /// Where no octet is missing any more, the EOF PDU or the file data that came last asks the store for the checksum
+    /// of what is staged: constant time in a store that keeps it, else one pass. A step costs the change that its
+    /// request makes, and asks the store nothing before it. The outcome costs two allocations, and a move of each
+    /// request. All else costs a look-up.
     pub fn apply(&mut self, event: &Event) -> Reply
         ensures follows { Follows self.old.world event.now result self.new.world }
         ensures answered { IsFalse (may_want_memory self.old.takes_no_memory event.now) → IsAnswered result }
@@ -357,8 +363,8 @@ impl<S: Filestore> Core<S> {
         }
     }
 
-    /// The same as [`apply`](Core::apply), with its reply twice: for a journal, and for whom it answers. An outcome's second
-    /// handle is made before anything changes.
+    /// The same as [`apply`](Core::apply), with its reply twice: for the journal and for the caller. An outcome's
+    /// second handle is made before anything changes.
     pub fn apply_both(&mut self, event: &Event) -> (Reply, Reply)
         ensures follows { Follows self.old.world event.now result.0 self.new.world }
         ensures same { result.1 ≡ result.0 }
@@ -392,6 +398,40 @@ impl<S: Filestore> Core<S> {
         taking::hand_out(self.alloc, &self.store, &mut self.books, place, outcome)
     }
 
+    /// The outcome of a transaction is taken, with which it is forgotten, as [`apply`](Core::apply) does with Take, by
+    /// a caller that wants its Finished PDU (CCSDS 727.0-B-5 §5.2.3) alone. The PDU is written to the front of `out`,
+    /// of which the rest is as before; nothing is written where it is not to be sent. `None` where the transaction is
+    /// live or not known, which changes nothing. Takes no memory.
+    ///
+    /// # Errors
+    ///
+    /// Exactly where the Finished PDU does not fit in `out`, with its length: the core and `out` are as before.
+    ///
+    /// Cost: a look-up, a pass over the requests, the octets that it writes, the drop of what the table has of the
+    /// transaction, and a move of the entries after it.
+    pub fn take_finished(
+        &mut self,
+        id: TransactionId,
+        out: &mut [u8],
+    ) -> Result<Option<TakenFinished>, ShortBuffer>
+        requires writable { IfSome (outcome_in self.old.world id) IsWritable }
+        ensures told { IfOk result (λ told. told ≡ taken_by (next self.old.world (Take id)).1) }
+        ensures world { OnOk result (self.new.world ≡ (next self.old.world (Take id)).0) }
+        ensures written { OnOk result (out.new ≡ filled (sent (next self.old.world (Take id)).1) out.old) }
+        ensures fits { OnOk result (length (sent (next self.old.world (Take id)).1) ≤ length out.old) }
+        ensures needed { IfErr result (λ short. short.needed ≡ length (sent (next self.old.world (Take id)).1)) }
+        ensures less { IfErr result (λ short. length out.old < short.needed) }
+        ensures unchanged { OnErr result (self.new.world ≡ self.old.world) }
+        ensures unwritten { OnErr result (out.new ≡ out.old) }
+        ensures steady { self.new.takes_no_memory ≡ self.old.takes_no_memory }
+    {
+        laws::next_is_sound();
+        let Some(place) = self.books.table.find(id) else {
+            return Ok(None);
+        };
+        taking::take_finished(self.alloc, &self.store, &mut self.books, place, out)
+    }
+
     /// The ruling on a Metadata PDU that came (CCSDS 727.0-B-5 §5.2.5), which is lent.
     ///
     /// # Errors
@@ -402,7 +442,8 @@ impl<S: Filestore> Core<S> {
     fn judge(&self, header: &Header, metadata: &Metadata) -> Result<Ruling, Reply>
         ensures begins { IfOk result (λ ruling. IsTrue (begins self.now.world header.now metadata.now)) }
         ensures ruled { IfOk result (IsRuled self.now.world metadata.now) }
-        ensures follows { IfErr result (λ reply. Follows self.now.world (MetadataCame header.now metadata.now) reply self.now.world) }
+        ensures follows { IfErr result (λ reply. Follows self.now.world
+            (MetadataCame header.now metadata.now) reply self.now.world) }
         ensures lean { IsFalse (begins self.now.world header.now metadata.now) → IfErr result IsAnswered }
     {
         if header.destination != self.books.config.entity() {
@@ -442,9 +483,9 @@ impl<S: Filestore> Core<S> {
         )
     }
 
-    /// A File Data PDU came (CCSDS 727.0-B-5 §5.3, copy file procedures at the receiving entity). Does what [`apply`](Core::apply)
-    /// does with its event, without a copy of its octets. Over a store that takes no memory the reply is never
-    /// [`Reply::Memory`]. Cost: as for [`apply`](Core::apply).
+    /// A File Data PDU came (CCSDS 727.0-B-5 §5.3, copy file procedures at the receiving entity). Does what
+    /// [`apply`](Core::apply) does with its event, without a copy of its octets. Over a store that takes no memory the
+    /// reply is never [`Reply::Memory`]. Cost: as for [`apply`](Core::apply).
     pub fn file_data(&mut self, header: &Header, piece: &Piece<'_>) -> Reply
         ensures follows { Follows self.old.world (DataCame header.now piece.now) result self.new.world }
         ensures answered { IsTrue self.old.takes_no_memory → IsAnswered result }
@@ -461,7 +502,7 @@ impl<S: Filestore> Core<S> {
         file_data::receive(&mut self.store, &mut self.books, place, piece)
     }
 
-    /// An EOF PDU came (§5.2.2 and §4.6.1).
+    /// An EOF PDU came (§5.2.2, copy file procedures).
     fn eof(&mut self, header: &Header, eof: Eof) -> Reply
         ensures follows { Follows self.old.world (EofCame header.now eof) result self.new.world }
         ensures answered { IsAnswered result }
@@ -504,7 +545,7 @@ impl<S: Filestore> Core<S> {
         taking::take_moved(self.alloc, &self.store, &mut self.books, place)
     }
 
-    /// A request to cancel a transaction (CCSDS 727.0-B-5 §4.11).
+    /// A request to cancel a transaction (CCSDS 727.0-B-5, cancel procedures).
     fn cancel(&mut self, id: TransactionId) -> Reply
         ensures follows { Follows self.old.world (Cancel id) result self.new.world }
         ensures answered { IsAnswered result }
@@ -517,7 +558,7 @@ impl<S: Filestore> Core<S> {
         closing::cancel(&mut self.store, &mut self.books, place)
     }
 
-    /// A check timer of a transaction expired (§4.6.4).
+    /// A check timer of a transaction expired (timer procedures).
     fn check(&mut self, id: TransactionId) -> Reply
         ensures follows { Follows self.old.world (Check id) result self.new.world }
         ensures answered { IsAnswered result }
@@ -530,7 +571,7 @@ impl<S: Filestore> Core<S> {
         closing::check(&mut self.store, &mut self.books, place)
     }
 
-    /// The next item of a transaction is performed (§4.9).
+    /// The next item of a transaction is performed (filestore procedures).
     fn step(&mut self, id: TransactionId) -> Reply
         ensures follows { Follows self.old.world (Step id) result self.new.world }
         ensures answered { IsTrue self.old.takes_no_memory → IsAnswered result }

@@ -11,7 +11,7 @@ use cfdp_verifier::Refusal;
 /// What the receiving entity replies to an event.
 #[derive(Drop)]
 pub enum Reply {
-    /// The transaction is admitted, with so many blocks and steps granted to it.
+    /// The transaction is admitted, with this many blocks and steps granted to it.
     Admitted(u32, u32),
     /// Its list of requests is refused.
     Refused(Refusal),
@@ -56,7 +56,7 @@ impl Reply {
     ///
     /// # Errors
     ///
-    /// Want of memory, where it hands out an outcome that has as many handles as can be counted.
+    /// Out of memory, where it hands out an outcome that has as many handles as can be counted.
     pub fn share(&self) -> Result<Reply, Memory>
         ensures same { IfOk result (λ other. other ≡ self.now) }
         ensures lean { IsFalse (hands_out self.now) → IsOk result }

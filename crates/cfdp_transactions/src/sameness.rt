@@ -36,8 +36,8 @@ fn same_outcome(a: &Outcome, b: &Outcome) -> bool
 }
 
 impl Event {
-    /// Whether two events are the same: of one kind, with everything in them equal. Takes no memory. Cost: the octets that
-    /// both have, up to the first difference.
+    /// Whether two events are the same: of one kind, with everything in them equal. Takes no memory. Cost: the octets
+    /// that both have, up to the first difference.
     pub fn same(&self, other: &Event) -> bool
         ensures { IsTrue result ↔ (self.now ≡ other.now) }
     {
@@ -56,8 +56,8 @@ impl Event {
 }
 
 impl Reply {
-    /// Whether two replies are the same: of one kind, with everything in them equal, however many share an outcome. Takes
-    /// no memory. Cost: the octets that both have, up to the first difference.
+    /// Whether two replies are the same: of one kind, with everything in them equal, however many share an outcome.
+    /// Takes no memory. Cost: the octets that both have, up to the first difference.
     pub fn same(&self, other: &Reply) -> bool
         ensures { IsTrue result ↔ (self.now ≡ other.now) }
     {

@@ -13,7 +13,7 @@ use crate::{Phase, Reply};
 use cfdp_actions::Filestore;
 use cfdp_quota::Quota;
 
-/// The transaction in the slot took or gave back blocks: so many were free before, and so many are free now.
+/// The transaction in the slot took or gave back blocks: this many were free before, and this many are free now.
 pub(crate) fn settle(quota: &mut Quota, slot: u8, before: u32, after: u32)
     requires slot { slot < 64 }
     requires opened { entry_at quota.old slot ≡ Some (reserve_at quota.old slot) }
@@ -29,8 +29,8 @@ pub(crate) fn settle(quota: &mut Quota, slot: u8, before: u32, after: u32)
     }
 }
 
-/// The next item of the transaction at a place is performed (CCSDS 727.0-B-5 §4.9). Where memory is refused, nothing has
-/// changed.
+/// The next item of the transaction at an index is performed (CCSDS 727.0-B-5, filestore procedures). Where memory is
+/// refused, nothing has changed.
 pub(crate) fn step<S: Filestore>(store: &mut S, books: &mut Books, place: usize) -> Reply
     requires laws { LowerLaws }
     requires sound { Sound (world_of (S.state store.old) books.old) }

@@ -81,7 +81,7 @@ impl Table {
         None
     }
 
-    /// The name of the transaction at a place, if there is one.
+    /// The name of the transaction at an index, if there is one.
     pub(crate) fn name_at(&self, place: usize) -> Option<TransactionId>
         ensures { result ≡ slice_get (map row_name self.now) place }
     {
@@ -108,7 +108,7 @@ impl Table {
         self.entries.get_index_of(&id)
     }
 
-    /// The transaction at a place.
+    /// The transaction at an index.
     pub(crate) fn at(&self, place: usize) -> &Entry
         requires { place < length self.now }
         ensures { slice_get self.now place ≡ Some result.now }
@@ -116,7 +116,7 @@ impl Table {
         self.entries.get_index(place).unwrap().1
     }
 
-    /// The transaction at a place ends.
+    /// The transaction at an index ends.
     pub(crate) fn end(&mut self, place: usize, condition: u8, by_eof: bool, given: u32)
         requires within { place < length self.old }
         requires least { IfSome (slice_get self.old place) (λ r. negsuc 65535 ≤ℤ r.blocks_spent) }
@@ -129,7 +129,7 @@ impl Table {
             .end(condition, by_eof, given);
     }
 
-    /// The transaction at a place comes to another phase.
+    /// The transaction at an index moves to another phase.
     pub(crate) fn turn(&mut self, place: usize, phase: Phase, eof: Option<Eof>, complete: bool)
         requires { place < length self.old }
         ensures { Becomes self.old self.new place (λ r. row_turned r phase eof complete) }
@@ -144,7 +144,7 @@ impl Table {
     ///
     /// # Errors
     ///
-    /// Want of memory: nothing has changed then, and the entry is dropped.
+    /// Out of memory: nothing has changed then, and the entry is dropped.
     pub(crate) fn push(&mut self, entry: Entry) -> Result<(), Memory>
         requires { row_place (row_name entry) self.old ≡ length self.old }
         ensures ok { OnOk result (self.new ≡ self.old ++ entry ∷ []) }
@@ -154,7 +154,7 @@ impl Table {
         Ok(())
     }
 
-    /// The next item of the transaction at a place went well, as [`Entry::advance`] says.
+    /// The next item of the transaction at an index went well, as [`Entry::advance`] says.
     pub(crate) fn advance(
         &mut self,
         place: usize,
@@ -176,7 +176,7 @@ impl Table {
             .advance(next, last, install, before, after, ticks);
     }
 
-    /// Octets of the transaction at a place were staged, as [`Entry::store`] says.
+    /// Octets of the transaction at an index were staged, as [`Entry::store`] says.
     pub(crate) fn store(&mut self, place: usize, start: u64, end: u64, taken: u32)
         requires within { place < length self.old }
         requires fits { IfSome (slice_get self.old place) (λ r. CanStore r start end) }
@@ -188,7 +188,7 @@ impl Table {
             .store(start, end, taken);
     }
 
-    /// The transaction at a place is forgotten. Costs a move of each one behind it.
+    /// The transaction at an index is forgotten. Costs a move of each one after it.
     pub(crate) fn forget(&mut self, place: usize)
         requires { place < length self.old }
         ensures { self.new ≡ remove self.old place }
@@ -196,7 +196,7 @@ impl Table {
         self.entries.shift_remove_index(place);
     }
 
-    /// The transaction at a place, which is forgotten. Costs a move of each one after it.
+    /// The transaction at an index, which is forgotten. Costs a move of each one after it.
     pub(crate) fn take_out(&mut self, place: usize) -> Entry
         requires { place < length self.old }
         ensures taken { slice_get self.old place ≡ Some result }

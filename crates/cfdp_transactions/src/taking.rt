@@ -1,21 +1,24 @@
-//! The outcome of a transaction, which is taken once it is over (CCSDS 727.0-B-5 §4.6.1 and §5.2.3).
+//! The outcome of a transaction, which is taken once it is over (CCSDS 727.0-B-5 §5.2.3, copy file procedures).
 
-ghost use Rattle.std.specs.Prelude.{◌≡◌, ℕ, ◌<◌, ◌≤◌, [], IfOk, IsFalse, length, slice_get, vec_capacity, vec_len, Some, None};
+ghost use Rattle.std.specs.Prelude.{◌≡◌, ℕ, ◌<◌, ◌≤◌, [], IfErr, IfOk, IsFalse, length, slice_get, vec_capacity, vec_len, Some, None};
 ghost use Rattle.cfdp_status.specs.declared.status.Status.TheVariants.{Successful, NotPerformed};
 ghost use Rattle.cfdp_actions.specs.Filestore.{Filestore as Files};
 ghost use Rattle.cfdp_status.specs.Codes.{action_of};
 ghost use Rattle.cfdp_transactions.specs.Books.{AnswersAt, IsAnswered, IsBooked, IsLiveAt, world_of};
 ghost use Rattle.cfdp_transactions.specs.Ending.{taken_out};
 ghost use Rattle.cfdp_transactions.specs.Entry.{Entry as Transaction, has_file, is_live};
+ghost use Rattle.cfdp_transactions.specs.Issuing.{FallsShort, Issues};
 ghost use Rattle.cfdp_transactions.specs.Outcome.{condition_of, outcome_of, responses_of};
 ghost use Rattle.cfdp_transactions.specs.Rows.{entry_in};
 ghost use Rattle.cfdp_transactions.specs.Sound.{Sound};
 ghost use Rattle.cfdp_transactions.specs.Taking.{answered_by, statuses_of, status_by, fault_by};
+ghost use Rattle.cfdp_transactions.specs.Writable.{IsWritable};
 
 use crate::admission::names_file;
 use crate::books::Books;
 use crate::conditions::{FILESTORE_REJECTION, NO_ERROR, UNSUPPORTED_CHECKSUM_TYPE};
 use crate::entry::Entry;
+use crate::issuing::{ShortBuffer, TakenFinished, put_finished};
 use crate::outcome::{Outcome, SharedOutcome};
 use crate::{Phase, Reply};
 use cfdp_actions::Filestore;
@@ -35,8 +38,8 @@ const RETAINED: u8 = 2;
 
 const UNREPORTED: u8 = 3;
 
-/// The transaction at a place is forgotten, and its outcome handed out: the reply, twice. Where memory is refused nothing has
-/// changed. Cost: a copy of its requests' names.
+/// The transaction at an index is forgotten, and its outcome handed out: the reply, twice. Where memory is refused
+/// nothing has changed. Cost: a copy of its requests' names.
 pub(crate) fn take<S: Filestore>(
     alloc: Global,
     store: &S,
@@ -62,8 +65,8 @@ pub(crate) fn take<S: Filestore>(
     (Reply::Taken(outcome), Reply::Taken(again))
 }
 
-/// The same with the reply once: the names of the requests are moved into the outcome. Where memory is refused nothing has changed.
-/// Cost: two allocations, a move of each request, and the drop of the rest of what the table has.
+/// The same with the reply once: the names of the requests are moved into the outcome. Where memory is refused nothing
+/// has changed. Cost: two allocations, a move of each request, and the drop of the rest of what the table has.
 pub(crate) fn take_moved<S: Filestore>(
     alloc: Global,
     store: &S,
@@ -97,7 +100,7 @@ pub(crate) fn take_moved<S: Filestore>(
     Reply::Taken(handle)
 }
 
-/// The same for an outcome that was made before: the transaction at a place is forgotten, and the outcome handed out.
+/// The same for an outcome that was made before: the transaction at an index is forgotten, and the outcome handed out.
 /// Where memory is refused nothing has changed. Cost: one allocation.
 pub(crate) fn hand_out<S: Filestore>(
     alloc: Global,
@@ -108,7 +111,8 @@ pub(crate) fn hand_out<S: Filestore>(
 ) -> Reply
     requires booked { IsBooked (S.state store.now) books.old }
     requires within { place < length books.old.table }
-    requires made { (e : Transaction) → slice_get (world_of (S.state store.now) books.old).table place ≡ Some e → IsFalse (is_live e.phase) → outcome ≡ outcome_of e }
+    requires made { (e : Transaction) → slice_get (world_of (S.state store.now) books.old).table place ≡ Some e →
+        IsFalse (is_live e.phase) → outcome ≡ outcome_of e }
     ensures answer { let W = world_of (S.state store.now) books.old in
         AnswersAt W (world_of (S.state store.now) books.new) place (taken_out W place) result }
     ensures booked { IsBooked (S.state store.now) books.new }
@@ -121,6 +125,48 @@ pub(crate) fn hand_out<S: Filestore>(
     };
     books.table.forget(place);
     Reply::Taken(shared)
+}
+
+/// The transaction at an index is forgotten, and its Finished PDU written to the front of a buffer: what is said of it.
+/// `None` where it is live, which changes nothing.
+///
+/// # Errors
+///
+/// The buffer is too short: nothing has changed. Takes no memory. Cost: the octets that it writes, and the drop of what
+/// the table has.
+pub(crate) fn take_finished<S: Filestore>(
+    alloc: Global,
+    store: &S,
+    books: &mut Books,
+    place: usize,
+    out: &mut [u8],
+) -> Result<Option<TakenFinished>, ShortBuffer>
+    requires booked { IsBooked (S.state store.now) books.old }
+    requires within { place < length books.old.table }
+    requires writable { let W = world_of (S.state store.now) books.old in
+        (e : Transaction) → slice_get W.table place ≡ Some e → IsFalse (is_live e.phase) → IsWritable (outcome_of e) }
+    ensures ok { let W = world_of (S.state store.now) books.old in
+        IfOk result (λ told. (e : Transaction) → slice_get W.table place ≡ Some e →
+        Issues (taken_out W place (Some e)) (world_of (S.state store.now) books.new) out.old out.new told) }
+    ensures err { let W = world_of (S.state store.now) books.old in
+        IfErr result (λ short. (e : Transaction) → slice_get W.table place ≡ Some e →
+        FallsShort (taken_out W place (Some e)) W (world_of (S.state store.now) books.new) out.old out.new short) }
+    ensures booked { IsBooked (S.state store.now) books.new }
+{
+    let entry = books.table.at(place);
+    if entry.phase().is_live() {
+        return Ok(None);
+    }
+    let outcome = bare_outcome(alloc, entry);
+    let condition = outcome.finished.condition;
+    let performed = usize::from(entry.performed());
+    match put_finished(&outcome, &entry.metadata().requests, performed, out) {
+        Err(short) => Err(short),
+        Ok(len) => {
+            books.table.forget(place);
+            Ok(Some(TakenFinished { condition, len }))
+        }
+    }
 }
 
 /// Two handles of the outcome of a transaction that is over.
@@ -212,8 +258,8 @@ fn file_status(has_file: bool, installed: bool, phase: Phase) -> u8
     }
 }
 
-/// Who is at fault: nobody where there is no error or the checksum type is not supported, the sender where its EOF said so,
-/// and else this entity.
+/// Who is at fault: nobody where there is no error or the checksum type is not supported, the sender where its EOF said
+/// so, and else this entity.
 fn find_fault(condition: u8, by_eof: bool, header: &Header) -> Option<u64>
     ensures { result ≡ fault_by condition by_eof header.now }
 {
@@ -227,7 +273,7 @@ fn find_fault(condition: u8, by_eof: bool, header: &Header) -> Option<u64>
 }
 
 /// The status of the request of this number: the first ones were performed, and each of them was successful.
-fn status_of(action: Action, number: usize, performed: usize) -> Status
+pub(crate) fn status_of(action: Action, number: usize, performed: usize) -> Status
     ensures performed { number < performed → result ≡ Successful action }
     ensures left { performed ≤ number → result ≡ NotPerformed action }
     ensures action { action_of result ≡ action }
@@ -245,7 +291,8 @@ fn make_responses(
     requests: &[FilestoreRequest],
     performed: usize,
 ) -> Result<Vec<FilestoreResponse>, Memory>
-    ensures { IfOk result (λ responses. responses.items ≡ responses_of requests.now (statuses_of performed requests.now)) }
+    ensures { IfOk result (λ responses. responses.items ≡ responses_of requests.now
+        (statuses_of performed requests.now)) }
 {
     let mut responses = Vec::with_capacity(alloc, requests.len())?;
     for (place, request) in requests.iter().enumerate() {

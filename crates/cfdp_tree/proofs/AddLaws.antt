@@ -1,7 +1,7 @@
 -- A node more.
 --     added_path, kept_path     its path, and those of the others
 --     added_tree                there is a tree still
---     added_shows               what stands then
+--     added_shows               what exists then
 use Rattle.std.proofs.Common.{◌≡◌, ◌≢◌, ℕ, suc, ◌<◌, ◌≤◌, Bool, true, false, List, [], ◌∷◌, ◌++◌, length, cond, Option, Some, None, refl, sym, ap, ◌∙◌, subst, inl, inr}
 use Rattle.std.proofs.lemmas.List.{get_or-set_same, get_or-set_other}
 use Rattle.std.proofs.lemmas.Bool.{cases_eq}
@@ -93,7 +93,7 @@ module _ (old : Blocks) (b : ℕ) (block : List ℕ) (within : b < length old) (
     | inr other ↦ (let was = was_node c node other in ends_kept most_names c was (tree.ends c was))
   ]
 
-  -- under the new name stands nothing else
+  -- under the new name there is nothing else
   alone : (c : ℕ) → IsNode old c → home new c ≡ home new b → name_at new c ≡ name_at new b → ⊥
   alone c node there name =
       let other = was_other c node in
@@ -139,7 +139,7 @@ module _ (old : Blocks) (b : ℕ) (block : List ℕ) (within : b < length old) (
 
   module _ (arena later : Blocks) (F : finite.FinMap path_cmp Node) (shows : Shows arena old F)
       (stays : (c : ℕ) → IsNode old c → node_of later (octets_of old c) ≡ node_of arena (octets_of old c)) where
-    -- what stands at a path, and whether it is the new one
+    -- what is at a path, and whether it is the new one
     put : Bool → Option Node → Option Node
     put same node = cond same (Some (node_of later block)) node
 
@@ -161,13 +161,16 @@ module _ (old : Blocks) (b : ℕ) (block : List ℕ) (within : b < length old) (
         ap (λ same. put same (finite.get F (path_of new b))) ((same_path-Decides (path_of new b) (path_of new b)).1 refl)
         ∙ ap (λ o. Some (node_of later o)) (sym octets_new)
 
-    each_new : (c : ℕ) → IsNode new c → finite.get (finite.insert F (path_of new b) (node_of later block)) (path_of new c) ≡ Some (node_of later (octets_of new c))
+    each_new : (c : ℕ) → IsNode new c → finite.get (finite.insert F (path_of new b) (node_of later block)) (path_of new c)
+        ≡ Some (node_of later (octets_of new c))
     each_new c node = got (path_of new c) ∙ elim (cases_eq c b) [
-      | inl e ↦ subst (λ x. put (same_path (path_of new x) (path_of new b)) (finite.get F (path_of new x)) ≡ Some (node_of later (octets_of new x))) (sym e) each_here
+      | inl e ↦ subst (λ x. put (same_path (path_of new x) (path_of new b)) (finite.get F (path_of new x)) ≡ Some (node_of later (octets_of new x)))
+          (sym e) each_here
       | inr other ↦ each_other c node other (same_path (path_of new c) (path_of new b)) refl
     ]
 
-    only_new : (q : Path) (node : Node) (same : Bool) → same_path q (path_of new b) ≡ same → put same (finite.get F q) ≡ Some node → (c : ℕ) × IsNode new c × (path_of new c ≡ q)
+    only_new : (q : Path) (node : Node) (same : Bool) → same_path q (path_of new b) ≡ same → put same (finite.get F q) ≡ Some node → (c : ℕ) × IsNode new c
+        × (path_of new c ≡ q)
     unfolding put
     only_new q node true is e = (b, here, sym ((same_path-Decides q (path_of new b)).0 is))
     only_new q node false is e =

@@ -1,8 +1,8 @@
 -- Nodes that say the same but for their links.
---     Alike                              they stand where they stood, and files hold what they held
+--     Alike                              they are where they were, and files hold what they held
 --     alike_relinked                     where links of the index change
---     alike_shows                        the same stands at each path
---     alike_directory, told_by           directories stay;  what stands at a node by what it holds
+--     alike_shows                        the same is at each path
+--     alike_directory, told_by           directories stay;  what is at a node by what it holds
 --     runs_then                          runs that stay in two steps
 use Rattle.std.proofs.Common.{◌≡◌, ℕ, List, [], Option, Some, None, is_some, refl, sym, ap, ◌∙◌}
 use Rattle.std.specs.FinMap as finite
@@ -34,7 +34,8 @@ by_row None None some rows = refl
 by_row None (Some y) some rows = cc
 by_row (Some x) None some rows = cc
 by_row (Some x) (Some y) some rows =
-    sym (told_unlinked (kind_told (row_of x).kind) (row_of x)) ∙ ap (λ (r : Row). contents_told (kind_told r.kind) r) rows ∙ told_unlinked (kind_told (row_of y).kind) (row_of y)
+    sym (told_unlinked (kind_told (row_of x).kind) (row_of x)) ∙ ap (λ (r : Row). contents_told (kind_told r.kind) r) rows
+    ∙ told_unlinked (kind_told (row_of y).kind) (row_of y)
 
 pub alike_relinked : (old new : Blocks) → Relinked old new → Alike old new
 alike_relinked old new links = record {
@@ -46,7 +47,8 @@ held_is : (o : Option (List ℕ)) → IsSome o → file_of (unwrap_or o []) ≡ 
 held_is None some = cc
 held_is (Some block) some = refl
 
-pub told_by : (arena nodes : Blocks) (b : ℕ) → IsNode nodes b → node_of arena (octets_of nodes b) ≡ node_told arena (kind_told (row_at nodes b).kind) (file_in (octets_at nodes b))
+pub told_by : (arena nodes : Blocks) (b : ℕ) → IsNode nodes b → node_of arena (octets_of nodes b)
+    ≡ node_told arena (kind_told (row_at nodes b).kind) (file_in (octets_at nodes b))
 told_by arena nodes b node = ap (node_told arena (kind_told (row_at nodes b).kind)) (held_is (octets_at nodes b) node)
 
 module _ (old new : Blocks) (same : Alike old new) where

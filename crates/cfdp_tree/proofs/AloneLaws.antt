@@ -27,9 +27,11 @@ module _ (nodes : Blocks) (tree : IsTree nodes) (orders : Orders) (ordered : IsO
       subst (λ (xs : List ℕ). IsSurvey nodes (path_of nodes b) (b ∷ walks orders (8 - length (path_of nodes b)) xs)) none
       (survey_from nodes tree orders ordered (Some b) (length (path_of nodes b)) (λ d e. some_node b d node e) refl)
 
-  pub alone_tree : (b : ℕ) (p : Path) → IsNode nodes b → path_of nodes b ≡ p → in_order orders (Some b) ≡ [] → (arena : Blocks) (F : Filestore) → Shows arena nodes F.nodes
+  pub alone_tree : (b : ℕ) (p : Path) → IsNode nodes b → path_of nodes b ≡ p → in_order orders (Some b) ≡ [] → (arena : Blocks) (F : Filestore) →
+      Shows arena nodes F.nodes
       → shown arena nodes (p, b) ∷ [] ≡ tree_at F p
   alone_tree b p node way none arena F shows =
       let one : List (Path × ℕ) = (path_of nodes b, b) ∷ [] in
       subst (λ (q : Path). shown arena nodes (q, b) ∷ [] ≡ tree_at F q) way
-      (found_tree nodes tree (path_of nodes b) (b ∷ []) (alone_survey b node none) one (IsPermutation-refl one) (λ k d low within. absurd (omega (arith, within))) arena F shows)
+      (found_tree nodes tree (path_of nodes b) (b ∷ []) (alone_survey b node none) one (IsPermutation-refl one)
+      (λ k d low within. absurd (omega (arith, within))) arena F shows)

@@ -28,8 +28,10 @@ pub record IsBegun (old new : Blocks) (was now : List Way) (run after : Run) : T
   pub ways : HasWays new now after
   pub ways_stay : WaysStay old was now
 
-pub begun_first : (old new : Blocks) (was now : List Way) (run after : Run) → run.count ≡ 0 → IsHeld new after → after.count ≡ 1 → octets_in new after ≡ payload blank_block
-    → free_count new + 1 ≡ free_count old → length new ≡ length old → AllStay old new → octets_at old after.first ≡ None → nodes_in new ≡ nodes_in old → StayLive old new → HasWays new now after
+pub begun_first : (old new : Blocks) (was now : List Way) (run after : Run) → run.count ≡ 0 → IsHeld new after → after.count ≡ 1 → octets_in new after
+    ≡ payload blank_block
+    → free_count new + 1 ≡ free_count old → length new ≡ length old → AllStay old new → octets_at old after.first ≡ None → nodes_in new ≡ nodes_in old →
+    StayLive old new → HasWays new now after
     → WaysStay old was now → IsBegun old new was now run after
 begun_first old new was now run after none held one octets taken size stay fresh nodes live ways ways_stay =
     let all : 120 ≡ 120 * (after.count - run.count) = omega (arith, none, one) in
@@ -68,6 +70,8 @@ begun_same arena ways run held has =
       ways_stay = (λ block live. refl);
     }
 
-pub begun_is : (old new other : Blocks) (was now changed : List Way) (run after same : Run) → other ≡ new → changed ≡ now → same ≡ after → IsBegun old new was now run after → IsBegun old other was changed run same
+pub begun_is : (old new other : Blocks) (was now changed : List Way) (run after same : Run) → other ≡ new → changed ≡ now → same ≡ after →
+    IsBegun old new was now run after → IsBegun old other was changed run same
 begun_is old new other was now changed run after same arena_is ways_is run_is begun =
-    subst (λ a. IsBegun old a was changed run same) (sym arena_is) (subst (λ w. IsBegun old new was w run same) (sym ways_is) (subst (IsBegun old new was now run) (sym run_is) begun))
+    subst (λ a. IsBegun old a was changed run same) (sym arena_is) (subst (λ w. IsBegun old new was w run same) (sym ways_is)
+    (subst (IsBegun old new was now run) (sym run_is) begun))

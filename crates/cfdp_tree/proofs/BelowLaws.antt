@@ -1,6 +1,6 @@
--- What stands below a directory.
+-- What is below a directory.
 --     has_some, has_none             the filestore has something below a path, or nothing
---     entry_below                    where something stands below a directory, it has an entry
+--     entry_below                    where something is below a directory, it has an entry
 --     order_some, order_none, absent_none     by the order of a path's node
 use Rattle.std.proofs.Common.{◌≡◌, ℕ, zero, suc, ◌+◌, ◌<◌, ◌≤◌, ◌==◌, Bool, true, false, not, cond, [], ◌∷◌, ◌++◌, length, length-append, take, drop, get_or, Option, Some, None, refl, sym, ap, ◌∙◌, subst, inl, inr, arith}
 use Rattle.std.proofs.lemmas.Bool.{cases_lt}
@@ -53,7 +53,8 @@ module _ (F : Filestore) (p : Path) where
       by_length (suc n) some = ap (λ k. not (k == 0)) some ∙ some_more n
 
   pub has_none : ((q : Path) (node : Node) → node_at F q ≡ Some node → is_below q p ≡ true → ⊥) → has_entries F p ≡ false
-  has_none none = ap (λ m. not (finite.len m == 0)) (same_map path_cmp-total path_antisym (inside F p) finite.empty (λ q. got q ∙ absent q (is_below q p) (node_at F q) refl refl ∙ sym (get-empty path_cmp q))) ∙ ap (λ k. not (k == 0)) (len-empty path_cmp Node)
+  has_none none = ap (λ m. not (finite.len m == 0)) (same_map path_cmp-total path_antisym (inside F p) finite.empty (λ q. got q
+      ∙ absent q (is_below q p) (node_at F q) refl refl ∙ sym (get-empty path_cmp q))) ∙ ap (λ k. not (k == 0)) (len-empty path_cmp Node)
     where
       absent : (q : Path) (below : Bool) (o : Option Node) → is_below q p ≡ below → node_at F q ≡ o → cond (is_below q p) (node_at F q) None ≡ None
       absent q true None is e = (λ i. cond (is i) (e i) None)
@@ -68,21 +69,32 @@ module _ (nodes : Blocks) (tree : IsTree nodes) where
       let parts = (is_below-Decides q p).0 below in
       let whole = append_from_at_or_below q p parts.0 in
       let front : take (length p) q ≡ p = ap (take (length p)) whole ∙ take_at p (drop (length p) q) (length p) refl in
-      let less : length p < length q = elim (cases_lt (length p) (length q)) [ inl less ↦ less | inr past ↦ absurd (parts.1 (sym (take_all (length p) q past) ∙ front)) ] in
+      let less : length p < length q = elim (cases_lt (length p) (length q)) [
+        | inl less ↦ less
+        | inr past ↦
+            absurd (parts.1 (sym (take_all (length p) q past) ∙ front))
+      ] in
       let entry = beginning nodes tree c (length p + 1) other (omega arith) (omega (arith, less)) in
       let same = last_same (path_at nodes (home nodes entry.0)) p (name_at nodes entry.0) (get_or q (length p) [])
-      (sym (path_by_home nodes tree entry.0 entry.1) ∙ entry.2 ∙ take_more q (length p) [] less ∙ ap (λ x. x ++ get_or q (length p) [] ∷ []) front) in
-      (entry.0, entry.1, same_place nodes tree (home nodes entry.0) (Some b) (λ d there. (tree.homes entry.0 d entry.1 there).node) (λ d is. subst (IsNode nodes) (some_same is) node) (same.0 ∙ sym way))
+      (sym (path_by_home nodes tree entry.0 entry.1) ∙ entry.2 ∙ take_more q (length p) [] less ∙ ap (λ x. x ++ get_or q (length p) [] ∷ []) front) in (
+        entry.0,
+        entry.1,
+        same_place nodes tree (home nodes entry.0) (Some b) (λ d there. (tree.homes entry.0 d entry.1 there).node)
+            (λ d is. subst (IsNode nodes) (some_same is) node) (same.0 ∙ sym way),
+      )
     where
       some_same : {x y : ℕ} → Some x ≡ Some y → x ≡ y
       some_same e = cc
 
-  -- an entry stands below its directory
+  -- an entry is below its directory
   pub below_by_entry : (b e : ℕ) → IsNode nodes e → home nodes e ≡ Some b → is_below (path_of nodes e) (path_of nodes b) ≡ true
   below_by_entry b e node there =
-      let whole : path_of nodes e ≡ path_of nodes b ++ name_at nodes e ∷ [] = path_by_home nodes tree e node ∙ ap (λ x. path_at nodes x ++ name_at nodes e ∷ []) there in
-      (is_below-Decides (path_of nodes e) (path_of nodes b)).1
-      (at_or_below_from_append (path_of nodes e) (path_of nodes b) (name_at nodes e ∷ []) whole, (λ same. omega (arith, ap length (sym same ∙ whole), length-append (path_of nodes b) (name_at nodes e ∷ []))))
+      let whole : path_of nodes e ≡ path_of nodes b ++ name_at nodes e ∷ [] = path_by_home nodes tree e node
+      ∙ ap (λ x. path_at nodes x ++ name_at nodes e ∷ []) there in
+      (is_below-Decides (path_of nodes e) (path_of nodes b)).1 (
+        at_or_below_from_append (path_of nodes e) (path_of nodes b) (name_at nodes e ∷ []) whole,
+        (λ same. omega (arith, ap length (sym same ∙ whole), length-append (path_of nodes b) (name_at nodes e ∷ []))),
+      )
 
   module _ (arena : Blocks) (F : Filestore) (shows : Shows arena nodes F.nodes) where
     module _ (b : ℕ) (p : Path) (node : IsNode nodes b) (way : path_of nodes b ≡ p) where
@@ -92,7 +104,7 @@ module _ (nodes : Blocks) (tree : IsTree nodes) where
           has_some F p (path_of nodes e) (node_of arena (octets_of nodes e)) (shows.each e entry)
           (ap (is_below (path_of nodes e)) (sym way) ∙ below_by_entry b e entry there)
 
-      -- nothing stands below it where it has no entry
+      -- nothing is below it where it has no entry
       pub entry_none : ((e : ℕ) → IsNode nodes e → home nodes e ≡ Some b → ⊥) → has_entries F p ≡ false
       entry_none none = has_none F p (λ q other is below.
           (let at = shows.only q other is in
@@ -106,7 +118,12 @@ module _ (nodes : Blocks) (tree : IsTree nodes) where
             let at_top = opened_at (ordered.order (Some b)) some {n = top} refl in
             let before = nodes_of orders.links.items (left_of (links_at orders.links.items top)) in
             let after = nodes_of orders.links.items (right_of (links_at orders.links.items top)) in
-            let there : 1 ≤ times top (in_order orders (Some b)) = omega (arith, ap (times top) at_top.listed, times_middle top before top after, one_self top) in
+            let there : 1 ≤ times top (in_order orders (Some b)) = omega (
+              arith,
+              ap (times top) at_top.listed,
+              times_middle top before top after,
+              one_self top,
+            ) in
             let entry = member_at nodes orders None ordered (Some b) top there in
             entry_some top entry.node entry.there
 

@@ -56,14 +56,18 @@ module _ (arena later : Blocks) (before after : Contents) where
 module _ (arena : Blocks) (heads : Heads) (slots : List Slot) {ways : List Way} (store : IsStore arena ways heads slots) where
   pub list_held : (j : ℕ) → IsHeld arena (get_or (staged_in slots) j no_contents).run
   list_held j = elim (cases_lt j (length (staged_in slots))) [
-    | inl less ↦ subst (λ (x : Contents). IsHeld arena x.run) (get_or_append_left (staged_in slots) (map file_in (nodes_in arena)) no_contents j less) (store.kept.stored.filled j).held
-    | inr past ↦ subst (λ (x : Contents). IsHeld arena x.run) (sym (get_or_past (staged_in slots) j no_contents past)) (none_filled arena no_contents refl refl refl).held
+    | inl less ↦ subst (λ (x : Contents). IsHeld arena x.run) (get_or_append_left (staged_in slots) (map file_in (nodes_in arena)) no_contents j less)
+        (store.kept.stored.filled j).held
+    | inr past ↦ subst (λ (x : Contents). IsHeld arena x.run) (sym (get_or_past (staged_in slots) j no_contents past))
+        (none_filled arena no_contents refl refl refl).held
   ]
 
   pub file_held : (b : ℕ) → IsHeld arena (file_in (octets_at (nodes_in arena) b)).run
-  file_held b = subst (λ (x : Contents). IsHeld arena x.run) (held_at arena heads slots store (store_of arena (staged_in slots)) refl b) (store.kept.stored.filled (length (staged_in slots) + b)).held
+  file_held b = subst (λ (x : Contents). IsHeld arena x.run) (held_at arena heads slots store (store_of arena (staged_in slots)) refl b)
+      (store.kept.stored.filled (length (staged_in slots) + b)).held
 
-module _ (arena later : Blocks) (heads after : Heads) (slots : List Slot) {ways : List Way} (store : IsStore arena ways heads slots) (long : length later ≡ length arena)
+module _ (arena later : Blocks) (heads after : Heads) (slots : List Slot) {ways : List Way} (store : IsStore arena ways heads slots) (long : length later
+    ≡ length arena)
     (lists : (j : ℕ) → Stays arena later (get_or (staged_in slots) j no_contents).run)
     (files : (b : ℕ) → IsLeft arena later (file_in (octets_at (nodes_in arena) b)) (file_in (octets_at (nodes_in later) b)))
     (F : finite.FinMap path_cmp Node) (shows : Shows later (nodes_in later) F) (tree : IsTree (nodes_in later))
@@ -94,23 +98,31 @@ module _ (arena later : Blocks) (heads after : Heads) (slots : List Slot) {ways 
         inr (is ∙ sym was, subst (λ (x : Contents). Stays arena later x.run) (sym was) (lists i)))
     | inr past ↦ (
         let b = i - length staged in
-        let was = get_or-append_right staged (map file_in (nodes_in arena)) (length staged) i no_contents refl past ∙ get_or-map file_in (nodes_in arena) b None in
-        let is = get_or-append_right staged (map file_in (nodes_in later)) (length staged) i no_contents refl past ∙ get_or-map file_in (nodes_in later) b None in
-        subst (λ x. IsLeft arena later x (get_or (holdings (nodes_in later) staged) i no_contents)) (sym was) (subst (IsLeft arena later (file_in (octets_at (nodes_in arena) b))) (sym is) (files b)))
+        let was = get_or-append_right staged (map file_in (nodes_in arena)) (length staged) i no_contents refl past
+        ∙ get_or-map file_in (nodes_in arena) b None in
+        let is = get_or-append_right staged (map file_in (nodes_in later)) (length staged) i no_contents refl past
+        ∙ get_or-map file_in (nodes_in later) b None in
+        subst (λ x. IsLeft arena later x (get_or (holdings (nodes_in later) staged) i no_contents)) (sym was)
+        (subst (IsLeft arena later (file_in (octets_at (nodes_in arena) b))) (sym is) (files b)))
   ]
 
   stored_now : IsStored later ways (holdings (nodes_in later) staged)
   stored_now = record {
-    filled = (λ i. left_filled arena later (get_or (holdings (nodes_in arena) staged) i no_contents) (get_or (holdings (nodes_in later) staged) i no_contents) (left_at i) (store.kept.stored.filled i));
-    apart = (λ i j differ. left_apart arena later (get_or (holdings (nodes_in arena) staged) i no_contents) (get_or (holdings (nodes_in later) staged) i no_contents)
-        (get_or (holdings (nodes_in arena) staged) j no_contents) (get_or (holdings (nodes_in later) staged) j no_contents) (left_at i) (left_at j) (store.kept.stored.apart i j differ));
-    led = (λ i. left_led arena later (get_or (holdings (nodes_in arena) staged) i no_contents) (get_or (holdings (nodes_in later) staged) i no_contents) ways long (left_at i) (store.kept.stored.led i));
+    filled = (λ i. left_filled arena later (get_or (holdings (nodes_in arena) staged) i no_contents) (get_or (holdings (nodes_in later) staged) i no_contents)
+        (left_at i) (store.kept.stored.filled i));
+    apart = (λ i j differ. left_apart arena later (get_or (holdings (nodes_in arena) staged) i no_contents)
+        (get_or (holdings (nodes_in later) staged) i no_contents)
+        (get_or (holdings (nodes_in arena) staged) j no_contents) (get_or (holdings (nodes_in later) staged) j no_contents) (left_at i) (left_at j)
+        (store.kept.stored.apart i j differ));
+    led = (λ i. left_led arena later (get_or (holdings (nodes_in arena) staged) i no_contents)
+        (get_or (holdings (nodes_in later) staged) i no_contents) ways long (left_at i) (store.kept.stored.led i));
   }
 
   placed_now : All (IsPlaced later) slots
   placed_now j d within =
       let s = get_or slots j d in
-      let at : get_or staged j no_contents ≡ s.contents = mapped_at (λ (slot : Slot). slot.contents) slots j s no_contents within (get_or_default slots j d s within) in
+      let at : get_or staged j no_contents ≡ s.contents = mapped_at (λ (slot : Slot). slot.contents) slots j s no_contents within
+      (get_or_default slots j d s within) in
       let stays = subst (λ (x : Contents). Stays arena later x.run) at (lists j) in
       slot_stays arena later s stays (store.placed j d within)
 

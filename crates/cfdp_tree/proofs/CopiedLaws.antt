@@ -1,7 +1,7 @@
 -- What is copied of a file.
 --     directory_there, file_there, file_held, file_ways     what exists at a path, by its node's block
 --     none_copied                    where there are no octets the buffer stays
---     copied                         so many octets, read from where the copy begins
+--     copied                         this many octets, read from where the copy begins
 use Rattle.std.proofs.Common.{rules, ◌≡◌, ℕ, ◌+◌, ◌≤◌, List, [], ◌++◌, drop, length, Some, sym, ap, ◌∙◌, arith}
 use Rattle.std.specs.Prelude.{slice_range}
 use Rattle.cfdp_arena.specs.Arena.{Blocks, octets_at}
@@ -24,7 +24,8 @@ use Rattle.cfdp_tree.proofs.SeenLaws.{seen_block, seen_file, file_small}
 use Rattle.cfdp_tree.proofs.SeenLaws as seen_laws
 use Rattle.cfdp_tree.specs.Ways.{HasWays}
 
-module _ (arena : Blocks) (heads : Heads) (slots : List Slot) {ways : List Way} (store : IsStore arena ways heads slots) (now : Store) (view : store_of arena (staged_in slots) ≡ now)
+module _ (arena : Blocks) (heads : Heads) (slots : List Slot) {ways : List Way} (store : IsStore arena ways heads slots) (now : Store)
+    (view : store_of arena (staged_in slots) ≡ now)
     (b : ℕ) (p : Path) (block : List ℕ) (node : IsNode (nodes_in arena) b) (way : path_of (nodes_in arena) b ≡ p) (is : octets_at arena b ≡ Some block) where
   pub directory_there : kind.Directory ≡ kind_told (row_of block).kind → node_at now.filestore p ≡ Some Directory
   directory_there told =
@@ -57,7 +58,8 @@ none_copied at buffer =
     none_there : (start : ℕ) → slice_range {X = ℕ} [] start (start + 0) ≡ []
     none_there start = search rules
 
-pub copied : (octets buffer piece : List ℕ) (at start count long : ℕ) → start ≡ beginning octets at → count ≡ fitting octets at buffer → long ≡ count → piece ≡ slice_range octets start (start + long)
+pub copied : (octets buffer piece : List ℕ) (at start count long : ℕ) → start ≡ beginning octets at → count ≡ fitting octets at buffer → long ≡ count → piece
+    ≡ slice_range octets start (start + long)
     → piece ++ drop count buffer ≡ with_octets octets at buffer
 copied octets buffer piece at start count long begins fits whole read =
     ap (λ o. o ++ drop count buffer) (read ∙ ap (λ n. slice_range octets start (start + n)) whole ∙ ap (λ s. slice_range octets s (s + count)) begins)

@@ -9,7 +9,8 @@ live_count-within [] = omega arith
 live_count-within (Some o ∷ rest) = omega (arith, live_count-within rest)
 live_count-within (None ∷ rest) = omega (arith, live_count-within rest)
 
-pub live_count-taken : (arena : Blocks) (block : ℕ) (o : List ℕ) → octets_at arena block ≡ None → block < length arena → live_count (with_block arena block o) ≡ live_count arena + 1
+pub live_count-taken : (arena : Blocks) (block : ℕ) (o : List ℕ) → octets_at arena block ≡ None → block < length arena → live_count (with_block arena block o)
+    ≡ live_count arena + 1
 live_count-taken [] block o free within = absurd (omega arith)
 live_count-taken (Some x ∷ rest) zero o free within = cc
 live_count-taken (None ∷ rest) zero o free within = refl
@@ -40,7 +41,8 @@ live_count-same (None ∷ xs) (None ∷ ys) long same = live_count-same xs ys (o
 live_count-same (Some x ∷ xs) (None ∷ ys) long same = (let e = same 0 in cc)
 live_count-same (None ∷ xs) (Some y ∷ ys) long same = (let e = same 0 in cc)
 
-pub free_count-taken : (arena : Blocks) (block : ℕ) (o : List ℕ) → octets_at arena block ≡ None → block < length arena → free_count (with_block arena block o) + 1 ≡ free_count arena
+pub free_count-taken : (arena : Blocks) (block : ℕ) (o : List ℕ) → octets_at arena block ≡ None → block < length arena → free_count (with_block arena block o)
+    + 1 ≡ free_count arena
 free_count-taken arena block o free within =
     omega (arith, live_count-taken arena block o free within, live_count-within (with_block arena block o), length-set arena block (Some o))
 

@@ -1,9 +1,9 @@
 -- A list of the index without one of its nodes.
 --     without_first, without_other     the list's first node is the one, or is another one
---     without_has        the other nodes stand there still
---     links_after        the node that a list's node names as the next one stands in it too, one place later
---     in_list, in_nodes  a node that is not the last one of a list stands in it
---     cut_chain          where the node before it names the node behind it, the list is without it
+--     without_has        the other nodes are there still
+--     links_after        the node that a list's node names as the next one is in it too, one place later
+--     in_list, in_nodes  a node that is not the last one of a list is in it
+--     cut_chain          where the node before it names the node after it, the list is without it
 use Rattle.std.proofs.Common.{◌≡◌, ◌≢◌, ℕ, suc, zero, ◌-◌, List, [], ◌∷◌, cond, refl, sym, ap, ◌∙◌, subst, inl, inr, arith}
 use Rattle.std.proofs.lemmas.Bool.{cases_eq, eq-eqb, ne_eqb}
 use Rattle.std.proofs.lemmas.List.Elements.{All-contains}
@@ -49,7 +49,7 @@ module _ (old : Blocks) (p b : ℕ) (before : (row_at old p).same_head ≡ b) wh
         | inr other ↦ has_later y (chain old n (row_at old y).same_head) b (links_after n y (rest_has x (chain old n y) p has other))
       ]
 
-  -- and then the node behind b
+  -- and then the node after b
   module _ (new : Blocks) (others : (c : ℕ) → p ≢ c → (row_at new c).same_head ≡ (row_at old c).same_head)
       (link : (row_at new p).same_head ≡ (row_at old b).same_head) where
     cut_here : (m x : ℕ) → x ≡ p → AllPairs (λ c d. c ≢ d) (chain old (suc (suc m)) x) → chain new (suc m) x ≡ without b (chain old (suc (suc m)) x)
@@ -86,7 +86,7 @@ module _ (old : Blocks) (p b : ℕ) (before : (row_at old p).same_head ≡ b) wh
           ∙ sym (without_other b x list x_other))
     ]
 
--- a node that is not the last one of a list stands in it
+-- a node that is not the last one of a list is in it
 module _ (nodes : Blocks) (head : Head) (p : ℕ) (there : Contains (chain nodes (head.count - 1) head.first) p) where
   pub in_list : Contains (list_of nodes head) p
   in_list =

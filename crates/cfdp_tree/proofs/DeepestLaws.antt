@@ -1,8 +1,8 @@
--- The longest path among some nodes, and among what stands at a path and below it.
---     tree_got, tree_found      what stands at a path and below it, by a path
+-- The longest path among some nodes, and among what is at a path and below it.
+--     tree_got, tree_found      what is at a path and below it, by a path
 --     deepest_le, deepest_ge    of entries:  no more than all of them, and no less than each
 --     longest_le, longest_ge    the same of nodes
---     deepest_is                both are one, where the nodes are those of what stands there
+--     deepest_is                both are one, where the nodes are those of what is there
 use Rattle.std.proofs.Common.{◌≡◌, ℕ, zero, suc, ◌≤◌, max, Bool, true, false, List, [], ◌∷◌, length, cond, is_some, get_or, Option, Some, None, refl, sym, ap, ◌∙◌, arith}
 use Rattle.std.proofs.Math.Nat.{le-max_left, le-max_right}
 use Rattle.std.proofs.lemmas.List.Elements.{All-head, All-tail}
@@ -46,7 +46,11 @@ deepest_ge (e ∷ es) q some = by_same (same_path q e.0) refl (deepest_ge es q)
   where
     by_same : (b : Bool) → same_path q e.0 ≡ b → (is_some (find path_cmp q es) ≡ true → length q ≤ deepest_of es) → length q ≤ max (length e.0) (deepest_of es)
     by_same true is rest = omega (arith, ap length ((same_path-Decides q e.0).0 is), le-max_left (length e.0) (deepest_of es))
-    by_same false is rest = omega (arith, rest (sym (ap (λ b. is_some (cond b (Some e.1) (find path_cmp q es))) is) ∙ some), le-max_right (length e.0) (deepest_of es))
+    by_same false is rest = omega (
+      arith,
+      rest (sym (ap (λ b. is_some (cond b (Some e.1) (find path_cmp q es))) is) ∙ some),
+      le-max_right (length e.0) (deepest_of es),
+    )
 
 module _ (nodes : Blocks) where
   pub longest_le : (list : List ℕ) (m : ℕ) → All (λ b. length (path_of nodes b) ≤ m) list → longest nodes list ≤ m
@@ -58,7 +62,11 @@ module _ (nodes : Blocks) where
   pub longest_ge : (list : List ℕ) → All (λ b. length (path_of nodes b) ≤ longest nodes list) list
   longest_ge [] k d within = absurd (omega (arith, within))
   longest_ge (b ∷ list) zero d within = le-max_left (length (path_of nodes b)) (longest nodes list)
-  longest_ge (b ∷ list) (suc k) d within = omega (arith, longest_ge list k d (omega (arith, within)), le-max_right (length (path_of nodes b)) (longest nodes list))
+  longest_ge (b ∷ list) (suc k) d within = omega (
+    arith,
+    longest_ge list k d (omega (arith, within)),
+    le-max_right (length (path_of nodes b)) (longest nodes list),
+  )
 
   module _ (arena : Blocks) (F : Filestore) (shows : Shows arena nodes F.nodes) (p : Path) (list : List ℕ) (survey : IsSurvey nodes p list) where
     under_found : (b : ℕ) → IsUnder nodes p b → is_some (find path_cmp (path_of nodes b) (tree_at F p)) ≡ true
@@ -70,7 +78,8 @@ module _ (nodes : Blocks) where
     found_under : (q : Path) → is_some (find path_cmp q (tree_at F p)) ≡ true → length q ≤ longest nodes list
     found_under q some = by_case (is_at_or_below q p) (node_at F q) refl refl (sym (ap is_some (tree_found F p q)) ∙ some)
       where
-        by_case : (below : Bool) (o : Option Node) → is_at_or_below q p ≡ below → node_at F q ≡ o → is_some (cond (is_at_or_below q p) (node_at F q) None) ≡ true → length q ≤ longest nodes list
+        by_case : (below : Bool) (o : Option Node) → is_at_or_below q p ≡ below → node_at F q ≡ o → is_some (cond (is_at_or_below q p) (node_at F q) None)
+            ≡ true → length q ≤ longest nodes list
         by_case true (Some node) is e some =
             let at = shows.only q node e in
             let has = survey.all at.0 (record { node = at.1; below = ap (λ x. is_at_or_below x p) at.2 ∙ is }) in
@@ -87,6 +96,7 @@ module _ (nodes : Blocks) where
     pub deepest_is : longest nodes list ≡ deepest_of (tree_at F p)
     deepest_is = omega (
       arith,
-      longest_le list (deepest_of (tree_at F p)) (λ k d within. deepest_ge (tree_at F p) (path_of nodes (get_or list k d)) (under_found (get_or list k d) (survey.own k d within))),
+      longest_le list (deepest_of (tree_at F p)) (λ k d within. deepest_ge (tree_at F p) (path_of nodes (get_or list k d))
+          (under_found (get_or list k d) (survey.own k d within))),
       deepest_le (tree_at F p) (longest nodes list) found_under,
     )

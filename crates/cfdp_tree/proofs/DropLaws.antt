@@ -1,6 +1,6 @@
--- What stands at a path is removed, below which nothing stands.
---     home_none                             no node stands in its node
---     seen_found                            where something stands at a path its node is found
+-- What is at a path is removed, below which nothing exists.
+--     home_none                             no node is in its node
+--     seen_found                            where something is at a path its node is found
 --     held_filled, held_by_node, held_small, weight_is     what the node holds
 --     node_name                             its name is the path's last one
 --     tree_kept, index_kept, entry_kept     it is taken out of the list of its directory
@@ -72,15 +72,18 @@ stays_two first second third run one runs =
     let two = runs run one.held in
     record { held = two.held; octets = two.octets ∙ one.octets; places = (λ k within. two.places k within ∙ one.places k within) }
 
-module _ (arena : Blocks) (heads : Heads) (slots : List Slot) {ways : List Way} (store : IsStore arena ways heads slots) (now : Store) (view : store_of arena (staged_in slots) ≡ now) where
-  pub seen_found : (p : Path) (found : Option ℕ) → IfNone found ((b : ℕ) → IsNode (nodes_in arena) b → path_of (nodes_in arena) b ≡ p → ⊥) → IsSome (node_at now.filestore p) → IsSome found
+module _ (arena : Blocks) (heads : Heads) (slots : List Slot) {ways : List Way} (store : IsStore arena ways heads slots) (now : Store)
+    (view : store_of arena (staged_in slots) ≡ now) where
+  pub seen_found : (p : Path) (found : Option ℕ) → IfNone found ((b : ℕ) → IsNode (nodes_in arena) b → path_of (nodes_in arena) b ≡ p → ⊥) →
+      IsSome (node_at now.filestore p) → IsSome found
   seen_found p None none some = absurd (none_is (seen_none arena heads slots store now view p none) some)
     where
       none_is : {o : Option Node} → o ≡ None → IsSome o → ⊥
       none_is absent is = cc
   seen_found p (Some b) none some = refl
 
-module _ (arena : Blocks) (heads : Heads) (slots : List Slot) {ways : List Way} (store : IsStore arena ways heads slots) (now : Store) (view : store_of arena (staged_in slots) ≡ now)
+module _ (arena : Blocks) (heads : Heads) (slots : List Slot) {ways : List Way} (store : IsStore arena ways heads slots) (now : Store)
+    (view : store_of arena (staged_in slots) ≡ now)
     (path : Path) (b : ℕ) (node : IsNode (nodes_in arena) b) (way : path_of (nodes_in arena) b ≡ path) where
   abbrev nodes : Blocks
   nodes = nodes_in arena
@@ -97,7 +100,8 @@ module _ (arena : Blocks) (heads : Heads) (slots : List Slot) {ways : List Way} 
   at : node_at now.filestore path ≡ Some (node_of arena (octets_of nodes b))
   at = seen_node arena heads slots store now view b path node way
 
-  pub home_none : (is_directory (node_at now.filestore path) ≡ true → has_entries now.filestore path ≡ false) → (c : ℕ) → IsNode nodes c → home nodes c ≡ Some b → ⊥
+  pub home_none : (is_directory (node_at now.filestore path) ≡ true → has_entries now.filestore path ≡ false) → (c : ℕ) → IsNode nodes c → home nodes c
+      ≡ Some b → ⊥
   home_none childless c inside there =
       let above = store.kept.tree.homes c b inside there in
       let k = kind_told (row_of (octets_of nodes b)).kind in
@@ -143,7 +147,8 @@ module _ (arena : Blocks) (heads : Heads) (slots : List Slot) {ways : List Way} 
     pub index_one : IsIndex (nodes_in one) heads None
     index_one = subst (λ ns. IsIndex ns heads None) (sym one_is) store.kept.index
 
-    pub entry_one : (directory : Option ℕ) (name : Name) → directory ≡ home nodes b → name ≡ get_or path (length path - 1) [] → IsEntry (nodes_in one) directory name b
+    pub entry_one : (directory : Option ℕ) (name : Name) → directory ≡ home nodes b → name ≡ get_or path (length path - 1) [] →
+        IsEntry (nodes_in one) directory name b
     entry_one directory name there named = record {
       node = subst (λ ns. IsNode ns b) (sym one_is) node;
       there = ap (λ ns. home ns b) one_is ∙ sym there;
@@ -157,7 +162,8 @@ module _ (arena : Blocks) (heads : Heads) (slots : List Slot) {ways : List Way} 
       pub node_two : IsNode (nodes_in two) b
       node_two = alike_two.places.nodes b ∙ node
 
-      module _ (childless : is_directory (node_at now.filestore path) ≡ true → has_entries now.filestore path ≡ false) (later : Blocks) (later_is : nodes_in later ≡ without_block (nodes_in two) b)
+      module _ (childless : is_directory (node_at now.filestore path) ≡ true → has_entries now.filestore path ≡ false) (later : Blocks)
+          (later_is : nodes_in later ≡ without_block (nodes_in two) b)
           (heads_now : Heads) (index_two : IsIndex (nodes_in two) heads_now (Some b))
           (spares : Spares arena one held.run held.run) (runs : RunsStay one later) (long : length later ≡ length arena)
           (freed : free_count later ≡ free_count arena + blocks_of held.size + 1) where
@@ -184,11 +190,13 @@ module _ (arena : Blocks) (heads : Heads) (slots : List Slot) {ways : List Way} 
             stays_two arena one later x.run (spares x.run (store.kept.stored.filled i).held apart).0 runs
 
         file_stays : (c : ℕ) → c ≢ b → Stays arena later (file_in (octets_at nodes c)).run
-        file_stays c other = subst (λ (x : Contents). Stays arena later x.run) (held_at arena heads slots store now view c) (spared (length staged + c) (λ e. other (omega arith)))
+        file_stays c other = subst (λ (x : Contents). Stays arena later x.run) (held_at arena heads slots store now view c)
+            (spared (length staged + c) (λ e. other (omega arith)))
 
         list_stays : (j : ℕ) → Stays arena later (get_or staged j no_contents).run
         list_stays j = elim (cases_lt j (length staged)) [
-          | inl less ↦ subst (λ (x : Contents). Stays arena later x.run) (get_or_append_left staged (map file_in nodes) no_contents j less) (spared j (λ e. omega arith))
+          | inl less ↦ subst (λ (x : Contents). Stays arena later x.run) (get_or_append_left staged (map file_in nodes) no_contents j less)
+              (spared j (λ e. omega arith))
           | inr past ↦ subst (λ (x : Contents). Stays arena later x.run) (sym (get_or_past staged j no_contents past)) (none_stays later)
         ]
           where
@@ -204,14 +212,18 @@ module _ (arena : Blocks) (heads : Heads) (slots : List Slot) {ways : List Way} 
         left_at c = elim (cases_eq c b) [
           | inl e ↦ inl (ap (λ x. file_in (octets_at (nodes_in later) x)) e ∙ ap (λ ns. file_in (octets_at ns b)) later_is
               ∙ ap file_in (get_or-set_same before b None None (live_within before b node_two)))
-          | inr other ↦ inr (ap (λ ns. file_in (octets_at ns c)) later_is ∙ ap file_in (get_or-set_other before b c None None other) ∙ alike_two.files c, file_stays c other)
+          | inr other ↦ inr (
+            ap (λ ns. file_in (octets_at ns c)) later_is ∙ ap file_in (get_or-set_other before b c None None other) ∙ alike_two.files c,
+            file_stays c other,
+          )
         ]
 
         told_kept : (c : ℕ) → IsNode before c → c ≢ b → node_of later (octets_of before c) ≡ node_of arena (octets_of before c)
         told_kept c inside other =
             told_by later before c inside
             ∙ told_same arena later (kind_told (row_of (octets_of before c)).kind) (file_in (octets_at before c))
-            (stays_contents arena later (file_in (octets_at before c)) (subst (λ (x : Contents). Stays arena later x.run) (sym (alike_two.files c)) (file_stays c other)))
+            (stays_contents arena later (file_in (octets_at before c)) (subst (λ (x : Contents). Stays arena later x.run) (sym (alike_two.files c))
+            (file_stays c other)))
             ∙ sym (told_by arena before c inside)
 
         abbrev F : finite.FinMap path_cmp Node
@@ -221,7 +233,8 @@ module _ (arena : Blocks) (heads : Heads) (slots : List Slot) {ways : List Way} 
         shows_later =
             subst (λ ns. Shows later ns F) (sym later_is)
             (subst (λ p. Shows later (without_block before b) (finite.remove now.filestore.nodes p)) (same_paths nodes before alike_two.places b ∙ way)
-            (removed_shows before b node_two tree_two none_two arena later now.filestore.nodes (alike_shows nodes before alike_two arena now.filestore.nodes seen) told_kept))
+            (removed_shows before b node_two tree_two none_two arena later now.filestore.nodes
+            (alike_shows nodes before alike_two arena now.filestore.nodes seen) told_kept))
 
         pub drop_view : store_of later staged ≡ with_changes now (Becomes path None ∷ [])
         drop_view =

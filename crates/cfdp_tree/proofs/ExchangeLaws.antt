@@ -33,13 +33,15 @@ use Rattle.cfdp_tree.proofs.SeenLaws.{seen_blocks, mapped_at, slot_there, slot_f
 use Rattle.cfdp_tree.proofs.SlotLaws.{told_same}
 use Rattle.cfdp_tree.proofs.FileLaws.{same_filled, same_contents, same_apart, all_maps, file_there, held_here, held_other, in_held, told_written, written_seen, written_store}
 
-module _ (old new : Blocks) (held : List Contents) (i j : ℕ) (first : i < length held) (second : j < length held) (differ : i ≢ j) {ways : List Way} (stored : IsStored old ways held) (runs : RunsStay old new) (long : length new ≡ length old)
+module _ (old new : Blocks) (held : List Contents) (i j : ℕ) (first : i < length held) (second : j < length held) (differ : i ≢ j) {ways : List Way}
+    (stored : IsStored old ways held) (runs : RunsStay old new) (long : length new ≡ length old)
     (a : Contents) (same : SameOctets a (get_or held i no_contents)) where
   abbrev now : List Contents
   now = set (set held i (get_or held j no_contents)) j a
 
   at_first : get_or now i no_contents ≡ get_or held j no_contents
-  at_first = get_or-set_other (set held i (get_or held j no_contents)) j i a no_contents differ ∙ get_or-set_same held i (get_or held j no_contents) no_contents first
+  at_first = get_or-set_other (set held i (get_or held j no_contents)) j i a no_contents differ
+      ∙ get_or-set_same held i (get_or held j no_contents) no_contents first
 
   at_second : get_or now j no_contents ≡ a
   at_second = get_or-set_same (set held i (get_or held j no_contents)) j a no_contents (omega (arith, second, length-set held i (get_or held j no_contents)))
@@ -140,10 +142,13 @@ module _ (old new : Blocks) (held : List Contents) (i j : ℕ) (first : i < leng
   exchanged = record { filled = filled_at; apart = apart_at; led = led_at }
 
 -- a file of the store, and a slot
-module _ (arena : Blocks) (heads : Heads) (slots : List Slot) {ways : List Way} (store : IsStore arena ways heads slots) (now : Store) (view : store_of arena (staged_in slots) ≡ now)
+module _ (arena : Blocks) (heads : Heads) (slots : List Slot) {ways : List Way} (store : IsStore arena ways heads slots) (now : Store)
+    (view : store_of arena (staged_in slots) ≡ now)
     (b : ℕ) (p : Path) (node : IsNode (nodes_in arena) b) (way : path_of (nodes_in arena) b ≡ p) (file : is_file (node_at now.filestore p) ≡ true)
-    (i : ℕ) (small : i < 64) (slot : Slot) (is : slot ≡ get_or slots i slot) (later : Blocks) (written : List ℕ) (nodes_later : nodes_in later ≡ with_block (nodes_in arena) b written)
-    (row : row_of written ≡ with_contents (row_at (nodes_in arena) b) slot.contents) (name : name_of written ≡ name_at (nodes_in arena) b) (whole : length written ≡ 128)
+    (i : ℕ) (small : i < 64) (slot : Slot) (is : slot ≡ get_or slots i slot) (later : Blocks) (written : List ℕ) (nodes_later : nodes_in later
+    ≡ with_block (nodes_in arena) b written)
+    (row : row_of written ≡ with_contents (row_at (nodes_in arena) b) slot.contents) (name : name_of written ≡ name_at (nodes_in arena) b)
+    (whole : length written ≡ 128)
     (runs : RunsStay arena later) (free : free_count later ≡ free_count arena) (long : length later ≡ length arena)
     (after : Slot) (after_is : after.contents ≡ contents_told kind.File (row_at (nodes_in arena) b)) (placed : IsPlaced later after) where
   abbrev nodes : Blocks
@@ -199,7 +204,8 @@ module _ (arena : Blocks) (heads : Heads) (slots : List Slot) {ways : List Way} 
   staged_now : staged_in slots_now ≡ set staged i before
   staged_now = map-set (λ (slot : Slot). slot.contents) slots i after ∙ ap (set staged i) after_is
 
-  holdings_now : holdings (with_block nodes b written) (staged_in slots_now) ≡ set (set held i (get_or held (length staged + b) no_contents)) (length staged + b) told
+  holdings_now : holdings (with_block nodes b written) (staged_in slots_now)
+      ≡ set (set held i (get_or held (length staged + b) no_contents)) (length staged + b) told
   holdings_now =
       let front = set staged i before in
       let back = map file_in nodes in
@@ -212,7 +218,8 @@ module _ (arena : Blocks) (heads : Heads) (slots : List Slot) {ways : List Way} 
   stored_now =
       let within = in_held arena heads slots store now view b p node way file in
       subst (IsStored later ways) (sym holdings_now)
-      (exchanged arena later held i (length staged + b) (omega (arith, within, there)) within (λ e. omega (arith, there, e)) store.kept.stored runs long told (subst (SameOctets told) (sym slot_held) same))
+      (exchanged arena later held i (length staged + b) (omega (arith, within, there)) within (λ e. omega (arith, there, e)) store.kept.stored runs long told
+      (subst (SameOctets told) (sym slot_held) same))
 
   file_octets : octets_at now.filestore p ≡ contents_in arena before
   file_octets = ap octets_in (file_there arena heads slots store now view b p node way file)
@@ -223,7 +230,8 @@ module _ (arena : Blocks) (heads : Heads) (slots : List Slot) {ways : List Way} 
   lists_are : map (contents_in later) (staged_in slots_now) ≡ set now.filestore.staged i (octets_at now.filestore p)
   lists_are =
       let same_lists = all_maps (contents_in later) (contents_in arena) staged no_contents
-      (λ j within. (let at = get_or_append_left staged (map file_in nodes) no_contents j within in ap (contents_in later) (sym at) ∙ kept_at j ∙ ap (contents_in arena) at)) in
+      (λ j within. (let at = get_or_append_left staged (map file_in nodes) no_contents j within in ap (contents_in later) (sym at) ∙ kept_at j
+      ∙ ap (contents_in arena) at)) in
       ap (map (contents_in later)) staged_now ∙ map-set (contents_in later) staged i before
       ∙ (λ k. set ((same_lists ∙ ap (λ (s : Store). s.filestore.staged) view) k) i ((before_stays ∙ sym file_octets) k))
 
@@ -253,7 +261,8 @@ module _ (arena : Blocks) (heads : Heads) (slots : List Slot) {ways : List Way} 
       let s = get_or slots j d in
       let inside : j < length staged = omega (arith, within, length-map slots (λ (slot : Slot). slot.contents)) in
       let at : get_or held j no_contents ≡ s.contents =
-      get_or_append_left staged (map file_in nodes) no_contents j inside ∙ mapped_at (λ (slot : Slot). slot.contents) slots j s no_contents within (get_or_default slots j d s within) in
+      get_or_append_left staged (map file_in nodes) no_contents j inside ∙ mapped_at (λ (slot : Slot). slot.contents) slots j s no_contents within
+      (get_or_default slots j d s within) in
       let was_filled = subst (IsFilled arena) at (store.kept.stored.filled j) in
       let stays = runs s.contents.run was_filled.held in
       slot_stays arena later s stays (store.placed j d within)
@@ -265,9 +274,12 @@ module _ (arena : Blocks) (heads : Heads) (slots : List Slot) {ways : List Way} 
   ]
 
   pub exchange_store : IsStore later ways heads slots_now
-  exchange_store = written_store arena heads slots store now view b p node way file later slot.contents written row name whole (files.staged_in now.filestore i) here node_stays nodes_later long
+  exchange_store = written_store arena heads slots store now view b p node way file later slot.contents written row name whole
+      (files.staged_in now.filestore i) here node_stays nodes_later long
       slots_now (set now.filestore.staged i (octets_at now.filestore p)) lists_are ways (length-set slots i after) stored_now counted_now placed_now
 
-  pub exchange_seen : store_of later (staged_in slots_now) ≡ with_changes now (Stages i (octets_at now.filestore p) ∷ Becomes p (Some (File (files.staged_in now.filestore i))) ∷ [])
-  exchange_seen = written_seen arena heads slots store now view b p node way file later slot.contents written row name whole (files.staged_in now.filestore i) here node_stays nodes_later long
+  pub exchange_seen : store_of later (staged_in slots_now) ≡ with_changes now
+      (Stages i (octets_at now.filestore p) ∷ Becomes p (Some (File (files.staged_in now.filestore i))) ∷ [])
+  exchange_seen = written_seen arena heads slots store now view b p node way file later slot.contents written row name whole
+      (files.staged_in now.filestore i) here node_stays nodes_later long
       slots_now (set now.filestore.staged i (octets_at now.filestore p)) lists_are

@@ -51,7 +51,11 @@ use Rattle.cfdp_tree.proofs.FileRows as rows
 -- octets that are in the same blocks
 module _ (a b : Contents) (same : SameOctets a b) where
   same_is : 0 < b.run.count → a ≡ b
-  same_is some = (λ k. record { run = record { first = same.first some k; last = same.last some k; count = same.count k }; size = same.size k; sum = same.sum k })
+  same_is some = (λ k. record {
+    run = record { first = same.first some k; last = same.last some k; count = same.count k };
+    size = same.size k;
+    sum = same.sum k;
+  })
 
   module _ (arena : Blocks) (filled : IsFilled arena b) where
     none_size : b.run.count ≡ 0 → a.size ≡ 0
@@ -88,7 +92,8 @@ told_file arena kind.File contents file = refl
 told_file arena kind.Directory contents file = cc
 
 -- a file of the store
-module _ (arena : Blocks) (heads : Heads) (slots : List Slot) {ways : List Way} (store : IsStore arena ways heads slots) (now : Store) (view : store_of arena (staged_in slots) ≡ now)
+module _ (arena : Blocks) (heads : Heads) (slots : List Slot) {ways : List Way} (store : IsStore arena ways heads slots) (now : Store)
+    (view : store_of arena (staged_in slots) ≡ now)
     (b : ℕ) (p : Path) (node : IsNode (nodes_in arena) b) (way : path_of (nodes_in arena) b ≡ p) (file : is_file (node_at now.filestore p) ≡ true) where
   abbrev nodes : Blocks
   nodes = nodes_in arena
@@ -103,7 +108,8 @@ module _ (arena : Blocks) (heads : Heads) (slots : List Slot) {ways : List Way} 
   before = contents_told kind.File (row_at nodes b)
 
   pub kind_there : kind_told (row_at nodes b).kind ≡ kind.File
-  kind_there = told_file arena (kind_told (row_at nodes b).kind) (file_of (octets_of nodes b)) (ap is_file (sym (seen_node arena heads slots store now view b p node way)) ∙ file)
+  kind_there = told_file arena (kind_told (row_at nodes b).kind) (file_of (octets_of nodes b))
+      (ap is_file (sym (seen_node arena heads slots store now view b p node way)) ∙ file)
 
   pub file_there : node_at now.filestore p ≡ Some (File (contents_in arena before))
   file_there = seen_node arena heads slots store now view b p node way ∙ ap (λ k. Some (node_told arena k (contents_told k (row_at nodes b)))) kind_there
@@ -137,13 +143,15 @@ module _ (arena : Blocks) (heads : Heads) (slots : List Slot) {ways : List Way} 
 
     pub told_written : contents.run.count ≡ blocks_of contents.size → SameOctets (file_of written) contents
     told_written blocks = subst (λ x. SameOctets x contents)
-        (sym (ap (λ k. contents_told k (row_of written)) (file_kind nodes store.kept.tree b node kind_there written contents row name whole) ∙ ap (contents_told kind.File) row))
+        (sym (ap (λ k. contents_told k (row_of written)) (file_kind nodes store.kept.tree b node kind_there written contents row name whole)
+        ∙ ap (contents_told kind.File) row))
         (rows.told_same (row_at nodes b) contents blocks)
 
     module _ (octets : List ℕ) (here : contents_in later (file_of written) ≡ octets)
         (stays : (c : ℕ) → IsNode nodes c → c ≢ b → node_of later (octets_of nodes c) ≡ node_of arena (octets_of nodes c)) where
       shown_written : node_of later written ≡ File octets
-      shown_written = ap (λ k. node_told later k (file_of written)) (file_kind nodes store.kept.tree b node kind_there written contents row name whole) ∙ ap File here
+      shown_written = ap (λ k. node_told later k (file_of written)) (file_kind nodes store.kept.tree b node kind_there written contents row name whole)
+          ∙ ap File here
 
       -- what is at a path, and whether it is the file's
       put : Bool → Option Node → Option Node
@@ -178,15 +186,18 @@ module _ (arena : Blocks) (heads : Heads) (slots : List Slot) {ways : List Way} 
       each_other c was other true is =
           absurd (other (same_node nodes store.kept.tree c b was node (sym (path_new c) ∙ (same_path-Decides (path_of new c) p).0 is ∙ sym way)))
       each_other c was other false is =
-          ap (finite.get now.filestore.nodes) (path_new c) ∙ was_shown.each c was ∙ ap Some (sym (stays c was other) ∙ ap (node_of later) (sym (octets_other c other)))
+          ap (finite.get now.filestore.nodes) (path_new c) ∙ was_shown.each c was
+          ∙ ap Some (sym (stays c was other) ∙ ap (node_of later) (sym (octets_other c other)))
 
-      each_new : (c : ℕ) → IsNode new c → finite.get (finite.insert now.filestore.nodes p (File octets)) (path_of new c) ≡ Some (node_of later (octets_of new c))
+      each_new : (c : ℕ) → IsNode new c → finite.get (finite.insert now.filestore.nodes p (File octets)) (path_of new c)
+          ≡ Some (node_of later (octets_of new c))
       each_new c is = got (path_of new c) ∙ elim (cases_eq c b) [
         | inl e ↦ each_here c e
         | inr other ↦ each_other c (sym (places.nodes c) ∙ is) other (same_path (path_of new c) p) refl
       ]
 
-      only_new : (q : Path) (found : Node) (same : Bool) → same_path q p ≡ same → put same (finite.get now.filestore.nodes q) ≡ Some found → (c : ℕ) × IsNode new c × (path_of new c ≡ q)
+      only_new : (q : Path) (found : Node) (same : Bool) → same_path q p ≡ same → put same (finite.get now.filestore.nodes q) ≡ Some found → (c : ℕ)
+          × IsNode new c × (path_of new c ≡ q)
       unfolding put
       only_new q found true is e = (b, places.nodes b ∙ node, path_new b ∙ way ∙ sym ((same_path-Decides q p).0 is))
       only_new q found false is e = (let there = was_shown.only q found e in (there.0, places.nodes there.0 ∙ there.1, path_new there.0 ∙ there.2))
@@ -195,13 +206,15 @@ module _ (arena : Blocks) (heads : Heads) (slots : List Slot) {ways : List Way} 
       shows_new = record { each = each_new; only = (λ q found e. only_new q found (same_path q p) refl (sym (got q) ∙ e)) }
 
       -- and the slots are others
-      module _ (nodes_now : nodes_in later ≡ new) (long : length later ≡ length arena) (slots_now : List Slot) (lists : List (List ℕ)) (lists_is : map (contents_in later) (staged_in slots_now) ≡ lists) where
+      module _ (nodes_now : nodes_in later ≡ new) (long : length later ≡ length arena) (slots_now : List Slot) (lists : List (List ℕ))
+          (lists_is : map (contents_in later) (staged_in slots_now) ≡ lists) where
         abbrev filestore_now : Filestore
         filestore_now = record { nodes = finite.insert now.filestore.nodes p (File octets); staged = lists }
 
         nodes_same : (filestore_of later (staged_in slots_now)).nodes ≡ finite.insert now.filestore.nodes p (File octets)
         nodes_same = shown_same later (nodes_in later) (filestore_of later (staged_in slots_now)).nodes (finite.insert now.filestore.nodes p (File octets))
-            (tree_shows later (nodes_in later) (subst IsTree (sym nodes_now) tree_new)) (subst (λ ns. Shows later ns (finite.insert now.filestore.nodes p (File octets))) (sym nodes_now) shows_new)
+            (tree_shows later (nodes_in later) (subst IsTree (sym nodes_now) tree_new))
+            (subst (λ ns. Shows later ns (finite.insert now.filestore.nodes p (File octets))) (sym nodes_now) shows_new)
 
         filestore_is : filestore_of later (staged_in slots_now) ≡ filestore_now
         filestore_is = (λ k. record { nodes = nodes_same k; staged = lists_is k })
@@ -212,7 +225,8 @@ module _ (arena : Blocks) (heads : Heads) (slots : List Slot) {ways : List Way} 
             let capacity : length later ≡ now.capacity = long ∙ ap (λ (s : Store). s.capacity) view in
             (λ k. record { filestore = filestore_is k; capacity = capacity k; takes_no_memory = memory k })
 
-        pub written_store : (ways_now : List Way) → length slots_now ≡ length slots → IsStored later ways_now (holdings new (staged_in slots_now)) → free_count later + blocks filestore_now ≡ length later
+        pub written_store : (ways_now : List Way) → length slots_now ≡ length slots → IsStored later ways_now (holdings new (staged_in slots_now)) →
+            free_count later + blocks filestore_now ≡ length later
             → All (IsPlaced later) slots_now → IsStore later ways_now heads slots_now
         written_store ways_now many stored counted placed = record {
           kept = record {
@@ -220,7 +234,8 @@ module _ (arena : Blocks) (heads : Heads) (slots : List Slot) {ways : List Way} 
             small = omega (arith, long, store.kept.small);
             slots = length-map slots_now (λ (slot : Slot). slot.contents) ∙ many ∙ sym (length-map slots (λ (slot : Slot). slot.contents)) ∙ store.kept.slots;
             tree = subst IsTree (sym nodes_now) tree_new;
-            index = subst (λ ns. IsIndex ns heads None) (sym nodes_now) (file_index nodes store.kept.tree b node kind_there written contents row name whole heads None store.kept.index);
+            index = subst (λ ns. IsIndex ns heads None) (sym nodes_now) (file_index nodes store.kept.tree b node kind_there written contents row name whole
+                heads None store.kept.index);
             stored = subst (λ ns. IsStored later ways_now (holdings ns (staged_in slots_now))) (sym nodes_now) stored;
             counted = ap (λ F. free_count later + blocks F) filestore_is ∙ counted;
           };
@@ -229,9 +244,11 @@ module _ (arena : Blocks) (heads : Heads) (slots : List Slot) {ways : List Way} 
 
   -- its octets are others, and then its block says so
   module _ (middle later : Blocks) (after : Contents) (written : List ℕ) (nodes_middle : nodes_in middle ≡ nodes) (long_middle : length middle ≡ length arena)
-      (spares : Spares arena middle before.run after.run) (filled : IsFilled middle after) (taken : free_count middle + blocks_of after.size ≡ free_count arena + blocks_of before.size)
+      (spares : Spares arena middle before.run after.run) (filled : IsFilled middle after) (taken : free_count middle + blocks_of after.size ≡ free_count arena
+      + blocks_of before.size)
       (nodes_later : nodes_in later ≡ with_block (nodes_in middle) b written) (row : row_of written ≡ with_contents (row_at (nodes_in middle) b) after)
-      (name : name_of written ≡ name_at (nodes_in middle) b) (whole : length written ≡ 128) (runs : RunsStay middle later) (free : free_count later ≡ free_count middle) (long : length later ≡ length middle)
+      (name : name_of written ≡ name_at (nodes_in middle) b) (whole : length written ≡ 128) (runs : RunsStay middle later) (free : free_count later
+      ≡ free_count middle) (long : length later ≡ length middle)
       (octets : List ℕ) (octets_is : contents_in middle after ≡ octets) where
     abbrev told : Contents
     told = file_of written
@@ -260,8 +277,10 @@ module _ (arena : Blocks) (heads : Heads) (slots : List Slot) {ways : List Way} 
     spares_told : Spares arena later before.run told.run
     spares_told other is apart =
         let s = spares other is apart in
-        let t = runs other s.0.held in
-        (record { held = t.held; octets = t.octets ∙ s.0.octets; places = (λ k within. t.places k within ∙ s.0.places k within) }, same_apart told after same other s.1)
+        let t = runs other s.0.held in (
+          record { held = t.held; octets = t.octets ∙ s.0.octets; places = (λ k within. t.places k within ∙ s.0.places k within) },
+          same_apart told after same other s.1,
+        )
 
     spares_held : Spares arena later (get_or held (length staged + b) no_contents).run told.run
     spares_held = subst (λ (x : Contents). Spares arena later x.run told.run) (sym held_here) spares_told
@@ -310,7 +329,8 @@ module _ (arena : Blocks) (heads : Heads) (slots : List Slot) {ways : List Way} 
     place_stays j d within =
         let s = get_or slots j d in
         let inside : j < length staged = omega (arith, within, length-map slots (λ (slot : Slot). slot.contents)) in
-        let at : get_or held j no_contents ≡ s.contents = slot_at j inside ∙ mapped_at (λ (slot : Slot). slot.contents) slots j s no_contents within (get_or_default slots j d s within) in
+        let at : get_or held j no_contents ≡ s.contents = slot_at j inside ∙ mapped_at (λ (slot : Slot). slot.contents) slots j s no_contents within
+        (get_or_default slots j d s within) in
         let stays = subst (λ (x : Contents). Stays arena later x.run) at
         (run_spared arena later held (length staged + b) in_held told store.kept.stored spares_held filled_told j (λ e. omega (arith, inside, e))).0 in
         slot_stays arena later s stays (store.placed j d within)
@@ -328,9 +348,12 @@ module _ (arena : Blocks) (heads : Heads) (slots : List Slot) {ways : List Way} 
           ways_still middle later ways_now other long (λ k less. (runs other still).places k (omega (arith, less))) (keeps other is apart_before was)
 
       pub file_store : IsStore later ways_now heads slots
-      file_store = written_store later after written row_is name_is whole octets here node_stays nodes_is (long ∙ long_middle) slots now.filestore.staged lists_are ways_now refl
-          (subst (IsStored later ways_now) (sym holdings_now) (stored_changed arena later held (length staged + b) in_held told store.kept.stored spares_held filled_told ways_now has_later keeps_later))
+      file_store = written_store later after written row_is name_is whole octets here node_stays nodes_is (long
+          ∙ long_middle) slots now.filestore.staged lists_are ways_now refl
+          (subst (IsStored later ways_now) (sym holdings_now) (stored_changed arena later held (length staged
+          + b) in_held told store.kept.stored spares_held filled_told ways_now has_later keeps_later))
           counted_now place_stays
 
     pub file_changes : store_of later (staged_in slots) ≡ with_changes now (Becomes p (Some (File octets)) ∷ [])
-    file_changes = written_seen later after written row_is name_is whole octets here node_stays nodes_is (long ∙ long_middle) slots now.filestore.staged lists_are
+    file_changes = written_seen later after written row_is name_is whole octets here node_stays nodes_is (long
+        ∙ long_middle) slots now.filestore.staged lists_are

@@ -1,7 +1,7 @@
--- The block of a file, written with other octets: nodes stand where they stood, and are found as they were.
+-- The block of a file, written with other octets: nodes are where they were, and are found as they were.
 --     run_keeps       what a row does not say of its blocks stays
 --     row_keeps       what a row does not say of its octets stays
---     file_places     all nodes stand where they stood
+--     file_places     all nodes are where they were
 --     file_index      and are in the lists of the index in which they were
 --     told_same       its contents are those that were written
 use Rattle.std.proofs.Common.{◌≡◌, ℕ, ◌<◌, Bool, true, false, List, [], length, Option, Some, None, refl, sym, ap, ◌∙◌, subst, arith, length-set}
@@ -21,18 +21,23 @@ use Rattle.cfdp_tree.specs.Files.{with_run, with_contents, SameOctets}
 use Rattle.cfdp_tree.proofs.PlaceLaws.{kept_by, same_places}
 use Rattle.cfdp_tree.proofs.OutLaws.{index_kept}
 
-pub run_keeps : {X : Type 0} (word : Row → X) (row : Row) (run : Run) → word (record row { first = run.first; last = run.last }) ≡ word row → word (with_run row run) ≡ word row
+pub run_keeps : {X : Type 0} (word : Row → X) (row : Row) (run : Run) → word (record row { first = run.first; last = run.last }) ≡ word row →
+    word (with_run row run) ≡ word row
 run_keeps {X = X} word row run same = by_test (run.count == 0)
   where
     by_test : (none : Bool) → word (if none then row else record row { first = run.first; last = run.last }) ≡ word row
     by_test true = refl
     by_test false = same
 
-pub row_keeps : {X : Type 0} (word : Row → X) (row : Row) (contents : Contents) → ((first last size sum : ℕ) → word (record row { first = first; last = last; size = size; sum = sum }) ≡ word row)
+pub row_keeps : {X : Type 0} (word : Row → X) (row : Row) (contents : Contents) →
+    ((first last size sum : ℕ) → word (record row { first = first; last = last; size = size; sum = sum }) ≡ word row)
     → word (with_contents row contents) ≡ word row
 row_keeps {X = X} word row contents same = by_test (contents.run.count == 0)
   where
-    by_test : (none : Bool) → word (record (if none then row else record row { first = contents.run.first; last = contents.run.last }) { size = contents.size; sum = contents.sum }) ≡ word row
+    by_test : (none : Bool) → word (record (if none then row else record row { first = contents.run.first; last = contents.run.last }) {
+      size = contents.size;
+      sum = contents.sum;
+    }) ≡ word row
     by_test true = same row.first row.last contents.size contents.sum
     by_test false = same contents.run.first contents.run.last contents.size contents.sum
 
@@ -50,12 +55,14 @@ told_same row contents blocks = record {
     not_none : 0 < contents.run.count → (contents.run.count == 0) ≡ false
     not_none some = ne_eqb contents.run.count 0 (λ e. omega (arith, some, e))
 
-module _ (nodes : Blocks) (tree : IsTree nodes) (b : ℕ) (node : IsNode nodes b) (file : kind_told (row_at nodes b).kind ≡ kind.File) (block : List ℕ) (contents : Contents)
+module _ (nodes : Blocks) (tree : IsTree nodes) (b : ℕ) (node : IsNode nodes b) (file : kind_told (row_at nodes b).kind ≡ kind.File) (block : List ℕ)
+    (contents : Contents)
     (row : row_of block ≡ with_contents (row_at nodes b) contents) (name : name_of block ≡ name_at nodes b) (whole : length block ≡ 128) where
   abbrev new : Blocks
   new = with_block nodes b block
 
-  keeps : {X : Type 0} (word : Row → X) → ((first last size sum : ℕ) → word (record (row_at nodes b) { first = first; last = last; size = size; sum = sum }) ≡ word (row_at nodes b)) → word (row_of block) ≡ word (row_at nodes b)
+  keeps : {X : Type 0} (word : Row → X) → ((first last size sum : ℕ) → word (record (row_at nodes b) { first = first; last = last; size = size; sum = sum })
+      ≡ word (row_at nodes b)) → word (row_of block) ≡ word (row_at nodes b)
   keeps word same = ap word row ∙ row_keeps word (row_at nodes b) contents same
 
   named : IsNamed block
@@ -74,7 +81,8 @@ module _ (nodes : Blocks) (tree : IsTree nodes) (b : ℕ) (node : IsNode nodes b
   file_places = same_places nodes b block node tree named
       (keeps (λ (r : Row). if r.parent == b then None else Some r.parent) (λ _ _ _ _. refl)) name (keeps (λ (r : Row). kind_told r.kind) (λ _ _ _ _. refl))
 
-  kept : {X : Type 0} (word : Row → X) → ((first last size sum : ℕ) → word (record (row_at nodes b) { first = first; last = last; size = size; sum = sum }) ≡ word (row_at nodes b))
+  kept : {X : Type 0} (word : Row → X) → ((first last size sum : ℕ) → word (record (row_at nodes b) { first = first; last = last; size = size; sum = sum })
+      ≡ word (row_at nodes b))
       → (c : ℕ) → word (row_at new c) ≡ word (row_at nodes c)
   kept word same = kept_by nodes b block node (λ c entry. word (row_of (unwrap_or entry []))) (keeps word same)
 

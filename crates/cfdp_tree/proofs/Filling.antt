@@ -1,4 +1,4 @@
--- Octets that stand first in a run, with zeros behind them.
+-- Octets that are first in a run, with zeros after them.
 --     more_zeros                             one block of zeros more
 --     extended_octets, extended_zeros        the run is longer, and the octets are
 --     front_written, rest_written            octets are written among the first ones

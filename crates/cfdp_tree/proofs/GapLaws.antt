@@ -75,7 +75,8 @@ module _ (xs : List ℕ) (at : ℕ) (part : List ℕ) (range : at + length part 
     }
   ]
 
-  pub left_blank : (gap left : Gap) → IsBlank xs gap → left.from ≤ left.to → gap.from ≤ left.from → left.to ≤ gap.to → (left.to ≤ at) ⊎ ((at + length part ≤ left.from) ⊎ (left.from ≡ left.to))
+  pub left_blank : (gap left : Gap) → IsBlank xs gap → left.from ≤ left.to → gap.from ≤ left.from → left.to ≤ gap.to → (left.to ≤ at)
+      ⊎ ((at + length part ≤ left.from) ⊎ (left.from ≡ left.to))
       → IsBlank (overwritten xs at part) left
   left_blank gap left blank ordered begins ends apart =
       let there = part_blank xs gap blank left begins ordered ends in
@@ -87,10 +88,12 @@ module _ (xs : List ℕ) (at : ℕ) (part : List ℕ) (range : at + length part 
         ]
       ]
 
-  pub skipped_blank : (end skipped : Gap) → IsBlank xs end → at ≤ end.to → skipped.from ≡ end.from → skipped.to ≡ max at end.from → IsBlank (overwritten xs at part) skipped
+  pub skipped_blank : (end skipped : Gap) → IsBlank xs end → at ≤ end.to → skipped.from ≡ end.from → skipped.to ≡ max at end.from →
+      IsBlank (overwritten xs at part) skipped
   skipped_blank end skipped blank range from_is to_is = elim (cases_lt at end.from) [
     | inl less ↦ none_blank (overwritten xs at part) skipped (omega (arith, from_is, to_is, less))
-    | inr over ↦ before_blank skipped (omega (arith, to_is, over)) (part_blank xs end blank skipped (omega (arith, from_is)) (omega (arith, from_is, to_is)) (omega (arith, to_is, over, range)))
+    | inr over ↦ before_blank skipped (omega (arith, to_is, over)) (part_blank xs end blank skipped (omega (arith, from_is)) (omega (arith, from_is, to_is))
+        (omega (arith, to_is, over, range)))
   ]
 
 module _ (xs : List ℕ) (size : ℕ) (longer : length xs ≤ size) where
@@ -99,7 +102,8 @@ module _ (xs : List ℕ) (size : ℕ) (longer : length xs ≤ size) where
     | inl empty ↦ none_blank (extended xs size) gap empty
     | inr some ↦ record {
       ordered = blank.ordered;
-      zeros = slice-left xs (replicate (size - length xs) 0) gap.from (gap.to - gap.from) (omega (arith, blank.ordered, within xs gap blank some)) ∙ blank.zeros;
+      zeros = slice-left xs (replicate (size - length xs) 0) gap.from (gap.to - gap.from) (omega (arith, blank.ordered, within xs gap blank some))
+          ∙ blank.zeros;
     }
   ]
 
@@ -113,6 +117,7 @@ module _ (xs : List ℕ) (size : ℕ) (longer : length xs ≤ size) where
       record {
         ordered = omega (arith, from_is, to_is, inside, longer);
         zeros = ap (λ m. take (grown.to - grown.from) (drop m (xs ++ replicate more 0))) from_is
-            ∙ ap (take (grown.to - grown.from)) (drop-append-le end.from xs (replicate more 0) inside ∙ ap (λ ys. ys ++ replicate more 0) left ∙ replicate-append-replicate n more 0 ∙ ap (λ m. replicate m 0) all)
+            ∙ ap (take (grown.to - grown.from)) (drop-append-le end.from xs (replicate more 0) inside ∙ ap (λ ys. ys ++ replicate more 0) left
+            ∙ replicate-append-replicate n more 0 ∙ ap (λ m. replicate m 0) all)
             ∙ take-replicate (grown.to - grown.from) (grown.to - grown.from) 0 (omega arith);
       }

@@ -26,13 +26,15 @@ no_live None e s = cc
 -- a block that is written is live
 live_written : (arena : Blocks) (block : ℕ) (new : List ℕ) (b : ℕ) → IsLive arena b → IsLive (with_block arena block new) b
 live_written arena block new b live = elim (cases_eq b block) [
-  | inl e ↦ subst IsSome (sym (ap (octets_at (with_block arena block new)) e ∙ get_or-set_same arena block (Some new) None (live_within arena block (subst (IsLive arena) e live)))) refl
+  | inl e ↦ subst IsSome (sym (ap (octets_at (with_block arena block new)) e
+      ∙ get_or-set_same arena block (Some new) None (live_within arena block (subst (IsLive arena) e live)))) refl
   | inr other ↦ subst IsSome (sym (get_or-set_other arena block b (Some new) None other)) live
 ]
 
 -- a free block is taken, and is given an owner, a rank and a kind
 module _ (arena begun : Blocks) (block : ℕ) (free : octets_at arena block ≡ None) (inside : block < length arena)
-    (owner rank : ℕ) (fresh : List ℕ) (begun_is : begun ≡ with_block arena block fresh) (whole : length fresh ≡ 128) (before : Header) (tag : header_of fresh ≡ tagged before owner rank kind.Content)
+    (owner rank : ℕ) (fresh : List ℕ) (begun_is : begun ≡ with_block arena block fresh) (whole : length fresh ≡ 128) (before : Header) (tag : header_of fresh
+    ≡ tagged before owner rank kind.Content)
     (zeros : payload fresh ≡ payload blank_block) where
   fresh_at : octets_at begun block ≡ Some fresh
   fresh_at = ap (λ a. octets_at a block) begun_is ∙ get_or-set_same arena block (Some fresh) None inside
@@ -59,7 +61,11 @@ module _ (arena begun : Blocks) (block : ℕ) (free : octets_at arena block ≡ 
 
   pub begun_held : (run : Run) → run.first ≡ block → run.last ≡ block → run.count ≡ 1 → owner ≡ block → rank ≡ 0 → IsHeld begun run
   begun_held run first_is last_is count_is owner_is rank_is =
-      let one : IsRun begun block 0 1 block = (subst (λ r. IsPart block r (octets_at begun block)) rank_is (subst (λ o. IsPart o rank (octets_at begun block)) owner_is fresh_part), tt) in
+      let one : IsRun begun block 0 1 block = (
+        subst (λ r. IsPart block r (octets_at begun block)) rank_is
+            (subst (λ o. IsPart o rank (octets_at begun block)) owner_is fresh_part),
+        tt,
+      ) in
       let none : run.count - 1 ≡ 0 = omega arith in
       record {
         parts = subst (λ n. IsRun begun run.first 0 n run.first) (sym count_is) (subst (λ b. IsRun begun b 0 1 b) (sym first_is) one);
@@ -122,22 +128,26 @@ module _ (arena begun : Blocks) (block : ℕ) (free : octets_at arena block ≡ 
                 (subst (λ b. IsRun (with_block begun b new) run.first 0 (suc (suc n)) run.first) (sym last_is)
                 (linked_run begun run.first block new new_whole 0 n run.first rank parts more next_rank link_there)));
             last = (λ here. after_last
-                ∙ sym (ap (λ b. nth (with_block begun b new) run.first (suc n)) last_is ∙ linked_nth begun run.first block new new_whole 0 n run.first parts link_there)
+                ∙ sym (ap (λ b. nth (with_block begun b new) run.first (suc n)) last_is
+                ∙ linked_nth begun run.first block new new_whole 0 n run.first parts link_there)
                 ∙ (λ k. nth grown (sym first_is k) (to_last k)));
           }
 
-      pub grown_octets : (after : Run) → after.first ≡ run.first → after.count ≡ run.count + 1 → octets_in grown after ≡ octets_in arena run ++ payload blank_block
+      pub grown_octets : (after : Run) → after.first ≡ run.first → after.count ≡ run.count + 1 → octets_in grown after ≡ octets_in arena run
+          ++ payload blank_block
       grown_octets after first_is count_is =
           let long : after.count ≡ suc (suc n) = omega (arith, all) in
           (λ k. run_octets grown (long k) (first_is k))
           ∙ ap (λ b. run_octets (with_block begun b new) (suc (suc n)) run.first) last_is
-          ∙ linked_octets begun run.first block new new_whole 0 n run.first rank parts more next_rank link_there (same ∙ ap (λ b. payload (octets (octets_at begun b))) last_is)
+          ∙ linked_octets begun run.first block new new_whole 0 n run.first rank parts more next_rank link_there (same
+          ∙ ap (λ b. payload (octets (octets_at begun b))) last_is)
           ∙ (λ k. run_octets begun (sym all k) run.first ++ payload (octets (fresh_at k)))
           ∙ (λ k. kept_octets arena begun run.first 0 run.count run.first keeps held.parts k ++ zeros k)
 
       pub grown_others : OthersStay arena grown run
       grown_others b live not_of =
-          let last_part : IsPart run.first n (octets_at begun run.last) = subst (λ x. IsPart run.first n (octets_at begun x)) (sym last_is) (nth_part begun run.first 0 (suc n) run.first n n parts (omega arith) (omega arith)) in
+          let last_part : IsPart run.first n (octets_at begun run.last) = subst (λ x. IsPart run.first n (octets_at begun x)) (sym last_is)
+          (nth_part begun run.first 0 (suc n) run.first n n parts (omega arith) (omega arith)) in
           let was : octets_at begun b ≡ octets_at arena b = begun_stay b live in
           get_or-set_other begun run.last b (Some new) None
           (λ e. not_of (some, ap (λ entry. (header_in entry).owner) (sym was) ∙ ap (λ x. (header_in (octets_at begun x)).owner) e ∙ last_part.owner_is))
@@ -152,7 +162,8 @@ module _ (arena begun : Blocks) (block : ℕ) (free : octets_at arena block ≡ 
 
       pub grown_nodes : nodes_in grown ≡ nodes_in arena
       grown_nodes =
-          let last_part : IsPart run.first n (octets_at begun run.last) = subst (λ x. IsPart run.first n (octets_at begun x)) (sym last_is) (nth_part begun run.first 0 (suc n) run.first n n parts (omega arith) (omega arith)) in
+          let last_part : IsPart run.first n (octets_at begun run.last) = subst (λ x. IsPart run.first n (octets_at begun x)) (sym last_is)
+          (nth_part begun run.first 0 (suc n) run.first n n parts (omega arith) (omega arith)) in
           nodes-written begun run.last run.first n new last_part (ap (λ (h : Header). h.kind) link) ∙ begun_nodes
 
       pub grown_free : free_count grown + 1 ≡ free_count arena

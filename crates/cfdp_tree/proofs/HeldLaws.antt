@@ -32,7 +32,8 @@ others_then first second third run stay still b live not_of =
     still b (subst IsSome (sym was) live) (λ of. not_of (subst (IsOf run) was of)) ∙ was
 
 -- the second time by a run with one block more
-pub others_grown : (first second third : Blocks) (run after : Run) → OthersStay first second run → OthersStay second third run → 0 < after.count → (0 < run.count → after.first ≡ run.first) → OthersStay first third after
+pub others_grown : (first second third : Blocks) (run after : Run) → OthersStay first second run → OthersStay second third run → 0 < after.count →
+    (0 < run.count → after.first ≡ run.first) → OthersStay first third after
 others_grown first second third run after stay still some same b live not_of =
     others_then first second third run stay still b live (λ of. not_of (some, of.1 ∙ sym (same of.0)))
 
@@ -41,7 +42,8 @@ pub octets_are : (arena : Blocks) (block : ℕ) (shown : List ℕ) → octets_at
 octets_are arena block shown e = sym (ap octets e)
 
 -- another run, where it has another first block
-module _ (old new : Blocks) (run other : Run) (stay : OthersStay old new run) (differ : 0 < run.count → 0 < other.count → other.first ≢ run.first) (held : IsHeld old other) where
+module _ (old new : Blocks) (run other : Run) (stay : OthersStay old new run) (differ : 0 < run.count → 0 < other.count → other.first ≢ run.first)
+    (held : IsHeld old other) where
   others_keep : 0 < other.count → KeepsFrom other.first 0 old new
   others_keep some block r le part = stay block part.live (λ h. differ h.0 some (sym part.owner_is ∙ h.1))
 
@@ -72,18 +74,21 @@ module _ (old new : Blocks) (run other : Run) (stay : OthersStay old new run) (d
 -- a block of a run
 module _ (arena : Blocks) (run : Run) (held : IsHeld arena run) (k : ℕ) (within : k < run.count) (block : ℕ) (block_is : block ≡ nth arena run.first k) where
   pub held_part : IsPart run.first k (octets_at arena block)
-  held_part = subst (λ b. IsPart run.first k (octets_at arena b)) (sym block_is) (nth_part arena run.first 0 run.count run.first k k held.parts within (omega arith))
+  held_part = subst (λ b. IsPart run.first k (octets_at arena b)) (sym block_is)
+      (nth_part arena run.first 0 run.count run.first k k held.parts within (omega arith))
 
   module _ (new : List ℕ) (whole : length new ≡ 128) (same : header_of new ≡ header_in (octets_at arena block)) where
     same_there : header_of new ≡ header_in (octets_at arena (nth arena run.first k))
     same_there = same ∙ ap (λ b. header_in (octets_at arena b)) block_is
 
     pub put_nth : (j : ℕ) → j ≤ run.count → nth (with_block arena block new) run.first j ≡ nth arena run.first j
-    put_nth j reach = ap (λ b. nth (with_block arena b new) run.first j) block_is ∙ written_nth arena run.first new whole 0 run.count run.first k j held.parts within reach same_there
+    put_nth j reach = ap (λ b. nth (with_block arena b new) run.first j) block_is
+        ∙ written_nth arena run.first new whole 0 run.count run.first k j held.parts within reach same_there
 
     pub put_held : IsHeld (with_block arena block new) run
     put_held = record {
-      parts = subst (λ b. IsRun (with_block arena b new) run.first 0 run.count run.first) (sym block_is) (written_run arena run.first new whole 0 run.count run.first k held.parts within same_there);
+      parts = subst (λ b. IsRun (with_block arena b new) run.first 0 run.count run.first) (sym block_is)
+          (written_run arena run.first new whole 0 run.count run.first k held.parts within same_there);
       last = (λ some. held.last some ∙ sym (put_nth (run.count - 1) (omega arith)));
     }
 
@@ -107,7 +112,8 @@ chain_nth arena zero block k d within = absurd (omega (arith, within))
 chain_nth arena (suc n) block zero d within = refl
 chain_nth arena (suc n) block (suc k) d within = chain_nth arena n (next_in (octets_at arena block)) k d (omega (arith, within))
 
-nodes-vacated : (arena : Blocks) (xs : List ℕ) → All (λ b. only_node (octets_at arena b) ≡ None) xs → AllPairs (λ a b. a ≢ b) xs → nodes_in (vacated xs arena) ≡ nodes_in arena
+nodes-vacated : (arena : Blocks) (xs : List ℕ) → All (λ b. only_node (octets_at arena b) ≡ None) xs → AllPairs (λ a b. a ≢ b) xs → nodes_in (vacated xs arena)
+    ≡ nodes_in arena
 nodes-vacated arena [] none once = refl
 nodes-vacated arena (x ∷ xs) none once =
     let stays = get_or-vacated xs arena x (first_absent x xs once) in
@@ -116,7 +122,8 @@ nodes-vacated arena (x ∷ xs) none once =
 
 -- all its blocks are given back
 module _ (arena : Blocks) (run : Run) (held : IsHeld arena run) where
-  given_part : (k d : ℕ) → k < length (chain_in arena run.count run.first) → IsPart run.first k (octets_at arena (get_or (chain_in arena run.count run.first) k d))
+  given_part : (k d : ℕ) → k < length (chain_in arena run.count run.first) →
+      IsPart run.first k (octets_at arena (get_or (chain_in arena run.count run.first) k d))
   given_part k d less =
       let within : k < run.count = omega (arith, less, length-chain_in arena run.count run.first) in
       held_part arena run held k within (get_or (chain_in arena run.count run.first) k d) (chain_nth arena run.count run.first k d within)
@@ -145,7 +152,10 @@ module _ (arena : Blocks) (run : Run) (held : IsHeld arena run) where
     given_others b live not_of =
         let given = chain_in arena run.count run.first in
         ap (λ a. octets_at a b) freed
-        ∙ octets_at-vacated_other arena given b (λ k d less e. not_of (omega (arith, less, length-chain_in arena run.count run.first), ap (λ x. (header_in (octets_at arena x)).owner) e ∙ (given_part k d less).owner_is))
+        ∙ octets_at-vacated_other arena given b (λ k d less e. not_of (
+          omega (arith, less, length-chain_in arena run.count run.first),
+          ap (λ x. (header_in (octets_at arena x)).owner) e ∙ (given_part k d less).owner_is,
+        ))
 
     pub given_nodes : nodes_in after ≡ nodes_in arena
     given_nodes =

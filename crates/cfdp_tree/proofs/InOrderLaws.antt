@@ -1,9 +1,9 @@
--- Nodes with their paths, in path order, are the entries of what stands there.
+-- Nodes with their paths, in path order, are the entries of what is there.
 --     rising                   paths in order of which no two are one strictly rise
---     found_own, found_all, found_apart     the nodes of what stands at a path and below it, in another order
---     found_tree               they are the entries of what stands there
+--     found_own, found_all, found_apart     the nodes of what is at a path and below it, in another order
+--     found_tree               they are the entries of what is there
 --     told_tree                they are so where their paths rise
---     tree_whole               of no name, all that stands
+--     tree_whole               of no name, all that exists
 use Rattle.std.proofs.Common.{◌≡◌, ◌≢◌, ℕ, zero, suc, ◌+◌, ◌<◌, Bool, true, false, ◌&&◌, T, List, [], ◌∷◌, length, map, is_lt, cond, is_some, get_or, Option, Some, None, refl, sym, ap, ◌∙◌, subst, arith}
 use Rattle.std.proofs.lemmas.List.{length-map, get_or-map}
 use Rattle.std.proofs.lemmas.List.Elements.{All-map}
@@ -53,7 +53,8 @@ module _ {X : Type 0} where
   rising (e ∷ []) up apart = refl
   rising (e ∷ f ∷ es) up apart =
       let rest = rising (f ∷ es) (later e (f ∷ es) up) (λ i j d less within. apart (suc i) (suc j) d (omega (arith, less)) (omega (arith, within))) in
-      let behind = not_less (path_cmp f.0 e.0) (up 0 e (omega arith) (omega arith)) (λ same. apart 0 1 e (omega arith) (omega arith) (sym (path_antisym f.0 e.0 same))) in
+      let behind = not_less (path_cmp f.0 e.0) (up 0 e (omega arith) (omega arith))
+      (λ same. apart 0 1 e (omega arith) (omega arith) (sym (path_antisym f.0 e.0 same))) in
       let before : path_cmp e.0 f.0 ≡ Less = greater_back f.0 e.0 behind in
       both (is_lt (path_cmp e.0 f.0) && below_all path_cmp e.0 es) (is_sorted path_cmp (f ∷ es))
       (both (is_lt (path_cmp e.0 f.0)) (below_all path_cmp e.0 es) (ap is_lt before)
@@ -87,11 +88,13 @@ module _ {X : Type 0} where
       more true o some = refl
       more false o some = some
 
-      at_place : (k : ℕ) → k < length (f ∷ es) → get_or (f ∷ es) k e ≡ e → ((k : ℕ) → k < length es → get_or es k e ≡ e → is_some (find path_cmp e.0 es) ≡ true) → is_some (find path_cmp e.0 (f ∷ es)) ≡ true
-      at_place zero within is rest = ap (λ b. is_some (cond b (Some f.1) (find path_cmp e.0 es))) ((same_path-Decides e.0 f.0).1 (sym (ap (λ (y : Path × X). y.0) is)))
+      at_place : (k : ℕ) → k < length (f ∷ es) → get_or (f ∷ es) k e ≡ e → ((k : ℕ) → k < length es → get_or es k e ≡ e → is_some (find path_cmp e.0 es)
+          ≡ true) → is_some (find path_cmp e.0 (f ∷ es)) ≡ true
+      at_place zero within is rest = ap (λ b. is_some (cond b (Some f.1) (find path_cmp e.0 es)))
+          ((same_path-Decides e.0 f.0).1 (sym (ap (λ (y : Path × X). y.0) is)))
       at_place (suc k) within is rest = more (same_path e.0 f.0) (find path_cmp e.0 es) (rest k (omega (arith, within)) is)
 
--- ---- the nodes of what stands at a path and below it, in another order
+-- ---- the nodes of what is at a path and below it, in another order
 
 both_ways : (a b : Bool) → (a ≡ true → b ≡ true) → (b ≡ true → a ≡ true) → a ≡ b
 both_ways true b there back = sym (there refl)
@@ -113,7 +116,8 @@ shown_sorted : (arena nodes : Blocks) (es : List (Path × ℕ)) → is_sorted pa
 shown_sorted arena nodes [] = refl
 shown_sorted arena nodes (e ∷ es) = (λ k. shown_below arena nodes e.0 es k && shown_sorted arena nodes es k)
 
-module _ (nodes : Blocks) (tree : IsTree nodes) (p : Path) (list : List ℕ) (survey : IsSurvey nodes p list) (found : List (Path × ℕ)) (perm : IsPermutation (map (with_path nodes) list) found) where
+module _ (nodes : Blocks) (tree : IsTree nodes) (p : Path) (list : List ℕ) (survey : IsSurvey nodes p list) (found : List (Path × ℕ))
+    (perm : IsPermutation (map (with_path nodes) list) found) where
   found_own : All (λ e. IsUnder nodes p e.1 × (path_of nodes e.1 ≡ e.0)) found
   found_own = All-permutation (λ e. IsUnder nodes p e.1 × (path_of nodes e.1 ≡ e.0)) (map (with_path nodes) list) found perm
       (All-map (λ e. IsUnder nodes p e.1 × (path_of nodes e.1 ≡ e.0)) (with_path nodes) list (λ k d within. (survey.own k d within, refl)))
@@ -121,8 +125,12 @@ module _ (nodes : Blocks) (tree : IsTree nodes) (p : Path) (list : List ℕ) (su
   found_all : (b : ℕ) → IsUnder nodes p b → Contains found (path_of nodes b, b)
   found_all b under =
       let has = survey.all b under in
-      Contains-permutation (map (with_path nodes) list) found (path_of nodes b, b) perm
-      (has.0, omega (arith, has.1, length-map list (with_path nodes)), get_or-map (with_path nodes) list has.0 b (path_of nodes b, b) has.1 ∙ ap (with_path nodes) has.2)
+      Contains-permutation (map (with_path nodes) list) found (path_of nodes b, b) perm (
+        has.0,
+        omega (arith, has.1, length-map list (with_path nodes)),
+        get_or-map (with_path nodes) list has.0 b (path_of nodes b, b) has.1
+            ∙ ap (with_path nodes) has.2,
+      )
 
   paths_apart : AllPairs (λ x y. x ≢ y) (map (λ b. path_of nodes b) list)
   paths_apart i j d less within same =
@@ -139,8 +147,10 @@ module _ (nodes : Blocks) (tree : IsTree nodes) (p : Path) (list : List ℕ) (su
       let keys : List Path = map (λ (e : Path × ℕ). e.0) found in
       let first = IsDistinct-from_AllPairs same_path-Decides (map (λ b. path_of nodes b) list) paths_apart in
       let moved : IsPermutation (map (λ b. path_of nodes b) list) keys =
-      subst (λ xs. IsPermutation xs keys) (map-map (λ (e : Path × ℕ). e.0) (with_path nodes) list) (IsPermutation-map (λ (e : Path × ℕ). e.0) (map (with_path nodes) list) found perm) in
-      let pairs = AllPairs-from_IsDistinct same_path-Decides keys (IsDistinct-IsPermutation same_path same_flips (map (λ b. path_of nodes b) list) keys moved first) in
+      subst (λ xs. IsPermutation xs keys) (map-map (λ (e : Path × ℕ). e.0) (with_path nodes) list)
+      (IsPermutation-map (λ (e : Path × ℕ). e.0) (map (with_path nodes) list) found perm) in
+      let pairs = AllPairs-from_IsDistinct same_path-Decides keys (IsDistinct-IsPermutation same_path same_flips
+      (map (λ b. path_of nodes b) list) keys moved first) in
       pairs i j d.0 less (omega (arith, within, length-map found (λ (e : Path × ℕ). e.0)))
       (get_or-map (λ (e : Path × ℕ). e.0) found i d d.0 (omega (arith, less, within)) ∙ same ∙ sym (get_or-map (λ (e : Path × ℕ). e.0) found j d d.0 within))
 
@@ -151,21 +161,27 @@ module _ (nodes : Blocks) (tree : IsTree nodes) (p : Path) (list : List ℕ) (su
     found_at : (q : Path) → find path_cmp q (map (shown arena nodes) found) ≡ cond (is_at_or_below q p) (node_at F q) None
     found_at q = by_found (find path_cmp q (map (shown arena nodes) found)) refl
       where
-        absent : (below : Bool) (o : Option Node) → find path_cmp q (map (shown arena nodes) found) ≡ None → is_at_or_below q p ≡ below → node_at F q ≡ o → cond (is_at_or_below q p) (node_at F q) None ≡ None
+        absent : (below : Bool) (o : Option Node) → find path_cmp q (map (shown arena nodes) found) ≡ None → is_at_or_below q p ≡ below → node_at F q ≡ o →
+            cond (is_at_or_below q p) (node_at F q) None ≡ None
         absent false o none is e = ap (λ b. cond b (node_at F q) None) is
         absent true None none is e = (λ k. cond (is k) (e k) None)
         absent true (Some node) none is e =
             let at = shows.only q node e in
             let has = found_all at.0 (record { node = at.1; below = ap (λ x. is_at_or_below x p) at.2 ∙ is }) in
             let entry : Path × ℕ = (path_of nodes at.0, at.0) in
-            let inside = in_found (map (shown arena nodes) found) (shown arena nodes entry)
-            (has.0, omega (arith, has.1, length-map found (shown arena nodes)), get_or-map (shown arena nodes) found has.0 entry (shown arena nodes entry) has.1 ∙ ap (shown arena nodes) has.2) in
+            let inside = in_found (map (shown arena nodes) found) (shown arena nodes entry) (
+              has.0,
+              omega (arith, has.1, length-map found (shown arena nodes)),
+              get_or-map (shown arena nodes) found has.0 entry (shown arena nodes entry) has.1
+                  ∙ ap (shown arena nodes) has.2,
+            ) in
             absurd (not_both (ap (λ x. is_some (find path_cmp x (map (shown arena nodes) found))) (sym at.2) ∙ inside) (ap is_some none))
           where
             not_both : {b : Bool} → b ≡ true → b ≡ false → ⊥
             not_both first second = cc
 
-        by_found : (o : Option Node) → find path_cmp q (map (shown arena nodes) found) ≡ o → find path_cmp q (map (shown arena nodes) found) ≡ cond (is_at_or_below q p) (node_at F q) None
+        by_found : (o : Option Node) → find path_cmp q (map (shown arena nodes) found) ≡ o → find path_cmp q (map (shown arena nodes) found)
+            ≡ cond (is_at_or_below q p) (node_at F q) None
         by_found None none = none ∙ sym (absent (is_at_or_below q p) (node_at F q) none refl refl)
         by_found (Some x) is =
             let has = found_in (map (shown arena nodes) found) q x is in
@@ -183,23 +199,27 @@ module _ (nodes : Blocks) (tree : IsTree nodes) (p : Path) (list : List ℕ) (su
         let es = map (shown arena nodes) found in
         let good = subst T (sym ordered) tt in
         sym (entries-from_sorted path_cmp es good)
-        ∙ ap (λ m. finite.entries m) (same_map path_cmp-total path_antisym (from_sorted {R = path_cmp} es) (finite.retain_keys F.nodes (λ x. is_at_or_below x p))
+        ∙ ap (λ m. finite.entries m) (same_map path_cmp-total path_antisym (from_sorted {R = path_cmp} es)
+        (finite.retain_keys F.nodes (λ x. is_at_or_below x p))
         (λ q. get-from_sorted path_cmp es q good ∙ found_at q ∙ sym (tree_got F p q)))
 
 -- nodes whose paths rise, each with its path
-module _ (nodes : Blocks) (tree : IsTree nodes) (p : Path) (list : List ℕ) (survey : IsSurvey nodes p list) (up : AllPairs (λ b c. path_cmp (path_of nodes b) (path_of nodes c) ≡ Less) list) where
+module _ (nodes : Blocks) (tree : IsTree nodes) (p : Path) (list : List ℕ) (survey : IsSurvey nodes p list)
+    (up : AllPairs (λ b c. path_cmp (path_of nodes b) (path_of nodes c) ≡ Less) list) where
   paths_sorted : IsSorted by_path (map (with_path nodes) list)
   paths_sorted k d low within =
       let inside : k + 1 < length list = omega (arith, within, length-map list (with_path nodes)) in
       let b = get_or list k 0 in let c = get_or list (k + 1) 0 in
       let back : path_cmp (path_of nodes c) (path_of nodes b) ≡ Greater = less_back (path_of nodes b) (path_of nodes c) (up k (k + 1) 0 (omega arith) inside) in
-      (λ i. is_lt (by_path (get_or-map (with_path nodes) list (k + 1) 0 d inside i) (get_or-map (with_path nodes) list k 0 d (omega (arith, inside)) i))) ∙ ap is_lt back
+      (λ i. is_lt (by_path (get_or-map (with_path nodes) list (k + 1) 0 d inside i) (get_or-map (with_path nodes) list k 0 d (omega (arith, inside)) i)))
+      ∙ ap is_lt back
 
-  pub told_tree : (found : List (Path × ℕ)) → found ≡ map (with_path nodes) list → (arena : Blocks) (F : Filestore) → Shows arena nodes F.nodes → map (shown arena nodes) found ≡ tree_at F p
+  pub told_tree : (found : List (Path × ℕ)) → found ≡ map (with_path nodes) list → (arena : Blocks) (F : Filestore) → Shows arena nodes F.nodes →
+      map (shown arena nodes) found ≡ tree_at F p
   told_tree found is arena F shows =
       subst (λ es. map (shown arena nodes) es ≡ tree_at F p) (sym is)
       (found_tree nodes tree p list survey (map (with_path nodes) list) (IsPermutation-refl (map (with_path nodes) list)) paths_sorted arena F shows)
 
--- all that stands
+-- all that exists
 pub tree_whole : (F : Filestore) → tree_at F [] ≡ finite.entries F.nodes
 tree_whole F = ap (λ m. finite.entries m) (same_map path_cmp-total path_antisym (finite.retain_keys F.nodes (λ q. is_at_or_below q [])) F.nodes (tree_got F []))

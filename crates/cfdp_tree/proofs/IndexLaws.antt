@@ -1,12 +1,12 @@
 -- The lists of the index.
 --     place_within     the head of a directory and a name is one of the heads
---     chain_more       a list's first node, and those behind it
+--     chain_more       a list's first node, and those after it
 --     no_entry         what was denied
---     own_first, own_rest, rest_has      of all of its nodes, of the first one, and of those behind it
---     has_later, has_first, has_longer, chain_some     a node that stands in it
---     once_first, once_rest    no node stands in it twice
+--     own_first, own_rest, rest_has      of all of its nodes, of the first one, and of those after it
+--     has_later, has_first, has_longer, chain_some     a node that is in it
+--     once_first, once_rest    no node is in it twice
 --     kept_links               a list of nodes whose links have stayed
---     kept_chain               a list in which the node does not stand whose link has changed
+--     kept_chain               a list without the node whose link has changed
 use Rattle.std.proofs.Common.{◌≡◌, ◌≢◌, ℕ, suc, zero, ◌*◌, ◌%◌, ◌^◌, ◌<◌, List, ◌∷◌, length, get_or, refl, ap, ◌∙◌, subst, inl, inr, arith, lit<, Bool, false}
 use Rattle.std.proofs.Math.Nat.{div-lt_iff_lt-mul, mul-lt-mul_of_pos_left}
 use Rattle.std.proofs.lemmas.Bool.{cases_eq}
@@ -61,7 +61,7 @@ has_longer nodes (suc n) b c has =
       | inr other ↦ has_later b (chain nodes (suc n) next) c (has_longer nodes n next c (rest_has b (chain nodes n next) c has other))
     ]
 
--- of lists in which no node stands twice
+-- of lists in which no node is twice
 pub once_first : (b : ℕ) (rest : List ℕ) → AllPairs (λ x y. x ≢ y) (b ∷ rest) → All (λ c. b ≢ c) rest
 once_first b rest once k d within = once 0 (suc k) d (omega arith) (omega arith)
 

@@ -1,4 +1,4 @@
--- A node that stood in no list of the index comes to the head of its own one.
+-- A node that was in no list of the index comes to the head of its own one.
 --     inserted      the index then
 use Rattle.std.proofs.Common.{◌≡◌, ◌≢◌, ℕ, ◌+◌, ◌<◌, List, [], ◌∷◌, length, length-set, set, get_or, Some, None, is_some, sym, ap, ◌∙◌, subst, inl, inr, arith}
 use Rattle.std.proofs.lemmas.List.{get_or-set_same, get_or-set_other}
@@ -17,7 +17,8 @@ use Rattle.cfdp_tree.proofs.PlaceLaws.{kept_by}
 use Rattle.cfdp_tree.proofs.LinkLaws.{next_here, next_other}
 use Rattle.cfdp_tree.proofs.IndexLaws.{place_within, chain_more, has_later, has_first, kept_chain}
 
-module _ (nodes : Blocks) (heads : Heads) (b : ℕ) (block : List ℕ) (k : ℕ) (within : k < length heads) (index : IsIndex nodes heads (Some b)) (node : IsNode nodes b)
+module _ (nodes : Blocks) (heads : Heads) (b : ℕ) (block : List ℕ) (k : ℕ) (within : k < length heads) (index : IsIndex nodes heads (Some b))
+    (node : IsNode nodes b)
     (place : place_of (home nodes b) (name_at nodes b) (length heads) ≡ k) (head : Head) (head_is : head ≡ get_or heads k no_head)
     (link : (row_of block).same_head ≡ head.first) (there : home_in b block ≡ home nodes b) (name : name_of block ≡ name_at nodes b) (small : b < 65536) where
   abbrev new : Blocks
@@ -75,7 +76,8 @@ module _ (nodes : Blocks) (heads : Heads) (b : ℕ) (block : List ℕ) (k : ℕ)
   own_at j inside = elim (cases_eq j k) [
     | inl e ↦ subst (λ i. All (IsListed new None (length heads) i) (list_at new after i)) (sym e)
         (subst (All (IsListed new None (length heads) k)) (sym list_here)
-        (All-cons (IsListed new None (length heads) k) b (list_at nodes heads k) listed_here (λ i d less. listed k (get_or (list_at nodes heads k) i d) (index.own k within i d less))))
+        (All-cons (IsListed new None (length heads) k) b (list_at nodes heads k) listed_here
+        (λ i d less. listed k (get_or (list_at nodes heads k) i d) (index.own k within i d less))))
     | inr other ↦ subst (All (IsListed new None (length heads) j)) (sym (list_other j inside other))
         (λ i d less. listed j (get_or (list_at nodes heads j) i d) (index.own j inside i d less))
   ]
@@ -102,12 +104,14 @@ module _ (nodes : Blocks) (heads : Heads) (b : ℕ) (block : List ℕ) (k : ℕ)
       elim (cases_eq c b) [
         | inl e ↦ subst (λ x. Contains (list_at new after (place_of (home nodes x) (name_at nodes x) (length heads))) x) (sym e)
             (subst (λ i. Contains (list_at new after i) b) (sym place) (subst (λ xs. Contains xs b) (sym list_here) (has_first b (list_at nodes heads k))))
-        | inr other ↦ has_old c (place_of (home nodes c) (name_at nodes c) (length heads)) (place_within (home nodes c) (name_at nodes c) (length heads) index.some) (index.all c was (λ e. other (sym (some_same e))))
+        | inr other ↦ has_old c (place_of (home nodes c) (name_at nodes c) (length heads))
+            (place_within (home nodes c) (name_at nodes c) (length heads) index.some) (index.all c was (λ e. other (sym (some_same e))))
       ]
 
   small_at : (j : ℕ) → j < length heads → (get_or after j no_head).first < 65536
   small_at j inside = elim (cases_eq j k) [
-    | inl e ↦ subst (λ i. (get_or after i no_head).first < 65536) (sym e) (subst (λ (h : Head). h.first < 65536) (sym (get_or-set_same heads k first no_head within)) small)
+    | inl e ↦ subst (λ i. (get_or after i no_head).first < 65536) (sym e) (subst (λ (h : Head). h.first < 65536)
+        (sym (get_or-set_same heads k first no_head within)) small)
     | inr other ↦ subst (λ (h : Head). h.first < 65536) (sym (get_or-set_other heads k j first no_head other)) (index.small j inside)
   ]
 
@@ -119,7 +123,8 @@ module _ (nodes : Blocks) (heads : Heads) (b : ℕ) (block : List ℕ) (k : ℕ)
         small = (λ j inside. small_at j (omega (arith, long)));
         own = (λ j inside. subst (λ n. All (IsListed new None n j) (list_at new after j)) (sym long) (own_at j (omega (arith, long))));
         once = (λ j inside. once_at j (omega (arith, long)));
-        all = (λ c now out. subst (λ j. Contains (list_at new after j) c) (λ i. place_of (sym (homes c) i) (sym (names c) i) (sym long i)) (has_at c (sym (somes c) ∙ now)));
+        all = (λ c now out. subst (λ j. Contains (list_at new after j) c) (λ i. place_of (sym (homes c) i) (sym (names c) i) (sym long i))
+            (has_at c (sym (somes c) ∙ now)));
         counted = omega (
           arith,
           sum_by-set (λ (h : Head). h.count) heads k first no_head within,

@@ -30,13 +30,30 @@ insert_twice m p a b = same_map path_cmp-total path_antisym (finite.insert (fini
 
 module _ (s : Store) (p : Path) where
   pub made_there : (octets : List ℕ) → is_file (node_at (with_changes s (Becomes p (Some (File octets)) ∷ [])).filestore p) ≡ true
-  made_there octets = ap is_file (get-insert path_cmp-total s.filestore.nodes p (File octets) p ∙ ap (λ same. cond same (Some (File octets)) (finite.get s.filestore.nodes p)) ((same_path-Decides p p).1 refl))
+  made_there octets = ap is_file (get-insert path_cmp-total s.filestore.nodes p (File octets) p
+      ∙ ap (λ same. cond same (Some (File octets)) (finite.get s.filestore.nodes p)) ((same_path-Decides p p).1 refl))
 
   pub staged_twice : (slot : ℕ) (a b : List ℕ) (node : Option Node)
       → with_changes (with_changes s (Stages slot a ∷ Becomes p node ∷ [])) (Stages slot b ∷ []) ≡ with_changes s (Stages slot b ∷ Becomes p node ∷ [])
-  staged_twice slot a b None = (λ k. record s { filestore = record s.filestore { nodes = finite.remove s.filestore.nodes p; staged = set_twice s.filestore.staged slot a b k } })
-  staged_twice slot a b (Some found) = (λ k. record s { filestore = record s.filestore { nodes = finite.insert s.filestore.nodes p found; staged = set_twice s.filestore.staged slot a b k } })
+  staged_twice slot a b None = (λ k. record s {
+    filestore = record s.filestore {
+      nodes = finite.remove s.filestore.nodes p;
+      staged = set_twice s.filestore.staged slot a b k;
+    };
+  })
+  staged_twice slot a b (Some found) = (λ k. record s {
+    filestore = record s.filestore {
+      nodes = finite.insert s.filestore.nodes p found;
+      staged = set_twice s.filestore.staged slot a b k;
+    };
+  })
 
   pub made_over : (slot : ℕ) (octets : List ℕ) (a b : Node)
-      → with_changes (with_changes s (Becomes p (Some a) ∷ [])) (Stages slot octets ∷ Becomes p (Some b) ∷ []) ≡ with_changes s (Stages slot octets ∷ Becomes p (Some b) ∷ [])
-  made_over slot octets a b = (λ k. record s { filestore = record s.filestore { nodes = insert_twice s.filestore.nodes p a b k; staged = set s.filestore.staged slot octets } })
+      → with_changes (with_changes s (Becomes p (Some a) ∷ [])) (Stages slot octets ∷ Becomes p (Some b) ∷ [])
+      ≡ with_changes s (Stages slot octets ∷ Becomes p (Some b) ∷ [])
+  made_over slot octets a b = (λ k. record s {
+    filestore = record s.filestore {
+      nodes = insert_twice s.filestore.nodes p a b k;
+      staged = set s.filestore.staged slot octets;
+    };
+  })

@@ -4,7 +4,7 @@
 --     link_row, link_name      what it says there, and its name
 --     link_links       each node says what it said, but for its links
 --     next_here, next_other    the next node of the one, and of another node
---     relinked_places                  where all nodes say so, they stand where they stood
+--     relinked_places                  where all nodes say so, they are where they were
 use Rattle.std.proofs.Common.{◌≡◌, ◌≢◌, ◌≤◌, ℕ, List, [], Some, None, length, is_some, take, drop, sym, ap, ◌∙◌, subst}
 use Rattle.std.proofs.lemmas.List.{get_or-set_other}
 use Rattle.std.specs.Prelude.{◌==◌, unwrap_or, if◌then◌else◌}

@@ -1,4 +1,4 @@
--- What stands at a node, as callers see it.
+-- What is at a node, as callers see it.
 --     standing_directory, standing_file     without a checksum
 --     entry_directory, entry_file           with it
 --     file_filled                           the octets of a file
@@ -23,10 +23,12 @@ abbrev entry_told : Blocks → Row → Path → Kind → Entry
 entry_told arena row path k = entry_of (path, node_told arena k (contents_told k row))
 
 module _ (arena : Blocks) (block : List ℕ) (path : Path) where
-  pub standing_directory : kind.Directory ≡ kind_told (row_of block).kind → record { path = path; kind = kind.Directory; size = 0 } ≡ standing_of (path, node_of arena block)
+  pub standing_directory : kind.Directory ≡ kind_told (row_of block).kind → record { path = path; kind = kind.Directory; size = 0 }
+      ≡ standing_of (path, node_of arena block)
   standing_directory e = ap (standing_told arena (row_of block) path) e
 
-  pub entry_directory : kind.Directory ≡ kind_told (row_of block).kind → record { path = path; kind = kind.Directory; size = 0; checksum = 0 } ≡ entry_of (path, node_of arena block)
+  pub entry_directory : kind.Directory ≡ kind_told (row_of block).kind → record { path = path; kind = kind.Directory; size = 0; checksum = 0 }
+      ≡ entry_of (path, node_of arena block)
   unfolding weighed_from
   entry_directory e = ap (entry_told arena (row_of block) path) e
 
@@ -39,7 +41,12 @@ module _ (arena : Blocks) (block : List ℕ) (path : Path) where
         (λ i. record { path = path; kind = kind.File; size = sym (length-contents arena (contents_told kind.File (row_of block)) file_filled) i })
         ∙ ap (standing_told arena (row_of block) path) e
 
-    pub entry_file : record { path = path; kind = kind.File; size = (row_of block).size; checksum = checksum (contents_in arena (contents_told kind.File (row_of block))) } ≡ entry_of (path, node_of arena block)
+    pub entry_file : record {
+      path = path;
+      kind = kind.File;
+      size = (row_of block).size;
+      checksum = checksum (contents_in arena (contents_told kind.File (row_of block)));
+    } ≡ entry_of (path, node_of arena block)
     entry_file =
         (λ i. record {
           path = path;

@@ -1,5 +1,5 @@
 -- A file or a directory is made.
---     entry_none, name_good, target_few     under the name of a path at which nothing stands there is no node
+--     entry_none, name_good, target_few     under the name of a path at which nothing is there is no node
 --     tree_made, index_made, entry_made     a node for it
 --     make_view, make_store                 the store once it is in the index
 use Rattle.std.proofs.Common.{◌≡◌, ℕ, ◌+◌, ◌<◌, ◌≤◌, true, List, [], ◌∷◌, ◌++◌, length, take, get_or, Option, Some, None, refl, sym, ap, ◌∙◌, subst, inl, inr, arith}
@@ -55,18 +55,29 @@ empty_weight : (k : Kind) → weight (Some (empty_node k)) ≡ 1
 empty_weight kind.Directory = refl
 empty_weight kind.File = ap (λ n. 1 + n) no_blocks
 
-module _ (arena : Blocks) (heads : Heads) (slots : List Slot) {ways : List Way} (store : IsStore arena ways heads slots) (now : Store) (view : store_of arena (staged_in slots) ≡ now)
+module _ (arena : Blocks) (heads : Heads) (slots : List Slot) {ways : List Way} (store : IsStore arena ways heads slots) (now : Store)
+    (view : store_of arena (staged_in slots) ≡ now)
     (path : Path) (is_path : IsPath path) (depth : ℕ) (long : length path ≡ depth + 1) (parent_good : parent_is_good now.filestore path ≡ true)
-    (place : Option ℕ) (place_node : IfSome place (λ b. IsNode (nodes_in arena) b)) (place_path : IfSome place (λ b. path_of (nodes_in arena) b ≡ take depth path))
-    (place_none : IfNone place ((b : ℕ) → IsNode (nodes_in arena) b → path_of (nodes_in arena) b ≡ take depth path → ⊥)) (name : Name) (name_is : name ≡ get_or path depth []) where
+    (place : Option ℕ) (place_node : IfSome place (λ b. IsNode (nodes_in arena) b))
+    (place_path : IfSome place (λ b. path_of (nodes_in arena) b ≡ take depth path))
+    (place_none : IfNone place ((b : ℕ) → IsNode (nodes_in arena) b → path_of (nodes_in arena) b ≡ take depth path → ⊥)) (name : Name) (name_is : name
+    ≡ get_or path depth []) where
   abbrev nodes : Blocks
   nodes = nodes_in arena
 
   directory : (d : ℕ) → place ≡ Some d → IsDirectory nodes d
-  directory = parent_directory arena nodes store.kept.tree now.filestore (shows arena heads slots store now view) path depth long parent_good place (place_node, place_path, place_none)
+  directory = parent_directory arena nodes store.kept.tree now.filestore (shows arena heads slots store now view) path depth long parent_good place (
+    place_node,
+    place_path,
+    place_none,
+  )
 
   stands : StandsAt nodes place (take depth path)
-  stands = parent_place arena nodes store.kept.tree now.filestore (shows arena heads slots store now view) path depth long parent_good place (place_node, place_path, place_none)
+  stands = parent_place arena nodes store.kept.tree now.filestore (shows arena heads slots store now view) path depth long parent_good place (
+    place_node,
+    place_path,
+    place_none,
+  )
 
   pub path_is : take depth path ++ name ∷ [] ≡ path
   path_is = ap (λ n. take depth path ++ n ∷ []) name_is ∙ sym (take_more path depth [] (omega (arith, long))) ∙ take_all (depth + 1) path (omega (arith, long))
@@ -83,7 +94,8 @@ module _ (arena : Blocks) (heads : Heads) (slots : List Slot) {ways : List Way} 
       no_node (sym absent ∙ ap (node_at now.filestore) (sym way) ∙ (shows arena heads slots store now view).each c entry.node)
 
   module _ (absent : node_at now.filestore path ≡ None) (one : Blocks) (b : ℕ) (k : Kind) (free : octets_at arena b ≡ None) (within : b < length arena)
-      (one_is : nodes_in one ≡ with_block nodes b (octets_of (nodes_in one) b)) (row : row_of (octets_of (nodes_in one) b) ≡ plain_row (unwrap_or place b) k name)
+      (one_is : nodes_in one ≡ with_block nodes b (octets_of (nodes_in one) b)) (row : row_of (octets_of (nodes_in one) b)
+      ≡ plain_row (unwrap_or place b) k name)
       (there : home (nodes_in one) b ≡ place) (named : name_at (nodes_in one) b ≡ name) (whole : length (octets_of (nodes_in one) b) ≡ 128) where
     abbrev block : List ℕ
     block = octets_of (nodes_in one) b
@@ -174,22 +186,26 @@ module _ (arena : Blocks) (heads : Heads) (slots : List Slot) {ways : List Way} 
           alike_shows made (nodes_in later) alike later (finite.insert now.filestore.nodes path (empty_node k))
           (subst (λ p. Shows later made (finite.insert now.filestore.nodes p (empty_node k))) path_new
           (subst (λ n. Shows later made (finite.insert now.filestore.nodes (path_of made b) n)) node_new
-          (added_shows nodes b block inside free_node store.kept.tree block_named good few fresh arena later now.filestore.nodes (shows arena heads slots store now view) node_kept)))
+          (added_shows nodes b block inside free_node store.kept.tree block_named good few fresh arena later now.filestore.nodes
+          (shows arena heads slots store now view) node_kept)))
 
       lists_stay : (j : ℕ) → Stays arena later (get_or staged j no_contents).run
       lists_stay j = runs (get_or staged j no_contents).run (list_held arena heads slots store j)
 
       pub make_view : store_of later staged ≡ with_changes now (Becomes path (Some (empty_node k)) ∷ [])
       make_view =
-          nodes_seen arena later heads heads_now slots store long_now lists_stay files_left (finite.insert now.filestore.nodes path (empty_node k)) shows_now tree index
+          nodes_seen arena later heads heads_now slots store long_now lists_stay files_left
+          (finite.insert now.filestore.nodes path (empty_node k)) shows_now tree index
           ∙ (λ i. record (view i) { filestore = record { nodes = finite.insert now.filestore.nodes path (empty_node k); staged = (view i).filestore.staged } })
 
-      seen_is : record { nodes = finite.insert now.filestore.nodes path (empty_node k); staged = (store_of arena staged).filestore.staged } ≡ files.changed now.filestore (Becomes path (Some (empty_node k)))
+      seen_is : record { nodes = finite.insert now.filestore.nodes path (empty_node k); staged = (store_of arena staged).filestore.staged }
+          ≡ files.changed now.filestore (Becomes path (Some (empty_node k)))
       seen_is = (λ i. record { nodes = finite.insert now.filestore.nodes path (empty_node k); staged = (view i).filestore.staged })
 
       pub make_store : IsStore later ways heads_now slots
       make_store =
-          nodes_store arena later heads heads_now slots store long_now lists_stay files_left (finite.insert now.filestore.nodes path (empty_node k)) shows_now tree index
+          nodes_store arena later heads heads_now slots store long_now lists_stay files_left
+          (finite.insert now.filestore.nodes path (empty_node k)) shows_now tree index
           (omega (
             arith,
             ap blocks seen_is,

@@ -1,7 +1,7 @@
--- A node with all that stands below it, moved: one block is written.
+-- A node with all that is below it, moved: one block is written.
 --     moved_tree        there is a tree still
---     moved_path        what stood below the old path stands below the new one
---     stayed_path       the others stand where they stood
+--     moved_path        what was below the old path is below the new one
+--     stayed_path       the others are where they were
 use Rattle.std.proofs.Common.{◌≡◌, ◌≢◌, ℕ, zero, suc, ◌+◌, ◌-◌, ◌≤◌, Bool, true, false, List, [], ◌∷◌, ◌++◌, length, length-append, take, drop, append_assoc, Option, Some, None, is_some, refl, sym, ap, ◌∙◌, subst, inl, inr, arith}
 use Rattle.std.proofs.lemmas.List.{get_or-set_other, take_at, drop_all, length-drop, append-nil}
 use Rattle.std.proofs.lemmas.Bool.{cases_eq}
@@ -68,7 +68,7 @@ module _ (old : Blocks) (b : ℕ) (block : List ℕ) (node : IsNode old b) (tree
   directory_kept : (d : ℕ) → IsDirectory old d → IsDirectory new d
   directory_kept d was = record { node = somes d ∙ was.node; directory = kinds d ∙ was.directory }
 
-  -- what does not stand at or below the old path
+  -- what is not at or below the old path
   record Stays (c : ℕ) : Type 0 where
     there : IsNode old c
     outside : is_at_or_below (path_of old c) p ≡ false
@@ -76,7 +76,7 @@ module _ (old : Blocks) (b : ℕ) (block : List ℕ) (node : IsNode old b) (tree
   under_home : (c d : ℕ) → IsNode old c → home old c ≡ Some d → path_of old c ≡ path_of old d ++ name_at old c ∷ []
   under_home c d was there = path_by_home old tree c was ∙ ap (λ x. path_at old x ++ name_at old c ∷ []) there
 
-  -- what stands in a directory at or below a path is below it
+  -- what is in a directory at or below a path is below it
   stays_by : (x : Path) (n : Name) → is_at_or_below (x ++ n ∷ []) p ≡ false → is_at_or_below x p ≡ false
   stays_by x n outside = by_case (is_at_or_below x p) refl
     where
@@ -103,7 +103,8 @@ module _ (old : Blocks) (b : ℕ) (block : List ℕ) (node : IsNode old b) (tree
   target : (d : ℕ) → home_in b block ≡ Some d → Stays d
   target d there = record {
     there = (good d there).node;
-    outside = stays_by (path_of old d) (name_of block) (ap (λ x. is_at_or_below (path_at old x ++ name_of block ∷ []) p) (sym there) ∙ ap (λ x. is_at_or_below x p) q_is ∙ apart);
+    outside = stays_by (path_of old d) (name_of block) (ap (λ x. is_at_or_below (path_at old x ++ name_of block ∷ []) p) (sym there)
+        ∙ ap (λ x. is_at_or_below x p) q_is ∙ apart);
   }
 
   abbrev Way : ℕ → ℕ → Type 0
@@ -111,16 +112,19 @@ module _ (old : Blocks) (b : ℕ) (block : List ℕ) (node : IsNode old b) (tree
 
   target_ends : (k d : ℕ) → home_in b block ≡ Some d → length q ≤ suc k → Ends old k d
   target_ends k d there few =
-      let long : length (path_of old d) + 1 ≡ length q = sym (length-append (path_of old d) (name_of block ∷ [])) ∙ ap (λ x. length (path_at old x ++ name_of block ∷ [])) (sym there) ∙ ap length q_is in
+      let long : length (path_of old d) + 1 ≡ length q = sym (length-append (path_of old d) (name_of block ∷ []))
+      ∙ ap (λ x. length (path_at old x ++ name_of block ∷ [])) (sym there) ∙ ap length q_is in
       ends_by_length old most_names k d (tree.ends d (good d there).node) (omega (arith, long))
 
   above_target : (k : ℕ) → length q ≤ suc k → (x : Option ℕ) → home_in b block ≡ x → option_map_or (λ d. climb new k d) x [] ≡ path_at old x
   above_target k few None there = refl
-  above_target k few (Some d) there = climb_stays k d (target d there) ∙ climb_same old k most_names d (target_ends k d there few) (tree.ends d (good d there).node)
+  above_target k few (Some d) there = climb_stays k d (target d there) ∙ climb_same old k most_names d (target_ends k d there few)
+      (tree.ends d (good d there).node)
 
   way_here : (k : ℕ) → length (rebased p q (path_of old b)) ≤ suc k → Way (suc k) b
   way_here k few =
-      let none : rebased p q (path_of old b) ≡ q = ap (λ x. q ++ drop (length p) x) p_is ∙ ap (λ x. q ++ x) (drop_all (length p) p (omega arith)) ∙ append-nil q in
+      let none : rebased p q (path_of old b) ≡ q = ap (λ x. q ++ drop (length p) x) p_is ∙ ap (λ x. q ++ x) (drop_all (length p) p (omega arith))
+      ∙ append-nil q in
       let short : length q ≤ suc k = omega (arith, ap length none) in (
         (λ d there. (let at = sym home_new ∙ there in ends_stays k d (target d at) (target_ends k d at short))),
         (λ i. option_map_or (λ d. climb new k d) (home_new i) [] ++ name_new i ∷ [])
@@ -147,7 +151,7 @@ module _ (old : Blocks) (b : ℕ) (block : List ℕ) (node : IsNode old b) (tree
   some_p : 1 ≤ length p
   some_p = omega (arith, ap length (sym (path_by_home old tree b node) ∙ p_is), length-append (path_at old (home old b)) (name_at old b ∷ []))
 
-  -- the directory of what stands below the old path
+  -- the directory of what is below the old path
   home_inside : (c : ℕ) → IsNode old c → c ≢ b → is_at_or_below (path_of old c) p ≡ true → is_at_or_below (path_at old (home old c)) p ≡ true
   home_inside c was other below =
       let whole = path_by_home old tree c was in
@@ -172,8 +176,16 @@ module _ (old : Blocks) (b : ℕ) (block : List ℕ) (node : IsNode old b) (tree
       by_home other (Some d) there above =
           let inside : is_at_or_below (path_of old d) p ≡ true = ap (λ x. is_at_or_below (path_at old x) p) (sym there) ∙ home_inside c was other below in
           let long = length-at_or_below (path_of old d) p inside in
-          let more : length (path_of old c) ≡ length (path_of old d) + 1 = ap length (under_home c d was there) ∙ length-append (path_of old d) (name_at old c ∷ []) in
-          way_below k c d was other there long (above d there inside (omega (arith, long, more, few, length-rebased (path_of old c), length-rebased (path_of old d))))
+          let more : length (path_of old c) ≡ length (path_of old d) + 1 = ap length (under_home c d was there)
+          ∙ length-append (path_of old d) (name_at old c ∷ []) in
+          way_below k c d was other there long (above d there inside (omega (
+            arith,
+            long,
+            more,
+            few,
+            length-rebased (path_of old c),
+            length-rebased (path_of old d),
+          )))
 
   moved_way : (c : ℕ) → IsNode old c → is_at_or_below (path_of old c) p ≡ true → Way most_names c
   moved_way c was below = subst (λ k. Way k c) (sym most_is) (way most_names (suc 7) c was (tree.ends c was) below (fits c was below))
@@ -200,9 +212,13 @@ module _ (old : Blocks) (b : ℕ) (block : List ℕ) (node : IsNode old b) (tree
       by_case true e = (moved_way c (was_node c is) e).0
       by_case false e = ends_stays most_names c (record { there = was_node c is; outside = e }) (tree.ends c (was_node c is))
 
-  -- under the new name stands nothing else
+  -- under the new name there is nothing else
   alone : (c : ℕ) → IsNode old c → c ≢ b → home new c ≡ home new b → name_at new c ≡ name_at new b → ⊥
-  alone c was other there name = fresh c (record { node = was; there = sym (home_other c other) ∙ there ∙ home_new; named = sym (name_other c other) ∙ name ∙ name_new })
+  alone c was other there name = fresh c (record {
+    node = was;
+    there = sym (home_other c other) ∙ there ∙ home_new;
+    named = sym (name_other c other) ∙ name ∙ name_new;
+  })
 
   unique_new : (c d : ℕ) → IsNode new c → IsNode new d → home new c ≡ home new d → name_at new c ≡ name_at new d → c ≡ d
   unique_new c d is also there name = elim (cases_eq c b) [

@@ -1,5 +1,5 @@
 -- A loop over the names of a path: which are still to come.
---     IsAhead                      so many names were taken, and these are left
+--     IsAhead                      this many names were taken, and these are left
 --     ahead-start, ahead-next, ahead-end   it begins;  one more name comes;  none comes
 use Rattle.std.proofs.Common.{◌≡◌, ℕ, ◌+◌, ◌<◌, ◌≤◌, [], ◌∷◌, length, get_or, take, drop, suc, sym, ap, ◌∙◌, arith, add-one, length-drop}
 use Rattle.std.proofs.Math.Seq.{drop-cons}

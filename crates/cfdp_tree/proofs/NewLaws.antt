@@ -35,8 +35,13 @@ use Rattle.cfdp_tree.proofs.ShowLaws.{tree_shows, shown_same}
 pub head_none : (head : Head) → head.first ≡ 0 → head.count ≡ 0 → head ≡ no_head
 head_none head first count = (λ k. record { first = first k; count = count k })
 
-pub contents_none : (contents : Contents) → contents.run.first ≡ 0 → contents.run.last ≡ 0 → contents.run.count ≡ 0 → contents.size ≡ 0 → contents.sum ≡ 0 → contents ≡ no_contents
-contents_none contents first last count size sum = (λ k. record { run = record { first = first k; last = last k; count = count k }; size = size k; sum = sum k })
+pub contents_none : (contents : Contents) → contents.run.first ≡ 0 → contents.run.last ≡ 0 → contents.run.count ≡ 0 → contents.size ≡ 0 → contents.sum ≡ 0 →
+    contents ≡ no_contents
+contents_none contents first last count size sum = (λ k. record {
+  run = record { first = first k; last = last k; count = count k };
+  size = size k;
+  sum = sum k;
+})
 
 -- one thing, again and again
 
@@ -53,11 +58,13 @@ mapped : {A B : Type 0} (f : A → B) (n : ℕ) (x : A) → map f (replicate n x
 mapped f zero x = refl
 mapped f (suc n) x = ap (λ xs. f x ∷ xs) (mapped f n x)
 
-all_mapped : {A B : Type 0} (f : A → B) (xs : List A) (n : ℕ) (y : B) → length xs ≡ n → ((i : ℕ) (d : A) → i < length xs → f (get_or xs i d) ≡ y) → map f xs ≡ replicate n y
+all_mapped : {A B : Type 0} (f : A → B) (xs : List A) (n : ℕ) (y : B) → length xs ≡ n → ((i : ℕ) (d : A) → i < length xs → f (get_or xs i d) ≡ y) → map f xs
+    ≡ replicate n y
 all_mapped f [] zero y long each = refl
 all_mapped f [] (suc n) y long each = absurd (omega (arith, long))
 all_mapped f (x ∷ xs) zero y long each = absurd (omega (arith, long))
-all_mapped f (x ∷ xs) (suc n) y long each = (λ k. each 0 x (omega arith) k ∷ all_mapped f xs n y (omega (arith, long)) (λ i d less. each (suc i) d (omega arith)) k)
+all_mapped f (x ∷ xs) (suc n) y long each = (λ k. each 0 x (omega arith) k ∷ all_mapped f xs n y (omega (arith, long))
+    (λ i d less. each (suc i) d (omega arith)) k)
 
 one_each : {A : Type 0} (n : ℕ) (x d : A) → x ≡ d → (i : ℕ) → get_or (replicate n x) i d ≡ d
 one_each n x d e i = elim (cases_lt i n) [
@@ -137,7 +144,8 @@ module _ (n : ℕ) (some : 1 ≤ n) (few : n ≤ 65536) (heads : List Head) (hea
 
   held_at : (i : ℕ) → get_or (holdings nodes staged) i no_contents ≡ no_contents
   held_at i = elim (cases_lt i (length staged)) [
-    | inl less ↦ get_or_append_left staged (map file_in nodes) no_contents i less ∙ ap (λ (xs : List Contents). get_or xs i no_contents) staged_are ∙ one_each 64 no_contents no_contents refl i
+    | inl less ↦ get_or_append_left staged (map file_in nodes) no_contents i less ∙ ap (λ (xs : List Contents). get_or xs i no_contents) staged_are
+        ∙ one_each 64 no_contents no_contents refl i
     | inr past ↦ get_or-append_right staged (map file_in nodes) (length staged) i no_contents refl past
         ∙ ap (λ (xs : List Contents). get_or xs (i - length staged) no_contents) files_are ∙ one_each n no_contents no_contents refl (i - length staged)
   ]
@@ -147,7 +155,8 @@ module _ (n : ℕ) (some : 1 ≤ n) (few : n ≤ 65536) (heads : List Head) (hea
     stored = record {
       filled = (λ i. subst (IsFilled arena) (sym (held_at i)) (none_filled arena no_contents refl refl refl));
       apart = (λ i j differ more. absurd (omega (arith, more, ap (λ (x : Contents). x.run.count) (held_at i))));
-      led = (λ i. ways_none arena ways (get_or (holdings nodes staged) i no_contents).run (ways_long ∙ sym (length-replicate {A = Option (List ℕ)} n None)) (ap (λ (x : Contents). x.run.count) (held_at i)));
+      led = (λ i. ways_none arena ways (get_or (holdings nodes staged) i no_contents).run (ways_long ∙ sym (length-replicate {A = Option (List ℕ)} n None))
+          (ap (λ (x : Contents). x.run.count) (held_at i)));
     }
 
   none_shown : Shows arena nodes (finite.empty {R = path_cmp})
@@ -174,10 +183,16 @@ module _ (n : ℕ) (some : 1 ≤ n) (few : n ≤ 65536) (heads : List Head) (hea
 
   none_used : blocks empty_filestore ≡ 0
   unfolding blocks
-  none_used = omega (arith, no_entries (finite.entries (finite.empty {X = Node} {R = path_cmp})) (sym (len-entries finite.empty) ∙ len-empty path_cmp Node), sum_by-replicate (λ (octets : List ℕ). blocks_of (length octets)) 64 [], no_blocks)
+  none_used = omega (
+    arith,
+    no_entries (finite.entries (finite.empty {X = Node} {R = path_cmp})) (sym (len-entries finite.empty) ∙ len-empty path_cmp Node),
+    sum_by-replicate (λ (octets : List ℕ). blocks_of (length octets)) 64 [],
+    no_blocks,
+  )
 
   placed : All (IsPlaced arena) slots
-  placed i d less = let slot = fresh i d less in slot_starts arena (get_or slots i d) slot.block slot.index (slot.blank ∙ sym (ap (λ (x : Contents). x.size) slot.contents)) slot.gap
+  placed i d less = let slot = fresh i d less in slot_starts arena (get_or slots i d) slot.block slot.index (slot.blank
+      ∙ sym (ap (λ (x : Contents). x.size) slot.contents)) slot.gap
 
   pub new_store : (ways : List Way) → length ways ≡ n → IsStore arena ways heads slots
   new_store ways ways_long = record {
@@ -194,7 +209,8 @@ module _ (n : ℕ) (some : 1 ≤ n) (few : n ≤ 65536) (heads : List Head) (hea
   }
 
   -- no node is in an order
-  pub new_orders : (orders : Orders) → length orders.links.items ≡ n → length orders.directories.items ≡ n → ((place : Option ℕ) → (order_at orders place).height ≡ 0) → IsOrdered nodes orders None
+  pub new_orders : (orders : Orders) → length orders.links.items ≡ n → length orders.directories.items ≡ n →
+      ((place : Option ℕ) → (order_at orders place).height ≡ 0) → IsOrdered nodes orders None
   new_orders orders links directories empty =
       let nodes_long : length nodes ≡ n = ap (λ (ns : Blocks). length ns) nodes_are ∙ length-replicate {A = Option (List ℕ)} n None in
       ordered_none nodes orders (links ∙ sym nodes_long) (directories ∙ sym nodes_long) no_node empty

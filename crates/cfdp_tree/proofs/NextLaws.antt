@@ -1,6 +1,6 @@
--- The first node in path order behind a path.
+-- The first node in path order after a path.
 --     behind_more               one beginning less
---     between                   what stands between two paths that begin alike begins like them
+--     between                   what is between two paths that begin alike begins like them
 --     behind_parts, entry_on_way    a node that follows, and the entry on the way to it
 --     least_first, none_first   the entry of the least name is the first node, and where there is none no node follows
 --     apart_last, apart_name    all entries follow, or those of a greater name, where nothing follows below the name's own
@@ -43,18 +43,21 @@ between [] p q r behind before = refl
 between (n ∷ a) p [] r behind before = cc
 between (n ∷ a) p (m ∷ q) r behind before = by_order (name_cmp n m) refl (between a p q r)
   where
-    rest : name_cmp n m ≡ Equal → (path_cmp (a ++ p) q ≡ Less → path_cmp q (a ++ r) ≢ Greater → is_at_or_below q a ≡ true) → is_at_or_below (m ∷ q) (n ∷ a) ≡ true
+    rest : name_cmp n m ≡ Equal → (path_cmp (a ++ p) q ≡ Less → path_cmp q (a ++ r) ≢ Greater → is_at_or_below q a ≡ true) → is_at_or_below (m ∷ q) (n ∷ a)
+        ≡ true
     rest tied below =
         let back : name_cmp m n ≡ Equal = nat_list_cmp_total.antisymm m n ∙ ap ordering_reverse tied in
         and_from (same_name m n) (is_at_or_below q a) ((same_name-Decides m n).1 (sym (name_antisym n m tied)))
-        (below (sym (ap (λ o. ordering_then o (path_cmp (a ++ p) q)) tied) ∙ behind) (λ greater. before (ap (λ o. ordering_then o (path_cmp q (a ++ r))) back ∙ greater)))
+        (below (sym (ap (λ o. ordering_then o (path_cmp (a ++ p) q)) tied) ∙ behind)
+        (λ greater. before (ap (λ o. ordering_then o (path_cmp q (a ++ r))) back ∙ greater)))
 
-    by_order : (o : Ordering) → name_cmp n m ≡ o → (path_cmp (a ++ p) q ≡ Less → path_cmp q (a ++ r) ≢ Greater → is_at_or_below q a ≡ true) → is_at_or_below (m ∷ q) (n ∷ a) ≡ true
+    by_order : (o : Ordering) → name_cmp n m ≡ o → (path_cmp (a ++ p) q ≡ Less → path_cmp q (a ++ r) ≢ Greater → is_at_or_below q a ≡ true) →
+        is_at_or_below (m ∷ q) (n ∷ a) ≡ true
     by_order Less e below = absurd (before (ap (λ o. ordering_then o (path_cmp q (a ++ r))) (nat_list_cmp_total.antisymm m n ∙ ap ordering_reverse e)))
     by_order Equal e below = rest e below
     by_order Greater e below = absurd (less_greater behind (ap (λ o. ordering_then o (path_cmp (a ++ p) q)) e))
 
--- what is behind a path has a name more than what both begin with
+-- what is after a path has a name more than what both begin with
 first_name : (p q : Path) → path_cmp p q ≡ Less → (m : Name) × (t : Path) × (q ≡ m ∷ t)
 first_name [] [] behind = cc
 first_name (n ∷ p) [] behind = cc
@@ -119,12 +122,13 @@ module _ (nodes : Blocks) (tree : IsTree nodes) (place : Option ℕ) (a : Path) 
   way_of e member = path_entry nodes tree place a (name_at nodes e) e stands (record { node = member.node; there = member.there; named = refl })
 
   module _ (list : List ℕ) (is_list : IsListOf nodes place list) (p : Path) (after : Option Name) where
-    -- the entries with names behind are on the way to all that follows
+    -- the entries with later names are on the way to all that follows
     abbrev pub IsApart : Type 0
     IsApart = (c : ℕ) (m : Name) (t : Path) → Follows nodes a (a ++ p) c → path_of nodes c ≡ a ++ m ∷ t → path_cmp p (m ∷ t) ≡ Less → IsBehind after m
 
     module _ (apart : IsApart) where
-      on_way : (c : ℕ) (follows : Follows nodes a (a ++ p) c) → (e : ℕ) × Contains list e × IsBehind after (name_at nodes e) × (t : Path) × (path_of nodes c ≡ a ++ name_at nodes e ∷ t)
+      on_way : (c : ℕ) (follows : Follows nodes a (a ++ p) c) → (e : ℕ) × Contains list e × IsBehind after (name_at nodes e) × (t : Path)
+          × (path_of nodes c ≡ a ++ name_at nodes e ∷ t)
       on_way c follows =
           let parts = behind_parts p c follows in
           let entry = entry_on_way c parts.0 parts.1 follows.node parts.2 in
@@ -153,7 +157,8 @@ module _ (nodes : Blocks) (tree : IsTree nodes) (place : Option ℕ) (a : Path) 
             };
             first = λ c follows greater.
                 (let at = on_way c follows in
-                let upto = subst (λ e. IsBehind after (name_at nodes e) → name_cmp (name_at nodes b) (name_at nodes e) ≢ Greater) at.1.2 (least.least at.1.0 at.0 at.1.1) at.2 in
+                let upto = subst (λ e. IsBehind after (name_at nodes e) → name_cmp (name_at nodes b) (name_at nodes e) ≢ Greater) at.1.2
+                (least.least at.1.0 at.0 at.1.1) at.2 in
                 name_upto (name_at nodes b) (name_at nodes at.0) at.3 upto
                 (sym (behind_more a (name_at nodes b ∷ []) (name_at nodes at.0 ∷ at.3)) ∙ (λ k. path_cmp (sym way k) (sym at.4 k)) ∙ greater));
           }
@@ -183,7 +188,8 @@ module _ (nodes : Blocks) (tree : IsTree nodes) (place : Option ℕ) (a : Path) 
     -- the name has no entry
     pub none_below : ((e : ℕ) → IsEntry nodes place n e → ⊥) → NoneBelow
     none_below none c follows =
-        let way = append_from_at_or_below (path_of nodes c) (a ++ n ∷ []) follows.below ∙ append_assoc a (n ∷ []) (drop (length (a ++ n ∷ [])) (path_of nodes c)) in
+        let way = append_from_at_or_below (path_of nodes c) (a ++ n ∷ []) follows.below
+        ∙ append_assoc a (n ∷ []) (drop (length (a ++ n ∷ [])) (path_of nodes c)) in
         let entry = entry_on_way c n (drop (length (a ++ n ∷ [])) (path_of nodes c)) follows.node way in
         none entry.0 entry.1
 

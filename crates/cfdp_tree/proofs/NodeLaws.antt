@@ -19,14 +19,18 @@ pub content_only : (owner rank : ℕ) (entry : Option (List ℕ)) → IsPart own
 content_only owner rank None part = refl
 content_only owner rank (Some block) part = kind_only block part.kind_is
 
-pub nodes-kept : (arena : Blocks) (block : ℕ) (entry : Option (List ℕ)) → only_node entry ≡ None → only_node (octets_at arena block) ≡ None → nodes_in (slice_set arena block entry) ≡ nodes_in arena
+pub nodes-kept : (arena : Blocks) (block : ℕ) (entry : Option (List ℕ)) → only_node entry ≡ None → only_node (octets_at arena block) ≡ None →
+    nodes_in (slice_set arena block entry) ≡ nodes_in arena
 nodes-kept arena block entry new old = map-set_same only_node arena block entry None (new ∙ sym old)
 
-pub nodes-written : (arena : Blocks) (block owner rank : ℕ) (new : List ℕ) → IsPart owner rank (octets_at arena block) → (header_of new).kind ≡ (header_in (octets_at arena block)).kind → nodes_in (with_block arena block new) ≡ nodes_in arena
-nodes-written arena block owner rank new part same = nodes-kept arena block (Some new) (kind_only new (same ∙ part.kind_is)) (content_only owner rank (octets_at arena block) part)
+pub nodes-written : (arena : Blocks) (block owner rank : ℕ) (new : List ℕ) → IsPart owner rank (octets_at arena block) → (header_of new).kind
+    ≡ (header_in (octets_at arena block)).kind → nodes_in (with_block arena block new) ≡ nodes_in arena
+nodes-written arena block owner rank new part same = nodes-kept arena block (Some new) (kind_only new (same ∙ part.kind_is))
+    (content_only owner rank (octets_at arena block) part)
 
 node_only : (block : List ℕ) → (header_of block).kind ≡ 2 → only_node (Some block) ≡ Some block
 node_only block kind = ap (λ k. if k == 2 then Some block else None) kind
 
-pub nodes-noted : (arena : Blocks) (block : ℕ) (new : List ℕ) → (header_of new).kind ≡ 2 → nodes_in (with_block arena block new) ≡ with_block (nodes_in arena) block new
+pub nodes-noted : (arena : Blocks) (block : ℕ) (new : List ℕ) → (header_of new).kind ≡ 2 → nodes_in (with_block arena block new)
+    ≡ with_block (nodes_in arena) block new
 nodes-noted arena block new kind = map-set only_node arena block (Some new) ∙ ap (λ entry. slice_set (nodes_in arena) block entry) (node_only new kind)

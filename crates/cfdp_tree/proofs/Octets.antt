@@ -1,7 +1,7 @@
 -- Octets put in the place of others, in a list that is two lists joined.
 --     overwritten-left, overwritten-right     in the first of them, in the second
 --     overwritten-join, overwritten-none      one part after another, and no octets
---     overwritten-extended                    octets put behind a list that was lengthened by zeros
+--     overwritten-extended                    octets put after a list that was lengthened by zeros
 --     take-front, slice-first                 the first octets, before the part;  a slice of first octets that are the same
 --     take_parts, slice_is, slice_join        the first octets in two parts;  a slice, and two of them joined
 --     step_write, step_read, step_copy            what one part or one block more adds
@@ -35,7 +35,8 @@ overwritten-right xs ys at j part e =
     ∙ append_assoc xs (take at ys ++ part) (drop (at + length part) ys)
 
 -- one part after the other
-pub overwritten-join : (xs part more : List ℕ) (at j : ℕ) → at ≤ length xs → j ≡ at + length part → overwritten (overwritten xs at part) j more ≡ overwritten xs at (part ++ more)
+pub overwritten-join : (xs part more : List ℕ) (at j : ℕ) → at ≤ length xs → j ≡ at + length part → overwritten (overwritten xs at part) j more
+    ≡ overwritten xs at (part ++ more)
 overwritten-join xs part more at j within e =
     let front = take at xs ++ part in
     let back = drop (at + length part) xs in
@@ -78,7 +79,7 @@ slice-right xs ys at j count e = ap (λ zs. take count zs) (drop-right xs ys at 
 pub slice_is : (xs : List ℕ) (at end count : ℕ) → end ≡ at + count → slice_range xs at end ≡ take count (drop at xs)
 slice_is xs at end count e = let same : end - at ≡ count = omega arith in ap (λ n. take n (drop at xs)) same
 
--- a part of the list, and the part behind it
+-- a part of the list, and the part after it
 pub slice_join : (xs : List ℕ) (a b c : ℕ) → a ≤ b → b ≤ c → slice_range xs a b ++ slice_range xs b c ≡ slice_range xs a c
 slice_join xs a b c ab bc =
     let m = b - a in
@@ -110,19 +111,23 @@ step_write old octets rest at done count j within long rest_is j_is =
     ∙ ap (overwritten old at) (sym (take_parts octets done (done + count) (omega arith)))
 
 -- one part more is read
-pub step_read : (all buffer piece : List ℕ) (at done count : ℕ) → take done buffer ≡ take done (drop at all) → piece ≡ take count (drop (at + done) all) → length piece ≡ count → done + count ≤ length buffer
+pub step_read : (all buffer piece : List ℕ) (at done count : ℕ) → take done buffer ≡ take done (drop at all) → piece ≡ take count (drop (at + done) all) →
+    length piece ≡ count → done + count ≤ length buffer
     → take (done + count) (put_mid done (done + count - done) buffer piece) ≡ take (done + count) (drop at all)
 step_read all buffer piece at done count so_far piece_is whole fits =
     let rest = drop at all in
     let full : done + count ≡ done + length piece = omega (arith, whole) in
-    let there : piece ≡ slice_range rest done (done + count) = piece_is ∙ ap (take count) (sym (drop-drop done at all)) ∙ sym (slice_is rest done (done + count) count refl) in
+    let there : piece ≡ slice_range rest done (done + count) = piece_is ∙ ap (take count) (sym (drop-drop done at all))
+    ∙ sym (slice_is rest done (done + count) count refl) in
     take-put_mid done (done + count - done) buffer piece (done + count) full (omega (arith, fits))
     ∙ (λ k. so_far k ++ there k)
     ∙ sym (take_parts rest done (done + count) (omega arith))
 
 -- one block more is copied
-pub step_copy : (old source : List ℕ) (at count index n j : ℕ) → at ≤ length old → count ≤ length source → 120 * index < count → n ≡ min 120 (count - index * 120) → j ≡ at + 120 * index
-    → overwritten (overwritten old at (take (min count (120 * index)) source)) j (slice_range source (120 * index) (120 * index + n)) ≡ overwritten old at (take (min count (120 * (index + 1))) source)
+pub step_copy : (old source : List ℕ) (at count index n j : ℕ) → at ≤ length old → count ≤ length source → 120 * index < count → n
+    ≡ min 120 (count - index * 120) → j ≡ at + 120 * index
+    → overwritten (overwritten old at (take (min count (120 * index)) source)) j (slice_range source (120 * index) (120 * index + n))
+    ≡ overwritten old at (take (min count (120 * (index + 1))) source)
 step_copy old source at count index n j within long before n_is j_is =
     let m = 120 * index in
     let now : min count (120 * index) ≡ m = omega arith in

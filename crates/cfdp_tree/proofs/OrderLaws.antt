@@ -119,13 +119,17 @@ module _ (nodes : Blocks) (tree : IsTree nodes) (old : Orders) (place : Option �
       where
         by_order : (o : Ordering) → side m ≡ o → name_cmp (name_at nodes b) (name_at nodes m) ≡ Less
         by_order Less e = absurd (upto e)
-        by_order Equal e = absurd (member.listed (ap Some (sym (tree.unique m b member.node entry.node (member.there ∙ sym entry.there) (name_antisym (name_at nodes m) name e ∙ sym entry.named)))))
+        by_order Equal e = absurd (member.listed (ap Some (sym (tree.unique m b member.node entry.node (member.there ∙ sym entry.there)
+            (name_antisym (name_at nodes m) name e ∙ sym entry.named)))))
         by_order Greater e = subst (λ n. name_cmp n (name_at nodes m) ≡ Less) (sym entry.named) (flipped nat_list_cmp_total (name_at nodes m) name e)
 
     module _ (links : List Links) (order : Order) (is : IsOrder links order)
-        (inserted : (before after : List ℕ) → in_order old place ≡ before ++ after → SplitsFrom (λ m. name_cmp (name_at nodes m) name) before after → trees.nodes links order ≡ before ++ b ∷ after)
-        (one_more : (m : ℕ) → times m (trees.nodes links order) ≡ times m (b ∷ in_order old place)) (others : OthersStay old.links.items links (b ∷ in_order old place))
-        (now : Orders) (links_now : now.links.items ≡ links) (here : order_at now place ≡ order) (elsewhere : (p : Option ℕ) → p ≢ place → order_at now p ≡ order_at old p)
+        (inserted : (before after : List ℕ) → in_order old place ≡ before ++ after → SplitsFrom (λ m. name_cmp (name_at nodes m) name) before after →
+        trees.nodes links order ≡ before ++ b ∷ after)
+        (one_more : (m : ℕ) → times m (trees.nodes links order) ≡ times m (b ∷ in_order old place))
+        (others : OthersStay old.links.items links (b ∷ in_order old place))
+        (now : Orders) (links_now : now.links.items ≡ links) (here : order_at now place ≡ order) (elsewhere : (p : Option ℕ) → p ≢ place → order_at now p
+        ≡ order_at old p)
         (long : length now.directories.items ≡ length old.directories.items) where
       split : (before : List ℕ) × (after : List ℕ) × (list ≡ before ++ after) × SplitsFrom side before after
       split = splits_from side list (less_first nodes name list (ordered.rising place))
@@ -141,8 +145,10 @@ module _ (nodes : Blocks) (tree : IsTree nodes) (old : Orders) (place : Option �
 
       rising_now : AllPairs (Rises nodes) (before ++ b ∷ after)
       rising_now = pairs_with (Rises nodes) before b after (subst (AllPairs (Rises nodes)) split.2 (ordered.rising place))
-          (All-weaker (λ m. side m ≡ Less) (λ m. Rises nodes m b) (λ m less. subst (λ n. name_cmp (name_at nodes m) n ≡ Less) (sym entry.named) less) before split.3.less)
-          (of_times (Rises nodes b) after (λ m some. later m (at_times (IsMember nodes (Some b) place) after m (All_back_of before after own_all) some) (at_times (λ x. side x ≢ Less) after m split.3.rest some)))
+          (All-weaker (λ m. side m ≡ Less) (λ m. Rises nodes m b) (λ m less. subst (λ n. name_cmp (name_at nodes m) n ≡ Less) (sym entry.named) less) before
+          split.3.less)
+          (of_times (Rises nodes b) after (λ m some. later m (at_times (IsMember nodes (Some b) place) after m (All_back_of before after own_all) some)
+          (at_times (λ x. side x ≢ Less) after m split.3.rest some)))
         where
           All_back_of : (l r : List ℕ) → All (IsMember nodes (Some b) place) (l ++ r) → All (IsMember nodes (Some b) place) r
           All_back_of = All_back (IsMember nodes (Some b) place)
@@ -161,13 +167,15 @@ module _ (nodes : Blocks) (tree : IsTree nodes) (old : Orders) (place : Option �
       own_now : All (IsMember nodes None place) (before ++ b ∷ after)
       own_now = of_times (IsMember nodes None place) (before ++ b ∷ after) (λ m some. elim (cases_eq b m) [
         | inl e ↦ subst (IsMember nodes None place) e (record { node = entry.node; there = entry.there; listed = λ e. cc })
-        | inr other ↦ (let was = member_at nodes old (Some b) ordered place m (omega (arith, some, count m, one_other b m other)) in record { node = was.node; there = was.there; listed = λ e. cc })
+        | inr other ↦ (let was = member_at nodes old (Some b) ordered place m (omega (arith, some, count m, one_other b m other)) in
+            record { node = was.node; there = was.there; listed = λ e. cc })
       ])
 
       all_now : (c : ℕ) → IsNode nodes c → home nodes c ≡ place → Contains (before ++ b ∷ after) c
       all_now c node there = times_contains (before ++ b ∷ after) c (elim (cases_eq b c) [
         | inl e ↦ (let one_is : one b c ≡ 1 = subst (λ x. one b x ≡ 1) e (one_self b) in omega (arith, count c, one_is))
-        | inr other ↦ (let was = contains_times list c (subst (λ q. Contains (in_order old q) c) there (ordered.all c node (λ e. other (some_same e)))) in omega (arith, count c, was))
+        | inr other ↦ (let was = contains_times list c (subst (λ q. Contains (in_order old q) c) there (ordered.all c node (λ e. other (some_same e)))) in
+            omega (arith, count c, was))
       ])
 
       pub entered : IsOrdered nodes now None
@@ -179,9 +187,11 @@ module _ (nodes : Blocks) (tree : IsTree nodes) (old : Orders) (place : Option �
           (λ c node listed there. all_now c node there) (λ c node listed other e. other (subst (λ x. home nodes x ≡ place) (some_same e) entry.there))
 
   module _ (ordered : IsOrdered nodes old None) (links : List Links) (order : Order) (is : IsOrder links order)
-      (removed : (before after : List ℕ) → in_order old place ≡ before ++ b ∷ after → SplitsFrom (λ m. name_cmp (name_at nodes m) name) before after → trees.nodes links order ≡ before ++ after)
+      (removed : (before after : List ℕ) → in_order old place ≡ before ++ b ∷ after → SplitsFrom (λ m. name_cmp (name_at nodes m) name) before after →
+      trees.nodes links order ≡ before ++ after)
       (others : OthersStay old.links.items links (in_order old place))
-      (now : Orders) (links_now : now.links.items ≡ links) (here : order_at now place ≡ order) (elsewhere : (p : Option ℕ) → p ≢ place → order_at now p ≡ order_at old p)
+      (now : Orders) (links_now : now.links.items ≡ links) (here : order_at now place ≡ order) (elsewhere : (p : Option ℕ) → p ≢ place → order_at now p
+      ≡ order_at old p)
       (long : length now.directories.items ≡ length old.directories.items) where
     there_now : 1 ≤ times b list
     there_now = contains_times list b (subst (λ q. Contains (in_order old q) b) entry.there (ordered.all b entry.node (λ e. cc)))
@@ -203,9 +213,11 @@ module _ (nodes : Blocks) (tree : IsTree nodes) (old : Orders) (place : Option �
 
     splits : SplitsFrom side front back
     splits = record {
-      less = All-weaker (λ m. Rises nodes m b) (λ m. side m ≡ Less) (λ m less. subst (λ n. name_cmp (name_at nodes m) n ≡ Less) entry.named less) front (pairs_front (Rises nodes) front b back rising_was);
+      less = All-weaker (λ m. Rises nodes m b) (λ m. side m ≡ Less) (λ m less. subst (λ n. name_cmp (name_at nodes m) n ≡ Less) entry.named less) front
+          (pairs_front (Rises nodes) front b back rising_was);
       rest = All-weaker (Rises nodes b) (λ m. side m ≢ Less)
-          (λ m less. less_greater (less_back name (name_at nodes m) (subst (λ n. name_cmp n (name_at nodes m) ≡ Less) entry.named less))) back (pairs_back (Rises nodes) front b back rising_was);
+          (λ m less. less_greater (less_back name (name_at nodes m) (subst (λ n. name_cmp n (name_at nodes m) ≡ Less) entry.named less))) back
+          (pairs_back (Rises nodes) front b back rising_was);
     }
 
     gone_is : in_order now place ≡ front ++ back
@@ -227,8 +239,17 @@ module _ (nodes : Blocks) (tree : IsTree nodes) (old : Orders) (place : Option �
         (other_orders None ordered links list others (λ p other m some. apart_places nodes old None ordered p place other m some) now links_now elsewhere)
         (of_times (IsMember nodes (Some b) place) (front ++ back) (λ m some.
         (let was = member_at nodes old None ordered place m (omega (arith, counted m, some)) in
-        record { node = was.node; there = was.there; listed = λ e. absurd (let gone = subst (λ x. times x (front ++ back) ≡ 0) (some_same e) none_left in omega (arith, some, gone)) })))
-        (λ p other m member. record { node = member.node; there = member.there; listed = λ e. other (sym member.there ∙ ap (home nodes) (sym (some_same e)) ∙ entry.there) })
+        record {
+          node = was.node;
+          there = was.there;
+          listed = λ e. absurd (let gone = subst (λ x. times x (front ++ back) ≡ 0) (some_same e) none_left in
+              omega (arith, some, gone));
+        })))
+        (λ p other m member. record {
+          node = member.node;
+          there = member.there;
+          listed = λ e. other (sym member.there ∙ ap (home nodes) (sym (some_same e)) ∙ entry.there);
+        })
         (pairs_without (Rises nodes) front b back rising_was)
         (λ c node listed there. times_contains (front ++ back) c
         (let was = contains_times list c (subst (λ q. Contains (in_order old q) c) there (ordered.all c node (λ e. cc))) in
@@ -236,17 +257,21 @@ module _ (nodes : Blocks) (tree : IsTree nodes) (old : Orders) (place : Option �
         (λ c node listed other e. cc)
 
 -- what was read first
-pub same_change : (ls ms new : List Links) (o p : Order) (n b : ℕ) → ls ≡ ms → o ≡ p → n ≡ b → OthersStay ls new (n ∷ trees.nodes ls o) → OthersStay ms new (b ∷ trees.nodes ms p)
+pub same_change : (ls ms new : List Links) (o p : Order) (n b : ℕ) → ls ≡ ms → o ≡ p → n ≡ b → OthersStay ls new (n ∷ trees.nodes ls o) →
+    OthersStay ms new (b ∷ trees.nodes ms p)
 same_change ls ms new o p n b e f g others =
-    subst (λ l. OthersStay l new (b ∷ trees.nodes l p)) e (subst (λ (q : Order). OthersStay ls new (b ∷ trees.nodes ls q)) f (subst (λ x. OthersStay ls new (x ∷ trees.nodes ls o)) g others))
+    subst (λ l. OthersStay l new (b ∷ trees.nodes l p)) e (subst (λ (q : Order). OthersStay ls new (b ∷ trees.nodes ls q)) f
+    (subst (λ x. OthersStay ls new (x ∷ trees.nodes ls o)) g others))
 
 pub same_others : (ls ms new : List Links) (o p : Order) → ls ≡ ms → o ≡ p → OthersStay ls new (trees.nodes ls o) → OthersStay ms new (trees.nodes ms p)
 same_others ls ms new o p e f others =
     subst (λ l. OthersStay l new (trees.nodes l p)) e (subst (λ (q : Order). OthersStay ls new (trees.nodes ls q)) f others)
 
 -- the index of a place that is there
-pub place_inside : (nodes : Blocks) (orders : Orders) (out place : Option ℕ) → IsOrdered nodes orders out → ((d : ℕ) → place ≡ Some d → IsNode nodes d) → (d : ℕ) → place ≡ Some d → d < length orders.directories.items
+pub place_inside : (nodes : Blocks) (orders : Orders) (out place : Option ℕ) → IsOrdered nodes orders out → ((d : ℕ) → place ≡ Some d → IsNode nodes d) →
+    (d : ℕ) → place ≡ Some d → d < length orders.directories.items
 place_inside nodes orders out place ordered node d e = omega (arith, live_within nodes d (node d e), ordered.directories)
 
-pub home_node : (nodes : Blocks) → IsTree nodes → (place : Option ℕ) (name : Name) (b : ℕ) → IsEntry nodes place name b → (d : ℕ) → place ≡ Some d → IsNode nodes d
+pub home_node : (nodes : Blocks) → IsTree nodes → (place : Option ℕ) (name : Name) (b : ℕ) → IsEntry nodes place name b → (d : ℕ) → place ≡ Some d →
+    IsNode nodes d
 home_node nodes tree place name b entry d e = (tree.homes b d entry.node (entry.there ∙ e)).node

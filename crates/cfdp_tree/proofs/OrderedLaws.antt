@@ -36,22 +36,31 @@ kept_places old new out same = record { nodes = (λ c listed. same.nodes c); hom
 
 pub kept_block : (old : Blocks) (b : ℕ) (entry : Option (List ℕ)) → KeepsPlaces old (set old b entry) (Some b)
 kept_block old b entry =
-    let others : (c : ℕ) → Some b ≢ Some c → octets_at (set old b entry) c ≡ octets_at old c = λ c listed. get_or-set_other old b c entry None (λ e. listed (ap Some (sym e))) in
+    let others : (c : ℕ) → Some b ≢ Some c → octets_at (set old b entry) c ≡ octets_at old c =
+    λ c listed. get_or-set_other old b c entry None (λ e. listed (ap Some (sym e))) in
     record {
       nodes = (λ c listed. ap is_some (others c listed));
       homes = (λ c listed. ap (λ o. home_in c (unwrap_or o [])) (others c listed));
       names = (λ c listed. ap (λ o. name_of (unwrap_or o [])) (others c listed));
     }
 
-module _ (old new : Blocks) (orders : Orders) (out : Option ℕ) (long : length new ≡ length old) (keeps : KeepsPlaces old new out) (ordered : IsOrdered old orders out) where
+module _ (old new : Blocks) (orders : Orders) (out : Option ℕ) (long : length new ≡ length old) (keeps : KeepsPlaces old new out)
+    (ordered : IsOrdered old orders out) where
   member_kept : (place : Option ℕ) (c : ℕ) → IsMember old out place c → IsMember new out place c
-  member_kept place c member = record { node = keeps.nodes c member.listed ∙ member.node; there = keeps.homes c member.listed ∙ member.there; listed = member.listed }
+  member_kept place c member = record {
+    node = keeps.nodes c member.listed ∙ member.node;
+    there = keeps.homes c member.listed ∙ member.there;
+    listed = member.listed;
+  }
 
   rising_kept : (place : Option ℕ) → AllPairs (Rises new) (in_order orders place)
   rising_kept place i j d up less =
-      let member : (k : ℕ) → k < length (in_order orders place) → IsMember old out place (get_or (in_order orders place) k d) = λ k within. ordered.own place k d within in
-      subst (λ n. name_cmp n (name_at new (get_or (in_order orders place) j d)) ≡ Less) (sym (keeps.names (get_or (in_order orders place) i d) (member i (omega (arith, up, less))).listed))
-      (subst (λ n. name_cmp (name_at old (get_or (in_order orders place) i d)) n ≡ Less) (sym (keeps.names (get_or (in_order orders place) j d) (member j less).listed)) (ordered.rising place i j d up less))
+      let member : (k : ℕ) → k < length (in_order orders place) → IsMember old out place (get_or (in_order orders place) k d) =
+      λ k within. ordered.own place k d within in
+      subst (λ n. name_cmp n (name_at new (get_or (in_order orders place) j d)) ≡ Less)
+      (sym (keeps.names (get_or (in_order orders place) i d) (member i (omega (arith, up, less))).listed))
+      (subst (λ n. name_cmp (name_at old (get_or (in_order orders place) i d)) n ≡ Less)
+      (sym (keeps.names (get_or (in_order orders place) j d) (member j less).listed)) (ordered.rising place i j d up less))
 
   pub ordered_kept : IsOrdered new orders out
   ordered_kept = record {
@@ -60,7 +69,8 @@ module _ (old new : Blocks) (orders : Orders) (out : Option ℕ) (long : length 
     order = ordered.order;
     own = (λ place. All-weaker (IsMember old out place) (IsMember new out place) (member_kept place) (in_order orders place) (ordered.own place));
     rising = rising_kept;
-    all = (λ c node listed. subst (λ place. Contains (in_order orders place) c) (sym (keeps.homes c listed)) (ordered.all c (sym (keeps.nodes c listed) ∙ node) listed));
+    all = (λ c node listed. subst (λ place. Contains (in_order orders place) c) (sym (keeps.homes c listed))
+        (ordered.all c (sym (keeps.nodes c listed) ∙ node) listed));
   }
 
 no_node : {x : Option (List ℕ)} → x ≡ None → IsSome x → ⊥
@@ -79,7 +89,8 @@ module _ (nodes : Blocks) (orders : Orders) (b : ℕ) (free : octets_at nodes b 
     directories = ordered.directories;
     order = ordered.order;
     own = (λ place. All-weaker (IsMember nodes None place) (IsMember nodes (Some b) place)
-        (λ c member. record { node = member.node; there = member.there; listed = λ e. no_node free (subst (IsNode nodes) (sym (some_same e)) member.node) }) (in_order orders place) (ordered.own place));
+        (λ c member. record { node = member.node; there = member.there; listed = λ e. no_node free (subst (IsNode nodes) (sym (some_same e)) member.node) })
+        (in_order orders place) (ordered.own place));
     rising = ordered.rising;
     all = (λ c node listed. ordered.all c node none_some);
   }
@@ -89,17 +100,22 @@ module _ (nodes : Blocks) (orders : Orders) (b : ℕ) (free : octets_at nodes b 
     links = ordered.links;
     directories = ordered.directories;
     order = ordered.order;
-    own = (λ place. All-weaker (IsMember nodes (Some b) place) (IsMember nodes None place) (λ c member. record { node = member.node; there = member.there; listed = none_some }) (in_order orders place) (ordered.own place));
+    own = (λ place. All-weaker (IsMember nodes (Some b) place) (IsMember nodes None place)
+        (λ c member. record { node = member.node; there = member.there; listed = none_some }) (in_order orders place) (ordered.own place));
     rising = ordered.rising;
     all = (λ c node listed. ordered.all c node (λ e. no_node free (subst (IsNode nodes) (sym (some_same e)) node)));
   }
 
-pub ordered_made : (old : Blocks) (orders : Orders) (b : ℕ) (block : List ℕ) → octets_at old b ≡ None → IsOrdered old orders None → IsOrdered (with_block old b block) orders (Some b)
+pub ordered_made : (old : Blocks) (orders : Orders) (b : ℕ) (block : List ℕ) → octets_at old b ≡ None → IsOrdered old orders None →
+    IsOrdered (with_block old b block) orders (Some b)
 ordered_made old orders b block free ordered =
-    ordered_kept old (with_block old b block) orders (Some b) (length-set old b (Some block)) (kept_block old b (Some block)) (ordered_out old orders b free ordered)
+    ordered_kept old (with_block old b block) orders (Some b) (length-set old b (Some block)) (kept_block old b (Some block))
+    (ordered_out old orders b free ordered)
 
-pub ordered_moved : (old : Blocks) (orders : Orders) (b : ℕ) (block : List ℕ) → IsOrdered old orders (Some b) → IsOrdered (with_block old b block) orders (Some b)
-ordered_moved old orders b block ordered = ordered_kept old (with_block old b block) orders (Some b) (length-set old b (Some block)) (kept_block old b (Some block)) ordered
+pub ordered_moved : (old : Blocks) (orders : Orders) (b : ℕ) (block : List ℕ) → IsOrdered old orders (Some b) →
+    IsOrdered (with_block old b block) orders (Some b)
+ordered_moved old orders b block ordered = ordered_kept old (with_block old b block) orders (Some b) (length-set old b (Some block))
+    (kept_block old b (Some block)) ordered
 
 pub ordered_gone : (old : Blocks) (orders : Orders) (b : ℕ) → IsNode old b → IsOrdered old orders (Some b) → IsOrdered (without_block old b) orders None
 ordered_gone old orders b node ordered =
@@ -113,16 +129,20 @@ listed_in nodes orders ordered place = record {
 }
 
 -- the octets of a file change, and its block says so
-module _ (nodes : Blocks) (tree : IsTree nodes) (b : ℕ) (node : IsNode nodes b) (file : kind_told (row_at nodes b).kind ≡ kind.File) (middle later : Blocks) (written : List ℕ) (contents : Contents) (middle_is : middle ≡ nodes)
-    (later_is : later ≡ with_block middle b written) (row : row_of written ≡ with_contents (row_at middle b) contents) (name : name_of written ≡ name_at middle b) (whole : length written ≡ 128) where
+module _ (nodes : Blocks) (tree : IsTree nodes) (b : ℕ) (node : IsNode nodes b) (file : kind_told (row_at nodes b).kind ≡ kind.File) (middle later : Blocks)
+    (written : List ℕ) (contents : Contents) (middle_is : middle ≡ nodes)
+    (later_is : later ≡ with_block middle b written) (row : row_of written ≡ with_contents (row_at middle b) contents) (name : name_of written
+    ≡ name_at middle b) (whole : length written ≡ 128) where
   pub ordered_written : (orders : Orders) → IsOrdered nodes orders None → IsOrdered later orders None
   ordered_written orders ordered =
       subst (λ ns. IsOrdered ns orders None) (sym (later_is ∙ ap (λ ns. with_block ns b written) middle_is))
       (ordered_kept nodes (with_block nodes b written) orders None (length-set nodes b (Some written))
       (kept_places nodes (with_block nodes b written) None
-      (file_places nodes tree b node file written contents (row ∙ ap (λ ns. with_contents (row_at ns b) contents) middle_is) (name ∙ ap (λ ns. name_at ns b) middle_is) whole)) ordered)
+      (file_places nodes tree b node file written contents (row ∙ ap (λ ns. with_contents (row_at ns b) contents) middle_is) (name
+      ∙ ap (λ ns. name_at ns b) middle_is) whole)) ordered)
 
-pub ordered_none : (nodes : Blocks) (orders : Orders) → length orders.links.items ≡ length nodes → length orders.directories.items ≡ length nodes → ((b : ℕ) → IsNode nodes b → ⊥)
+pub ordered_none : (nodes : Blocks) (orders : Orders) → length orders.links.items ≡ length nodes → length orders.directories.items ≡ length nodes →
+    ((b : ℕ) → IsNode nodes b → ⊥)
     → ((place : Option ℕ) → (order_at orders place).height ≡ 0) → IsOrdered nodes orders None
 ordered_none nodes orders links directories none empty =
     let list : (place : Option ℕ) → in_order orders place ≡ [] = λ place. no_nodes orders.links.items (order_at orders place) (empty place) in

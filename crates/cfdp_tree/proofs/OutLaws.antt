@@ -1,4 +1,4 @@
--- The index where a node changes that stands in none of its lists, and where links change that are not its own.
+-- The index where a node changes that is in none of its lists, and where links change that are not its own.
 --     index_created, index_moved, index_deleted     a node is made, is put elsewhere, goes
 --     index_kept                                    neither nodes nor links of the index change
 --     nodes_long                                    there are as many blocks
@@ -15,7 +15,8 @@ use Rattle.cfdp_tree.proofs.Counts.{live_count-taken, live_count-written, live_c
 use Rattle.cfdp_tree.proofs.IndexLaws.{place_within, kept_chain}
 
 module _ (old new : Blocks) (b : ℕ) (heads : Heads) (was now : Option ℕ) (others : (c : ℕ) → c ≢ b → octets_at new c ≡ octets_at old c)
-    (was_out : IsNode old b → was ≡ Some b) (now_out : IsNode new b → now ≡ Some b) (was_no_other : (c : ℕ) → c ≢ b → was ≢ Some c) (no_other : (c : ℕ) → c ≢ b → now ≢ Some c)
+    (was_out : IsNode old b → was ≡ Some b) (now_out : IsNode new b → now ≡ Some b) (was_no_other : (c : ℕ) → c ≢ b → was ≢ Some c) (no_other : (c : ℕ) → c
+    ≢ b → now ≢ Some c)
     (counts : live_count new + count_out was ≡ live_count old + count_out now) (index : IsIndex old heads was) where
   octets_other : (c : ℕ) → c ≢ b → octets_of new c ≡ octets_of old c
   octets_other c other = ap (λ entry. unwrap_or entry []) (others c other)
@@ -32,7 +33,8 @@ module _ (old new : Blocks) (b : ℕ) (heads : Heads) (was now : Option ℕ) (ot
   list_same : (k : ℕ) → k < length heads → list_at new heads k ≡ list_at old heads k
   list_same k within =
       let head = get_or heads k no_head in
-      kept_chain old new b links_other head.count head.first (λ i d less. (let own = index.own k within i d less in λ e. listed_other k (get_or (list_at old heads k) i d) own (sym e)))
+      kept_chain old new b links_other head.count head.first (λ i d less. (let own = index.own k within i d less in
+      λ e. listed_other k (get_or (list_at old heads k) i d) own (sym e)))
 
   listed_still : (k c : ℕ) → IsListed old was (length heads) k c → IsListed new now (length heads) k c
   listed_still k c listed =
@@ -44,13 +46,15 @@ module _ (old new : Blocks) (b : ℕ) (heads : Heads) (was now : Option ℕ) (ot
       let other : c ≢ b = λ e. inside (now_out (subst (IsNode new) e node) ∙ ap Some (sym e)) in
       let k = place_of (home old c) (name_at old c) (length heads) in
       subst (λ j. Contains (list_at new heads j) c) (sym (same_place c other))
-      (subst (λ xs. Contains xs c) (sym (list_same k (place_within (home old c) (name_at old c) (length heads) index.some))) (index.all c (subst IsSome (others c other) node) (was_no_other c other)))
+      (subst (λ xs. Contains xs c) (sym (list_same k (place_within (home old c) (name_at old c) (length heads) index.some)))
+      (index.all c (subst IsSome (others c other) node) (was_no_other c other)))
 
   index_out : IsIndex new heads now
   index_out = record {
     some = index.some;
     small = index.small;
-    own = (λ k within. subst (All (IsListed new now (length heads) k)) (sym (list_same k within)) (λ i d less. listed_still k (get_or (list_at old heads k) i d) (index.own k within i d less)));
+    own = (λ k within. subst (All (IsListed new now (length heads) k)) (sym (list_same k within))
+        (λ i d less. listed_still k (get_or (list_at old heads k) i d) (index.own k within i d less)));
     once = (λ k within. subst (AllPairs (λ x y. x ≢ y)) (sym (list_same k within)) (index.once k within));
     all = all_still;
     counted = omega (arith, index.counted, counts);
@@ -65,13 +69,15 @@ some_same e = cc
 no_node : {x : Option (List ℕ)} → x ≡ None → IsSome x → ⊥
 no_node none some = cc
 
-pub index_created : (old : Blocks) (heads : Heads) (b : ℕ) (block : List ℕ) → b < length old → octets_at old b ≡ None → IsIndex old heads None → IsIndex (with_block old b block) heads (Some b)
+pub index_created : (old : Blocks) (heads : Heads) (b : ℕ) (block : List ℕ) → b < length old → octets_at old b ≡ None → IsIndex old heads None →
+    IsIndex (with_block old b block) heads (Some b)
 index_created old heads b block within free index =
     index_out old (with_block old b block) b heads None (Some b) (λ c other. get_or-set_other old b c (Some block) None other)
     (λ node. absurd (no_node free node)) (λ node. refl) (λ c other. none_some) (λ c other e. other (sym (some_same e)))
     (omega (arith, live_count-taken old b block free within)) index
 
-pub index_moved : (old : Blocks) (heads : Heads) (b : ℕ) (block : List ℕ) → IsNode old b → IsIndex old heads (Some b) → IsIndex (with_block old b block) heads (Some b)
+pub index_moved : (old : Blocks) (heads : Heads) (b : ℕ) (block : List ℕ) → IsNode old b → IsIndex old heads (Some b) →
+    IsIndex (with_block old b block) heads (Some b)
 index_moved old heads b block node index =
     index_out old (with_block old b block) b heads (Some b) (Some b) (λ c other. get_or-set_other old b c (Some block) None other)
     (λ node. refl) (λ node. refl) (λ c other e. other (sym (some_same e))) (λ c other e. other (sym (some_same e)))
@@ -80,13 +86,15 @@ index_moved old heads b block node index =
 pub index_deleted : (old : Blocks) (heads : Heads) (b : ℕ) → IsNode old b → IsIndex old heads (Some b) → IsIndex (without_block old b) heads None
 index_deleted old heads b node index =
     index_out old (without_block old b) b heads (Some b) None (λ c other. get_or-set_other old b c None None other)
-    (λ was. refl) (λ left. absurd (no_node (get_or-set_same old b None None (live_within old b node)) left)) (λ c other e. other (sym (some_same e))) (λ c other. none_some)
+    (λ was. refl) (λ left. absurd (no_node (get_or-set_same old b None None (live_within old b node)) left)) (λ c other e. other (sym (some_same e)))
+    (λ c other. none_some)
     (omega (arith, live_count-given old b node)) index
 
 pub nodes_long : (arena later : Blocks) → length later ≡ length arena → length (nodes_in later) ≡ length (nodes_in arena)
 nodes_long arena later long = length-map later only_node ∙ long ∙ sym (length-map arena only_node)
 
-module _ (old new : Blocks) (heads : Heads) (out : Option ℕ) (places : SamePlaces old new) (same_heads : (b : ℕ) → (row_at new b).same_head ≡ (row_at old b).same_head)
+module _ (old new : Blocks) (heads : Heads) (out : Option ℕ) (places : SamePlaces old new) (same_heads : (b : ℕ) → (row_at new b).same_head
+    ≡ (row_at old b).same_head)
     (long : length new ≡ length old) (index : IsIndex old heads out) where
   live : live_count new ≡ live_count old
   live = live_count-same new old long places.nodes
@@ -108,7 +116,8 @@ module _ (old new : Blocks) (heads : Heads) (out : Option ℕ) (places : SamePla
   index_kept = record {
     some = index.some;
     small = index.small;
-    own = (λ k within. subst (All (IsListed new out (length heads) k)) (sym (list_kept k)) (λ i d less. listed_kept k (get_or (list_at old heads k) i d) (index.own k within i d less)));
+    own = (λ k within. subst (All (IsListed new out (length heads) k)) (sym (list_kept k))
+        (λ i d less. listed_kept k (get_or (list_at old heads k) i d) (index.own k within i d less)));
     once = (λ k within. subst (AllPairs (λ x y. x ≢ y)) (sym (list_kept k)) (index.once k within));
     all = (λ c node inside. subst (λ xs. Contains xs c) (sym (list_kept (place_of (home new c) (name_at new c) (length heads))))
         (subst (λ k. Contains (list_at old heads k) c) (sym (place_kept c)) (index.all c (sym (places.nodes c) ∙ node) inside)));

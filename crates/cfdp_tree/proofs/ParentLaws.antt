@@ -23,12 +23,14 @@ directory_kind kind.Directory directory = refl
 some_same : {x y : ℕ} → Some x ≡ Some y → x ≡ y
 some_same e = cc
 
-module _ (arena nodes : Blocks) (tree : IsTree nodes) (F : Filestore) (shows : Shows arena nodes F.nodes) (path : Path) (depth : ℕ) (long : length path ≡ depth + 1) (good : parent_is_good F path ≡ true) where
+module _ (arena nodes : Blocks) (tree : IsTree nodes) (F : Filestore) (shows : Shows arena nodes F.nodes) (path : Path) (depth : ℕ) (long : length path ≡ depth
+    + 1) (good : parent_is_good F path ≡ true) where
   good_node : 1 ≤ depth → is_directory (node_at F (take depth path)) ≡ true
   good_node some = sym (seen_parent F path depth long some) ∙ good
 
   abbrev pub Found : Option ℕ → Type 0
-  Found place = IfSome place (λ b. IsNode nodes b) × IfSome place (λ b. path_of nodes b ≡ take depth path) × IfNone place ((b : ℕ) → IsNode nodes b → path_of nodes b ≡ take depth path → ⊥)
+  Found place = IfSome place (λ b. IsNode nodes b) × IfSome place (λ b. path_of nodes b ≡ take depth path)
+      × IfNone place ((b : ℕ) → IsNode nodes b → path_of nodes b ≡ take depth path → ⊥)
 
   no_directory : (o : Option Node) → ((node : Node) → o ≡ Some node → ⊥) → is_directory o ≡ true → ⊥
   no_directory None none directory = cc
@@ -47,7 +49,8 @@ module _ (arena nodes : Blocks) (tree : IsTree nodes) (F : Filestore) (shows : S
       none_some : {x : ℕ} → None ≡ Some x → ⊥
       none_some e = cc
   stands zero is (Some b) found = absurd (some_path nodes tree b found.0 (found.1 ∙ sym (ap (λ n. take n path) is)))
-  stands (suc n) is None found = absurd (no_directory (node_at F (take depth path)) (λ node e. (let at = shows.only (take depth path) node e in found.2 at.0 at.1 at.2)) (good_node (omega (arith, is))))
+  stands (suc n) is None found = absurd (no_directory (node_at F (take depth path))
+      (λ node e. (let at = shows.only (take depth path) node e in found.2 at.0 at.1 at.2)) (good_node (omega (arith, is))))
   stands (suc n) is (Some b) found = ((λ d e. subst (IsDirectory nodes) (some_same e) (of_node b (omega (arith, is)) found.0 found.1)), found.1)
 
   module _ (place : Option ℕ) (found : Found place) where

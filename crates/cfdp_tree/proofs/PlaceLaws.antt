@@ -1,4 +1,4 @@
--- Nodes that stand where they stood.
+-- Nodes that are where they were.
 --     kept_climb, kept_ends      the way to a node whose directories have stayed
 --     same_paths, same_tree      all nodes have stayed
 --     at_b, kept_by, still_named     the block of one of them is written
@@ -44,7 +44,8 @@ module _ (old new : Blocks) (same : SamePlaces old new) where
     named = same.named;
     homes = (λ b d node there. (let was = tree.homes b d (was_node b node) (sym (same.homes b) ∙ there) in
         record { node = same.nodes d ∙ was.node; directory = same.kinds d ∙ was.directory }));
-    ends = (λ b node. kept_ends old new (λ _. Unit {0}) (λ _ _ _ _. tt) (λ c _. same.homes c) (λ c _. same.names c) most_names b tt (tree.ends b (was_node b node)));
+    ends = (λ b node. kept_ends old new (λ _. Unit {0}) (λ _ _ _ _. tt) (λ c _. same.homes c) (λ c _. same.names c) most_names b tt
+        (tree.ends b (was_node b node)));
     unique = (λ b c node other there named. tree.unique b c (was_node b node) (was_node c other)
         (sym (same.homes b) ∙ there ∙ same.homes c) (sym (same.names b) ∙ named ∙ same.names c));
   }

@@ -1,7 +1,7 @@
--- A node less, in which nothing stands.
+-- A node less, in which nothing exists.
 --     left_path          the paths of the others
 --     removed_tree       there is a tree still
---     removed_shows      what stands then
+--     removed_shows      what exists then
 use Rattle.std.proofs.Common.{◌≡◌, ◌≢◌, ℕ, Bool, true, false, List, [], cond, Option, Some, None, refl, sym, ap, ◌∙◌, subst}
 use Rattle.std.proofs.lemmas.List.{get_or-set_same, get_or-set_other}
 use Rattle.std.specs.FinMap as finite
@@ -106,7 +106,8 @@ module _ (old : Blocks) (b : ℕ) (node : IsNode old b) (tree : IsTree old) (chi
     only_new q here true is e = absurd (none_some e)
     only_new q here false is e =
         let there = shows.only q here e in
-        let other : there.0 ≢ b = λ same. differ (same_path q (path_of old b)) is ((same_path-Decides q (path_of old b)).1 (sym there.2 ∙ ap (path_of old) same)) in
+        let other : there.0 ≢ b = λ same. differ (same_path q (path_of old b)) is
+        ((same_path-Decides q (path_of old b)).1 (sym there.2 ∙ ap (path_of old) same)) in
         (there.0, subst IsSome (sym (at_other there.0 other)) there.1, left_path there.0 there.1 other ∙ there.2)
       where
         differ : (x : Bool) → x ≡ false → x ≡ true → ⊥

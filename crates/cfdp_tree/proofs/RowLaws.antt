@@ -33,7 +33,16 @@ module _ (a b : List ℕ) (same : (i : ℕ) → i < 32 → get_or a i 0 ≡ get_
       let head = number_same 20 (omega arith) in
       let sum_low = number_same 26 (omega arith) in
       let sum_high = number_same 28 (omega arith) in
-      (λ k. record { parent = parent k; first = first k; last = last k; size = low k + 65536 * high k; kind = kind k; name_length = name k; same_head = head k; sum = sum_low k + 65536 * sum_high k })
+      (λ k. record {
+        parent = parent k;
+        first = first k;
+        last = last k;
+        size = low k + 65536 * high k;
+        kind = kind k;
+        name_length = name k;
+        same_head = head k;
+        sum = sum_low k + 65536 * sum_high k;
+      })
 
   pub header_same : header_of a ≡ header_of b
   header_same =
@@ -49,7 +58,8 @@ payload_octet a i j e = ap (λ n. get_or a n 0) e ∙ sym (get_or-drop 8 a i 0)
 
 pub row-payload : (a b : List ℕ) → payload a ≡ payload b → row_of a ≡ row_of b
 row-payload a b same =
-    let octet : (i j : ℕ) → j ≡ 8 + i → get_or a j 0 ≡ get_or b j 0 = (λ i j e. payload_octet a i j e ∙ ap (λ xs. get_or xs i 0) same ∙ sym (payload_octet b i j e)) in
+    let octet : (i j : ℕ) → j ≡ 8 + i → get_or a j 0 ≡ get_or b j 0 = (λ i j e. payload_octet a i j e ∙ ap (λ xs. get_or xs i 0) same
+    ∙ sym (payload_octet b i j e)) in
     let pair : (i j : ℕ) → j ≡ 8 + i → number_at a j ≡ number_at b j = (λ i j e. (λ k. octet i j e k + 256 * octet (i + 1) (j + 1) (omega arith) k)) in
     let parent = pair 0 8 refl in
     let first = pair 2 10 refl in
@@ -61,7 +71,16 @@ row-payload a b same =
     let head = pair 12 20 refl in
     let sum_low = pair 18 26 refl in
     let sum_high = pair 20 28 refl in
-    (λ k. record { parent = parent k; first = first k; last = last k; size = low k + 65536 * high k; kind = kind k; name_length = name k; same_head = head k; sum = sum_low k + 65536 * sum_high k })
+    (λ k. record {
+      parent = parent k;
+      first = first k;
+      last = last k;
+      size = low k + 65536 * high k;
+      kind = kind k;
+      name_length = name k;
+      same_head = head k;
+      sum = sum_low k + 65536 * sum_high k;
+    })
 
 pub blank_row : row_of blank_block ≡ record { parent = 0; first = 0; last = 0; size = 0; kind = 0; name_length = 0; same_head = 0; sum = 0 }
 unfolding blank_block
@@ -79,7 +98,7 @@ name-put block name whole =
     ∙ ap (take (length name)) (drop_at (take 32 block) (name ++ rest) 32 front)
     ∙ take_at name rest (length name) refl
 
--- four octets from a place on
+-- four octets from an offset on
 module _ (block : List ℕ) (whole : length block ≡ 128) (place : ℕ) (within : place + 4 ≤ 128) (lowest low high highest : ℕ) where
   abbrev one : List ℕ
   one = set block place lowest
@@ -136,7 +155,8 @@ module _ (block : List ℕ) (whole : length block ≡ 128) (place : ℕ) (within
       → get_or four place 0 + 256 * get_or four (place + 1) 0 + 65536 * (get_or four (place + 2) 0 + 256 * get_or four (place + 3) 0) ≡ number
   number_put number is = (λ k. at_place k + 256 * at_next k + 65536 * (at_third k + 256 * at_last k)) ∙ is
 
-module _ (block : List ℕ) (whole : length block ≡ 128) (lowest low high highest number : ℕ) (is : lowest + 256 * low + 65536 * (high + 256 * highest) ≡ number) where
+module _ (block : List ℕ) (whole : length block ≡ 128) (lowest low high highest number : ℕ) (is : lowest + 256 * low + 65536 * (high + 256 * highest)
+    ≡ number) where
   pub row-sized : row_of (four block whole 14 (omega arith) lowest low high highest) ≡ record (row_of block) { size = number }
   row-sized =
       let parent = before block whole 14 (omega arith) lowest low high highest 8 (omega arith) in
@@ -148,7 +168,16 @@ module _ (block : List ℕ) (whole : length block ≡ 128) (lowest low high high
       let sum_low = after block whole 14 (omega arith) lowest low high highest 26 (omega arith) in
       let sum_high = after block whole 14 (omega arith) lowest low high highest 28 (omega arith) in
       let size = number_put block whole 14 (omega arith) lowest low high highest number is in
-      (λ k. record { parent = parent k; first = first k; last = last k; size = size k; kind = kind k; name_length = name k; same_head = head k; sum = sum_low k + 65536 * sum_high k })
+      (λ k. record {
+        parent = parent k;
+        first = first k;
+        last = last k;
+        size = size k;
+        kind = kind k;
+        name_length = name k;
+        same_head = head k;
+        sum = sum_low k + 65536 * sum_high k;
+      })
 
   pub row-summed : row_of (four block whole 26 (omega arith) lowest low high highest) ≡ record (row_of block) { sum = number }
   row-summed =
@@ -161,4 +190,13 @@ module _ (block : List ℕ) (whole : length block ≡ 128) (lowest low high high
       let name = other block whole 26 (omega arith) lowest low high highest 19 (inl (omega arith)) in
       let head = before block whole 26 (omega arith) lowest low high highest 20 (omega arith) in
       let sum = number_put block whole 26 (omega arith) lowest low high highest number is in
-      (λ k. record { parent = parent k; first = first k; last = last k; size = low_size k + 65536 * high_size k; kind = kind k; name_length = name k; same_head = head k; sum = sum k })
+      (λ k. record {
+        parent = parent k;
+        first = first k;
+        last = last k;
+        size = low_size k + 65536 * high_size k;
+        kind = kind k;
+        name_length = name k;
+        same_head = head k;
+        sum = sum k;
+      })

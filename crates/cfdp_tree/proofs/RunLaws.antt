@@ -18,7 +18,8 @@ use Rattle.cfdp_tree.proofs.Octets.{overwritten-left, overwritten-right, slice-l
 pub apart : (arena : Blocks) (owner a b r s : ℕ) → IsPart owner r (octets_at arena a) → IsPart owner s (octets_at arena b) → r ≢ s → a ≢ b
 apart arena owner a b r s p q ne e = ne (sym p.rank_is ∙ ap (λ x. (header_in (octets_at arena x)).rank) e ∙ q.rank_is)
 
-pub nth_part : (arena : Blocks) (owner rank n block k r : ℕ) → IsRun arena owner rank n block → k < n → r ≡ rank + k → IsPart owner r (octets_at arena (nth arena block k))
+pub nth_part : (arena : Blocks) (owner rank n block k r : ℕ) → IsRun arena owner rank n block → k < n → r ≡ rank + k →
+    IsPart owner r (octets_at arena (nth arena block k))
 nth_part arena owner rank zero block k r run within e = absurd (omega arith)
 nth_part arena owner rank (suc n) block zero r run within e =
     let same : rank ≡ r = omega arith in subst (λ j. IsPart owner j (octets_at arena block)) same run.0
@@ -34,7 +35,13 @@ length-run arena owner rank zero block run = refl
 length-run arena owner rank (suc n) block run =
     let here = payload (octets (octets_at arena block)) in
     let rest = run_octets arena n (next_in (octets_at arena block)) in
-    omega (arith, length-append here rest, length-drop 8 (octets (octets_at arena block)), run.0.whole, length-run arena owner (suc rank) n (next_in (octets_at arena block)) run.1)
+    omega (
+      arith,
+      length-append here rest,
+      length-drop 8 (octets (octets_at arena block)),
+      run.0.whole,
+      length-run arena owner (suc rank) n (next_in (octets_at arena block)) run.1,
+    )
 
 -- a slice of one payload
 pub run_slice : (arena : Blocks) (owner rank n block k place count at : ℕ) → IsRun arena owner rank n block → k < n → place + count ≤ 120 → at ≡ 120 * k + place
@@ -66,14 +73,17 @@ kept_run old new owner rank (suc n) block keeps run =
     let rest = kept_run old new owner (suc rank) n (next_in (octets_at old block)) (keeps_later owner rank old new keeps) run.1 in
     (subst (IsPart owner rank) (sym same) run.0, subst (λ entry. IsRun new owner (suc rank) n (next_in entry)) (sym same) rest)
 
-pub kept_octets : (old new : Blocks) (owner rank n block : ℕ) → KeepsFrom owner rank old new → IsRun old owner rank n block → run_octets new n block ≡ run_octets old n block
+pub kept_octets : (old new : Blocks) (owner rank n block : ℕ) → KeepsFrom owner rank old new → IsRun old owner rank n block → run_octets new n block
+    ≡ run_octets old n block
 kept_octets old new owner rank zero block keeps run = refl
 kept_octets old new owner rank (suc n) block keeps run =
     let same : octets_at new block ≡ octets_at old block = keeps block rank (omega arith) run.0 in
     ap (λ entry. payload (octets entry) ++ run_octets new n (next_in entry)) same
-    ∙ ap (λ rest. payload (octets (octets_at old block)) ++ rest) (kept_octets old new owner (suc rank) n (next_in (octets_at old block)) (keeps_later owner rank old new keeps) run.1)
+    ∙ ap (λ rest. payload (octets (octets_at old block)) ++ rest) (kept_octets old new owner (suc rank) n (next_in (octets_at old block))
+    (keeps_later owner rank old new keeps) run.1)
 
-pub kept_nth : (old new : Blocks) (owner rank n block k : ℕ) → KeepsFrom owner rank old new → IsRun old owner rank n block → k ≤ n → nth new block k ≡ nth old block k
+pub kept_nth : (old new : Blocks) (owner rank n block k : ℕ) → KeepsFrom owner rank old new → IsRun old owner rank n block → k ≤ n → nth new block k
+    ≡ nth old block k
 kept_nth old new owner rank n block zero keeps run within = refl
 kept_nth old new owner rank zero block (suc k) keeps run within = absurd (omega arith)
 kept_nth old new owner rank (suc n) block (suc k) keeps run within =
@@ -82,7 +92,8 @@ kept_nth old new owner rank (suc n) block (suc k) keeps run within =
     ∙ kept_nth old new owner (suc rank) n (next_in (octets_at old block)) k (keeps_later owner rank old new keeps) run.1 (omega arith)
 
 -- one block is changed: the parts of higher ranks stay
-pub beyond_keeps : (arena : Blocks) (owner rank block : ℕ) (entry : Option (List ℕ)) → IsPart owner rank (octets_at arena block) → KeepsFrom owner (suc rank) arena (set arena block entry)
+pub beyond_keeps : (arena : Blocks) (owner rank block : ℕ) (entry : Option (List ℕ)) → IsPart owner rank (octets_at arena block) →
+    KeepsFrom owner (suc rank) arena (set arena block entry)
 beyond_keeps arena owner rank block entry part b r le other =
     get_or-set_other arena block b entry None (apart arena owner b block r rank other part (omega arith))
 
@@ -97,25 +108,29 @@ module _ (arena : Blocks) (owner : ℕ) (new : List ℕ) (whole : length new ≡
     kind_is = ap (λ (h : Header). h.kind) same ∙ part.kind_is;
   }
 
-  pub written_run : (rank n block k : ℕ) → IsRun arena owner rank n block → k < n → header_of new ≡ header_in (octets_at arena (nth arena block k)) → IsRun (with_block arena (nth arena block k) new) owner rank n block
+  pub written_run : (rank n block k : ℕ) → IsRun arena owner rank n block → k < n → header_of new ≡ header_in (octets_at arena (nth arena block k)) →
+      IsRun (with_block arena (nth arena block k) new) owner rank n block
   written_run rank zero block k run within same = absurd (omega arith)
   written_run rank (suc n) block zero run within same =
       let after = with_block arena block new in
       let here : octets_at after block ≡ Some new = get_or-set_same arena block (Some new) None (live_within arena block run.0.live) in
       let rest = kept_run arena after owner (suc rank) n (next_in (octets_at arena block)) (beyond_keeps arena owner rank block (Some new) run.0) run.1 in (
         subst (IsPart owner rank) (sym here) (written_part rank block run.0 same),
-        subst (λ entry. IsRun after owner (suc rank) n (next_in entry)) (sym here) (subst (λ (h : Header). IsRun after owner (suc rank) n h.next) (sym same) rest),
+        subst (λ entry. IsRun after owner (suc rank) n (next_in entry)) (sym here)
+            (subst (λ (h : Header). IsRun after owner (suc rank) n h.next) (sym same) rest),
       )
   written_run rank (suc n) block (suc k) run within same =
       let next = next_in (octets_at arena block) in
       let target = nth arena next k in
       let after = with_block arena target new in
       let there : IsPart owner (suc rank + k) (octets_at arena target) = nth_part arena owner (suc rank) n next k (suc rank + k) run.1 (omega arith) refl in
-      let kept : octets_at after block ≡ octets_at arena block = get_or-set_other arena target block (Some new) None (apart arena owner block target rank (suc rank + k) run.0 there (omega arith)) in
+      let kept : octets_at after block ≡ octets_at arena block = get_or-set_other arena target block (Some new) None
+      (apart arena owner block target rank (suc rank + k) run.0 there (omega arith)) in
       let rest = written_run (suc rank) n next k run.1 (omega arith) same in
       (subst (IsPart owner rank) (sym kept) run.0, subst (λ entry. IsRun after owner (suc rank) n (next_in entry)) (sym kept) rest)
 
-  pub written_nth : (rank n block k j : ℕ) → IsRun arena owner rank n block → k < n → j ≤ n → header_of new ≡ header_in (octets_at arena (nth arena block k)) → nth (with_block arena (nth arena block k) new) block j ≡ nth arena block j
+  pub written_nth : (rank n block k j : ℕ) → IsRun arena owner rank n block → k < n → j ≤ n → header_of new ≡ header_in (octets_at arena (nth arena block k)) →
+      nth (with_block arena (nth arena block k) new) block j ≡ nth arena block j
   written_nth rank n block k zero run within reach same = refl
   written_nth rank zero block k (suc j) run within reach same = absurd (omega arith)
   written_nth rank (suc n) block zero (suc j) run within reach same =
@@ -129,7 +144,8 @@ module _ (arena : Blocks) (owner : ℕ) (new : List ℕ) (whole : length new ≡
       let target = nth arena next k in
       let after = with_block arena target new in
       let there : IsPart owner (suc rank + k) (octets_at arena target) = nth_part arena owner (suc rank) n next k (suc rank + k) run.1 (omega arith) refl in
-      let kept : octets_at after block ≡ octets_at arena block = get_or-set_other arena target block (Some new) None (apart arena owner block target rank (suc rank + k) run.0 there (omega arith)) in
+      let kept : octets_at after block ≡ octets_at arena block = get_or-set_other arena target block (Some new) None
+      (apart arena owner block target rank (suc rank + k) run.0 there (omega arith)) in
       ap (λ entry. nth after (next_in entry) j) kept ∙ written_nth (suc rank) n next k j run.1 (omega arith) (omega arith) same
 
   module _ (place : ℕ) (part : List ℕ) (inside : place + length part ≤ 120) where
@@ -156,14 +172,16 @@ module _ (arena : Blocks) (owner : ℕ) (new : List ℕ) (whole : length new ≡
         let target = nth arena next k in
         let after = with_block arena target new in
         let there : IsPart owner (suc rank + k) (octets_at arena target) = nth_part arena owner (suc rank) n next k (suc rank + k) run.1 (omega arith) refl in
-        let kept : octets_at after block ≡ octets_at arena block = get_or-set_other arena target block (Some new) None (apart arena owner block target rank (suc rank + k) run.0 there (omega arith)) in
+        let kept : octets_at after block ≡ octets_at arena block = get_or-set_other arena target block (Some new) None
+        (apart arena owner block target rank (suc rank + k) run.0 there (omega arith)) in
         ap (λ entry. payload (octets entry) ++ run_octets after n (next_in entry)) kept
         ∙ ap (λ xs. payload old ++ xs) (written_octets (suc rank) n next k (120 * k + place) run.1 (omega arith) same written refl)
         ∙ sym (overwritten-right (payload old) (run_octets arena n next) (120 * k + place) at part (omega (arith, length-drop 8 old, run.0.whole)))
 
 -- the last part is linked to a part of the rank after its own
 module _ (arena : Blocks) (owner fresh : ℕ) (new : List ℕ) (whole : length new ≡ 128) where
-  linked_part : (rank block : ℕ) → IsPart owner rank (octets_at arena block) → header_of new ≡ linked (header_in (octets_at arena block)) fresh → IsPart owner rank (Some new)
+  linked_part : (rank block : ℕ) → IsPart owner rank (octets_at arena block) → header_of new ≡ linked (header_in (octets_at arena block)) fresh →
+      IsPart owner rank (Some new)
   linked_part rank block part same = record {
     live = refl;
     whole = whole;
@@ -173,21 +191,27 @@ module _ (arena : Blocks) (owner fresh : ℕ) (new : List ℕ) (whole : length n
   }
 
   pub linked_run : (rank n block j : ℕ) → IsRun arena owner rank (suc n) block → IsPart owner j (octets_at arena fresh) → j ≡ suc rank + n
-      → header_of new ≡ linked (header_in (octets_at arena (nth arena block n))) fresh → IsRun (with_block arena (nth arena block n) new) owner rank (suc (suc n)) block
+      → header_of new ≡ linked (header_in (octets_at arena (nth arena block n))) fresh →
+      IsRun (with_block arena (nth arena block n) new) owner rank (suc (suc n)) block
   linked_run rank zero block j run more j_is same =
       let after = with_block arena block new in
       let here : octets_at after block ≡ Some new = get_or-set_same arena block (Some new) None (live_within arena block run.0.live) in
       let there : octets_at after fresh ≡ octets_at arena fresh = beyond_keeps arena owner rank block (Some new) run.0 fresh j (omega arith) more in
       let next_rank : j ≡ suc rank = omega arith in
       let to_fresh : next_in (octets_at after block) ≡ fresh = ap next_in here ∙ ap (λ (h : Header). h.next) same in
-      let last : IsPart owner (suc rank) (octets_at after fresh) = subst (λ r. IsPart owner r (octets_at after fresh)) next_rank (subst (IsPart owner j) (sym there) more) in
-      (subst (IsPart owner rank) (sym here) (linked_part rank block run.0 same), (subst (λ b. IsPart owner (suc rank) (octets_at after b)) (sym to_fresh) last, tt))
+      let last : IsPart owner (suc rank) (octets_at after fresh) = subst (λ r. IsPart owner r (octets_at after fresh)) next_rank
+      (subst (IsPart owner j) (sym there) more) in (
+        subst (IsPart owner rank) (sym here) (linked_part rank block run.0 same),
+        (subst (λ b. IsPart owner (suc rank) (octets_at after b)) (sym to_fresh) last, tt),
+      )
   linked_run rank (suc n) block j run more j_is same =
       let next = next_in (octets_at arena block) in
       let target = nth arena next n in
       let after = with_block arena target new in
-      let there : IsPart owner (suc rank + n) (octets_at arena target) = nth_part arena owner (suc rank) (suc n) next n (suc rank + n) run.1 (omega arith) refl in
-      let kept : octets_at after block ≡ octets_at arena block = get_or-set_other arena target block (Some new) None (apart arena owner block target rank (suc rank + n) run.0 there (omega arith)) in
+      let there : IsPart owner (suc rank + n) (octets_at arena target) = nth_part arena owner (suc rank) (suc n) next n (suc rank + n) run.1
+      (omega arith) refl in
+      let kept : octets_at after block ≡ octets_at arena block = get_or-set_other arena target block (Some new) None
+      (apart arena owner block target rank (suc rank + n) run.0 there (omega arith)) in
       let rest = linked_run (suc rank) n next j run.1 more (omega arith) same in
       (subst (IsPart owner rank) (sym kept) run.0, subst (λ entry. IsRun after owner (suc rank) (suc (suc n)) (next_in entry)) (sym kept) rest)
 
@@ -199,19 +223,24 @@ module _ (arena : Blocks) (owner fresh : ℕ) (new : List ℕ) (whole : length n
       let next = next_in (octets_at arena block) in
       let target = nth arena next n in
       let after = with_block arena target new in
-      let there : IsPart owner (suc rank + n) (octets_at arena target) = nth_part arena owner (suc rank) (suc n) next n (suc rank + n) run.1 (omega arith) refl in
-      let kept : octets_at after block ≡ octets_at arena block = get_or-set_other arena target block (Some new) None (apart arena owner block target rank (suc rank + n) run.0 there (omega arith)) in
+      let there : IsPart owner (suc rank + n) (octets_at arena target) = nth_part arena owner (suc rank) (suc n) next n (suc rank + n) run.1
+      (omega arith) refl in
+      let kept : octets_at after block ≡ octets_at arena block = get_or-set_other arena target block (Some new) None
+      (apart arena owner block target rank (suc rank + n) run.0 there (omega arith)) in
       ap (λ entry. nth after (next_in entry) (suc n)) kept ∙ linked_nth (suc rank) n next run.1 same
 
-  pub linked_before : (rank n block k : ℕ) → IsRun arena owner rank (suc n) block → k ≤ n → nth (with_block arena (nth arena block n) new) block k ≡ nth arena block k
+  pub linked_before : (rank n block k : ℕ) → IsRun arena owner rank (suc n) block → k ≤ n → nth (with_block arena (nth arena block n) new) block k
+      ≡ nth arena block k
   linked_before rank n block zero run within = refl
   linked_before rank zero block (suc k) run within = absurd (omega arith)
   linked_before rank (suc n) block (suc k) run within =
       let next = next_in (octets_at arena block) in
       let target = nth arena next n in
       let after = with_block arena target new in
-      let there : IsPart owner (suc rank + n) (octets_at arena target) = nth_part arena owner (suc rank) (suc n) next n (suc rank + n) run.1 (omega arith) refl in
-      let kept : octets_at after block ≡ octets_at arena block = get_or-set_other arena target block (Some new) None (apart arena owner block target rank (suc rank + n) run.0 there (omega arith)) in
+      let there : IsPart owner (suc rank + n) (octets_at arena target) = nth_part arena owner (suc rank) (suc n) next n (suc rank + n) run.1
+      (omega arith) refl in
+      let kept : octets_at after block ≡ octets_at arena block = get_or-set_other arena target block (Some new) None
+      (apart arena owner block target rank (suc rank + n) run.0 there (omega arith)) in
       ap (λ entry. nth after (next_in entry) k) kept ∙ linked_before (suc rank) n next k run.1 (omega arith)
 
   pub linked_octets : (rank n block j : ℕ) → IsRun arena owner rank (suc n) block → IsPart owner j (octets_at arena fresh) → j ≡ suc rank + n
@@ -233,8 +262,10 @@ module _ (arena : Blocks) (owner fresh : ℕ) (new : List ℕ) (whole : length n
       let target = nth arena next n in
       let after = with_block arena target new in
       let old = payload (octets (octets_at arena block)) in
-      let there : IsPart owner (suc rank + n) (octets_at arena target) = nth_part arena owner (suc rank) (suc n) next n (suc rank + n) run.1 (omega arith) refl in
-      let kept : octets_at after block ≡ octets_at arena block = get_or-set_other arena target block (Some new) None (apart arena owner block target rank (suc rank + n) run.0 there (omega arith)) in
+      let there : IsPart owner (suc rank + n) (octets_at arena target) = nth_part arena owner (suc rank) (suc n) next n (suc rank + n) run.1
+      (omega arith) refl in
+      let kept : octets_at after block ≡ octets_at arena block = get_or-set_other arena target block (Some new) None
+      (apart arena owner block target rank (suc rank + n) run.0 there (omega arith)) in
       ap (λ entry. payload (octets entry) ++ run_octets after (suc (suc n)) (next_in entry)) kept
       ∙ ap (λ xs. old ++ xs) (linked_octets (suc rank) n next j run.1 more (omega arith) same written)
       ∙ sym (append_assoc old (run_octets arena (suc n) next) (payload (octets (octets_at arena fresh))))

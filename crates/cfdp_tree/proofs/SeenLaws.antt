@@ -1,6 +1,6 @@
 -- What a store that is kept in an arena is seen as.
 --     shows                      its nodes are those of the map from paths
---     seen_node, seen_block, seen_none, seen_there       what stands at a path is what stands at its node
+--     seen_node, seen_block, seen_none, seen_there       what is at a path is what is at its node
 --     seen_blocks, few_blocks, file_small, staged_small    the blocks in use, and the octets of a file and of a staged list
 --     seen_file, file_ways       a file's octets are in its contents, and the ways of their blocks lead back
 --     seen_staged, slot_ways     so do those that are staged
@@ -47,7 +47,8 @@ told_directory arena kind.Directory contents = refl
 
 -- the contents of a file
 pub told_file : (arena : Blocks) (k : Kind) (row : Row) → is_file (Some (node_told arena k (contents_told k row))) ≡ true
-    → (octets_in (Some (node_told arena k (contents_told k row))) ≡ contents_in arena (contents_told kind.File row)) × (contents_told k row ≡ contents_told kind.File row)
+    → (octets_in (Some (node_told arena k (contents_told k row))) ≡ contents_in arena (contents_told kind.File row))
+    × (contents_told k row ≡ contents_told kind.File row)
 told_file arena kind.File row file = (refl, refl)
 told_file arena kind.Directory row file = cc
 
@@ -71,11 +72,13 @@ seen_parent F p depth long some =
     ∙ ap (is_good F) above
     ∙ good_at F (take depth p) (omega (arith, long, length-take-le depth p (omega (arith, long))))
 
-module _ (arena : Blocks) (heads : Heads) (slots : List Slot) {ways : List Way} (store : IsStore arena ways heads slots) (now : Store) (view : store_of arena (staged_in slots) ≡ now) where
+module _ (arena : Blocks) (heads : Heads) (slots : List Slot) {ways : List Way} (store : IsStore arena ways heads slots) (now : Store)
+    (view : store_of arena (staged_in slots) ≡ now) where
   pub shows : Shows arena (nodes_in arena) now.filestore.nodes
   shows = subst (λ (s : Store). Shows arena (nodes_in arena) s.filestore.nodes) view (tree_shows arena (nodes_in arena) store.kept.tree)
 
-  pub seen_node : (b : ℕ) (p : Path) → IsNode (nodes_in arena) b → path_of (nodes_in arena) b ≡ p → node_at now.filestore p ≡ Some (node_of arena (octets_of (nodes_in arena) b))
+  pub seen_node : (b : ℕ) (p : Path) → IsNode (nodes_in arena) b → path_of (nodes_in arena) b ≡ p → node_at now.filestore p
+      ≡ Some (node_of arena (octets_of (nodes_in arena) b))
   seen_node b p node e = ap (finite.get now.filestore.nodes) (sym e) ∙ shows.each b node
 
   -- by its block
@@ -90,7 +93,8 @@ module _ (arena : Blocks) (heads : Heads) (slots : List Slot) {ways : List Way} 
       by_case None e = e
       by_case (Some node) e = (let there = shows.only p node e in absurd (none there.0 there.1 there.2))
 
-  pub seen_there : (p : Path) (found : Option ℕ) → IfNone found ((b : ℕ) → IsNode (nodes_in arena) b → path_of (nodes_in arena) b ≡ p → ⊥) → is_file (node_at now.filestore p) ≡ true → IsSome found
+  pub seen_there : (p : Path) (found : Option ℕ) → IfNone found ((b : ℕ) → IsNode (nodes_in arena) b → path_of (nodes_in arena) b ≡ p → ⊥) →
+      is_file (node_at now.filestore p) ≡ true → IsSome found
   seen_there p None none file = absurd (no_file (node_at now.filestore p) (seen_none p none) file)
     where
       no_file : (o : Option Node) → o ≡ None → is_file o ≡ true → ⊥
@@ -121,13 +125,16 @@ module _ (arena : Blocks) (heads : Heads) (slots : List Slot) {ways : List Way} 
   staged_small i = blocks_of-bound (length (files.staged_in now.filestore i)) (omega (arith, lists-each now.filestore.staged i, few_blocks))
 
   -- what a node holds
-  pub held_at : (b : ℕ) → get_or (holdings (nodes_in arena) (staged_in slots)) (length (staged_in slots) + b) no_contents ≡ file_in (octets_at (nodes_in arena) b)
+  pub held_at : (b : ℕ) → get_or (holdings (nodes_in arena) (staged_in slots)) (length (staged_in slots) + b) no_contents
+      ≡ file_in (octets_at (nodes_in arena) b)
   held_at b =
-      get_or-append_right (staged_in slots) (map file_in (nodes_in arena)) (length (staged_in slots)) (length (staged_in slots) + b) no_contents refl (omega arith)
+      get_or-append_right (staged_in slots) (map file_in (nodes_in arena)) (length (staged_in slots)) (length (staged_in slots) + b) no_contents refl
+      (omega arith)
       ∙ ap (λ k. get_or (map file_in (nodes_in arena)) k no_contents) (omega arith)
       ∙ get_or-map file_in (nodes_in arena) b None
 
-  pub seen_file : (b : ℕ) (p : Path) (block : List ℕ) → IsNode (nodes_in arena) b → path_of (nodes_in arena) b ≡ p → octets_at arena b ≡ Some block → is_file (node_at now.filestore p) ≡ true
+  pub seen_file : (b : ℕ) (p : Path) (block : List ℕ) → IsNode (nodes_in arena) b → path_of (nodes_in arena) b ≡ p → octets_at arena b ≡ Some block →
+      is_file (node_at now.filestore p) ≡ true
       → (files.octets_at now.filestore p ≡ contents_in arena (contents_told kind.File (row_of block))) × IsFilled arena (contents_told kind.File (row_of block))
   seen_file b p block node e is file =
       let at = seen_block b p block node e is in
@@ -136,7 +143,8 @@ module _ (arena : Blocks) (heads : Heads) (slots : List Slot) {ways : List Way} 
       (ap octets_in at ∙ told.0, subst (IsFilled arena) (held_at b ∙ ap file_in here ∙ told.1) (store.kept.stored.filled (length (staged_in slots) + b)))
 
   -- the ways of its blocks
-  pub file_ways : (b : ℕ) (p : Path) (block : List ℕ) → IsNode (nodes_in arena) b → path_of (nodes_in arena) b ≡ p → octets_at arena b ≡ Some block → is_file (node_at now.filestore p) ≡ true
+  pub file_ways : (b : ℕ) (p : Path) (block : List ℕ) → IsNode (nodes_in arena) b → path_of (nodes_in arena) b ≡ p → octets_at arena b ≡ Some block →
+      is_file (node_at now.filestore p) ≡ true
       → HasWays arena ways (contents_told kind.File (row_of block)).run
   file_ways b p block node e is file =
       let at = seen_block b p block node e is in
@@ -159,11 +167,13 @@ module _ (arena : Blocks) (heads : Heads) (slots : List Slot) {ways : List Way} 
           (sym (mapped_at (λ (slot : Slot). slot.contents) slots i slot slot.contents slot_there is))
 
       pub slot_filled : IsFilled arena slot.contents
-      slot_filled = subst (IsFilled arena) (get_or_append_left (staged_in slots) (map file_in (nodes_in arena)) no_contents i (omega (arith, store.kept.slots)) ∙ staged_is) (store.kept.stored.filled i)
+      slot_filled = subst (IsFilled arena) (get_or_append_left (staged_in slots) (map file_in (nodes_in arena)) no_contents i (omega (arith, store.kept.slots))
+          ∙ staged_is) (store.kept.stored.filled i)
 
       pub slot_ways : HasWays arena ways slot.contents.run
       slot_ways = subst (λ (x : Contents). HasWays arena ways x.run)
-          (get_or_append_left (staged_in slots) (map file_in (nodes_in arena)) no_contents i (omega (arith, store.kept.slots)) ∙ staged_is) (store.kept.stored.led i)
+          (get_or_append_left (staged_in slots) (map file_in (nodes_in arena)) no_contents i (omega (arith, store.kept.slots)) ∙ staged_is)
+          (store.kept.stored.led i)
 
       pub staged_size : length (files.staged_in now.filestore i) ≡ slot.contents.size
       staged_size = ap (λ (xs : List ℕ). length xs) seen_staged ∙ length-contents arena slot.contents slot_filled

@@ -1,4 +1,4 @@
--- What stands at a path is moved to another one, with all that stands below it.
+-- What is at a path is moved to another one, with all that is below it.
 --     shallow_each                      each path of a tree that is not too deep has at most 8 names
 --     place_nodes, place_other          the new directory is a node, and another one
 --     tree_three, index_three, entry_three     the node is put into it while it is in no list
@@ -17,8 +17,8 @@ use Rattle.cfdp_actions.specs.declared.kind.Kind.TheVariants as kind
 use Rattle.cfdp_actions.specs.Filestore.{Node, Filestore, node_at, blocks, after, tree_at, parent_is_good, IsRooted}
 use Rattle.cfdp_actions.specs.Actions.{is_too_deep, vacated, settled}
 use Rattle.cfdp_actions.specs.Store.{Store, with_changes}
-use Rattle.cfdp_states.proofs.Prefixes.{rebased-below, rebased_back}
-use Rattle.cfdp_states.proofs.Moves.{after-append, find-tree_at, moved, nothing_there, moved_there, moved_apart, blocks-moved}
+use Rattle.cfdp_actions.proofs.Prefixes.{rebased-below, rebased_back}
+use Rattle.cfdp_actions.proofs.Moves.{after-append, find-tree_at, moved, nothing_there, moved_there, moved_apart, blocks-moved}
 use Rattle.cfdp_tree.specs.declared.contents.Contents.{Contents}
 use Rattle.cfdp_ways.specs.declared.way.Way.{Way}
 use Rattle.cfdp_tree.specs.declared.slots.Slot.{Slot}
@@ -63,14 +63,16 @@ either_false false b e = (refl, e)
 few_names : (n : ℕ) → nat_lt 8 n ≡ false → n ≤ 8
 few_names n few = grind (arith, nat_tests, few)
 
-pub shallow_each : (p q : Path) (es : List (Path × Node)) (x : Path) → is_some (find path_cmp x es) ≡ true → is_too_deep p q es ≡ false → length (rebased p q x) ≤ 8
+pub shallow_each : (p q : Path) (es : List (Path × Node)) (x : Path) → is_some (find path_cmp x es) ≡ true → is_too_deep p q es ≡ false →
+    length (rebased p q x) ≤ 8
 shallow_each p q [] x found shallow = absurd (true_false found refl)
 shallow_each p q (e ∷ es) x found shallow = by_same (same_path x e.0) refl (shallow_each p q es x)
   where
     parts : (nat_lt 8 (length (rebased p q e.0)) ≡ false) × (is_too_deep p q es ≡ false)
     parts = either_false (nat_lt 8 (length (rebased p q e.0))) (is_too_deep p q es) shallow
 
-    by_same : (same : Bool) → same_path x e.0 ≡ same → (is_some (find path_cmp x es) ≡ true → is_too_deep p q es ≡ false → length (rebased p q x) ≤ 8) → length (rebased p q x) ≤ 8
+    by_same : (same : Bool) → same_path x e.0 ≡ same → (is_some (find path_cmp x es) ≡ true → is_too_deep p q es ≡ false → length (rebased p q x) ≤ 8) →
+        length (rebased p q x) ≤ 8
     by_same true is rest = subst (λ y. length (rebased p q y) ≤ 8) (sym ((same_path-Decides x e.0).0 is)) (few_names (length (rebased p q e.0)) parts.0)
     by_same false is rest = rest (sym (ap (λ b. is_some (cond b (Some e.1) (find path_cmp x es))) is) ∙ found) parts.1
 
@@ -97,11 +99,13 @@ held_is : (o : Option (List ℕ)) → IsSome o → file_of (unwrap_or o []) ≡ 
 held_is None some = cc
 held_is (Some block) some = refl
 
-module _ (arena : Blocks) (heads : Heads) (slots : List Slot) {ways : List Way} (store : IsStore arena ways heads slots) (now : Store) (view : store_of arena (staged_in slots) ≡ now)
+module _ (arena : Blocks) (heads : Heads) (slots : List Slot) {ways : List Way} (store : IsStore arena ways heads slots) (now : Store)
+    (view : store_of arena (staged_in slots) ≡ now)
     (p : Path) (b : ℕ) (node : IsNode (nodes_in arena) b) (way : path_of (nodes_in arena) b ≡ p)
     (q : Path) (is_path : IsPath q) (depth : ℕ) (long : length q ≡ depth + 1) (parent_good : parent_is_good now.filestore q ≡ true)
     (place : Option ℕ) (place_node : IfSome place (λ x. IsNode (nodes_in arena) x)) (place_path : IfSome place (λ x. path_of (nodes_in arena) x ≡ take depth q))
-    (place_none : IfNone place ((x : ℕ) → IsNode (nodes_in arena) x → path_of (nodes_in arena) x ≡ take depth q → ⊥)) (name : Name) (name_is : name ≡ get_or q depth [])
+    (place_none : IfNone place ((x : ℕ) → IsNode (nodes_in arena) x → path_of (nodes_in arena) x ≡ take depth q → ⊥)) (name : Name) (name_is : name
+    ≡ get_or q depth [])
     (apart : is_at_or_below q p ≡ false) where
   abbrev nodes : Blocks
   nodes = nodes_in arena
@@ -194,7 +198,8 @@ module _ (arena : Blocks) (heads : Heads) (slots : List Slot) {ways : List Way} 
       fits : (c : ℕ) → IsNode before c → is_at_or_below (path_of before c) p ≡ true → length (rebased p q (path_of before c)) ≤ 8
       fits c inside below =
           shallow_each p q (tree_at now.filestore p) (path_of before c)
-          (ap is_some (find-tree_at now.filestore p (path_of before c) ∙ ap (λ t. cond t (node_at now.filestore (path_of before c)) None) below ∙ shown_two.each c inside)) shallow
+          (ap is_some (find-tree_at now.filestore p (path_of before c) ∙ ap (λ t. cond t (node_at now.filestore (path_of before c)) None) below
+          ∙ shown_two.each c inside)) shallow
 
       kind_same : kind_told (row_of block).kind ≡ kind_told (row_at before b).kind
       kind_same = ap (λ (r : Row). kind_told r.kind) row
@@ -209,11 +214,16 @@ module _ (arena : Blocks) (heads : Heads) (slots : List Slot) {ways : List Way} 
       index_three hs index = subst (λ ns. IsIndex ns hs (Some b)) (sym three_is) (index_moved before hs b block node_two index)
 
       pub entry_three : IsEntry (nodes_in three) place name b
-      entry_three = record { node = subst (λ ns. IsNode ns b) (sym three_is) (subst IsSome (sym (at_b before b block node_two)) refl); there = there; named = name_there }
+      entry_three = record {
+        node = subst (λ ns. IsNode ns b) (sym three_is) (subst IsSome (sym (at_b before b block node_two)) refl);
+        there = there;
+        named = name_there;
+      }
 
       file_three : (c : ℕ) → file_in (octets_at put c) ≡ file_in (octets_at before c)
       file_three = kept_by before b block node_two (λ c entry. file_in entry)
-          (ap (λ (r : Row). contents_told (kind_told r.kind) r) row ∙ told_moved (kind_told (row_at before b).kind) (row_at before b) parent (length name) ∙ held_is (octets_at before b) node_two)
+          (ap (λ (r : Row). contents_told (kind_told r.kind) r) row ∙ told_moved (kind_told (row_at before b).kind) (row_at before b) parent (length name)
+          ∙ held_is (octets_at before b) node_two)
 
       kind_three : (c : ℕ) → kind_told (row_at put c).kind ≡ kind_told (row_at before c).kind
       kind_three = kept_by before b block node_two (λ c entry. kind_told (row_of (unwrap_or entry [])).kind) kind_same
@@ -261,7 +271,7 @@ module _ (arena : Blocks) (heads : Heads) (slots : List Slot) {ways : List Way} 
         got_moved x below =
             moved_there F p q rooted some_q absent (rebased p q x) (rebased-below p q x) ∙ ap (node_at F) (rebased_back p q x below)
 
-        -- where something stands is not at or below the new path
+        -- a path at which something exists is not at or below the new path
         not_there : (x : Path) (here : Node) → node_at F x ≡ Some here → (below : Bool) → is_at_or_below x q ≡ below → is_at_or_below x q ≡ false
         not_there x here e true below = absurd (no_node (sym (nothing_there F p q rooted some_q absent x below) ∙ e))
         not_there x here e false below = below
@@ -270,7 +280,8 @@ module _ (arena : Blocks) (heads : Heads) (slots : List Slot) {ways : List Way} 
         got_stayed x here e outside =
             moved_apart F p q rooted some_q absent x (not_there x here e (is_at_or_below x q) refl) ∙ ap (λ t. cond t None (node_at F x)) outside ∙ e
 
-        each_put : (c : ℕ) → IsNode put c → (below : Bool) → is_at_or_below (path_of before c) p ≡ below → node_at G (path_of put c) ≡ Some (node_of later (octets_of put c))
+        each_put : (c : ℕ) → IsNode put c → (below : Bool) → is_at_or_below (path_of before c) p ≡ below → node_at G (path_of put c)
+            ≡ Some (node_of later (octets_of put c))
         each_put c inside true below =
             let was = was_two c inside in
             ap (node_at G) (goes c was below) ∙ got_moved (path_of before c) below ∙ shown_two.each c was ∙ ap Some (sym (told c inside))
@@ -288,14 +299,16 @@ module _ (arena : Blocks) (heads : Heads) (slots : List Slot) {ways : List Way} 
             let inside = ap (λ y. is_at_or_below y p) at.2 ∙ rebased-below q p x in
             (at.0, is_put at.0 at.1, goes at.0 at.1 inside ∙ ap (rebased p q) at.2 ∙ rebased_back q p x below)
 
-        only_stayed : (x : Path) (here : Node) → node_at G x ≡ Some here → is_at_or_below x q ≡ false → (below : Bool) → is_at_or_below x p ≡ below → (c : ℕ) × IsNode put c × (path_of put c ≡ x)
+        only_stayed : (x : Path) (here : Node) → node_at G x ≡ Some here → is_at_or_below x q ≡ false → (below : Bool) → is_at_or_below x p ≡ below → (c : ℕ)
+            × IsNode put c × (path_of put c ≡ x)
         only_stayed x here e outside true below =
             absurd (no_node (sym (moved_apart F p q rooted some_q absent x outside ∙ ap (λ t. cond t None (node_at F x)) below) ∙ e))
         only_stayed x here e outside false below =
             let at = shown_two.only x here (sym (moved_apart F p q rooted some_q absent x outside ∙ ap (λ t. cond t None (node_at F x)) below) ∙ e) in
             (at.0, is_put at.0 at.1, remains at.0 at.1 (ap (λ y. is_at_or_below y p) at.2 ∙ below) ∙ at.2)
 
-        only_put : (x : Path) (here : Node) → node_at G x ≡ Some here → (below : Bool) → is_at_or_below x q ≡ below → (c : ℕ) × IsNode put c × (path_of put c ≡ x)
+        only_put : (x : Path) (here : Node) → node_at G x ≡ Some here → (below : Bool) → is_at_or_below x q ≡ below → (c : ℕ) × IsNode put c
+            × (path_of put c ≡ x)
         only_put x here e true below = only_moved x here e below
         only_put x here e false outside = only_stayed x here e outside (is_at_or_below x p) refl
 

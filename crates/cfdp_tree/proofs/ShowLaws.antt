@@ -1,4 +1,4 @@
--- The map from paths to what stands there that the nodes of a tree make.
+-- The map from paths to what is there that the nodes of a tree make.
 --     shown_same      there is one such map
 --     tree_shows      the nodes with their paths are one
 use Rattle.std.proofs.Common.{◌≡◌, ℕ, suc, zero, ◌+◌, Bool, true, false, List, [], ◌∷◌, cond, Option, Some, None, refl, sym, ap, ◌∙◌, subst, arith}
@@ -68,7 +68,8 @@ module _ (arena nodes : Blocks) (tree : IsTree nodes) where
       by_same true is behind =
           let one : c ≡ b = same_node nodes tree c b node node_b ((same_path-Decides (path_of nodes c) (path_of nodes b)).0 is) in
           absurd (omega arith)
-      by_same false is behind = (λ i. cond (is i) (Some (node_of arena block)) (find path_cmp (path_of nodes c) (standing_from arena nodes (suc b) rest))) ∙ behind
+      by_same false is behind = (λ i. cond (is i) (Some (node_of arena block)) (find path_cmp (path_of nodes c) (standing_from arena nodes (suc b) rest)))
+          ∙ behind
 
   only_from : (p : Path) (node : Node) (b : ℕ) (rest : Blocks) → Follows b rest → find path_cmp p (standing_from arena nodes b rest) ≡ Some node
       → (c : ℕ) × IsNode nodes c × (path_of nodes c ≡ p)

@@ -39,22 +39,27 @@ pub shows_later : (arena later nodes : Blocks) (F : finite.FinMap path_cmp Node)
 shows_later arena later nodes F stays shows = record { each = (λ b node. shows.each b node ∙ ap Some (sym (stays b node))); only = shows.only }
 
 -- a node whose octets are the same
-pub told_same : (arena later : Blocks) (k : Kind) (contents : Contents) → contents_in later contents ≡ contents_in arena contents → node_told later k contents ≡ node_told arena k contents
+pub told_same : (arena later : Blocks) (k : Kind) (contents : Contents) → contents_in later contents ≡ contents_in arena contents → node_told later k contents
+    ≡ node_told arena k contents
 told_same arena later kind.File contents same = ap files.File same
 told_same arena later kind.Directory contents same = refl
 
-pub set_maps : {A B : Type 0} (f g : A → B) (xs : List A) (i : ℕ) (y : B) (d : A) → ((j : ℕ) → j < length xs → j ≢ i → f (get_or xs j d) ≡ g (get_or xs j d)) → set (map f xs) i y ≡ set (map g xs) i y
+pub set_maps : {A B : Type 0} (f g : A → B) (xs : List A) (i : ℕ) (y : B) (d : A) → ((j : ℕ) → j < length xs → j ≢ i → f (get_or xs j d) ≡ g (get_or xs j d)) →
+    set (map f xs) i y ≡ set (map g xs) i y
 set_maps f g [] i y d same = refl
 set_maps {A = A} {B = B} f g (x ∷ xs) zero y d same = ap (λ ys. y ∷ ys) (all_same xs (λ j within. same (suc j) (omega arith) (λ e. omega arith)))
   where
     all_same : (xs : List A) → ((j : ℕ) → j < length xs → f (get_or xs j d) ≡ g (get_or xs j d)) → map f xs ≡ map g xs
     all_same [] same = refl
     all_same (x ∷ xs) same = (λ k. same 0 (omega arith) k ∷ all_same xs (λ j within. same (suc j) (omega arith)) k)
-set_maps f g (x ∷ xs) (suc i) y d same = (λ k. same 0 (omega arith) (λ e. omega arith) k ∷ set_maps f g xs i y d (λ j within other. same (suc j) (omega arith) (λ e. other (omega arith))) k)
+set_maps f g (x ∷ xs) (suc i) y d same = (λ k. same 0 (omega arith) (λ e. omega arith) k ∷ set_maps f g xs i y d
+    (λ j within other. same (suc j) (omega arith) (λ e. other (omega arith))) k)
 
-module _ (arena later : Blocks) (heads : Heads) (slots : List Slot) {ways : List Way} (store : IsStore arena ways heads slots) (i : ℕ) (small : i < 64) (slot : Slot) (is : slot ≡ get_or slots i slot) (after : Slot)
+module _ (arena later : Blocks) (heads : Heads) (slots : List Slot) {ways : List Way} (store : IsStore arena ways heads slots) (i : ℕ) (small : i < 64)
+    (slot : Slot) (is : slot ≡ get_or slots i slot) (after : Slot)
     (nodes : nodes_in later ≡ nodes_in arena) (long : length later ≡ length arena) (spares : Spares arena later slot.contents.run after.contents.run)
-    (filled : IsFilled later after.contents) (placed : IsPlaced later after) (taken : free_count later + blocks_of after.contents.size ≡ free_count arena + blocks_of slot.contents.size) where
+    (filled : IsFilled later after.contents) (placed : IsPlaced later after) (taken : free_count later + blocks_of after.contents.size ≡ free_count arena
+    + blocks_of slot.contents.size) where
   abbrev staged : List Contents
   staged = staged_in slots
 
@@ -68,7 +73,8 @@ module _ (arena later : Blocks) (heads : Heads) (slots : List Slot) {ways : List
   there = omega (arith, store.kept.slots)
 
   held_slot : get_or held i no_contents ≡ slot.contents
-  held_slot = get_or_append_left staged (map file_in (nodes_in arena)) no_contents i there ∙ staged_is arena heads slots store (store_of arena staged) refl i small slot is
+  held_slot = get_or_append_left staged (map file_in (nodes_in arena)) no_contents i there
+      ∙ staged_is arena heads slots store (store_of arena staged) refl i small slot is
 
   spared : Spares arena later (get_or held i no_contents).run after.contents.run
   spared = subst (λ (x : Contents). Spares arena later x.run after.contents.run) (sym held_slot) spares
@@ -95,7 +101,8 @@ module _ (arena later : Blocks) (heads : Heads) (slots : List Slot) {ways : List
   node_stays : (b : ℕ) → IsNode (nodes_in arena) b → node_of later (octets_of (nodes_in arena) b) ≡ node_of arena (octets_of (nodes_in arena) b)
   node_stays b node =
       let block = octets_of (nodes_in arena) b in
-      let at : get_or held (length staged + b) no_contents ≡ file_of block = held_at arena heads slots store (store_of arena staged) refl b ∙ some_is (octets_at (nodes_in arena) b) node in
+      let at : get_or held (length staged + b) no_contents ≡ file_of block = held_at arena heads slots store (store_of arena staged) refl b
+      ∙ some_is (octets_at (nodes_in arena) b) node in
       let same = others (length staged + b) (λ e. omega (arith, there)) in
       told_same arena later (kind_told (row_of block).kind) (file_of block) (ap (contents_in later) (sym at) ∙ same ∙ ap (contents_in arena) at)
 
@@ -111,7 +118,8 @@ module _ (arena later : Blocks) (heads : Heads) (slots : List Slot) {ways : List
   lists_now =
       ap (map (contents_in later)) staged_now ∙ map-set (contents_in later) staged i after.contents
       ∙ set_maps (contents_in later) (contents_in arena) staged i (contents_in later after.contents) no_contents (λ j within other.
-      (let at = get_or_append_left staged (map file_in (nodes_in arena)) no_contents j within in ap (contents_in later) (sym at) ∙ others j other ∙ ap (contents_in arena) at))
+      (let at = get_or_append_left staged (map file_in (nodes_in arena)) no_contents j within in ap (contents_in later) (sym at) ∙ others j other
+      ∙ ap (contents_in arena) at))
 
   abbrev octets : List ℕ
   octets = contents_in later after.contents
@@ -127,7 +135,8 @@ module _ (arena later : Blocks) (heads : Heads) (slots : List Slot) {ways : List
       let F = filestore_of arena staged in
       let within : i < length F.staged = omega (arith, there, length-map staged (contents_in arena)) in
       let was : length (files.staged_in F i) ≡ slot.contents.size =
-      ap length (seen_staged arena heads slots store (store_of arena staged) refl i small slot is) ∙ length-contents arena slot.contents (slot_filled arena heads slots store (store_of arena staged) refl i small slot is) in
+      ap length (seen_staged arena heads slots store (store_of arena staged) refl i small slot is)
+      ∙ length-contents arena slot.contents (slot_filled arena heads slots store (store_of arena staged) refl i small slot is) in
       omega (
         arith,
         ap blocks filestore_now,
@@ -170,7 +179,8 @@ module _ (arena later : Blocks) (heads : Heads) (slots : List Slot) {ways : List
       kept = record {
         some = omega (arith, long, store.kept.some);
         small = omega (arith, long, store.kept.small);
-        slots = length-map now (λ (slot : Slot). slot.contents) ∙ length-set slots i after ∙ sym (length-map slots (λ (slot : Slot). slot.contents)) ∙ store.kept.slots;
+        slots = length-map now (λ (slot : Slot). slot.contents) ∙ length-set slots i after ∙ sym (length-map slots (λ (slot : Slot). slot.contents))
+            ∙ store.kept.slots;
         tree = subst IsTree (sym nodes) store.kept.tree;
         index = subst (λ ns. IsIndex ns heads None) (sym nodes) store.kept.index;
         stored = stored_now;

@@ -22,7 +22,8 @@ pub tail_place : (arena : Blocks) (run : Run) (cursor : Cursor) → IsHeld arena
 tail_place arena run cursor held some block index =
     (omega (arith, index), block ∙ held.last some ∙ ap (nth arena run.first) (sym index))
 
-pub slot_starts : (arena : Blocks) (slot : Slot) → slot.place.block ≡ slot.contents.run.first → slot.place.index ≡ 0 → slot.blank_from ≡ slot.contents.size → slot.gap ≡ no_gap → IsPlaced arena slot
+pub slot_starts : (arena : Blocks) (slot : Slot) → slot.place.block ≡ slot.contents.run.first → slot.place.index ≡ 0 → slot.blank_from ≡ slot.contents.size →
+    slot.gap ≡ no_gap → IsPlaced arena slot
 slot_starts arena slot block index blank gap =
     let contents = slot.contents in
     let octets = contents_in arena contents in
@@ -41,8 +42,10 @@ slot_stays old new slot stays was = record {
 }
 
 -- zeros come to the end
-pub slot_grown : (old new : Blocks) (slot after : Slot) (size : ℕ) → IsFilled old slot.contents → IsUnwritten (contents_in old slot.contents) slot → slot.contents.size ≤ size
-    → contents_in new after.contents ≡ extended (contents_in old slot.contents) size → after.contents.size ≡ size → after.blank_from ≡ slot.blank_from → after.gap ≡ slot.gap → IsUnwritten (contents_in new after.contents) after
+pub slot_grown : (old new : Blocks) (slot after : Slot) (size : ℕ) → IsFilled old slot.contents → IsUnwritten (contents_in old slot.contents) slot →
+    slot.contents.size ≤ size
+    → contents_in new after.contents ≡ extended (contents_in old slot.contents) size → after.contents.size ≡ size → after.blank_from ≡ slot.blank_from →
+    after.gap ≡ slot.gap → IsUnwritten (contents_in new after.contents) after
 slot_grown old new slot after size filled was longer octets_are size_is from_is gap_is =
     let octets = contents_in old slot.contents in
     let long = length-contents old slot.contents filled in
@@ -53,25 +56,30 @@ slot_grown old new slot after size filled was longer octets_are size_is from_is 
     })
 
 -- octets are written: what is left of the gap, or what was left out before them, is the gap then
-pub gap_written : (octets part : List ℕ) (at end : ℕ) (slot : Slot) (left skipped after : Gap) → length octets ≡ slot.contents.size → at + length part ≡ end → end ≤ length octets → IsUnwritten octets slot
+pub gap_written : (octets part : List ℕ) (at end : ℕ) (slot : Slot) (left skipped after : Gap) → length octets ≡ slot.contents.size → at + length part ≡ end →
+    end ≤ length octets → IsUnwritten octets slot
     → left.from ≤ left.to → slot.gap.from ≤ left.from → left.to ≤ slot.gap.to → (left.to ≤ at) ⊎ ((end ≤ left.from) ⊎ (left.from ≡ left.to))
     → skipped.from ≡ slot.blank_from → skipped.to ≡ max at slot.blank_from → (after ≡ left) ⊎ (after ≡ skipped) → IsBlank (overwritten octets at part) after
 gap_written octets part at end slot left skipped after long end_is range was ordered begins ends apart from_is to_is either =
     let inside : at + length part ≤ length octets = omega (arith, end_is, range) in
     elim either [
       | inl e ↦ subst (IsBlank (overwritten octets at part)) (sym e)
-          (left_blank octets at part inside slot.gap left was.gap ordered begins ends (subst (λ x. (left.to ≤ at) ⊎ ((x ≤ left.from) ⊎ (left.from ≡ left.to))) (sym end_is) apart))
-      | inr e ↦ subst (IsBlank (overwritten octets at part)) (sym e) (skipped_blank octets at part inside (blank_end slot) skipped was.end (omega (arith, end_is, range, long)) from_is to_is)
+          (left_blank octets at part inside slot.gap left was.gap ordered begins ends
+          (subst (λ x. (left.to ≤ at) ⊎ ((x ≤ left.from) ⊎ (left.from ≡ left.to))) (sym end_is) apart))
+      | inr e ↦ subst (IsBlank (overwritten octets at part)) (sym e) (skipped_blank octets at part inside (blank_end slot) skipped was.end
+          (omega (arith, end_is, range, long)) from_is to_is)
     ]
 
 -- and the octets after all that were written
-pub end_written : (octets part : List ℕ) (at : ℕ) (end after : Gap) → at + length part ≤ length octets → IsBlank octets end → at + length part ≤ after.from → end.from ≤ after.from → after.from ≤ after.to → after.to ≡ end.to
+pub end_written : (octets part : List ℕ) (at : ℕ) (end after : Gap) → at + length part ≤ length octets → IsBlank octets end → at + length part ≤ after.from →
+    end.from ≤ after.from → after.from ≤ after.to → after.to ≡ end.to
     → IsBlank (overwritten octets at part) after
 end_written octets part at end after range was behind begins ordered ends =
     after_blank octets at part range after behind (part_blank octets end was after begins ordered (omega (arith, ends)))
 
 -- a slot of as many octets
-pub same_unwritten : (octets : List ℕ) (slot after : Slot) → after.contents.size ≡ slot.contents.size → after.blank_from ≡ slot.blank_from → after.gap ≡ slot.gap → IsUnwritten octets slot → IsUnwritten octets after
+pub same_unwritten : (octets : List ℕ) (slot after : Slot) → after.contents.size ≡ slot.contents.size → after.blank_from ≡ slot.blank_from → after.gap
+    ≡ slot.gap → IsUnwritten octets slot → IsUnwritten octets after
 same_unwritten octets slot after size_is from_is gap_is was = record {
   end = subst (IsBlank octets) (λ k. record { from = sym from_is k; to = sym size_is k }) was.end;
   gap = subst (IsBlank octets) (sym gap_is) was.gap;

@@ -46,7 +46,8 @@ split_at (x ∷ list) m some = elim (cases_eq x m) [
 pub pairs_front : (R : ℕ → ℕ → Type 0) (before : List ℕ) (m : ℕ) (after : List ℕ) → AllPairs R (before ++ m ∷ after) → All (λ x. R x m) before
 pairs_front R [] m after pairs = All-nil (λ x. R x m)
 pairs_front R (x ∷ before) m after pairs =
-    All-cons (λ y. R y m) x before (All_at (R x) before m after (head_pairs R x (before ++ m ∷ after) pairs)) (pairs_front R before m after (tail_pairs R x (before ++ m ∷ after) pairs))
+    All-cons (λ y. R y m) x before (All_at (R x) before m after (head_pairs R x (before ++ m ∷ after) pairs))
+    (pairs_front R before m after (tail_pairs R x (before ++ m ∷ after) pairs))
 
 pub pairs_back : (R : ℕ → ℕ → Type 0) (before : List ℕ) (m : ℕ) (after : List ℕ) → AllPairs R (before ++ m ∷ after) → All (R m) after
 pairs_back R [] m after pairs = head_pairs R m after pairs
@@ -87,14 +88,16 @@ module _ (nodes : Blocks) (list : List ℕ) (rising : AllPairs (Rises nodes) lis
   pub first_least : (r : Option ℕ) → r ≡ slice_get list 0 → IfSome r (IsLeast nodes None list) × IfNone r (All (λ c. IsBehind None (name_at nodes c) → ⊥) list)
   first_least r is = subst (λ o. IfSome o (IsLeast nodes None list) × IfNone o (All (λ c. IsBehind None (name_at nodes c) → ⊥) list)) (sym is) (go list rising)
     where
-      go : (l : List ℕ) → AllPairs (Rises nodes) l → IfSome (slice_get l 0) (IsLeast nodes None l) × IfNone (slice_get l 0) (All (λ c. IsBehind None (name_at nodes c) → ⊥) l)
+      go : (l : List ℕ) → AllPairs (Rises nodes) l → IfSome (slice_get l 0) (IsLeast nodes None l)
+          × IfNone (slice_get l 0) (All (λ c. IsBehind None (name_at nodes c) → ⊥) l)
       go [] pairs = (tt, All-nil (λ c. IsBehind None (name_at nodes c) → ⊥))
       go (b ∷ l) pairs = (
         record {
           listed = (0, omega arith, refl);
           behind = tt;
           least = All-cons (λ c. IsBehind None (name_at nodes c) → Upto b c) b l (λ behind. itself b)
-              (All-weaker (Rises nodes b) (λ c. IsBehind None (name_at nodes c) → Upto b c) (λ c less behind. less_greater less) l (head_pairs (Rises nodes) b l pairs));
+              (All-weaker (Rises nodes b) (λ c. IsBehind None (name_at nodes c) → Upto b c) (λ c less behind. less_greater less) l
+              (head_pairs (Rises nodes) b l pairs));
         },
         tt,
       )
@@ -104,17 +107,21 @@ module _ (nodes : Blocks) (list : List ℕ) (rising : AllPairs (Rises nodes) lis
     not_behind m upto behind = upto (less_back name (name_at nodes m) behind)
 
     -- the first one after a name
-    pub after_least : (r : Option ℕ) → r ≡ slice_get after 0 → IfSome r (IsLeast nodes (Some name) list) × IfNone r (All (λ c. IsBehind (Some name) (name_at nodes c) → ⊥) list)
+    pub after_least : (r : Option ℕ) → r ≡ slice_get after 0 → IfSome r (IsLeast nodes (Some name) list)
+        × IfNone r (All (λ c. IsBehind (Some name) (name_at nodes c) → ⊥) list)
     after_least r found =
         subst (λ o. IfSome o (IsLeast nodes (Some name) list) × IfNone o (All (λ c. IsBehind (Some name) (name_at nodes c) → ⊥) list)) (sym found)
-        (subst (λ l. IfSome (slice_get after 0) (IsLeast nodes (Some name) l) × IfNone (slice_get after 0) (All (λ c. IsBehind (Some name) (name_at nodes c) → ⊥) l)) (sym is)
+        (subst (λ l. IfSome (slice_get after 0) (IsLeast nodes (Some name) l)
+        × IfNone (slice_get after 0) (All (λ c. IsBehind (Some name) (name_at nodes c) → ⊥) l)) (sym is)
         (go after (subst (AllPairs (Rises nodes)) is rising) splits.greater))
       where
         go : (l : List ℕ) → AllPairs (Rises nodes) (before ++ l) → All (λ m. name_cmp (name_at nodes m) name ≡ Greater) l
-            → IfSome (slice_get l 0) (IsLeast nodes (Some name) (before ++ l)) × IfNone (slice_get l 0) (All (λ c. IsBehind (Some name) (name_at nodes c) → ⊥) (before ++ l))
+            → IfSome (slice_get l 0) (IsLeast nodes (Some name) (before ++ l))
+            × IfNone (slice_get l 0) (All (λ c. IsBehind (Some name) (name_at nodes c) → ⊥) (before ++ l))
         go [] pairs greater = (
           tt,
-          All-append (λ c. IsBehind (Some name) (name_at nodes c) → ⊥) before [] (All-weaker (λ m. name_cmp (name_at nodes m) name ≢ Greater) (λ c. IsBehind (Some name) (name_at nodes c) → ⊥) not_behind before splits.rest)
+          All-append (λ c. IsBehind (Some name) (name_at nodes c) → ⊥) before []
+              (All-weaker (λ m. name_cmp (name_at nodes m) name ≢ Greater) (λ c. IsBehind (Some name) (name_at nodes c) → ⊥) not_behind before splits.rest)
               (All-nil (λ c. IsBehind (Some name) (name_at nodes c) → ⊥)),
         )
         go (b ∷ l) pairs greater = (
@@ -122,15 +129,18 @@ module _ (nodes : Blocks) (list : List ℕ) (rising : AllPairs (Rises nodes) lis
             listed = Contains-append_right before (b ∷ l) b (0, omega arith, refl);
             behind = flipped nat_list_cmp_total (name_at nodes b) name (All-head (λ m. name_cmp (name_at nodes m) name ≡ Greater) b l greater);
             least = All-append (λ c. IsBehind (Some name) (name_at nodes c) → Upto b c) before (b ∷ l)
-                (All-weaker (λ m. name_cmp (name_at nodes m) name ≢ Greater) (λ c. IsBehind (Some name) (name_at nodes c) → Upto b c) (λ c upto behind. absurd (not_behind c upto behind)) before splits.rest)
+                (All-weaker (λ m. name_cmp (name_at nodes m) name ≢ Greater) (λ c. IsBehind (Some name) (name_at nodes c) → Upto b c)
+                (λ c upto behind. absurd (not_behind c upto behind)) before splits.rest)
                 (All-cons (λ c. IsBehind (Some name) (name_at nodes c) → Upto b c) b l (λ behind. itself b)
-                (All-weaker (Rises nodes b) (λ c. IsBehind (Some name) (name_at nodes c) → Upto b c) (λ c less behind. less_greater less) l (pairs_back (Rises nodes) before b l pairs)));
+                (All-weaker (Rises nodes b) (λ c. IsBehind (Some name) (name_at nodes c) → Upto b c) (λ c less behind. less_greater less) l
+                (pairs_back (Rises nodes) before b l pairs)));
           },
           tt,
         )
 
 -- the entry of a name
-module _ (nodes : Blocks) (list : List ℕ) (rising : AllPairs (Rises nodes) list) (name : Name) (before after : List ℕ) (is : list ≡ before ++ after) (splits : SplitsFrom (λ m. name_cmp (name_at nodes m) name) before after) where
+module _ (nodes : Blocks) (list : List ℕ) (rising : AllPairs (Rises nodes) list) (name : Name) (before after : List ℕ) (is : list ≡ before ++ after)
+    (splits : SplitsFrom (λ m. name_cmp (name_at nodes m) name) before after) where
   abbrev None-named : List ℕ → Type 0
   None-named l = All (λ e. name_at nodes e ≡ name → ⊥) l
 
@@ -163,7 +173,8 @@ module _ (nodes : Blocks) (list : List ℕ) (rising : AllPairs (Rises nodes) lis
       go (x ∷ l) pairs rest e =
           All-cons (λ e. name_at nodes e ≡ name → ⊥) x l (subst (λ y. name_at nodes y ≡ name → ⊥) (sym (same e)) other)
           (All-weaker (Rises nodes x) (λ e. name_at nodes e ≡ name → ⊥)
-          (λ e less named. All-head (λ m. name_cmp (name_at nodes m) name ≢ Less) x l rest (subst (λ n. name_cmp (name_at nodes x) n ≡ Less) named less)) l (pairs_back (Rises nodes) before x l pairs))
+          (λ e less named. All-head (λ m. name_cmp (name_at nodes m) name ≢ Less) x l rest (subst (λ n. name_cmp (name_at nodes x) n ≡ Less) named less)) l
+          (pairs_back (Rises nodes) before x l pairs))
 
   pub there_from : (b : ℕ) → slice_get after 0 ≡ Some b → 1 ≤ times b list
   there_from b found = contains_times list b (subst (λ l. Contains l b) (sym is) (Contains-append_right before after b (first after found)))

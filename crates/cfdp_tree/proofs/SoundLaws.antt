@@ -1,8 +1,8 @@
--- What stands in a store, by its nodes.
+-- What is in a store, by its nodes.
 --     items_are                 what an answer has
 --     node_sound, found_sound   the octets of its nodes are there
---     under_nodes               what stands there is nodes
---     none_under                nothing stands below where nothing stands
+--     under_nodes               what is there is nodes
+--     none_under                nothing is below where nothing exists
 use Rattle.std.proofs.Common.{◌≡◌, ℕ, ◌+◌, ◌≤◌, List, [], length, map, take, drop, Option, Some, None, Result, Ok, Err, IfOk, refl, sym, ap, ◌∙◌, subst, arith}
 use Rattle.std.proofs.lemmas.List.{take_at}
 use Rattle.std.proofs.lemmas.List.Elements.{All-map, All-nil, All-weaker}
@@ -30,7 +30,8 @@ use Rattle.cfdp_tree.proofs.ClimbLaws.{beginning}
 use Rattle.cfdp_tree.proofs.SeenLaws.{shows, file_small, held_at}
 
 -- what an answer has, in other words
-pub items_are : {A E X : Type 0} (items : A → List X) (r : Result A E) (was now : List X) → IfOk r (λ v. items v ≡ was) → was ≡ now → IfOk r (λ v. items v ≡ now)
+pub items_are : {A E X : Type 0} (items : A → List X) (r : Result A E) (was now : List X) → IfOk r (λ v. items v ≡ was) → was ≡ now →
+    IfOk r (λ v. items v ≡ now)
 items_are items (Ok v) was now has same = has ∙ same
 items_are items (Err e) was now has same = tt
 
@@ -42,24 +43,33 @@ told_octets : (arena : Blocks) (k : Kind) (row : Row) → octets_in (Some (node_
 told_octets arena kind.Directory row = refl
 told_octets arena kind.File row = refl
 
-module _ (arena : Blocks) (heads : Heads) (slots : List Slot) {ways : List Way} (store : IsStore arena ways heads slots) (now : Store) (view : store_of arena (staged_in slots) ≡ now) where
+module _ (arena : Blocks) (heads : Heads) (slots : List Slot) {ways : List Way} (store : IsStore arena ways heads slots) (now : Store)
+    (view : store_of arena (staged_in slots) ≡ now) where
   pub node_sound : (b : ℕ) → IsNode (nodes_in arena) b → IsSound arena (with_path (nodes_in arena) b)
   node_sound b node =
       let nodes = nodes_in arena in let block = octets_of nodes b in
       let filled : IsFilled arena (file_of block) =
-      subst (IsFilled arena) (held_at arena heads slots store now view b ∙ file_some (octets_at nodes b) node) (store.kept.stored.filled (length (staged_in slots) + b)) in
+      subst (IsFilled arena) (held_at arena heads slots store now view b ∙ file_some (octets_at nodes b) node)
+      (store.kept.stored.filled (length (staged_in slots) + b)) in
       let octets : files.octets_at now.filestore (path_of nodes b) ≡ contents_in arena (file_of block) =
       ap octets_in ((shows arena heads slots store now view).each b node) ∙ told_octets arena (kind_told (row_of block).kind) (row_of block) in
       record {
         node = node;
         filled = filled;
-        small = omega (arith, length-contents arena (file_of block) filled, ap (λ (xs : List ℕ). length xs) octets, file_small arena heads slots store now view (path_of nodes b));
+        small = omega (
+          arith,
+          length-contents arena (file_of block) filled,
+          ap (λ (xs : List ℕ). length xs) octets,
+          file_small arena heads slots store now view (path_of nodes b),
+        );
       }
 
-  pub found_sound : (list : List ℕ) (found : List (Path × ℕ)) → All (IsNode (nodes_in arena)) list → found ≡ map (with_path (nodes_in arena)) list → All (IsSound arena) found
+  pub found_sound : (list : List ℕ) (found : List (Path × ℕ)) → All (IsNode (nodes_in arena)) list → found ≡ map (with_path (nodes_in arena)) list →
+      All (IsSound arena) found
   found_sound list found all is =
       subst (All (IsSound arena)) (sym is)
-      (All-map (IsSound arena) (with_path (nodes_in arena)) list (All-weaker (IsNode (nodes_in arena)) (λ b. IsSound arena (with_path (nodes_in arena) b)) node_sound list all))
+      (All-map (IsSound arena) (with_path (nodes_in arena)) list (All-weaker (IsNode (nodes_in arena))
+      (λ b. IsSound arena (with_path (nodes_in arena) b)) node_sound list all))
 
 pub under_nodes : (nodes : Blocks) (p : Path) (list : List ℕ) → IsSurvey nodes p list → All (IsNode nodes) list
 under_nodes nodes p list survey = All-weaker (IsUnder nodes p) (IsNode nodes) (λ b under. under.node) list survey.own
@@ -70,6 +80,7 @@ module _ (nodes : Blocks) (tree : IsTree nodes) where
     own = All-nil (IsUnder nodes p);
     all = (λ b under. (let q = path_of nodes b in
         let entry = beginning nodes tree b (length p) under.node some (length-at_or_below q p under.below) in
-        absurd (none entry.0 entry.1 (entry.2 ∙ ap (take (length p)) (append_from_at_or_below q p under.below) ∙ take_at p (drop (length p) q) (length p) refl))));
+        absurd (none entry.0 entry.1 (entry.2 ∙ ap (take (length p)) (append_from_at_or_below q p under.below)
+        ∙ take_at p (drop (length p) q) (length p) refl))));
     once = (λ i j d less within. absurd (omega (arith, within)));
   }

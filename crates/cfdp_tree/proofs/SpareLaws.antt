@@ -51,7 +51,8 @@ spares_then first second third a b c one two other held apart =
 
 keeps_stays : (old new : Blocks) (run : Run) → KeepsFrom run.first 0 old new → IsHeld old run → Stays old new run
 keeps_stays old new run keeps held =
-    let places : (k : ℕ) → k ≤ run.count → nth new run.first k ≡ nth old run.first k = (λ k within. kept_nth old new run.first 0 run.count run.first k keeps held.parts within) in
+    let places : (k : ℕ) → k ≤ run.count → nth new run.first k ≡ nth old run.first k =
+    (λ k within. kept_nth old new run.first 0 run.count run.first k keeps held.parts within) in
     record {
       held = record {
         parts = kept_run old new run.first 0 run.count run.first keeps held.parts;
@@ -62,7 +63,8 @@ keeps_stays old new run keeps held =
     }
 
 -- a block that is none of a run's changes
-pub runs_stay_other : (arena : Blocks) (b : ℕ) (entry : Option (List ℕ)) → ((owner rank : ℕ) → IsPart owner rank (octets_at arena b) → ⊥) → RunsStay arena (slice_set arena b entry)
+pub runs_stay_other : (arena : Blocks) (b : ℕ) (entry : Option (List ℕ)) → ((owner rank : ℕ) → IsPart owner rank (octets_at arena b) → ⊥) →
+    RunsStay arena (slice_set arena b entry)
 runs_stay_other arena b entry other run held =
     let keeps : KeepsFrom run.first 0 arena (slice_set arena b entry) = (λ block r le part. get_or-set_other arena b block entry None
     (λ e. other run.first r (subst (λ x. IsPart run.first r (octets_at arena x)) e part))) in

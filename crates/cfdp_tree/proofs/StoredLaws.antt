@@ -42,7 +42,8 @@ module _ (old new : Blocks) (held : List Contents) (i : ℕ) (within : i < lengt
 
   apart_at : (j k : ℕ) → j ≢ k → Apart (get_or (set held i after) j no_contents).run (get_or (set held i after) k no_contents).run
   apart_at j k differ = elim (cases_eq j i) [
-    | inl e ↦ subst (λ n. Apart (get_or (set held i after) n no_contents).run (get_or (set held i after) k no_contents).run) (sym e) (apart_from k (λ f. differ (e ∙ sym f)))
+    | inl e ↦ subst (λ n. Apart (get_or (set held i after) n no_contents).run (get_or (set held i after) k no_contents).run) (sym e)
+        (apart_from k (λ f. differ (e ∙ sym f)))
     | inr other ↦ elim (cases_eq k i) [
       | inl f ↦ subst (λ n. Apart (get_or (set held i after) j no_contents).run (get_or (set held i after) n no_contents).run) (sym f)
           (apart_back (get_or (set held i after) i no_contents).run (get_or (set held i after) j no_contents).run (apart_from j other))

@@ -30,7 +30,8 @@ module _ (xs : List ℕ) (at : ℕ) (part : List ℕ) (within : at + length part
   unfolding there
   was = ap (λ front. front ++ drop (at + length part) xs) (sym (take_parts xs at (at + length part) (omega arith))) ∙ take-append-drop (at + length part) xs
 
-  pub replaced_sum : (checksum (overwritten xs at part) + checksum_at at (slice_range xs at (at + length part))) % 2 ^ 32 ≡ (checksum xs + checksum_at at part) % 2 ^ 32
+  pub replaced_sum : (checksum (overwritten xs at part) + checksum_at at (slice_range xs at (at + length part))) % 2 ^ 32
+      ≡ (checksum xs + checksum_at at part) % 2 ^ 32
   unfolding there
   replaced_sum =
       let front : length (take at xs) ≡ at = length-take-le at xs (omega arith) in
@@ -44,12 +45,14 @@ none_summed offset xs n none = ap (λ m. checksum_at offset (take m xs)) none
 
 -- one part more
 pub step_sum : (all : List ℕ) (at offset done count sum part : ℕ) → at + (done + count) ≤ length all → sum ≡ checksum_at offset (take done (drop at all))
-    → part ≡ checksum_at (offset + done) (slice_range all (at + done) (at + done + count)) → (sum + part) % 2 ^ 32 ≡ checksum_at offset (take (done + count) (drop at all))
+    → part ≡ checksum_at (offset + done) (slice_range all (at + done) (at + done + count)) → (sum + part) % 2 ^ 32
+    ≡ checksum_at offset (take (done + count) (drop at all))
 step_sum all at offset done count sum part long sum_is part_is =
     let rest = drop at all in
     let front : length (take done rest) ≡ done = length-take-le done rest (omega (arith, length-drop at all, long)) in
     let there : slice_range all (at + done) (at + done + count) ≡ slice_range rest done (done + count) =
-    slice_is all (at + done) (at + done + count) count refl ∙ ap (take count) (sym (drop-drop done at all)) ∙ sym (slice_is rest done (done + count) count refl) in
+    slice_is all (at + done) (at + done + count) count refl ∙ ap (take count) (sym (drop-drop done at all))
+    ∙ sym (slice_is rest done (done + count) count refl) in
     (λ k. (sum_is k + part_is k) % 2 ^ 32)
     ∙ (λ k. (checksum_at offset (take done rest) + checksum_at (offset + sym front k) (there k)) % 2 ^ 32)
     ∙ sym (offsets-add-up offset (take done rest) (slice_range rest done (done + count)))

@@ -35,13 +35,15 @@ module _ {X Y : Type 0} (f : X → List Y) where
   Contains-flat_map [] x y has inside = absurd (omega (arith, has.1))
   Contains-flat_map (z ∷ xs) x y has inside = at_place has.0 has.1 has.2 (λ k within e. Contains-flat_map xs x y (k, within, e) inside)
     where
-      at_place : (k : ℕ) → k < length (z ∷ xs) → get_or (z ∷ xs) k x ≡ x → ((k : ℕ) → k < length xs → get_or xs k x ≡ x → Contains (flat_map f xs) y) → Contains (f z ++ flat_map f xs) y
+      at_place : (k : ℕ) → k < length (z ∷ xs) → get_or (z ∷ xs) k x ≡ x → ((k : ℕ) → k < length xs → get_or xs k x ≡ x → Contains (flat_map f xs) y) →
+          Contains (f z ++ flat_map f xs) y
       at_place zero within e rest = Contains-append_left (f z) (flat_map f xs) y (subst (λ w. Contains (f w) y) (sym e) inside)
       at_place (suc k) within e rest = Contains-append_right (f z) (flat_map f xs) y (rest k (omega arith) e)
 
   pub All-flat_map : (P : Y → Type 0) (xs : List X) → All (λ x. All P (f x)) xs → All P (flat_map f xs)
   All-flat_map P [] all = All-nil P
-  All-flat_map P (x ∷ xs) all = All-append P (f x) (flat_map f xs) (All-head (λ x. All P (f x)) x xs all) (All-flat_map P xs (All-tail (λ x. All P (f x)) x xs all))
+  All-flat_map P (x ∷ xs) all = All-append P (f x) (flat_map f xs) (All-head (λ x. All P (f x)) x xs all)
+      (All-flat_map P xs (All-tail (λ x. All P (f x)) x xs all))
 
 module _ {X : Type 0} (R : X → X → Type 0) where
   pairs_tail : (x : X) (xs : List X) → AllPairs R (x ∷ xs) → AllPairs R xs
@@ -56,7 +58,8 @@ module _ {X : Type 0} (R : X → X → Type 0) where
       AllPairs-cons R x (xs ++ ys) (All-append (R x) xs ys (pairs_head x xs first) (All-head (λ x. All (R x) ys) x xs across))
       (AllPairs-append xs ys (pairs_tail x xs first) second (All-tail (λ x. All (R x) ys) x xs across))
 
-  pub AllPairs-flat_map : {Y : Type 0} (f : Y → List X) (ys : List Y) → All (λ y. AllPairs R (f y)) ys → AllPairs (λ y z. All (λ a. All (R a) (f z)) (f y)) ys → AllPairs R (flat_map f ys)
+  pub AllPairs-flat_map : {Y : Type 0} (f : Y → List X) (ys : List Y) → All (λ y. AllPairs R (f y)) ys → AllPairs (λ y z. All (λ a. All (R a) (f z)) (f y)) ys →
+      AllPairs R (flat_map f ys)
   AllPairs-flat_map f [] own across = (λ i j d less within. absurd (omega (arith, within)))
   AllPairs-flat_map f (y ∷ ys) own across =
       AllPairs-append (f y) (flat_map f ys) (All-head (λ y. AllPairs R (f y)) y ys own)
@@ -78,7 +81,8 @@ module _ (nodes : Blocks) (tree : IsTree nodes) (orders : Orders) (ordered : IsO
   member_length place e node there = omega (arith, ap length (member_path place e node there), length-append (path_at nodes place) (name_at nodes e ∷ []))
 
   -- what is walked over from the entries of a place
-  deeper : (place : Option ℕ) (e : ℕ) → IsNode nodes e → home nodes e ≡ place → (c : ℕ) → IsUnder nodes (path_of nodes e) c → IsDeeper nodes (path_at nodes place) c
+  deeper : (place : Option ℕ) (e : ℕ) → IsNode nodes e → home nodes e ≡ place → (c : ℕ) → IsUnder nodes (path_of nodes e) c →
+      IsDeeper nodes (path_at nodes place) c
   deeper place e node there c under = record {
     under = record {
       node = under.node;
@@ -93,9 +97,11 @@ module _ (nodes : Blocks) (tree : IsTree nodes) (orders : Orders) (ordered : IsO
   walks_own n below place list members =
       All-flat_map (walk orders n) (IsDeeper nodes (path_at nodes place)) list
       (All-weaker (IsMember nodes None place) (λ e. All (IsDeeper nodes (path_at nodes place)) (walk orders n e)) (λ e member.
-      All-weaker (IsUnder nodes (path_of nodes e)) (IsDeeper nodes (path_at nodes place)) (deeper place e member.node member.there) (walk orders n e) (below e member.node)) list members)
+      All-weaker (IsUnder nodes (path_of nodes e)) (IsDeeper nodes (path_at nodes place)) (deeper place e member.node member.there) (walk orders n e)
+      (below e member.node)) list members)
 
-  pub walks_all : (n : ℕ) → ((b c : ℕ) → IsNode nodes b → IsUnder nodes (path_of nodes b) c → length (path_of nodes c) < length (path_of nodes b) + n → Contains (walk orders n b) c)
+  pub walks_all : (n : ℕ) → ((b c : ℕ) → IsNode nodes b → IsUnder nodes (path_of nodes b) c → length (path_of nodes c) < length (path_of nodes b) + n →
+      Contains (walk orders n b) c)
       → (place : Option ℕ) → ((d : ℕ) → place ≡ Some d → IsNode nodes d) → (list : List ℕ) → ((e : ℕ) → IsNode nodes e → home nodes e ≡ place → Contains list e)
       → (c : ℕ) → IsDeeper nodes (path_at nodes place) c → length (path_of nodes c) < length (path_at nodes place) + suc n → Contains (walks orders n list) c
   walks_all n below place stands list has c deep short =
@@ -104,7 +110,8 @@ module _ (nodes : Blocks) (tree : IsTree nodes) (orders : Orders) (ordered : IsO
       let whole = append_from_at_or_below q p deep.under.below in
       let front : take (length p) q ≡ p = ap (take (length p)) whole ∙ take_at p (drop (length p) q) (length p) refl in
       let entry = beginning nodes tree c (length p + 1) deep.under.node (omega arith) (omega (arith, deep.longer)) in
-      let way : path_of nodes entry.0 ≡ p ++ get_or q (length p) [] ∷ [] = entry.2 ∙ take_more q (length p) [] deep.longer ∙ ap (λ x. x ++ get_or q (length p) [] ∷ []) front in
+      let way : path_of nodes entry.0 ≡ p ++ get_or q (length p) [] ∷ [] = entry.2 ∙ take_more q (length p) [] deep.longer
+      ∙ ap (λ x. x ++ get_or q (length p) [] ∷ []) front in
       let at = entry_at nodes tree place p (get_or q (length p) []) entry.0 (record { node = stands; path = refl }) entry.1 way in
       let under : is_at_or_below q (path_of nodes entry.0) ≡ true = at_or_below_from_append q (path_of nodes entry.0) (drop (length p + 1) q)
       (sym (take-append-drop (length p + 1) q) ∙ ap (λ x. x ++ drop (length p + 1) q) (sym entry.2)) in
@@ -115,19 +122,24 @@ module _ (nodes : Blocks) (tree : IsTree nodes) (orders : Orders) (ordered : IsO
   abbrev pub Before : ℕ → ℕ → Type 0
   Before b c = path_cmp (path_of nodes b) (path_of nodes c) ≡ Less
 
-  under_way : (place : Option ℕ) (x : ℕ) → IsMember nodes None place x → (a : ℕ) → IsUnder nodes (path_of nodes x) a → (s : Path) × (path_of nodes a ≡ path_at nodes place ++ name_at nodes x ∷ s)
+  under_way : (place : Option ℕ) (x : ℕ) → IsMember nodes None place x → (a : ℕ) → IsUnder nodes (path_of nodes x) a → (s : Path)
+      × (path_of nodes a ≡ path_at nodes place ++ name_at nodes x ∷ s)
   under_way place x member a under =
       let s = drop (length (path_of nodes x)) (path_of nodes a) in (
         s,
-        append_from_at_or_below (path_of nodes a) (path_of nodes x) under.below ∙ ap (λ p. p ++ s) (member_path place x member.node member.there) ∙ append_assoc (path_at nodes place) (name_at nodes x ∷ []) s,
+        append_from_at_or_below (path_of nodes a) (path_of nodes x) under.below ∙ ap (λ p. p ++ s) (member_path place x member.node member.there)
+            ∙ append_assoc (path_at nodes place) (name_at nodes x ∷ []) s,
       )
 
-  across : (place : Option ℕ) (x y : ℕ) → IsMember nodes None place x → IsMember nodes None place y → Rises nodes x y → (a b : ℕ) → IsUnder nodes (path_of nodes x) a → IsUnder nodes (path_of nodes y) b → Before a b
+  across : (place : Option ℕ) (x y : ℕ) → IsMember nodes None place x → IsMember nodes None place y → Rises nodes x y → (a b : ℕ) →
+      IsUnder nodes (path_of nodes x) a → IsUnder nodes (path_of nodes y) b → Before a b
   across place x y first second less a b under also =
       let p = path_at nodes place in let one = under_way place x first a under in let two = under_way place y second b also in
-      (λ k. path_cmp (one.1 k) (two.1 k)) ∙ behind_more p (name_at nodes x ∷ one.0) (name_at nodes y ∷ two.0) ∙ ap (λ o. ordering_then o (path_cmp one.0 two.0)) less
+      (λ k. path_cmp (one.1 k) (two.1 k)) ∙ behind_more p (name_at nodes x ∷ one.0) (name_at nodes y ∷ two.0)
+      ∙ ap (λ o. ordering_then o (path_cmp one.0 two.0)) less
 
-  pub walks_rising : (n : ℕ) → ((b : ℕ) → IsNode nodes b → All (IsUnder nodes (path_of nodes b)) (walk orders n b)) → ((b : ℕ) → IsNode nodes b → AllPairs Before (walk orders n b))
+  pub walks_rising : (n : ℕ) → ((b : ℕ) → IsNode nodes b → All (IsUnder nodes (path_of nodes b)) (walk orders n b)) →
+      ((b : ℕ) → IsNode nodes b → AllPairs Before (walk orders n b))
       → (place : Option ℕ) → AllPairs Before (walks orders n (in_order orders place))
   walks_rising n below own place =
       let list = in_order orders place in let members = ordered.own place in
@@ -157,18 +169,23 @@ module _ (nodes : Blocks) (tree : IsTree nodes) (orders : Orders) (ordered : IsO
   pub walk_own : (n b : ℕ) → IsNode nodes b → All (IsUnder nodes (path_of nodes b)) (walk orders n b)
   walk_own zero b node = All-nil (IsUnder nodes (path_of nodes b))
   walk_own (suc n) b node =
-      All-cons (IsUnder nodes (path_of nodes b)) b (walks orders n (in_order orders (Some b))) (record { node = node; below = at_or_below-itself (path_of nodes b) })
+      All-cons (IsUnder nodes (path_of nodes b)) b (walks orders n (in_order orders (Some b)))
+      (record { node = node; below = at_or_below-itself (path_of nodes b) })
       (All-weaker (IsDeeper nodes (path_of nodes b)) (IsUnder nodes (path_of nodes b)) (λ c deep. deep.under) (walks orders n (in_order orders (Some b)))
       (walks_own n (walk_own n) (Some b) (in_order orders (Some b)) (ordered.own (Some b))))
 
-  pub walk_all : (n b c : ℕ) → IsNode nodes b → IsUnder nodes (path_of nodes b) c → length (path_of nodes c) < length (path_of nodes b) + n → Contains (walk orders n b) c
+  pub walk_all : (n b c : ℕ) → IsNode nodes b → IsUnder nodes (path_of nodes b) c → length (path_of nodes c) < length (path_of nodes b) + n →
+      Contains (walk orders n b) c
   walk_all zero b c node under short = absurd (omega (arith, short, length-at_or_below (path_of nodes c) (path_of nodes b) under.below))
   walk_all (suc n) b c node under short = elim (cases_lt (length (path_of nodes b)) (length (path_of nodes c))) [
     | inl longer ↦ has_later b (walks orders n (in_order orders (Some b))) c
-        (walks_all n (walk_all n) (Some b) (λ d is. subst (IsNode nodes) (some_same is) node) (in_order orders (Some b)) (entries_has b) c (record { under = under; longer = longer }) short)
+        (walks_all n (walk_all n) (Some b) (λ d is. subst (IsNode nodes) (some_same is) node) (in_order orders (Some b)) (entries_has b) c
+        (record { under = under; longer = longer }) short)
     | inr past ↦ (let whole = append_from_at_or_below (path_of nodes c) (path_of nodes b) under.below in
-        let front = ap (take (length (path_of nodes b))) whole ∙ take_at (path_of nodes b) (drop (length (path_of nodes b)) (path_of nodes c)) (length (path_of nodes b)) refl in
-        subst (Contains (walk orders (suc n) b)) (same_node nodes tree b c node under.node (sym front ∙ take_all (length (path_of nodes b)) (path_of nodes c) past)) (has_first b (walks orders n (in_order orders (Some b)))))
+        let front = ap (take (length (path_of nodes b))) whole ∙ take_at (path_of nodes b) (drop (length (path_of nodes b)) (path_of nodes c))
+        (length (path_of nodes b)) refl in
+        subst (Contains (walk orders (suc n) b)) (same_node nodes tree b c node under.node (sym front
+        ∙ take_all (length (path_of nodes b)) (path_of nodes c) past)) (has_first b (walks orders n (in_order orders (Some b)))))
   ]
 
   pub walk_rising : (n b : ℕ) → IsNode nodes b → AllPairs Before (walk orders n b)
@@ -188,7 +205,8 @@ module _ (nodes : Blocks) (tree : IsTree nodes) (orders : Orders) (ordered : IsO
   survey_rising None depth node = walks_rising (8 - depth) (walk_own (8 - depth)) (walk_rising (8 - depth)) None
   survey_rising (Some b) depth node = walk_rising (suc (8 - depth)) b (node b refl)
 
-  pub survey_from : (place : Option ℕ) (depth : ℕ) → ((d : ℕ) → place ≡ Some d → IsNode nodes d) → length (path_at nodes place) ≡ depth → IsSurvey nodes (path_at nodes place) (walk_from orders depth place)
+  pub survey_from : (place : Option ℕ) (depth : ℕ) → ((d : ℕ) → place ≡ Some d → IsNode nodes d) → length (path_at nodes place) ≡ depth →
+      IsSurvey nodes (path_at nodes place) (walk_from orders depth place)
   survey_from (Some b) depth node long = record {
     own = walk_own (suc (8 - depth)) b (node b refl);
     all = (λ c under. walk_all (suc (8 - depth)) b c (node b refl) under (omega (arith, long, few_names nodes b, few_names nodes c)));

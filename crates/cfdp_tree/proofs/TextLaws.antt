@@ -20,8 +20,10 @@ use Rattle.cfdp_tree.proofs.WalkLaws.{few_names}
 pub text-push : (octet : ℕ) (p : Path) (name : Name) → text_of octet (p ++ name ∷ []) ≡ text_of octet p ++ octet ∷ name
 text-push octet p name = flat_map-append (preceded octet) p (name ∷ []) ∙ ap (λ t. text_of octet p ++ octet ∷ t) (append-nil name)
 
-pub text_home : (octet : ℕ) (p q : Path) (name : Name) (rest : List ℕ) → q ≡ p ++ name ∷ [] → text_of octet q ++ rest ≡ text_of octet p ++ octet ∷ (name ++ rest)
-text_home octet p q name rest e = ap (λ x. text_of octet x ++ rest) e ∙ ap (λ t. t ++ rest) (text-push octet p name) ∙ append_assoc (text_of octet p) (octet ∷ name) rest
+pub text_home : (octet : ℕ) (p q : Path) (name : Name) (rest : List ℕ) → q ≡ p ++ name ∷ [] → text_of octet q ++ rest ≡ text_of octet p
+    ++ octet ∷ (name ++ rest)
+text_home octet p q name rest e = ap (λ x. text_of octet x ++ rest) e ∙ ap (λ t. t ++ rest) (text-push octet p name)
+    ∙ append_assoc (text_of octet p) (octet ∷ name) rest
 
 text_joined : (octet : ℕ) (name : Name) (p : Path) → text_of octet (name ∷ p) ≡ octet ∷ join_with_byte octet (name ∷ p)
 text_joined octet name [] = ap (λ t. octet ∷ t) (append-nil name)
@@ -35,10 +37,12 @@ module _ (nodes : Blocks) (tree : IsTree nodes) where
   names_good : (n b : ℕ) → IsNode nodes b → Ends nodes n b → All IsName (climb nodes n b)
   names_good zero b node ends = absurd ends
   names_good (suc n) b node ends =
-      All-append IsName (option_map_or (λ d. climb nodes n d) (home nodes b) []) (name_at nodes b ∷ []) (above (λ d there. names_good n d (tree.homes b d node there).node (ends d there)) (home nodes b) (λ d e. e))
+      All-append IsName (option_map_or (λ d. climb nodes n d) (home nodes b) []) (name_at nodes b ∷ [])
+      (above (λ d there. names_good n d (tree.homes b d node there).node (ends d there)) (home nodes b) (λ d e. e))
       (All-cons IsName (name_at nodes b) [] (tree.named b node).name (All-nil IsName))
     where
-      above : ((d : ℕ) → home nodes b ≡ Some d → All IsName (climb nodes n d)) → (x : Option ℕ) → ((d : ℕ) → x ≡ Some d → home nodes b ≡ Some d) → All IsName (option_map_or (λ d. climb nodes n d) x [])
+      above : ((d : ℕ) → home nodes b ≡ Some d → All IsName (climb nodes n d)) → (x : Option ℕ) → ((d : ℕ) → x ≡ Some d → home nodes b ≡ Some d) →
+          All IsName (option_map_or (λ d. climb nodes n d) x [])
       above each None is = All-nil IsName
       above each (Some d) is = each d (is d refl)
 

@@ -86,12 +86,14 @@ module _ (nodes new : Blocks) (heads : Heads) (b k : ℕ) (within : k < length h
 
   all_at : (c : ℕ) → IsNode new c → Some b ≢ Some c → Contains (list_at new after (place_of (home nodes c) (name_at nodes c) (length heads))) c
   all_at c node stays =
-      has_at c (place_of (home nodes c) (name_at nodes c) (length heads)) (place_within (home nodes c) (name_at nodes c) (length heads) index.some) (λ e. stays (ap Some (sym e)))
+      has_at c (place_of (home nodes c) (name_at nodes c) (length heads)) (place_within (home nodes c) (name_at nodes c) (length heads) index.some)
+      (λ e. stays (ap Some (sym e)))
       (index.all c (sym (same.nodes c) ∙ node) none_some)
 
   small_at : (j : ℕ) → j < length heads → (get_or after j no_head).first < 65536
   small_at j inside = elim (cases_eq j k) [
-    | inl e ↦ subst (λ i. (get_or after i no_head).first < 65536) (sym e) (subst (λ (h : Head). h.first < 65536) (sym (get_or-set_same heads k head no_head within)) small)
+    | inl e ↦ subst (λ i. (get_or after i no_head).first < 65536) (sym e) (subst (λ (h : Head). h.first < 65536)
+        (sym (get_or-set_same heads k head no_head within)) small)
     | inr other ↦ subst (λ (h : Head). h.first < 65536) (sym (get_or-set_other heads k j head no_head other)) (index.small j inside)
   ]
 
@@ -103,6 +105,7 @@ module _ (nodes new : Blocks) (heads : Heads) (b k : ℕ) (within : k < length h
         small = (λ j inside. small_at j (omega (arith, long)));
         own = (λ j inside. subst (λ n. All (IsListed new (Some b) n j) (list_at new after j)) (sym long) (own_at j (omega (arith, long))));
         once = (λ j inside. once_at j (omega (arith, long)));
-        all = (λ c node stays. subst (λ j. Contains (list_at new after j) c) (λ i. place_of (sym (same.homes c) i) (sym (same.names c) i) (sym long i)) (all_at c node stays));
+        all = (λ c node stays. subst (λ j. Contains (list_at new after j) c) (λ i. place_of (sym (same.homes c) i) (sym (same.names c) i) (sym long i))
+            (all_at c node stays));
         counted = omega (arith, sum_by-set (λ (h : Head). h.count) heads k head no_head within, live, index.counted, count);
       }

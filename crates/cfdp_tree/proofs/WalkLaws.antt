@@ -40,7 +40,8 @@ max_three a b c = grind arith
 
 pub longest-append : (nodes : Blocks) (xs ys : List ℕ) → longest nodes (xs ++ ys) ≡ max (longest nodes xs) (longest nodes ys)
 longest-append nodes [] ys = sym (zero-max (longest nodes ys))
-longest-append nodes (x ∷ xs) ys = ap (max (length (path_of nodes x))) (longest-append nodes xs ys) ∙ max_three (length (path_of nodes x)) (longest nodes xs) (longest nodes ys)
+longest-append nodes (x ∷ xs) ys = ap (max (length (path_of nodes x))) (longest-append nodes xs ys)
+    ∙ max_three (length (path_of nodes x)) (longest nodes xs) (longest nodes ys)
 
 climb_few : (nodes : Blocks) (n b : ℕ) → length (climb nodes n b) ≤ n
 climb_few nodes zero b = omega arith
@@ -49,13 +50,19 @@ climb_few nodes (suc n) b = by_home (λ d. climb_few nodes n d) (home nodes b) r
     by_home : ((d : ℕ) → length (climb nodes n d) ≤ n) → (x : Option ℕ) → home nodes b ≡ x → length (climb nodes (suc n) b) ≤ suc n
     by_home few None there = omega (arith, ap (λ y. length (option_map_or (λ d. climb nodes n d) y [] ++ name_at nodes b ∷ [])) there)
     by_home few (Some d) there =
-        omega (arith, ap (λ y. length (option_map_or (λ d. climb nodes n d) y [] ++ name_at nodes b ∷ [])) there, length-append (climb nodes n d) (name_at nodes b ∷ []), few d)
+        omega (
+          arith,
+          ap (λ y. length (option_map_or (λ d. climb nodes n d) y [] ++ name_at nodes b ∷ [])) there,
+          length-append (climb nodes n d) (name_at nodes b ∷ []),
+          few d,
+        )
 
 pub few_names : (nodes : Blocks) (b : ℕ) → length (path_of nodes b) ≤ 8
 few_names nodes b = subst (λ n. length (climb nodes n b) ≤ 8) (sym most_is) (climb_few nodes 8 b)
 
 -- a node, and those before and after it
-pub deep_parts : (nodes : Blocks) (depth : ℕ) (before : List ℕ) (b : ℕ) (after : List ℕ) → StandAt nodes depth (before ++ b ∷ after) → StandAt nodes depth before × StandsDeep nodes depth b × StandAt nodes depth after
+pub deep_parts : (nodes : Blocks) (depth : ℕ) (before : List ℕ) (b : ℕ) (after : List ℕ) → StandAt nodes depth (before ++ b ∷ after) →
+    StandAt nodes depth before × StandsDeep nodes depth b × StandAt nodes depth after
 deep_parts nodes depth before b after all =
     let P = StandsDeep nodes depth in (All_left P before b after all, All_at P before b after all, All_right P before b after all)
 
@@ -68,16 +75,19 @@ max_four here below before after = grind arith
 
 pub longest_parts : (nodes : Blocks) (orders : Orders) (n m : ℕ) (before : List ℕ) (b : ℕ) (after : List ℕ) → n ≡ suc m
     → longest nodes (walks orders n (before ++ b ∷ after))
-    ≡ max (max (max (length (path_of nodes b)) (longest nodes (walks orders m (in_order orders (Some b))))) (longest nodes (walks orders n before))) (longest nodes (walks orders n after))
+    ≡ max (max (max (length (path_of nodes b)) (longest nodes (walks orders m (in_order orders (Some b))))) (longest nodes (walks orders n before)))
+    (longest nodes (walks orders n after))
 longest_parts nodes orders n m before b after e =
     ap (longest nodes) (flat_map-append (walk orders n) before (b ∷ after))
     ∙ longest-append nodes (walks orders n before) (walk orders n b ++ walks orders n after)
     ∙ ap (max (longest nodes (walks orders n before))) (longest-append nodes (walk orders n b) (walks orders n after)
     ∙ ap (λ list. max (longest nodes list) (longest nodes (walks orders n after))) (walk_more orders n m b e))
-    ∙ max_four (length (path_of nodes b)) (longest nodes (walks orders m (in_order orders (Some b)))) (longest nodes (walks orders n before)) (longest nodes (walks orders n after))
+    ∙ max_four (length (path_of nodes b)) (longest nodes (walks orders m (in_order orders (Some b)))) (longest nodes (walks orders n before))
+    (longest nodes (walks orders n after))
 
 pub walks_parts : (orders : Orders) (n m : ℕ) (sofar before : List ℕ) (b : ℕ) (after : List ℕ) → n ≡ suc m
-    → sofar ++ walks orders n (before ++ b ∷ after) ≡ (((sofar ++ walks orders n before) ++ b ∷ []) ++ walks orders m (in_order orders (Some b))) ++ walks orders n after
+    → sofar ++ walks orders n (before ++ b ∷ after) ≡ (((sofar ++ walks orders n before) ++ b ∷ []) ++ walks orders m (in_order orders (Some b)))
+    ++ walks orders n after
 walks_parts orders n m sofar before b after e =
     let first = walks orders n before in let below = walks orders m (in_order orders (Some b)) in let last = walks orders n after in
     ap (λ list. sofar ++ list) (flat_map-append (walk orders n) before (b ∷ after))
@@ -87,7 +97,8 @@ walks_parts orders n m sofar before b after e =
     ∙ ap (λ list. list ++ last) (sym (append_assoc (sofar ++ first) (b ∷ []) below))
 
 -- a name more than the place
-pub place_deep : (nodes : Blocks) → IsTree nodes → (orders : Orders) → IsOrdered nodes orders None → (place : Option ℕ) (depth : ℕ) → length (path_at nodes place) ≡ depth → StandAt nodes (depth + 1) (in_order orders place)
+pub place_deep : (nodes : Blocks) → IsTree nodes → (orders : Orders) → IsOrdered nodes orders None → (place : Option ℕ) (depth : ℕ) →
+    length (path_at nodes place) ≡ depth → StandAt nodes (depth + 1) (in_order orders place)
 place_deep nodes tree orders ordered place depth long = All-weaker (IsMember nodes None place) (StandsDeep nodes (depth + 1)) (λ e member. record {
   node = member.node;
   names = omega (
@@ -119,15 +130,19 @@ pub record Parts (nodes : Blocks) (orders : Orders) (order : Order) (depth : ℕ
   pub low_below : below.height ≤ 22
   pub low_after : after.height < order.height
   pub longest_is : longest nodes (walks_at orders depth (nodes_of orders.links.items order))
-      ≡ max (max (max depth (longest nodes (walks_at orders (depth + 1) (nodes_of orders.links.items below)))) (longest nodes (walks_at orders depth (nodes_of orders.links.items before))))
+      ≡ max (max (max depth (longest nodes (walks_at orders (depth + 1) (nodes_of orders.links.items below))))
+      (longest nodes (walks_at orders depth (nodes_of orders.links.items before))))
       (longest nodes (walks_at orders depth (nodes_of orders.links.items after)))
   pub walk_is : (sofar : List ℕ) → sofar ++ walks_at orders depth (nodes_of orders.links.items order)
-      ≡ (((sofar ++ walks_at orders depth (nodes_of orders.links.items before)) ++ order.root ∷ []) ++ walks_at orders (depth + 1) (nodes_of orders.links.items below))
+      ≡ (((sofar ++ walks_at orders depth (nodes_of orders.links.items before)) ++ order.root ∷ [])
+      ++ walks_at orders (depth + 1) (nodes_of orders.links.items below))
       ++ walks_at orders depth (nodes_of orders.links.items after)
 
-pub parts : (nodes : Blocks) → IsTree nodes → (orders : Orders) → IsOrdered nodes orders None → length orders.links.items ≤ 65536 → (order : Order) (depth : ℕ) → IsOrder orders.links.items order → 0 < order.height
+pub parts : (nodes : Blocks) → IsTree nodes → (orders : Orders) → IsOrdered nodes orders None → length orders.links.items ≤ 65536 →
+    (order : Order) (depth : ℕ) → IsOrder orders.links.items order → 0 < order.height
     → StandAt nodes depth (nodes_of orders.links.items order) → (n m : ℕ) → n ≡ order.root → m ≡ order.root → (before below after : Order)
-    → before ≡ left_of (links_at orders.links.items n) → below ≡ order_at orders (Some m) → after ≡ right_of (links_at orders.links.items n) → Parts nodes orders order depth before below after
+    → before ≡ left_of (links_at orders.links.items n) → below ≡ order_at orders (Some m) → after ≡ right_of (links_at orders.links.items n) →
+    Parts nodes orders order depth before below after
 parts nodes tree orders ordered small order depth is some deep n m n_is m_is before below after before_is below_is after_is =
     let links = orders.links.items in
     let at_top = opened is some n_is before_is after_is in
@@ -155,10 +170,12 @@ parts nodes tree orders ordered small order depth is some deep n m n_is m_is bef
       longest_is =
           ap (λ xs. longest nodes (walks_at orders depth xs)) at_top.listed
           ∙ longest_parts nodes orders (9 - depth) left (nodes_of links before) order.root (nodes_of links after) more
-          ∙ (λ k. max (max (max (at.1.names k) (longest nodes (walks orders left (sym list k)))) (longest nodes (walks_at orders depth (nodes_of links before)))) (longest nodes (walks_at orders depth (nodes_of links after))));
+          ∙ (λ k. max (max (max (at.1.names k) (longest nodes (walks orders left (sym list k))))
+          (longest nodes (walks_at orders depth (nodes_of links before)))) (longest nodes (walks_at orders depth (nodes_of links after))));
       walk_is = (λ sofar. ap (λ xs. sofar ++ walks_at orders depth xs) at_top.listed
           ∙ walks_parts orders (9 - depth) left sofar (nodes_of links before) order.root (nodes_of links after) more
-          ∙ ap (λ xs. (((sofar ++ walks_at orders depth (nodes_of links before)) ++ order.root ∷ []) ++ walks orders left xs) ++ walks_at orders depth (nodes_of links after)) (sym list));
+          ∙ ap (λ xs. (((sofar ++ walks_at orders depth (nodes_of links before)) ++ order.root ∷ []) ++ walks orders left xs)
+          ++ walks_at orders depth (nodes_of links after)) (sym list));
     }
 
 -- how the measure falls
@@ -181,25 +198,31 @@ filled empty h full none = elim (cases_eq h 0) [
     differ : false ≡ true → ⊥
     differ e = cc
 
-pub read_parts : (arena : Blocks) → IsTree (nodes_in arena) → (orders : Orders) → IsOrdered (nodes_in arena) orders None → length arena ≤ 65536 → (order : Order) (depth : ℕ) → IsOrder orders.links.items order → 0 < order.height
+pub read_parts : (arena : Blocks) → IsTree (nodes_in arena) → (orders : Orders) → IsOrdered (nodes_in arena) orders None → length arena ≤ 65536 →
+    (order : Order) (depth : ℕ) → IsOrder orders.links.items order → 0 < order.height
     → StandAt (nodes_in arena) depth (nodes_of orders.links.items order) → (n m : ℕ) → n ≡ order.root → m ≡ order.root → (around : Links) (below : Order)
-    → around ≡ get_or orders.links.items n around → below ≡ get_or orders.directories.items m below → Parts (nodes_in arena) orders order depth (left_of around) below (right_of around)
+    → around ≡ get_or orders.links.items n around → below ≡ get_or orders.directories.items m below →
+    Parts (nodes_in arena) orders order depth (left_of around) below (right_of around)
 read_parts arena tree orders ordered small order depth is some deep n m n_is m_is around below around_is below_is =
     let links = orders.links.items in
     let few : length links ≤ 65536 = omega (arith, small, ordered.links, length-map arena only_node) in
     let within : n < length links = omega (arith, n_is, (opened_at is some n_is).within) in
     let here : around ≡ links_at links n = around_is ∙ get_or_default links n around no_links within in
-    let plain = parts (nodes_in arena) tree orders ordered few order depth is some deep n order.root n_is refl (left_of (links_at links n)) (order_at orders (Some order.root)) (right_of (links_at links n)) refl refl refl in
+    let plain = parts (nodes_in arena) tree orders ordered few order depth is some deep n order.root n_is refl (left_of (links_at links n))
+    (order_at orders (Some order.root)) (right_of (links_at links n)) refl refl refl in
     let inside : m < length orders.directories.items = omega (arith, m_is, plain.inside) in
     parts (nodes_in arena) tree orders ordered few order depth is some deep n m n_is m_is (left_of around) below (right_of around)
     (ap (λ (l : Links). left_of l) here) (below_is ∙ get_or_default orders.directories.items m below no_order inside) (ap (λ (l : Links). right_of l) here)
 
-pub top_inside : (arena : Blocks) → IsTree (nodes_in arena) → (orders : Orders) → IsOrdered (nodes_in arena) orders None → length arena ≤ 65536 → (order : Order) (depth : ℕ) → IsOrder orders.links.items order → 0 < order.height
-    → StandAt (nodes_in arena) depth (nodes_of orders.links.items order) → (order.root < length orders.links.items) × (order.root < length orders.directories.items)
+pub top_inside : (arena : Blocks) → IsTree (nodes_in arena) → (orders : Orders) → IsOrdered (nodes_in arena) orders None → length arena ≤ 65536 →
+    (order : Order) (depth : ℕ) → IsOrder orders.links.items order → 0 < order.height
+    → StandAt (nodes_in arena) depth (nodes_of orders.links.items order) → (order.root < length orders.links.items)
+    × (order.root < length orders.directories.items)
 top_inside arena tree orders ordered small order depth is some deep =
     let links = orders.links.items in
     let few : length links ≤ 65536 = omega (arith, small, ordered.links, length-map arena only_node) in
-    let plain = parts (nodes_in arena) tree orders ordered few order depth is some deep order.root order.root refl refl (left_of (links_at links order.root)) (order_at orders (Some order.root)) (right_of (links_at links order.root)) refl refl refl in
+    let plain = parts (nodes_in arena) tree orders ordered few order depth is some deep order.root order.root refl refl (left_of (links_at links order.root))
+    (order_at orders (Some order.root)) (right_of (links_at links order.root)) refl refl refl in
     (plain.within, plain.inside)
 
 -- a path has at most 8 names
@@ -208,10 +231,12 @@ place_few nodes None = omega arith
 place_few nodes (Some d) = few_names nodes d
 
 -- where a walk from a place begins
-pub some_begun : (orders : Orders) (depth : ℕ) (place : Option ℕ) (start : List ℕ) (b : ℕ) → place ≡ Some b → start ≡ b ∷ [] → start ++ walks orders (8 - depth) (in_order orders place) ≡ walk_from orders depth place
+pub some_begun : (orders : Orders) (depth : ℕ) (place : Option ℕ) (start : List ℕ) (b : ℕ) → place ≡ Some b → start ≡ b ∷ [] → start
+    ++ walks orders (8 - depth) (in_order orders place) ≡ walk_from orders depth place
 some_begun orders depth place start b e is = (λ k. is k ++ walks orders (8 - depth) (in_order orders (e k))) ∙ ap (walk_from orders depth) (sym e)
 
-pub none_begun : (orders : Orders) (depth : ℕ) (place : Option ℕ) (start : List ℕ) → place ≡ None → start ≡ [] → start ++ walks orders (8 - depth) (in_order orders place) ≡ walk_from orders depth place
+pub none_begun : (orders : Orders) (depth : ℕ) (place : Option ℕ) (start : List ℕ) → place ≡ None → start ≡ [] → start
+    ++ walks orders (8 - depth) (in_order orders place) ≡ walk_from orders depth place
 none_begun orders depth place start e is = (λ k. is k ++ walks orders (8 - depth) (in_order orders (e k))) ∙ ap (walk_from orders depth) (sym e)
 
 pub one_deeper : (orders : Orders) (depth : ℕ) (list : List ℕ) → walks_at orders (depth + 1) list ≡ walks orders (8 - depth) list

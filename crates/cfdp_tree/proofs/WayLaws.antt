@@ -19,7 +19,8 @@ use Rattle.cfdp_tree.proofs.HeldLaws.{held_part}
 use Rattle.cfdp_tree.proofs.GrowLaws.{no_live}
 
 -- the same blocks, with the same ways
-module _ (was now : List Way) (f g : ℕ → ℕ) (n : ℕ) (many : length now ≡ length was) (same : (k : ℕ) → k < n → g k ≡ f k) (stay : (k : ℕ) → k < n → way_of now (f k) ≡ way_of was (f k)) where
+module _ (was now : List Way) (f g : ℕ → ℕ) (n : ℕ) (many : length now ≡ length was) (same : (k : ℕ) → k < n → g k ≡ f k) (stay : (k : ℕ) → k < n →
+    way_of now (f k) ≡ way_of was (f k)) where
   way_same : (k : ℕ) → k < n → way_of now (g k) ≡ way_of was (f k)
   way_same k less = ap (way_of now) (same k less) ∙ stay k less
 
@@ -48,7 +49,8 @@ ways_kept old new was now run long many held places stay has = record {
       (λ k less. stay (nth old run.first k) (held_part old run held k less (nth old run.first k) refl).live) has.led;
 }
 
-pub ways_still : (old new : Blocks) (ways : List Way) (run : Run) → length new ≡ length old → ((k : ℕ) → k < run.count → nth new run.first k ≡ nth old run.first k)
+pub ways_still : (old new : Blocks) (ways : List Way) (run : Run) → length new ≡ length old →
+    ((k : ℕ) → k < run.count → nth new run.first k ≡ nth old run.first k)
     → HasWays old ways run → HasWays new ways run
 ways_still old new ways run long places has = record {
   long = has.long ∙ sym long;
@@ -69,24 +71,31 @@ same_ways arena ways a b same has = record {
       (led_shorter ways (nth arena b.run.first) b.run.count a.run.count (omega (arith, same.count)) has.led);
 }
 
-pub on_way : (arena : Blocks) (ways : List Way) (run : Run) (cursor : Cursor) → HasWays arena ways run → IsAt arena run cursor → cursor.index < run.count → IsOn ways cursor
+pub on_way : (arena : Blocks) (ways : List Way) (run : Run) (cursor : Cursor) → HasWays arena ways run → IsAt arena run cursor → cursor.index < run.count →
+    IsOn ways cursor
 on_way arena ways run cursor has at within = record {
   blocks = nth arena run.first;
   led = led_shorter ways (nth arena run.first) run.count (cursor.index + 1) (omega (arith, within)) has.led;
   there = at.1;
 }
 
-pub found_at : (arena : Blocks) (ways : List Way) (run : Run) (from found : Cursor) (index : ℕ) → HasWays arena ways run → IsAt arena run from → from.index < run.count → found.index ≡ index
-    → ((blocks : ℕ → ℕ) → IsLed ways blocks (from.index + 1) → from.block ≡ blocks from.index → found.block ≡ blocks index) → index ≤ from.index → IsAt arena run found
+pub found_at : (arena : Blocks) (ways : List Way) (run : Run) (from found : Cursor) (index : ℕ) → HasWays arena ways run → IsAt arena run from →
+    from.index < run.count → found.index ≡ index
+    → ((blocks : ℕ → ℕ) → IsLed ways blocks (from.index + 1) → from.block ≡ blocks from.index → found.block ≡ blocks index) → index ≤ from.index →
+    IsAt arena run found
 found_at arena ways run from found index has at within same block before = (
   omega (arith, same, within, before),
-  block (nth arena run.first) (led_shorter ways (nth arena run.first) run.count (from.index + 1) (omega (arith, within)) has.led) at.1 ∙ ap (nth arena run.first) (sym same),
+  block (nth arena run.first) (led_shorter ways (nth arena run.first) run.count (from.index + 1) (omega (arith, within)) has.led) at.1
+      ∙ ap (nth arena run.first) (sym same),
 )
 
-pub ways_grown : (old later : Blocks) (was now : List Way) (run after : Run) (last : Cursor) → IsHeld old run → 0 < run.count → last.block ≡ run.last → last.index ≡ run.count - 1 → HasWays old was run
-    → length later ≡ length old → length now ≡ length was → IsHeld later after → after.count ≡ run.count + 1 → ((k : ℕ) → k < run.count → nth later after.first k ≡ nth old run.first k)
+pub ways_grown : (old later : Blocks) (was now : List Way) (run after : Run) (last : Cursor) → IsHeld old run → 0 < run.count → last.block ≡ run.last →
+    last.index ≡ run.count - 1 → HasWays old was run
+    → length later ≡ length old → length now ≡ length was → IsHeld later after → after.count ≡ run.count + 1 →
+    ((k : ℕ) → k < run.count → nth later after.first k ≡ nth old run.first k)
     → octets_at old after.last ≡ None
-    → ((blocks : ℕ → ℕ) → IsLed was blocks (last.index + 1) → last.block ≡ blocks last.index → after.last ≡ blocks (last.index + 1) → ((k : ℕ) → k ≤ last.index → blocks k ≢ after.last)
+    → ((blocks : ℕ → ℕ) → IsLed was blocks (last.index + 1) → last.block ≡ blocks last.index → after.last ≡ blocks (last.index + 1) →
+    ((k : ℕ) → k ≤ last.index → blocks k ≢ after.last)
     → IsLed now blocks (last.index + 2)) → HasWays later now after
 ways_grown old later was now run after last held some block index has long many longer count places free led =
     let f = nth old run.first in let g = nth later after.first in
@@ -103,16 +112,19 @@ ways_grown old later was now run after last held some block index has long many 
     let all : last.index + 2 ≡ after.count = omega (arith, count, index, some) in
     record { long = many ∙ has.long ∙ sym long; led = subst (λ n. IsLed now g n) all (led g was_led there next fresh) }
 
-pub keeps_spared : (old new : Blocks) (was now : List Way) (before after : Run) → length new ≡ length old → length now ≡ length was → Spares old new before after → WaysStay old was now
+pub keeps_spared : (old new : Blocks) (was now : List Way) (before after : Run) → length new ≡ length old → length now ≡ length was →
+    Spares old new before after → WaysStay old was now
     → KeepsWays old new was now before
 keeps_spared old new was now before after long many spares stay other held apart has =
     let s = spares other held apart in
     ways_kept old new was now other long many held (λ k less. s.0.places k (omega (arith, less))) stay has
 
-pub keeps_still : (old new : Blocks) (ways : List Way) (before after : Run) → length new ≡ length old → Spares old new before after → KeepsWays old new ways ways before
+pub keeps_still : (old new : Blocks) (ways : List Way) (before after : Run) → length new ≡ length old → Spares old new before after →
+    KeepsWays old new ways ways before
 keeps_still old new ways before after long spares = keeps_spared old new ways ways before after long refl spares (λ block live. refl)
 
-pub keeps_then : (first second third : Blocks) (a b c : List Way) (run after : Run) → KeepsWays first second a b run → Spares first second run after → KeepsWays second third b c after
+pub keeps_then : (first second third : Blocks) (a b c : List Way) (run after : Run) → KeepsWays first second a b run → Spares first second run after →
+    KeepsWays second third b c after
     → KeepsWays first third a c run
 keeps_then first second third a b c run after one spares two other held apart has =
     let s = spares other held apart in two other s.0.held s.1 (one other held apart has)

@@ -2,7 +2,7 @@
 --     written_noted, written_octets, written_nodes     the nodes then, where it is written
 --     created_octets, created_nodes                    where it is taken
 --     deleted_noted                                    where it is given back
---     home_told                                        where a node stands by what it says
+--     home_told                                        where a node is by what it says
 use Rattle.std.proofs.Common.{◌≡◌, ◌≢◌, ℕ, ◌<◌, List, [], Option, Some, None, length, refl, sym, ap, ◌∙◌, arith}
 use Rattle.std.proofs.lemmas.Bool.{eq-eqb, ne_eqb}
 use Rattle.std.proofs.lemmas.List.{get_or-set_same, length-map, map-set}
@@ -24,7 +24,8 @@ module _ (arena : Blocks) (b : ℕ) (new : List ℕ) (within : b < length arena)
   pub created_nodes : nodes_in (with_block arena b new) ≡ with_block (nodes_in arena) b (octets_of (nodes_in (with_block arena b new)) b)
   created_nodes = nodes-noted arena b new kind ∙ ap (with_block (nodes_in arena) b) (sym created_octets)
 
-module _ (arena : Blocks) (b : ℕ) (shown new : List ℕ) (node : IsNode (nodes_in arena) b) (is : octets_at arena b ≡ Some shown) (header : header_of new ≡ header_of shown) where
+module _ (arena : Blocks) (b : ℕ) (shown new : List ℕ) (node : IsNode (nodes_in arena) b) (is : octets_at arena b ≡ Some shown) (header : header_of new
+    ≡ header_of shown) where
   kind : (header_of new).kind ≡ 2
   kind = ap (λ (h : Header). h.kind) header ∙ node_kind arena b node shown is
 

@@ -31,7 +31,12 @@ pub record Header : Type 0 where
   pub kind : ℕ
 
 abbrev pub header_of : List ℕ → Header
-header_of octets = record { next = number_at octets 0; owner = number_at octets 2; rank = number_at octets 4; kind = slice_index_or octets 6 0 }
+header_of octets = record {
+  next = number_at octets 0;
+  owner = number_at octets 2;
+  rank = number_at octets 4;
+  kind = slice_index_or octets 6 0;
+}
 
 abbrev pub payload : List ℕ → List ℕ
 payload octets = drop 8 octets

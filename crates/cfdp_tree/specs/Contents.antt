@@ -1,8 +1,8 @@
--- The octets of a file or of a staged list: those that stand first in a run, which has just the blocks for them. Behind
+-- The octets of a file or of a staged list: those that are first in a run, which has just the blocks for them. After
 -- them the run's last block has zeros, so that a list grows by zeros without a write. Their checksum is kept with them.
 --     contents_in                 the octets
---     IsFilled arena contents     the run is held, has the blocks of the size, and zeros after it; the sum is the checksum of
---                                 the octets
+--     IsFilled arena contents     the run is held, has the blocks of the size, and zeros after it; the sum is the
+--                                 checksum of the octets
 use Rattle.std.specs.Prelude.{◌≡◌, ℕ, ◌-◌, ◌*◌, List, take, drop, replicate}
 use Rattle.cfdp_arena.specs.Arena.{Blocks}
 use Rattle.cfdp_actions.specs.Filestore.{blocks_of}

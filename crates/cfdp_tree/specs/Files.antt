@@ -1,5 +1,7 @@
 -- What the row of a file says of its octets.
---     with_run row run            the row with the blocks of a run;  where there are none, it stays, since it then means none
+--     with_run row run            the row with the blocks of a run;
+--                                 where there are none, it stays, since it then means
+--                                 none
 --     with_contents row contents  the row with such a run, how many octets it has, and their checksum
 --     SameOctets a b              the two are in the same blocks, have the same length and the same checksum
 use Rattle.std.specs.Prelude.{◌≡◌, ◌==◌, ◌<◌, if◌then◌else◌}

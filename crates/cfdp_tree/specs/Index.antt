@@ -1,15 +1,17 @@
 -- The index: for each directory and name a head, from which a list of nodes begins, each of which names the next one.
--- A node stands in the list of its own directory and name, once. How many nodes a list has stands in its head.
+-- A node is in the list of its own directory and name, once. How many nodes a list has is in its head.
 --     Heads                      the heads
 --     hash_of                    a number for a directory and a name: what the hasher of std's maps makes of the two
---     place_of directory name n  the head of the two among n of them: the high 64 bits of the product of n and the number
+--     place_of directory name n  the head of the two among n of them: the high 64 bits of the product of n and the
+--                                number
 --     chain nodes n b            n nodes from b on
 --     list_of nodes head         the list of a head
 --     list_at nodes heads k      the list of the head at a place
 --     without b list             a list but for one node
---     IsListed nodes out n k b   the node b stands in the list k of n lists, and is not the one that stands in none
---     count_out out              how many nodes stand in no list
---     IsIndex nodes heads out    each node stands in its list, but for the one that is out, and each list has just its nodes
+--     IsListed nodes out n k b   the node b is in the list k of n lists, and is not the one that is in none
+--     count_out out              how many nodes are in no list
+--     IsIndex nodes heads out    each node is in its list, but for the one that is out, and each list has just its
+--                                nodes
 use Rattle.std.specs.Prelude.{◌≡◌, ◌≢◌, ℕ, ◌+◌, ◌*◌, ◌/◌, ◌%◌, ◌^◌, ◌<◌, ◌==◌, not, List, Option, Some, None, All, AllPairs, Contains, filter, fold, length, slice_index_or, sum_by}
 use Rattle.std.specs.Hash as fed
 use Rattle.std.specs.Hash.FoldHasher as hasher
@@ -62,5 +64,6 @@ pub record IsIndex (nodes : Blocks) (heads : Heads) (out : Option ℕ) : Type 0 
   pub own : (k : ℕ) → k < length heads → All (IsListed nodes out (length heads) k) (list_at nodes heads k)
   pub once : (k : ℕ) → k < length heads → AllPairs (λ b c. b ≢ c) (list_at nodes heads k)
   -- and of all of them
-  pub all : (b : ℕ) → IsNode nodes b → out ≢ Some b → Contains (list_at nodes heads (place_of (home nodes b) (name_at nodes b) (length heads))) b
+  pub all : (b : ℕ) → IsNode nodes b → out ≢ Some b → Contains
+      (list_at nodes heads (place_of (home nodes b) (name_at nodes b) (length heads))) b
   pub counted : sum_by (λ (head : Head). head.count) heads + count_out out ≡ live_count nodes

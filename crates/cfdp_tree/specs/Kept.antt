@@ -1,11 +1,12 @@
 -- The store that an arena is, with the lists that are staged.
 --     no_contents                    no octets
---     contents_told, file_of, file_in    the octets of a file: by its row, its block and its entry;  none for a directory
+--     contents_told, file_of, file_in    the octets of a file: by its row, its block and its entry;  none for a
+--                                        directory
 --     holdings nodes staged          the contents of all slots, and then those of all blocks
 --     IsStored arena ways held       they are there, no two share a block, and the ways of their blocks lead back
---     node_told, node_of             what stands at a node
+--     node_told, node_of             what is at a node
 --     standing_from arena nodes b    the nodes from b on, each with its path
---     Shows arena nodes F            what stands at a path in the map is what stands at the node of this path
+--     Shows arena nodes F            what is at a path in the map is what is at the node of this path
 --     filestore_of, store_of         the filestore, and the store
 --     IsKept arena ways heads staged     what is true of every such store
 use Rattle.std.specs.Prelude.{◌≡◌, ◌≢◌, ℕ, suc, ◌+◌, ◌<◌, ◌≤◌, true, List, [], ◌∷◌, ◌++◌, Option, Some, None, length, map, slice_index_or}
@@ -31,7 +32,11 @@ no_contents = record { run = record { first = 0; last = 0; count = 0 }; size = 0
 
 abbrev pub contents_told : Kind → Row → Contents
 contents_told kind.Directory row = no_contents
-contents_told kind.File row = record { run = record { first = row.first; last = row.last; count = blocks_of row.size }; size = row.size; sum = row.sum }
+contents_told kind.File row = record {
+  run = record { first = row.first; last = row.last; count = blocks_of row.size };
+  size = row.size;
+  sum = row.sum;
+}
 
 abbrev pub file_of : List ℕ → Contents
 file_of block = contents_told (kind_told (row_of block).kind) (row_of block)
@@ -58,7 +63,8 @@ node_of arena block = node_told arena (kind_told (row_of block).kind) (file_of b
 abbrev pub standing_from : Blocks → Blocks → ℕ → Blocks → List (Path × Node)
 standing_from arena nodes b [] = []
 standing_from arena nodes b (None ∷ rest) = standing_from arena nodes (suc b) rest
-standing_from arena nodes b (Some block ∷ rest) = (path_of nodes b, node_of arena block) ∷ standing_from arena nodes (suc b) rest
+standing_from arena nodes b (Some block ∷ rest) = (path_of nodes b, node_of arena block) ∷ standing_from arena nodes
+    (suc b) rest
 
 pub record Shows (arena nodes : Blocks) (map : finite.FinMap path_cmp Node) : Type 0 where
   pub each : (b : ℕ) → IsNode nodes b → finite.get map (path_of nodes b) ≡ Some (node_of arena (octets_of nodes b))
@@ -71,7 +77,11 @@ filestore_of arena staged = record {
 }
 
 abbrev pub store_of : Blocks → List Contents → Store
-store_of arena staged = record { filestore = filestore_of arena staged; capacity = length arena; takes_no_memory = true }
+store_of arena staged = record {
+  filestore = filestore_of arena staged;
+  capacity = length arena;
+  takes_no_memory = true;
+}
 
 pub record IsKept (arena : Blocks) (ways : List Way) (heads : Heads) (staged : List Contents) : Type 0 where
   pub some : 0 < length arena

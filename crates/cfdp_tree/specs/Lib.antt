@@ -2,8 +2,8 @@
 --     Block        what a block of the arena says of itself, and its payload
 --     Runs         runs of blocks, and the octets that they hold
 --     Ways         the ways back in runs, by which their blocks are found
---     Contents     the octets of a file or of a staged list, which stand in a run
---     Row          a node: what stands at one path, and its links
+--     Contents     the octets of a file or of a staged list, which are in a run
+--     Row          a node: what is at one path, and its links
 --     Nodes        the nodes of an arena alone
 --     Tree         the tree that they make
 --     Places       directories and the root
@@ -14,11 +14,11 @@
 --     Slots        its staged lists
 --     Changes      what is made
 --     Walk         walks over what is below a place, in path order
---     Survey       the nodes of what stands there
+--     Survey       the nodes of what is there
 --     Text         the octets of a path
 --     Next         what comes next in path order
 --     Orders       the entries of a directory and of the root, in order of their names
---     Found        what is told of a path, and copied of a file
+--     Found        what is said of a path, and copied of a file
 pub mod Block
 pub mod Changes
 pub mod Contents

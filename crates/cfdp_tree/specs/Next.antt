@@ -1,12 +1,12 @@
--- What comes next behind a path in path order, which stands in the filestore or not.
---     IsNext F p q              q stands in the filestore behind p, and no path that stands there is between the two
---     IsLast F p                no path that stands in the filestore is behind p
---     IsNextEntry F p octets entry    the octets spell the path that is next, and the entry tells what stands there
+-- What comes next after a path in path order, which is in the filestore or not.
+--     IsNext F p q              q is in the filestore after p, and no path that is there is between the two
+--     IsLast F p                no path that is in the filestore is after p
+--     IsNextEntry F p octets entry    the octets spell the path that is next, and the entry says what is there
 --     name_cmp                  the order of names by octets
 --     IsBehind after name       the name is greater, where another one is given
---     IsLeast nodes after list b    the least name behind is that of this node of the list
---     IsListOf nodes place list     the nodes of the list are just those that stand in the place
---     Follows nodes place p b   a node at or below the place, behind p
+--     IsLeast nodes after list b    the least name after it is that of this node of the list
+--     IsListOf nodes place list     the nodes of the list are just those that are in the place
+--     Follows nodes place p b   a node at or below the place, after p
 --     IsFirst nodes place p b   the first one of these
 use Rattle.std.specs.Prelude.{◌≡◌, ◌≢◌, ℕ, true, List, length, Option, Some, None, IsSome, All, Contains}
 use Rattle.std.specs.Cmp.Lexicographic.{slice_cmp}

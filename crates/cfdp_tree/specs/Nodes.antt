@@ -1,4 +1,4 @@
--- The nodes of an arena: its blocks that stand each for a file or a directory. What the tree is, but for the octets of
+-- The nodes of an arena: its blocks that are each a file or a directory. What the tree is, but for the octets of
 -- its files, is said of them alone; and what changes octets changes none of them.
 --     is_node block       the block is of the kind of a node
 --     only_node entry     the entry where it is a node's block, else none

@@ -4,8 +4,8 @@
 --     in_order orders place       the nodes of this order, from the least name to the greatest
 --     IsKnown nodes b             a node, whose name can be read
 --     Rises nodes b c             the name of one node is less than that of the other
---     IsOrdered nodes orders out  each node is in the order of its directory, but for the one that is out, each order has
---                                 just its nodes, and their names rise
+--     IsOrdered nodes orders out  each node is in the order of its directory, but for the one that is out, each order
+--                                 has just its nodes, and their names rise
 --     IsOrderedStore arena ways heads orders slots    a store, and its entries are in order
 use Rattle.std.specs.Prelude.{◌≡◌, ◌≢◌, ℕ, List, Option, Some, None, All, AllPairs, Contains, length, slice_index_or}
 use Rattle.std.specs.declared.cmp.Ordering.TheVariants.{Less}
@@ -50,6 +50,7 @@ pub record IsOrdered (nodes : Blocks) (orders : Orders) (out : Option ℕ) : Typ
   -- and of all of them
   pub all : (b : ℕ) → IsNode nodes b → out ≢ Some b → Contains (in_order orders (home nodes b)) b
 
-pub record IsOrderedStore (arena : Blocks) (ways : List Way) (heads : Heads) (orders : Orders) (slots : List Slot) : Type 0 where
+pub record IsOrderedStore (arena : Blocks) (ways : List Way) (heads : Heads) (orders : Orders)
+    (slots : List Slot) : Type 0 where
   pub store : IsStore arena ways heads slots
   pub ordered : IsOrdered (nodes_in arena) orders None

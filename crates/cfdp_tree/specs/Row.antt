@@ -14,7 +14,7 @@
 --     octets 32 to 127    the name, and zeros
 --     Row, row_of         what a node's block says
 --     name_of             its name
---     standing_octet, kind_told   the octet for a file or a directory, and which of them an octet stands for
+--     standing_octet, kind_told   the octet for a file or a directory, and which of them an octet means
 --     plain_row           what the block of a node says that has no octets and no link
 use Rattle.std.specs.Prelude.{ℕ, ◌+◌, ◌*◌, suc, zero, List, slice_index_or, length, take, drop}
 use Rattle.cfdp_actions.specs.declared.kind.Kind.{Kind}

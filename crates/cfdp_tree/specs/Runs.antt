@@ -1,8 +1,9 @@
 -- Runs of blocks. A run is a chain of blocks, each of which names the next one, its owner (the first block) and its
--- rank, so that no block stands in two runs, nor twice in one. A file's octets stand in a run, and a staged list's.
+-- rank, so that no block is in two runs, nor twice in one. A file's octets are in a run, and a staged list's.
 --     header_in, next_in              what the header of a live block says;  the block that it names as the next one
 --     IsPart owner rank entry         the block is live, whole, and the part of this owner's run at this rank
---     IsRun arena owner rank n block  n parts of this owner's run, from this rank on, the first of them being this block
+--     IsRun arena owner rank n block  n parts of this owner's run, from this rank on, the first of them being this
+--                                     block
 --     nth arena block k               the block k steps on
 --     run_octets arena n block        the payloads of n blocks, one after the other
 --     IsHeld arena run                the run's blocks are there, and its last block is the one that it names
@@ -11,13 +12,16 @@
 --     AllStay old new                 each live block holds what it held
 --     OthersStay old new run          each live block that is not of the run holds what it held
 --     Apart run other                the two have not the same blocks, where both have some
---     Stays old new run              the run is held still, its octets are what they were, and its places where they were
+--     Stays old new run              the run is held still, its octets are what they were, and its offsets where they
+--                                    were
 --     RunsStay old new               each run that was held stays
---     Spares old new before after    each run that was held and had no block of the one before stays, and has no block of the
---                                    one after
---     KeepsFront run at source end    a write to the run from the offset `at` on keeps the first `end` octets of the source:
+--     Spares old new before after    each run that was held and had no block of the one before stays, and has no block
+--                                    of the one after
+--     KeepsFront run at source end    a write to the run from the offset `at` on keeps the first `end` octets of the
+--                                     source:
 --                                    the source is another run, or it is this one and `end` is no more than `at`
---     IsAt arena run cursor           the cursor's block is the one at its index, which is no more than the run's blocks
+--     IsAt arena run cursor           the cursor's block is the one at its index, which is no more than the run's
+--                                     blocks
 use Rattle.std.specs.Prelude.{◌≡◌, ◌≢◌, ℕ, suc, zero, ◌-◌, ◌<◌, ◌≤◌, List, [], ◌++◌, length, Option, IsSome, unwrap_or}
 use Rattle.cfdp_arena.specs.Arena.{Blocks, octets_at, IsLive}
 use Rattle.cfdp_tree.specs.Block.{Header, header_of, payload, kind_octet}
@@ -43,7 +47,8 @@ pub record IsPart (owner rank : ℕ) (entry : Option (List ℕ)) : Type 0 where
 
 abbrev pub IsRun : Blocks → ℕ → ℕ → ℕ → ℕ → Type 0
 IsRun arena owner rank zero block = Unit {0}
-IsRun arena owner rank (suc n) block = IsPart owner rank (octets_at arena block) × IsRun arena owner (suc rank) n (next_in (octets_at arena block))
+IsRun arena owner rank (suc n) block = IsPart owner rank (octets_at arena block)
+    × IsRun arena owner (suc rank) n (next_in (octets_at arena block))
 
 abbrev pub nth : Blocks → ℕ → ℕ → ℕ
 nth arena block zero = block
@@ -51,7 +56,8 @@ nth arena block (suc k) = nth arena (next_in (octets_at arena block)) k
 
 abbrev pub run_octets : Blocks → ℕ → ℕ → List ℕ
 run_octets arena zero block = []
-run_octets arena (suc n) block = payload (octets (octets_at arena block)) ++ run_octets arena n (next_in (octets_at arena block))
+run_octets arena (suc n) block = payload (octets (octets_at arena block))
+    ++ run_octets arena n (next_in (octets_at arena block))
 
 pub record IsHeld (arena : Blocks) (run : Run) : Type 0 where
   pub parts : IsRun arena run.first 0 run.count run.first
@@ -67,7 +73,8 @@ abbrev pub AllStay : Blocks → Blocks → Type 0
 AllStay old new = (block : ℕ) → IsLive old block → octets_at new block ≡ octets_at old block
 
 abbrev pub OthersStay : Blocks → Blocks → Run → Type 0
-OthersStay old new run = (block : ℕ) → IsLive old block → (IsOf run (octets_at old block) → ⊥) → octets_at new block ≡ octets_at old block
+OthersStay old new run = (block : ℕ) → IsLive old block → (IsOf run (octets_at old block) → ⊥) → octets_at new block
+    ≡ octets_at old block
 
 abbrev pub Apart : Run → Run → Type 0
 Apart run other = 0 < run.count → 0 < other.count → other.first ≢ run.first
@@ -81,7 +88,8 @@ abbrev pub RunsStay : Blocks → Blocks → Type 0
 RunsStay old new = (run : Run) → IsHeld old run → Stays old new run
 
 abbrev pub Spares : Blocks → Blocks → Run → Run → Type 0
-Spares old new before after = (other : Run) → IsHeld old other → Apart before other → Stays old new other × Apart after other
+Spares old new before after = (other : Run) → IsHeld old other → Apart before other → Stays old new other
+    × Apart after other
 
 abbrev pub IsAt : Blocks → Run → Cursor → Type 0
 IsAt arena run cursor = (cursor.index ≤ run.count) × (cursor.block ≡ nth arena run.first cursor.index)

@@ -1,10 +1,10 @@
--- The nodes of what stands at a path and below it.
---     IsUnder nodes p b        a node that stands at the path or below it
---     IsDeeper nodes p b       one that stands below it
+-- The nodes of what is at a path and below it.
+--     IsUnder nodes p b        a node that is at the path or below it
+--     IsDeeper nodes p b       one that is below it
 --     IsSurvey nodes p list    just these nodes, each once;  of no name, all nodes
 --     with_path nodes b        a node after its path
 --     by_path                  the order of such pairs by their paths
---     shown arena nodes e      what stands at the node of such a pair
+--     shown arena nodes e      what is at the node of such a pair
 --     IsSound arena e          its octets are there
 use Rattle.std.specs.Prelude.{◌≡◌, ◌≢◌, ℕ, ◌<◌, ◌≤◌, true, List, length, All, AllPairs, Contains}
 use Rattle.std.specs.declared.cmp.Ordering.{Ordering}

@@ -1,16 +1,17 @@
--- The tree that the nodes of an arena make. A node names the directory in which it stands, and so its path is the climb
+-- The tree that the nodes of an arena make. A node names the directory in which it is, and so its path is the climb
 -- from it to the root. A path has at most 8 names, so a climb is followed for as many nodes.
 --     IsNode, IsDirectory nodes b    the block is a node;  that of a directory
 --     row_at, name_at                what it says, and its name
---     home nodes b                   the directory in which it stands, None for the root
+--     home nodes b                   the directory in which it is, None for the root
 --     most_names                     the most names of a path
 --     climb nodes n b, path_of       the names of the last n nodes on the way to it, and of all of them
 --     Ends nodes n b                 the way to it has no more than n nodes
---     IsEntry nodes directory name b    the node stands in this directory under this name
+--     IsEntry nodes directory name b    the node is in this directory under this name
 --     IsNamed block                  the block is whole, and its name is one
 --     IsTree nodes                   the nodes make a tree
---     unlinked row, Relinked old new     what it says but for its link of the index;  each node says what it said, but for that
---     SamePlaces old new             the same nodes stand where they stood, under their names
+--     unlinked row, Relinked old new     what it says but for its link of the index;  each node says what it said, but
+--                                        for that
+--     SamePlaces old new             the same nodes are where they were, under their names
 use Rattle.std.specs.Prelude.{◌≡◌, ℕ, suc, zero, ◌≤◌, ◌==◌, if◌then◌else◌, List, [], ◌∷◌, ◌++◌, Option, Some, None, IsSome, is_some, length}
 use Rattle.std.specs.Option.{option_map_or}
 use Rattle.cfdp_arena.specs.Arena.{Blocks, octets_at, octets_of}
@@ -31,7 +32,7 @@ pub record IsDirectory (nodes : Blocks) (b : ℕ) : Type 0 where
   pub node : IsNode nodes b
   pub directory : kind_told (row_at nodes b).kind ≡ kind.Directory
 
--- a node that names itself stands in the root
+-- a node that names itself is in the root
 abbrev pub home_in : ℕ → List ℕ → Option ℕ
 home_in b block = if (row_of block).parent == b then None else Some (row_of block).parent
 
@@ -64,11 +65,12 @@ pub record IsNamed (block : List ℕ) : Type 0 where
 
 pub record IsTree (nodes : Blocks) : Type 0 where
   pub named : (b : ℕ) → IsNode nodes b → IsNamed (octets_of nodes b)
-  -- each stands in the root or in a directory
+  -- each is in the root or in a directory
   pub homes : (b d : ℕ) → IsNode nodes b → home nodes b ≡ Some d → IsDirectory nodes d
   pub ends : (b : ℕ) → IsNode nodes b → Ends nodes most_names b
   -- no two of one name in one directory
-  pub unique : (b c : ℕ) → IsNode nodes b → IsNode nodes c → home nodes b ≡ home nodes c → name_at nodes b ≡ name_at nodes c → b ≡ c
+  pub unique : (b c : ℕ) → IsNode nodes b → IsNode nodes c → home nodes b ≡ home nodes c → name_at nodes b
+      ≡ name_at nodes c → b ≡ c
 
 pub record SamePlaces (old new : Blocks) : Type 0 where
   pub nodes : (b : ℕ) → is_some (octets_at new b) ≡ is_some (octets_at old b)

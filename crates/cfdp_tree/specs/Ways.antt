@@ -22,4 +22,5 @@ abbrev pub WaysStay : Blocks → List Way → List Way → Type 0
 WaysStay old was now = (block : ℕ) → IsLive old block → way_of now block ≡ way_of was block
 
 abbrev pub KeepsWays : Blocks → Blocks → List Way → List Way → Run → Type 0
-KeepsWays old new was now run = (other : Run) → IsHeld old other → Apart run other → HasWays old was other → HasWays new now other
+KeepsWays old new was now run = (other : Run) → IsHeld old other → Apart run other → HasWays old was other →
+    HasWays new now other

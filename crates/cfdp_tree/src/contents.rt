@@ -28,7 +28,7 @@ pub(crate) struct Contents {
     pub(crate) sum: u32,
 }
 
-/// The blocks of so many octets.
+/// The blocks of this many octets.
 pub(crate) fn blocks_of(octets: u32) -> u32
     requires { octets ≤ 7864320 }
     ensures { result ≡ blocks_of octets }
@@ -80,8 +80,8 @@ impl Contents {
         }
     }
 
-    /// Adds zeros at the end, up to the size, which is at most that of 65,536 blocks. The checksum stays. In time linear
-    /// in the blocks that are taken.
+    /// Adds zeros at the end, up to the size, which is at most that of 65,536 blocks. The checksum stays. In time
+    /// linear in the blocks that are taken.
     pub(crate) fn extend(&mut self, arena: &mut Arena, ways: &mut [Way], size: u32)
         requires filled { IsFilled arena.old self.old }
         requires ways { HasWays arena.old ways.old self.old.run }
@@ -111,8 +111,8 @@ impl Contents {
     }
 
     /// Overwrites the octets from the offset `at` on, and returns the position of the last block that was written. The
-    /// caller says where the first of them is, and what the octets that are there add to the checksum. In time linear in
-    /// the octets.
+    /// caller says where the first of them is, and what the octets that are there add to the checksum. In time linear
+    /// in the octets.
     pub(crate) fn put(
         &mut self,
         arena: &mut Arena,
@@ -125,7 +125,8 @@ impl Contents {
         requires first { IsAt arena.old self.old.run first }
         requires index { first.index ≡ at / 120 }
         requires range { at + length octets.now ≤ self.old.size }
-        requires before { before ≡ checksum_at at (slice_range (contents_in arena.old self.old) at (at + length octets.now)) }
+        requires before { before ≡ checksum_at at (slice_range (contents_in arena.old self.old) at (at
+            + length octets.now)) }
         ensures filled { IsFilled arena.new self.new }
         ensures run { self.new.run ≡ self.old.run }
         ensures size { self.new.size ≡ self.old.size }
@@ -144,8 +145,8 @@ impl Contents {
         last
     }
 
-    /// What the octets add to the checksum of a file in which they begin at an offset. In constant time if the offset is
-    /// a multiple of 4, otherwise in time linear in the octets.
+    /// What the octets add to the checksum of a file in which they begin at an offset. In constant time if the offset
+    /// is a multiple of 4, otherwise in time linear in the octets.
     fn sum_at(&self, arena: &Arena, offset: u32) -> u32
         requires filled { IsFilled arena.now self.now }
         ensures { result ≡ checksum_at offset (contents_in arena.now self.now) }
@@ -177,8 +178,8 @@ impl Contents {
         self.run.read(arena, ways, from, at as usize, buffer)
     }
 
-    /// Adds so many zeros at the end, and answers the place of the last block before them, from which they are found at
-    /// once. In time linear in the blocks that are taken.
+    /// Adds this many zeros at the end, and returns the index of the last block before them, from which they are found
+    /// at once. In time linear in the blocks that are taken.
     fn make_room(&mut self, arena: &mut Arena, ways: &mut [Way], more: u32) -> Cursor
         requires filled { IsFilled arena.old self.old }
         requires ways { HasWays arena.old ways.old self.old.run }
@@ -187,7 +188,8 @@ impl Contents {
         ensures filled { IsFilled arena.new self.new }
         ensures size { self.new.size ≡ self.old.size + more }
         ensures sum { self.new.sum ≡ self.old.sum }
-        ensures octets { contents_in arena.new self.new ≡ extended (contents_in arena.old self.old) (self.old.size + more) }
+        ensures octets { contents_in arena.new self.new ≡ extended (contents_in arena.old self.old) (self.old.size
+            + more) }
         ensures place { IsAt arena.new self.new.run result }
         ensures taken { free_count arena.new + blocks_of (self.old.size + more)
             ≡ free_count arena.old + blocks_of self.old.size }
@@ -213,7 +215,8 @@ impl Contents {
         requires room { blocks_of (self.old.size + source.now.size) ≤ free_count arena.old + blocks_of self.old.size }
         ensures filled { IsFilled arena.new self.new }
         ensures size { self.new.size ≡ self.old.size + source.now.size }
-        ensures octets { contents_in arena.new self.new ≡ contents_in arena.old self.old ++ contents_in arena.old source.now }
+        ensures octets { contents_in arena.new self.new ≡ contents_in arena.old self.old
+            ++ contents_in arena.old source.now }
         ensures taken { free_count arena.new + blocks_of (self.old.size + source.now.size)
             ≡ free_count arena.old + blocks_of self.old.size }
         ensures capacity { length arena.new ≡ length arena.old }
@@ -241,7 +244,8 @@ impl Contents {
         requires room { blocks_of (2 * self.old.size) ≤ free_count arena.old + blocks_of self.old.size }
         ensures filled { IsFilled arena.new self.new }
         ensures size { self.new.size ≡ 2 * self.old.size }
-        ensures octets { contents_in arena.new self.new ≡ contents_in arena.old self.old ++ contents_in arena.old self.old }
+        ensures octets { contents_in arena.new self.new ≡ contents_in arena.old self.old
+            ++ contents_in arena.old self.old }
         ensures taken { free_count arena.new + blocks_of (2 * self.old.size)
             ≡ free_count arena.old + blocks_of self.old.size }
         ensures capacity { length arena.new ≡ length arena.old }

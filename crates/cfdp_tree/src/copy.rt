@@ -10,7 +10,7 @@ use crate::runs::Run;
 use cfdp_arena::Arena;
 use cfdp_ways::Cursor;
 
-/// An octet of a run: the place of its block, and its place in the block's payload.
+/// An octet of a run: the index of its block, and its offset in the block's payload.
 #[derive(Clone, Copy)]
 pub(crate) struct Spot {
     pub(crate) cursor: Cursor,
@@ -33,7 +33,8 @@ impl Run {
         ensures octets { let start = 120 * from.now.cursor.index + from.now.at in
             octets_in arena.new self.now ≡ overwritten (octets_in arena.old self.now)
             (120 * to.now.cursor.index + to.now.at) (slice_range (octets_in arena.old source.now) start (start + len)) }
-        ensures places { (k : ℕ) → k ≤ self.now.count → nth arena.new self.now.first k ≡ nth arena.old self.now.first k }
+        ensures places { (k : ℕ) → k ≤ self.now.count → nth arena.new self.now.first k
+            ≡ nth arena.old self.now.first k }
         ensures free { free_count arena.new ≡ free_count arena.old }
         ensures size { length arena.new ≡ length arena.old }
         ensures others { OthersStay arena.old arena.new self.now }
@@ -60,8 +61,10 @@ impl Run {
         ensures held { IsHeld arena.new self.now }
         ensures octets { let start = 120 * from.now.index in
             octets_in arena.new self.now ≡ overwritten (octets_in arena.old self.now)
-            (120 * to.now.cursor.index + to.now.at) (slice_range (octets_in arena.old source.now) start (start + count)) }
-        ensures places { (k : ℕ) → k ≤ self.now.count → nth arena.new self.now.first k ≡ nth arena.old self.now.first k }
+            (120 * to.now.cursor.index + to.now.at) (slice_range (octets_in arena.old source.now) start (start
+            + count)) }
+        ensures places { (k : ℕ) → k ≤ self.now.count → nth arena.new self.now.first k
+            ≡ nth arena.old self.now.first k }
         ensures free { free_count arena.new ≡ free_count arena.old }
         ensures size { length arena.new ≡ length arena.old }
         ensures others { OthersStay arena.old arena.new self.now }
@@ -101,7 +104,8 @@ impl Run {
         ensures held { IsHeld arena.new self.now }
         ensures octets { octets_in arena.new self.now
             ≡ overwritten (octets_in arena.old self.now) at (take len (octets_in arena.old source.now)) }
-        ensures places { (k : ℕ) → k ≤ self.now.count → nth arena.new self.now.first k ≡ nth arena.old self.now.first k }
+        ensures places { (k : ℕ) → k ≤ self.now.count → nth arena.new self.now.first k
+            ≡ nth arena.old self.now.first k }
         ensures free { free_count arena.new ≡ free_count arena.old }
         ensures size { length arena.new ≡ length arena.old }
         ensures others { OthersStay arena.old arena.new self.now }

@@ -49,7 +49,7 @@ pub(crate) fn find_file(arena: &Arena, heads: &[Head], path: &Path) -> FoundFile
 }
 
 impl FoundFile {
-    /// Puts the octets of a file, which may be the same one, behind those of this one. In time linear in them.
+    /// Puts the octets of a file, which may be the same one, after those of this one. In time linear in them.
     pub(crate) fn append(&self, arena: &mut Arena, ways: &mut [Way], source: &FoundFile) -> Contents
         requires filled { IsFilled arena.old self.now.contents }
         requires ways { HasWays arena.old ways.old self.now.contents.run }
@@ -87,7 +87,8 @@ pub(crate) fn set_contents(arena: &mut Arena, node: &BlockId, contents: &Content
     requires held { IsHeld arena.old contents.now.run }
     ensures nodes { nodes_in arena.new
         ≡ with_block (nodes_in arena.old) node.now (octets_of (nodes_in arena.new) node.now) }
-    ensures row { row_at (nodes_in arena.new) node.now ≡ with_contents (row_at (nodes_in arena.old) node.now) contents.now }
+    ensures row { row_at (nodes_in arena.new) node.now ≡ with_contents
+        (row_at (nodes_in arena.old) node.now) contents.now }
     ensures name { name_at (nodes_in arena.new) node.now ≡ name_at (nodes_in arena.old) node.now }
     ensures whole { length (octets_of (nodes_in arena.new) node.now) ≡ 128 }
     ensures runs { RunsStay arena.old arena.new }

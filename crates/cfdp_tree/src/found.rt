@@ -1,4 +1,4 @@
-//! What stands at a path that is given by its names.
+//! What is at a path that is given by its names.
 ghost use Rattle.std.specs.Option.{option_map};
 ghost use Rattle.std.specs.Prelude.{◌≡◌, All, length};
 ghost use Rattle.cfdp_paths.specs.Paths.{IsName};
@@ -14,8 +14,8 @@ use cfdp_actions::Kind;
 use cfdp_paths::Names;
 
 impl TreeStore {
-    /// What stands at the path of these names; `None` where nothing does. Takes no memory. In expected time linear in the
-    /// octets of the names, whatever the size of a file.
+    /// What is at the path of these names; `None` where nothing is. Takes no memory. In expected time linear in
+    /// the octets of the names, whatever the size of a file.
     pub fn find(&self, names: Names<'_>) -> Option<Found>
         requires { All IsName names }
         ensures { result ≡ option_map found_of (node_at self.now.filestore names.entry) }
@@ -24,9 +24,9 @@ impl TreeStore {
         Some(tell(&self.arena, &node))
     }
 
-    /// Copies a file's octets from the place `at` on to the front of the buffer, as many as there are and as fit, and
-    /// answers how many; `None` where no file stands at the path of these names. Takes no memory. In expected time linear
-    /// in the octets of the names and in those that are copied, and logarithmic in the blocks of the file.
+    /// Copies a file's octets from offset `at` on to the front of the buffer, as many as there are and as fit, and
+    /// answers how many; `None` where no file is at the path of these names. Takes no memory. In expected time
+    /// linear in the octets of the names and in those that are copied, and logarithmic in the blocks of the file.
     pub fn read_at(&self, names: Names<'_>, at: u64, buffer: &mut [u8]) -> Option<usize>
         requires { All IsName names }
         ensures count { result ≡ octets_read (node_at self.now.filestore names.entry) at buffer.old }

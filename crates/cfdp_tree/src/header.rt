@@ -20,7 +20,7 @@ pub(crate) enum BlockKind {
 }
 
 impl BlockKind {
-    /// The octet that stands for it.
+    /// The octet that means it.
     fn octet(self) -> u8
         ensures { result ≡ kind_octet self }
     {
@@ -31,7 +31,7 @@ impl BlockKind {
     }
 }
 
-/// The number that stands in two octets of a block, the low one first.
+/// The number that is in two octets of a block, the low one first.
 pub(crate) fn number_in(block: &Block, place: usize) -> u32
     requires inside { place < 127 }
     ensures value { result ≡ number_at block.now place }

@@ -55,7 +55,7 @@ pub(crate) fn place_of(heads: &[Head], directory: Option<BlockId>, name: &[u8]) 
     (product >> 64) as usize
 }
 
-/// Puts a node that stands in no list into the list of its directory and name. In constant time.
+/// Puts a node that is in no list into the list of its directory and name. In constant time.
 pub(crate) fn insert(
     arena: &mut Arena,
     heads: &mut [Head],
@@ -154,7 +154,7 @@ fn node_before(arena: &Arena, head: &Head, node: &BlockId) -> BlockId
     unreachable!();
 }
 
-/// The node that stands in this directory under this name. In expected constant time.
+/// The node that is in this directory under this name. In expected constant time.
 #[inline(always)]
 pub(crate) fn find(
     arena: &Arena,
@@ -179,7 +179,7 @@ pub(crate) fn find(
     None
 }
 
-/// Whether the node stands in this directory under this name.
+/// Whether the node is in this directory under this name.
 fn is_entry(arena: &Arena, node: &BlockId, directory: &Option<BlockId>, name: &[u8]) -> bool
     requires tree { IsTree (nodes_in arena.now) }
     requires node { IsNode (nodes_in arena.now) node.now }

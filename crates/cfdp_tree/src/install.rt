@@ -10,7 +10,7 @@ use cfdp_actions::Filestore;
 use cfdp_paths::Path;
 
 impl TreeStore {
-    /// Makes what is staged in the slot the contents of a file; the slot is then empty. Answers the blocks that the old
+    /// Makes what is staged in the slot the contents of a file; the slot is then empty. Returns the blocks that the old
     /// contents give back.
     pub(crate) fn install_over(&mut self, slot: u8, path: &Path) -> u32
         requires slot { slot < 64 }
@@ -23,8 +23,8 @@ impl TreeStore {
         self.unstage(slot)
     }
 
-    /// Gives a file what is staged in the slot, and the slot what the file had. No octet moves. In constant time, but for
-    /// the search for the file.
+    /// Gives a file what is staged in the slot, and the slot what the file had. No octet moves. In constant time, but
+    /// for the search for the file.
     fn exchange(&mut self, slot: u8, path: &Path)
         requires slot { slot < 64 }
         requires file { IsTrue (is_file (node_at self.old.filestore path.now)) }

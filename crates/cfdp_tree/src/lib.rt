@@ -9,8 +9,8 @@
 //! are known to be zeros, and are not read for it (`gap`). A block in the middle of a run is found by the ways back
 //! beside the arena (`cursor`, `cfdp_ways`). A file or a directory is a node, one block with its name (`rows`,
 //! `nodes`). Nodes are found by their directory and their name (`index`, `lookup`), and each directory has its entries
-//! in order of their names (`orders`), by which what is below a path is walked over in path order (`walk`) and told
-//! (`survey`, `spelling`, `listing`), or one by one (`next`); `found` tells and reads it by lent names. The store puts
+//! in order of their names (`orders`), by which what is below a path is walked over in path order (`walk`) and reported
+//! (`survey`, `spelling`, `listing`), or one by one (`next`); `found` says and reads it by lent names. The store puts
 //! these together (`tree_store`, `install`).
 //!
 //! Nodes, octets of files and octets of staged lists are in the arena. The heads of the index's lists, the orders of

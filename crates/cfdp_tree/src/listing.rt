@@ -1,4 +1,4 @@
-//! What stands at nodes, as callers see it.
+//! What is at nodes, as callers see it.
 ghost use Rattle.std.specs.Prelude.{◌≡◌, [], ◌∷◌, Some, All, IfOk, length, map};
 ghost use Rattle.cfdp_arena.specs.Arena.{octets_of};
 ghost use Rattle.cfdp_checksum.specs.Checksum.{checksum};
@@ -14,7 +14,7 @@ use cfdp_arena::{Arena, BlockId};
 use cfdp_paths::{Memory, Path};
 use std::alloc::Global;
 
-/// What stands at some nodes that come with their paths. In time linear in their number.
+/// What is at some nodes that come with their paths. In time linear in their number.
 ///
 /// # Errors
 ///
@@ -76,7 +76,7 @@ pub(crate) fn entries(
     Ok(all)
 }
 
-/// What stands at a node.
+/// What is at a node.
 fn standing(arena: &Arena, path: Path, node: &BlockId) -> Standing
     requires { IsSound arena.now (path, node.now) }
     ensures { result ≡ standing_of (shown arena.now (nodes_in arena.now) (path, node.now)) }
@@ -110,22 +110,23 @@ fn entry(arena: &Arena, path: Path, node: &BlockId) -> Entry
     }
 }
 
-/// What stands at a path.
+/// What is at a path.
 #[derive(Clone, Copy, Debug, PartialEq, Eq)]
 pub struct Found {
     /// Whether it is a file or a directory.
     pub kind: Kind,
     /// How many octets a file has; 0 for a directory.
     pub size: u64,
-    /// A file's modular checksum (CCSDS 727.0-B-5 §4.2.2); 0 for a directory.
+    /// A file's modular checksum (CCSDS 727.0-B-5, checksum procedures); 0 for a directory.
     pub checksum: u32,
 }
 
-/// What stands at a node. In constant time.
+/// What is at a node. In constant time.
 pub(crate) fn tell(arena: &Arena, node: &BlockId) -> Found
     requires { IsSound arena.now ([], node.now) }
     ensures kind { result.kind ≡ kind_of (node_of arena.now (octets_of (nodes_in arena.now) node.now)) }
-    ensures size { result.size ≡ length (octets_in (Some (node_of arena.now (octets_of (nodes_in arena.now) node.now)))) }
+    ensures size { result.size ≡ length (octets_in (Some
+        (node_of arena.now (octets_of (nodes_in arena.now) node.now)))) }
     ensures checksum { result.checksum
         ≡ checksum (octets_in (Some (node_of arena.now (octets_of (nodes_in arena.now) node.now)))) }
 {

@@ -24,7 +24,7 @@ pub struct NextEntry {
     pub kind: Kind,
     /// How many octets the file has; 0 of a directory.
     pub size: u64,
-    /// The modular checksum of its octets (CCSDS 727.0-B-5 §4.2.2); 0 of a directory.
+    /// The modular checksum of its octets (CCSDS 727.0-B-5, checksum procedures); 0 of a directory.
     pub checksum: u32,
 }
 
@@ -42,7 +42,8 @@ impl TreeStore {
     pub fn next_entry(&self, after: Names<'_>, text: &mut [u8]) -> Option<NextEntry>
         requires names { All IsName after }
         requires room { 776 ≤ length text.old }
-        ensures next { IfSome result (λ entry. IsNextEntry self.now.filestore after.entry (drop entry.start text.new) entry) }
+        ensures next { IfSome result (λ entry. IsNextEntry self.now.filestore after.entry
+            (drop entry.start text.new) entry) }
         ensures within { IfSome result (λ entry. entry.start ≤ length text.new) }
         ensures before { IfSome result (λ entry. take entry.start text.new ≡ take entry.start text.old) }
         ensures none { IfNone result (IsLast self.now.filestore after.entry) }

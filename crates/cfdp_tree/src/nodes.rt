@@ -24,7 +24,8 @@ pub(crate) fn create_node(
     requires short { length name.now ≤ 96 }
     ensures fresh { octets_at arena.old result ≡ None }
     ensures within { result < length arena.old }
-    ensures nodes { nodes_in arena.new ≡ with_block (nodes_in arena.old) result (octets_of (nodes_in arena.new) result) }
+    ensures nodes { nodes_in arena.new ≡ with_block (nodes_in arena.old) result
+        (octets_of (nodes_in arena.new) result) }
     ensures row { row_at (nodes_in arena.new) result ≡ plain_row (unwrap_or directory result) kind name.now }
     ensures home { home (nodes_in arena.new) result ≡ directory }
     ensures name { name_at (nodes_in arena.new) result ≡ name.now }

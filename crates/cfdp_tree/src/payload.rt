@@ -6,7 +6,7 @@ ghost use Rattle.cfdp_tree.specs.Block.{payload};
 use crate::header::{HEADER_OCTETS, PAYLOAD_OCTETS};
 use cfdp_arena::Block;
 
-/// Puts octets into a block's payload from the place `at` in it on. The rest of the block stays.
+/// Puts octets into a block's payload from offset `at` in it on. The rest of the block stays.
 pub(crate) fn put_part(block: &mut Block, at: usize, part: &[u8])
     requires within { at + length part.now ≤ 120 }
     ensures { block.new ≡ with_part block.old at part.now }
@@ -20,7 +20,7 @@ pub(crate) fn put_part(block: &mut Block, at: usize, part: &[u8])
     block[start..start + part.len()].copy_from_slice(part);
 }
 
-/// Octets of a block's payload from the place `at` in it on.
+/// Octets of a block's payload from offset `at` in it on.
 pub(crate) fn part_of(block: &Block, at: usize, len: usize) -> &[u8]
     requires within { at + len ≤ 120 }
     ensures { result.now ≡ slice_range (payload block.now) at (at + len) }
@@ -29,7 +29,7 @@ pub(crate) fn part_of(block: &Block, at: usize, len: usize) -> &[u8]
     &block[start..start + len]
 }
 
-/// Fills the buffer with octets of a block's payload from the place `at` in it on.
+/// Fills the buffer with octets of a block's payload from offset `at` in it on.
 pub(crate) fn get_part(block: &Block, at: usize, buffer: &mut [u8])
     requires within { at + length buffer.old ≤ 120 }
     ensures { buffer.new ≡ slice_range (payload block.now) at (at + length buffer.old) }

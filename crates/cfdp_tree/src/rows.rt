@@ -10,10 +10,10 @@ use crate::payload::put_part;
 use cfdp_actions::Kind;
 use cfdp_arena::{Block, BlockId};
 
-/// Where a node's kind stands in its block.
+/// Where a node's kind is in its block.
 const KIND_AT: usize = 18;
 
-/// Where the number of its name's octets stands.
+/// Where the number of its name's octets is.
 const NAME_LENGTH_AT: usize = 19;
 
 /// Where its name begins.
@@ -56,7 +56,7 @@ pub(crate) fn name_in(block: &Block) -> &[u8]
     &block[NAME_AT..NAME_AT + length]
 }
 
-/// Whether the node of this number stands in this directory, `None` for the root.
+/// Whether the node of this number is in this directory, `None` for the root.
 pub(crate) fn home_is(block: &Block, own: &BlockId, directory: &Option<BlockId>) -> bool
     ensures { IsTrue result ↔ (home_in own.now block.now ≡ directory.now) }
 {
@@ -103,7 +103,7 @@ pub(crate) fn set_kind(block: &mut Block, kind: Kind)
     };
 }
 
-/// The directory in which the node stands; the node itself where that is the root.
+/// The directory in which the node is; the node itself where that is the root.
 pub(crate) fn parent_of(block: &Block) -> BlockId
     ensures value { result ≡ (row_of block.now).parent }
     ensures small { result < 65536 }
@@ -111,7 +111,7 @@ pub(crate) fn parent_of(block: &Block) -> BlockId
     BlockId::of_number(number_in(block, 8))
 }
 
-/// The directory in which the node of this number stands, `None` for the root.
+/// The directory in which the node of this number is, `None` for the root.
 pub(crate) fn home_of(block: &Block, own: &BlockId) -> Option<BlockId>
     ensures { result ≡ home_in own.now block.now }
 {

@@ -16,8 +16,8 @@ use crate::header::PAYLOAD_OCTETS;
 use cfdp_arena::Arena;
 use cfdp_ways::{Cursor, Way};
 
-/// A staged list, the position of its block that was last written, an offset from which on no octet was ever written, and
-/// a gap before that offset in which none was either: there are zeros.
+/// A staged list, the position of its block that was last written, an offset from which on no octet was ever written,
+/// and a gap before that offset in which none was either: there are zeros.
 #[derive(Clone, Copy)]
 pub(crate) struct Slot {
     pub(crate) contents: Contents,
@@ -67,8 +67,10 @@ impl Slot {
         ensures filled { IsFilled arena.new self.new.contents }
         ensures placed { IsPlaced arena.new self.new }
         ensures size { self.new.contents.size ≡ size }
-        ensures octets { contents_in arena.new self.new.contents ≡ extended (contents_in arena.old self.old.contents) size }
-        ensures taken { free_count arena.new + blocks_of size ≡ free_count arena.old + blocks_of self.old.contents.size }
+        ensures octets { contents_in arena.new self.new.contents
+            ≡ extended (contents_in arena.old self.old.contents) size }
+        ensures taken { free_count arena.new + blocks_of size ≡ free_count arena.old
+            + blocks_of self.old.contents.size }
         ensures capacity { length arena.new ≡ length arena.old }
         ensures spares { Spares arena.old arena.new self.old.contents.run self.new.contents.run }
         ensures nodes { nodes_in arena.new ≡ nodes_in arena.old }
@@ -82,10 +84,10 @@ impl Slot {
         }
     }
 
-    /// What the octets from the offset `at` up to `end` add to the list's checksum. They add nothing if they are in the gap
-    /// or after all that were written, so octets that come in order, in reverse or with neighbours swapped are not read
-    /// before they are written: then in constant time, and otherwise in time linear in the octets. The slot's position is
-    /// that of the first of them.
+    /// What the octets from the offset `at` up to `end` add to the list's checksum. They add nothing if they are in the
+    /// gap or after all that were written, so octets that come in order, in reverse or with neighbours swapped are not
+    /// read before they are written: then in constant time, and otherwise in time linear in the octets. The slot's
+    /// position is that of the first of them.
     fn sum_there(&self, arena: &Arena, at: u32, end: usize) -> u32
         requires filled { IsFilled arena.now self.now.contents }
         requires placed { IsPlaced arena.now self.now }

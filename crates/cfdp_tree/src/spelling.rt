@@ -46,7 +46,7 @@ pub(crate) fn path_of(
     Path::from_names(alloc, &text[names.start..], names.depth)
 }
 
-/// Writes the names of a node's path, with slashes between them, to the end of the buffer. Answers where they begin.
+/// Writes the names of a node's path, with slashes between them, to the end of the buffer. Returns where they begin.
 /// The octets before that stay. In time linear in the octets.
 pub(crate) fn write_path(arena: &Arena, node: &BlockId, text: &mut [u8]) -> usize
     requires tree { IsTree (nodes_in arena.now) }
@@ -89,7 +89,7 @@ fn write_names(arena: &Arena, node: &BlockId, text: &mut [u8], separator: u8) ->
     }
 }
 
-/// Writes octets right before the place `end`. Answers where they begin.
+/// Writes octets right before the offset `end`. Returns where they begin.
 fn put_before(text: &mut [u8], end: usize, octets: &[u8]) -> usize
     requires within { end ≤ length text.old }
     requires room { length octets.now ≤ end }

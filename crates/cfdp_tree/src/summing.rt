@@ -11,7 +11,7 @@ use cfdp_arena::{Arena, Block};
 use cfdp_checksum::{modular_checksum, modular_checksum_at};
 use cfdp_ways::Cursor;
 
-/// What octets of a block's payload, from the place `at` in it on, add to the checksum of a file in which they begin at
+/// What octets of a block's payload, from offset `at` in it on, add to the checksum of a file in which they begin at
 /// the offset `offset`. In time linear in the octets.
 fn part_sum(block: &Block, at: usize, len: usize, offset: usize) -> u32
     requires within { at + len ≤ 120 }
@@ -25,7 +25,7 @@ fn part_sum(block: &Block, at: usize, len: usize, offset: usize) -> u32
 }
 
 impl Run {
-    /// What `len` octets of one block's payload, from the place `at` in it on, add to the checksum of a file in which
+    /// What `len` octets of one block's payload, from offset `at` in it on, add to the checksum of a file in which
     /// they begin at the offset `offset`. In time linear in the octets.
     fn sum_in(&self, arena: &Arena, cursor: &Cursor, at: usize, len: usize, offset: usize) -> u32
         requires held { IsHeld arena.now self.now }

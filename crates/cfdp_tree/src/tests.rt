@@ -27,7 +27,8 @@ struct Counted<'a, 'n> {
 impl Sought for Counted<'_, '_> {
     ghost can_compare = { λ counted node. IsKnown (nodes_in counted.sought.arena.now) node };
 
-    ghost side = { λ counted node. name_cmp (name_at (nodes_in counted.sought.arena.now) node) counted.sought.name.now };
+    ghost side = { λ counted node. name_cmp (name_at (nodes_in counted.sought.arena.now) node)
+        counted.sought.name.now };
 
     fn compare(&self, node: u16) -> Ordering {
         self.compared.set(self.compared.get().saturating_add(1));

@@ -13,7 +13,7 @@ use cfdp_arena::Arena;
 use cfdp_ways::{Cursor, Way};
 
 impl Run {
-    /// Puts octets into the payload of one block, from the place `at` in it on. In time linear in the octets.
+    /// Puts octets into the payload of one block, from offset `at` in it on. In time linear in the octets.
     pub(crate) fn put_in(&self, arena: &mut Arena, cursor: &Cursor, at: usize, part: &[u8])
         requires held { IsHeld arena.old self.now }
         requires place { IsAt arena.old self.now cursor.now }
@@ -22,7 +22,8 @@ impl Run {
         ensures held { IsHeld arena.new self.now }
         ensures octets { octets_in arena.new self.now
             ≡ overwritten (octets_in arena.old self.now) (120 * cursor.now.index + at) part.now }
-        ensures places { (k : ℕ) → k ≤ self.now.count → nth arena.new self.now.first k ≡ nth arena.old self.now.first k }
+        ensures places { (k : ℕ) → k ≤ self.now.count → nth arena.new self.now.first k
+            ≡ nth arena.old self.now.first k }
         ensures free { free_count arena.new ≡ free_count arena.old }
         ensures size { length arena.new ≡ length arena.old }
         ensures others { OthersStay arena.old arena.new self.now }
@@ -31,7 +32,7 @@ impl Run {
         put_part(arena.bytes_mut(cursor.block), at, part);
     }
 
-    /// Fills the buffer with octets of the payload of one block, from the place `at` in it on. In time linear in the
+    /// Fills the buffer with octets of the payload of one block, from offset `at` in it on. In time linear in the
     /// octets.
     pub(crate) fn get_in(&self, arena: &Arena, cursor: &Cursor, at: usize, buffer: &mut [u8])
         requires held { IsHeld arena.now self.now }
@@ -39,7 +40,8 @@ impl Run {
         requires within { cursor.now.index < self.now.count }
         requires fits { at + length buffer.old ≤ 120 }
         ensures { buffer.new
-            ≡ slice_range (octets_in arena.now self.now) (120 * cursor.now.index + at) (120 * cursor.now.index + at + length buffer.old) }
+            ≡ slice_range (octets_in arena.now self.now) (120 * cursor.now.index + at) (120 * cursor.now.index + at
+            + length buffer.old) }
     {
         get_part(arena.bytes(cursor.block), at, buffer);
     }
@@ -55,7 +57,8 @@ impl Run {
         ensures held { IsHeld arena.new self.now }
         ensures octets { octets_in arena.new self.now ≡ overwritten (octets_in arena.old self.now) at octets.now }
         ensures place { IsAt arena.new self.now result }
-        ensures places { (k : ℕ) → k ≤ self.now.count → nth arena.new self.now.first k ≡ nth arena.old self.now.first k }
+        ensures places { (k : ℕ) → k ≤ self.now.count → nth arena.new self.now.first k
+            ≡ nth arena.old self.now.first k }
         ensures free { free_count arena.new ≡ free_count arena.old }
         ensures size { length arena.new ≡ length arena.old }
         ensures others { OthersStay arena.old arena.new self.now }

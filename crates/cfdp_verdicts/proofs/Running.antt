@@ -1,8 +1,8 @@
 -- A list of requests, run one after another on a view, with what it takes after each.
---     Goes                  so far each item was successful, and what the rest of the list takes is still to be told
+--     Goes                  so far each item was successful, and what the rest of the list takes is still to be reported
 --     rest_is, none_is      the requests that are left
 --     goes_on, fails, ends  the next request, a request that is not successful, the end of the list
---     IsNew                 a view that tells of no item yet
+--     IsNew                 a view that describes no item yet
 --     AreTold, without_file, beside_file, all_told      the items of a list
 --     begun, not_begun      a file that is installed, and the requests after it;  one that may not be installed
 use Rattle.std.proofs.Common.{◌≡◌, refl, sym, ◌∙◌, ap, subst, Bool, true, false, cond, ℕ, min, List, [], ◌∷◌, ◌++◌, map, replicate, length, get_or, take, drop, ◌-◌, ◌≤◌, ◌<◌, append_assoc, append-nil, arith}
@@ -25,7 +25,7 @@ use Rattle.cfdp_states.specs.Laws.{Appended, ViewBegins, ViewGoesOn, ViewInstall
 use Rattle.cfdp_verifier.specs.Verdict.{capped}
 use Rattle.cfdp_verdicts.specs.Costs.{Cost, cost_of, costs_from, costs_of}
 
--- what a view tells
+-- what a view says
 abbrev pub told_by : Sketch → Cost
 told_by v = record { steps = v.steps; blocks = min v.need most_count }
 
@@ -78,7 +78,8 @@ unfolding costs_from
 told_none prefixes F x now rest item answer is bad =
     ap (λ b. cond b (cost_of prefixes F x (now ++ item ∷ []) ∷ costs_from prefixes F x (now ++ item ∷ []) rest) []) (ap succeeded (sym is) ∙ bad)
 
-module _ (appended : Appended) (forth : ViewGoesOn) (fp : Footprint) (F : Filestore) (x : List ℕ) (prefixes : List Path) (v w : Sketch) (item : Item) (rest : List Item)
+module _ (appended : Appended) (forth : ViewGoesOn) (fp : Footprint) (F : Filestore) (x : List ℕ) (prefixes : List Path) (v w : Sketch) (item : Item)
+    (rest : List Item)
     (status : Status) (costs whole : List Cost) (kept : w.prefixes ≡ v.prefixes) (tells : Tells v w item (Performed status))
     (at : Goes fp F x prefixes v (item ∷ rest) costs whole) where
   after : HasRun w fp F x (at.now ++ item ∷ []) (at.answers ++ Performed status ∷ [])
@@ -112,7 +113,8 @@ module _ (appended : Appended) (forth : ViewGoesOn) (fp : Footprint) (F : Filest
   fails bad =
       sym (append-nil costs) ∙ ap (λ more. costs ++ more) (sym (told_none prefixes F x at.now rest item (Performed status) said bad)) ∙ at.told
 
-pub ends : (fp : Footprint) (F : Filestore) (x : List ℕ) (prefixes : List Path) (v : Sketch) (costs whole : List Cost) → Goes fp F x prefixes v [] costs whole → costs ≡ whole
+pub ends : (fp : Footprint) (F : Filestore) (x : List ℕ) (prefixes : List Path) (v : Sketch) (costs whole : List Cost) → Goes fp F x prefixes v [] costs whole →
+    costs ≡ whole
 unfolding costs_from
 ends fp F x prefixes v costs whole at = sym (append-nil costs) ∙ at.told
 
@@ -156,11 +158,13 @@ module _ (v w : Sketch) (p : Path) (bound : ℕ) (rest : List Item) where
       let told : TellsInstall v w p (length x) done = subst (λ n. TellsInstall v w p n done) (sym long) tells in
       let refused : TellsInstall v w p (length x) false = subst (TellsInstall v w p (length x)) failed told in
       sym (append-nil costs)
-      ∙ ap (λ more. costs ++ more) (sym (told_none v.prefixes F x [] rest (Install p) NotInstalled (refused_said v.prefixes F x p (refuses v w fp F p x seen refused within.0)) refl))
+      ∙ ap (λ more. costs ++ more) (sym (told_none v.prefixes F x [] rest (Install p) NotInstalled
+      (refused_said v.prefixes F x p (refuses v w fp F p x seen refused within.0)) refl))
 
   pub begun : {T E : Type 0} (r : Result T E) (installs : ViewInstalls) (done : Bool) (old costs new : List Cost) → done ≡ true → w.prefixes ≡ v.prefixes →
       TellsInstall v w p bound done → costs ≡ old ++ told_by w ∷ [] →
-      OnOk r ((fp : Footprint) (F : Filestore) (x : List ℕ) (done : List Item) (answers : List Answer) → HasRun w fp F x done answers → AllByRecursion (IsWithin fp) rest →
+      OnOk r ((fp : Footprint) (F : Filestore) (x : List ℕ) (done : List Item) (answers : List Answer) → HasRun w fp F x done answers →
+      AllByRecursion (IsWithin fp) rest →
       new ≡ costs ++ costs_from w.prefixes F x done rest) →
       OnOk r ((fp : Footprint) (F : Filestore) (x : List ℕ) → IsNew v fp F → length x ≡ bound → AllByRecursion (IsWithin fp) (Install p ∷ rest) →
       new ≡ old ++ costs_from v.prefixes F x [] (Install p ∷ rest))
@@ -171,7 +175,8 @@ module _ (v w : Sketch) (p : Path) (bound : ℕ) (rest : List Item) where
       let run = installs v w fp F p x seen installed kept within.0 in
       let cost : told_by w ≡ cost_of v.prefixes F x (Install p ∷ []) =
       cost_told w fp F x (Install p ∷ []) (Installed ∷ []) run ∙ ap (λ (ps : List Path). cost_of ps F x (Install p ∷ [])) kept in
-      let said : Installed ∷ [] ≡ statuses_alone v.prefixes F x (Install p ∷ []) = run.answered ∙ ap (λ (ps : List Path). statuses_alone ps F x (Install p ∷ [])) kept in
+      let said : Installed ∷ [] ≡ statuses_alone v.prefixes F x (Install p ∷ []) = run.answered
+      ∙ ap (λ (ps : List Path). statuses_alone ps F x (Install p ∷ [])) kept in
       then fp F x (Install p ∷ []) (Installed ∷ []) run within.1
       ∙ ap (λ (ps : List Path). costs ++ costs_from ps F x (Install p ∷ []) rest) kept
       ∙ ap (λ (c : List Cost). c ++ costs_from v.prefixes F x (Install p ∷ []) rest) written
@@ -181,22 +186,25 @@ module _ (v w : Sketch) (p : Path) (bound : ℕ) (rest : List Item) where
 
 -- the items ----------------------------------------------------------------------------------
 
--- what is told of the requests, or of the file and the requests, is told of the items
+-- what is said of the requests, or of the file and the requests, is said of the items
 abbrev pub AreTold : Sketch → Option Path → List Request → ℕ → (old new : List Cost) → Type 0
 AreTold v d requests bound old new =
     (fp : Footprint) (F : Filestore) → IsNew v fp F → AllByRecursion (IsWithin fp) (items_of d requests) →
     new ≡ old ++ costs_of v.prefixes F (replicate bound 0) (items_of d requests)
 
 none_told : {T E : Type 0} (r : Result T E) (begins : ViewBegins) (v : Sketch) (requests : List Request) (old new : List Cost) →
-    OnOk r ((fp : Footprint) (F : Filestore) (x : List ℕ) (done : List Item) (answers : List Answer) → HasRun v fp F x done answers → AllByRecursion (IsWithin fp) (map Perform requests) →
+    OnOk r ((fp : Footprint) (F : Filestore) (x : List ℕ) (done : List Item) (answers : List Answer) → HasRun v fp F x done answers →
+    AllByRecursion (IsWithin fp) (map Perform requests) →
     new ≡ old ++ costs_from v.prefixes F x done (map Perform requests)) →
     OnOk r (AreTold v None requests 0 old new)
 none_told (Err e) begins v requests old new then = tt
 none_told (Ok y) begins v requests old new then = λ fp F seen within. then fp F [] [] [] (begins v fp F seen) within
 
-pub without_file : {T E : Type 0} (r : Result T E) (begins : ViewBegins) (v : Sketch) (d : Option Path) (requests : List Request) (bound : ℕ) (old new : List Cost) →
+pub without_file : {T E : Type 0} (r : Result T E) (begins : ViewBegins) (v : Sketch) (d : Option Path) (requests : List Request) (bound : ℕ)
+    (old new : List Cost) →
     d ≡ None → bound ≡ 0 →
-    OnOk r ((fp : Footprint) (F : Filestore) (x : List ℕ) (done : List Item) (answers : List Answer) → HasRun v fp F x done answers → AllByRecursion (IsWithin fp) (map Perform requests) →
+    OnOk r ((fp : Footprint) (F : Filestore) (x : List ℕ) (done : List Item) (answers : List Answer) → HasRun v fp F x done answers →
+    AllByRecursion (IsWithin fp) (map Perform requests) →
     new ≡ old ++ costs_from v.prefixes F x done (map Perform requests)) →
     OnOk r (AreTold v d requests bound old new)
 without_file r begins v d requests bound old new is none then =
@@ -210,13 +218,16 @@ some_told : {T E : Type 0} (r : Result T E) (v : Sketch) (p : Path) (requests : 
 some_told (Err e) v p requests bound old new then = tt
 some_told (Ok y) v p requests bound old new then = λ fp F seen within. then fp F (replicate bound 0) seen (length-replicate bound 0) within
 
-pub beside_file : {T E : Type 0} (r : Result T E) (v : Sketch) (d : Option Path) (p : Path) (requests : List Request) (bound : ℕ) (old new : List Cost) → d ≡ Some p →
+pub beside_file : {T E : Type 0} (r : Result T E) (v : Sketch) (d : Option Path) (p : Path) (requests : List Request) (bound : ℕ) (old new : List Cost) → d
+    ≡ Some p →
     OnOk r ((fp : Footprint) (F : Filestore) (x : List ℕ) → IsNew v fp F → length x ≡ bound → AllByRecursion (IsWithin fp) (Install p ∷ map Perform requests) →
     new ≡ old ++ costs_from v.prefixes F x [] (Install p ∷ map Perform requests)) →
     OnOk r (AreTold v d requests bound old new)
-beside_file r v d p requests bound old new is then = subst (λ (d : Option Path). OnOk r (AreTold v d requests bound old new)) (sym is) (some_told r v p requests bound old new then)
+beside_file r v d p requests bound old new is then = subst (λ (d : Option Path). OnOk r (AreTold v d requests bound old new)) (sym is)
+    (some_told r v p requests bound old new then)
 
-pub all_told : (v : Sketch) (fp : Footprint) (prefixes : List Path) (F : Filestore) (d : Option Path) (requests : List Request) (bound : ℕ) (old new : List Cost) →
+pub all_told : (v : Sketch) (fp : Footprint) (prefixes : List Path) (F : Filestore) (d : Option Path) (requests : List Request) (bound : ℕ)
+    (old new : List Cost) →
     OwnFootprint → old ≡ [] → fp ≡ footprint_of (items_of d requests) → v.prefixes ≡ prefixes → IsNew v fp F → AreTold v d requests bound old new →
     new ≡ costs_of prefixes F (replicate bound 0) (items_of d requests)
 all_told v fp prefixes F d requests bound old new own none is same seen told =

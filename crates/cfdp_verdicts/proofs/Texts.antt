@@ -8,7 +8,8 @@ pub two : {T E : Type 0} (r : Result T E) (old mid new first second : List ℕ) 
 two (Ok x) old mid new first second one then = then ∙ ap (λ t. t ++ second) one ∙ append_assoc old first second
 two (Err e) old mid new first second one then = tt
 
-pub three : {T E : Type 0} (r : Result T E) (old mid end new first second third : List ℕ) → mid ≡ old ++ first → end ≡ mid ++ second → OnOk r (new ≡ end ++ third) →
+pub three : {T E : Type 0} (r : Result T E) (old mid end new first second third : List ℕ) → mid ≡ old ++ first → end ≡ mid ++ second →
+    OnOk r (new ≡ end ++ third) →
     OnOk r (new ≡ old ++ (first ++ second ++ third))
 three (Ok x) old mid end new first second third one then last = rw (last, then, one) (simp append_assoc)
 three (Err e) old mid end new first second third one then last = tt

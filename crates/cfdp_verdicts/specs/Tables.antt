@@ -1,4 +1,5 @@
--- The table of a list of items: a line for each, with its steps, the blocks that the list needs up to and with it, and its paths.
+-- The table of a list of items: a line for each, with its steps, the blocks that the list needs up to and with it, and
+-- its paths.
 --     padded width text     a text with spaces before it, as many octets as the width at least
 --     listed label paths    a label and paths, with commas between them; nothing without a path
 --     paths_words item      the paths that an item changes, and those that it only reads
@@ -32,7 +33,8 @@ numbers_text before cost = padded 14 (grouped (cost.steps - before)) ++ padded 1
 
 unfoldable pub item_words : ℕ → Item → List ℕ
 item_words number (Install p) = codes "file " ++ shown (joined p)
-item_words number (Perform r) = labelled (codes "request ") number ++ codes ", " ++ acted (action_in r) (joined (first_in r)) (option_map joined (second_in r))
+item_words number (Perform r) = labelled (codes "request ") number ++ codes ", "
+    ++ acted (action_in r) (joined (first_in r)) (option_map joined (second_in r))
 
 unfoldable pub row_text : ℕ → ℕ → Item → Cost → List ℕ
 row_text number before item cost = numbers_text before cost ++ item_words number item ++ paths_words item ++ 10 ∷ []
@@ -43,7 +45,8 @@ number_after number (Install p) = number
 number_after number (Perform r) = number + 1
 
 unfoldable pub rows_text : ℕ → ℕ → List Item → List Cost → List ℕ
-rows_text number before (item ∷ items) (cost ∷ costs) = row_text number before item cost ++ rows_text (number_after number item) cost.steps items costs
+rows_text number before (item ∷ items) (cost ∷ costs) = row_text number before item cost
+    ++ rows_text (number_after number item) cost.steps items costs
 rows_text number before items costs = []
 
 unfoldable pub heading : List ℕ

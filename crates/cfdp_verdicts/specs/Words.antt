@@ -37,7 +37,8 @@ use Rattle.cfdp_texts.specs.Replies.{labelled, line, word, two_digits, shown_oct
 unfoldable pub with_commas : List ℕ → List ℕ
 with_commas [] = []
 with_commas (digit ∷ digits) =
-    if nat_lt 0 (length digits) && (length digits % 3 == 0) then digit ∷ 44 ∷ with_commas digits else digit ∷ with_commas digits
+    if nat_lt 0 (length digits) && (length digits % 3 == 0) then digit ∷ 44 ∷ with_commas digits
+    else digit ∷ with_commas digits
 
 unfoldable pub grouped : ℕ → List ℕ
 grouped n = with_commas (decimal n)
@@ -92,12 +93,14 @@ absent name = told_of name (codes " does not exist")
 
 unfoldable pub rename_not_allowed : (first second : List ℕ) → List ℕ
 rename_not_allowed first second =
-    told_of second (codes " has no directory above it or more than 8 names, or is below ") ++ told_of first (codes "; or ")
+    told_of second (codes " has no directory above it or more than 8 names, or is below ")
+    ++ told_of first (codes "; or ")
     ++ told_of first (codes " is protected, or above what is")
 
 unfoldable pub octets_not_allowed : (first second : List ℕ) → List ℕ
 octets_not_allowed first second =
-    told_of first (codes " or ") ++ told_of second (codes " is a directory, or ") ++ told_of first (codes " is protected")
+    told_of first (codes " or ") ++ told_of second (codes " is a directory, or ")
+    ++ told_of first (codes " is protected")
 
 unfoldable pub not_allowed : Action → (first second : List ℕ) → List ℕ
 not_allowed action.CreateFile first second = told_of first (codes " exists, or has no directory above it")
@@ -139,13 +142,15 @@ destination_words P = codes "the destination " ++ shown (unwrap_or P.destination
 
 unfoldable pub bad_path_words : Place → Proposal → List ℕ
 bad_path_words place.Destination P = destination_words P ++ codes ": it is no path of the filestore"
-bad_path_words (place.Request i) P = numbered i (slice_get P.requests i) ++ codes ": a name of it is no path of the filestore"
+bad_path_words (place.Request i) P = numbered i (slice_get P.requests i)
+    ++ codes ": a name of it is no path of the filestore"
 
 unfoldable pub status_words : Status → List ℕ
 status_words status = codes " (status " ++ two_digits (octet_of status) ++ codes ")"
 
 unfoldable pub failure_words : ℕ → Status → Option RequestFields → List ℕ
-failure_words i status r = numbered i r ++ codes ": " ++ cause_of status (first_of r) (second_of r) ++ status_words status
+failure_words i status r = numbered i r ++ codes ": " ++ cause_of status (first_of r) (second_of r)
+    ++ status_words status
 
 unfoldable pub many_words : ℕ → List ℕ
 many_words requests = grouped requests ++ codes " requests, and a list may have at most 64"
@@ -155,7 +160,8 @@ long_words steps = codes "it may take " ++ grouped steps ++ codes " steps, and 6
 
 unfoldable pub room_words : (wanted spare : ℕ) → List ℕ
 room_words wanted spare =
-    codes "it needs " ++ counted wanted (codes " block") (codes " blocks") ++ codes ", and " ++ counted spare (codes " is") (codes " are")
+    codes "it needs " ++ counted wanted (codes " block") (codes " blocks") ++ codes ", and "
+    ++ counted spare (codes " is") (codes " are")
     ++ codes " to spare"
 
 unfoldable pub refusal_words : Refusal → Proposal → List ℕ
@@ -169,7 +175,8 @@ refusal_words (TooLong steps) P = long_words steps
 refusal_words (NoRoom wanted spare) P = room_words wanted spare
 
 unfoldable pub grant_words : (blocks steps : ℕ) → List ℕ
-grant_words blocks steps = counted blocks (codes " block") (codes " blocks") ++ codes ", " ++ counted steps (codes " step") (codes " steps")
+grant_words blocks steps = counted blocks (codes " block") (codes " blocks") ++ codes ", "
+    ++ counted steps (codes " step") (codes " steps")
 
 unfoldable pub verdict_words : Verdict → Proposal → List ℕ
 verdict_words (Refuse refusal) P = codes "refused: " ++ refusal_words refusal P

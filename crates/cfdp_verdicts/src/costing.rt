@@ -36,14 +36,15 @@ fn cost_in(view: &View<'_>) -> Cost
     }
 }
 
-/// Runs the requests one after another on a view, up to the first that is not successful, and appends what the items so far
-/// take after each.
+/// Runs the requests one after another on a view, up to the first that is not successful, and appends what the items so
+/// far take after each.
 fn add_requests(
     view: &mut View<'_>,
     requests: &[Request],
     costs: &mut Vec<Cost>,
 ) -> Result<(), Memory>
-    ensures { OnOk result ((fp : FootprintOf) (F : FilestoreOf) (x : List ℕ) (done : List Item) (answers : List Answer) →
+    ensures { OnOk result ((fp : FootprintOf) (F : FilestoreOf) (x : List ℕ) (done : List Item)
+        (answers : List Answer) →
         HasRun view.old fp F x done answers → AllByRecursion (IsWithin fp) (map Perform requests.now) →
         costs.new.items ≡ costs.old.items ++ costs_from view.old.prefixes F x done (map Perform requests.now)) }
 {
@@ -61,8 +62,9 @@ fn add_requests(
     Ok(())
 }
 
-/// Installs a file of at most `bound` octets on a view, runs the requests after it, up to the first that is not successful,
-/// and appends what the items so far take after each. Where the file may not be installed nothing is appended.
+/// Installs a file of at most `bound` octets on a view, runs the requests after it, up to the first that is not
+/// successful, and appends what the items so far take after each. Where the file may not be installed nothing is
+/// appended.
 fn add_all(
     view: &mut View<'_>,
     path: &Path,
@@ -71,9 +73,11 @@ fn add_all(
     costs: &mut Vec<Cost>,
 ) -> Result<(), Memory>
     ensures { OnOk result ((fp : FootprintOf) (F : FilestoreOf) (x : List ℕ) →
-        IsViewOf view.old (alone (only fp F) []) (blocks (alone (only fp F) [])) (blocks (alone (only fp F) [])) 0 → length x ≡ bound →
+        IsViewOf view.old (alone (only fp F) []) (blocks (alone (only fp F) [])) (blocks (alone (only fp F) [])) 0 →
+        length x ≡ bound →
         AllByRecursion (IsWithin fp) (Install path.now ∷ map Perform requests.now) →
-        costs.new.items ≡ costs.old.items ++ costs_from view.old.prefixes F x [] (Install path.now ∷ map Perform requests.now)) }
+        costs.new.items ≡ costs.old.items ++ costs_from view.old.prefixes F x []
+        (Install path.now ∷ map Perform requests.now)) }
 {
     laws::view_installs();
     laws::view_refuses();
@@ -106,9 +110,9 @@ fn add_items(
     }
 }
 
-/// What a list of items takes up to and with each of them, as far as they succeed: the install of a file of at most `bound`
-/// octets, where there is a destination, and then the requests. Steps and blocks are counted as in a verdict, so a list that
-/// is granted is granted what the last of them says. Without a destination the bound has to be 0.
+/// What a list of items takes up to and with each of them, as far as they succeed: the install of a file of at most
+/// `bound` octets, where there is a destination, and then the requests. Steps and blocks are counted as in a verdict,
+/// so a list that is granted is granted what the last of them says. Without a destination the bound has to be 0.
 ///
 /// # Errors
 ///
@@ -122,7 +126,8 @@ pub fn costs<S: Filestore>(
     requests: &[Request],
 ) -> Result<Vec<Cost>, Memory>
     requires { IfNone destination (bound ≡ 0) }
-    ensures { IfOk result (λ costs. costs.items ≡ costs_of protected.now (S.state store.now).filestore (replicate bound 0)
+    ensures { IfOk result (λ costs. costs.items ≡ costs_of protected.now (S.state store.now).filestore
+        (replicate bound 0)
         (items_of (option_copied destination.entry) requests.now)) }
 {
     leases_laws::own_footprint();

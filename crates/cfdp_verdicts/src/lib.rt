@@ -1,9 +1,9 @@
 //! Verdicts on lists of filestore requests in words, for people who plan uploads: what a list is granted, or why it is
 //! refused, and what each of its items takes.
 //!
-//! [`push_refused`] and [`push_admitted`] write the line of a verdict of `cfdp_verifier`, and `specs/Words.antt` defines it.
-//! [`costs`] tells how many steps and blocks a list takes up to each of its items, by the same definitions as the verdict,
-//! and [`push_table`] writes them as a table.
+//! [`push_refused`] and [`push_admitted`] write the line of a verdict of `cfdp_verifier`, and `specs/Words.antt`
+//! defines it. [`costs`] says how many steps and blocks a list takes up to each of its items, by the same definitions
+//! as the verdict, and [`push_table`] writes them as a table.
 #![tactic(auto)]
 
 mod causes;

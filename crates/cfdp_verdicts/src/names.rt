@@ -73,8 +73,8 @@ fn push_octet(octet: u8, text: &mut Vec<u8>) -> Result<(), AllocError>
     encode(&[octet], text)
 }
 
-/// Appends the octets of a name as listings print paths: visible ASCII as it is, but for `%`; each other octet as `%` and
-/// two hexadecimal digits.
+/// Appends the octets of a name as listings print paths: visible ASCII as it is, but for `%`; each other octet as `%`
+/// and two hexadecimal digits.
 #[tactic(auto, unfolding(crate::specs::Words::shown))]
 pub(crate) fn push_shown(octets: &[u8], text: &mut Vec<u8>) -> Result<(), AllocError>
     ensures { OnOk result (text.new.items ≡ text.old.items ++ shown octets.now) }

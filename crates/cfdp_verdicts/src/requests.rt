@@ -42,7 +42,8 @@ fn between(action: Action) -> &'static [u8]
 
 /// Appends the second name of an action, if there is one, and the word before it.
 fn push_second(action: Action, second: Option<&[u8]>, text: &mut Vec<u8>) -> Result<(), AllocError>
-    ensures { OnOk result (text.new.items ≡ text.old.items ++ second_words action (option_map (λ name. name.now) second.entry)) }
+    ensures { OnOk result (text.new.items ≡ text.old.items
+        ++ second_words action (option_map (λ name. name.now) second.entry)) }
 {
     match second {
         None => Ok(()),
@@ -61,7 +62,8 @@ pub(crate) fn push_acted(
     second: Option<&[u8]>,
     text: &mut Vec<u8>,
 ) -> Result<(), AllocError>
-    ensures { OnOk result (text.new.items ≡ text.old.items ++ acted action first.now (option_map (λ name. name.now) second.entry)) }
+    ensures { OnOk result (text.new.items ≡ text.old.items
+        ++ acted action first.now (option_map (λ name. name.now) second.entry)) }
 {
     text.extend_from_slice(verb_of(action))?;
     push_shown(first, text)?;
@@ -82,7 +84,8 @@ pub(crate) fn push_numbered(
     request: Option<&FilestoreRequest>,
     text: &mut Vec<u8>,
 ) -> Result<(), AllocError>
-    ensures { OnOk result (text.new.items ≡ text.old.items ++ numbered index (option_map (λ request. request.now) request.entry)) }
+    ensures { OnOk result (text.new.items ≡ text.old.items
+        ++ numbered index (option_map (λ request. request.now) request.entry)) }
 {
     push_labelled(b"request ", u64::from(index) + 1, text)?;
     match request {

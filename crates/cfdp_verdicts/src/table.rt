@@ -191,9 +191,10 @@ fn push_heading(text: &mut Vec<u8>) -> Result<(), AllocError>
     text.extend_from_slice(b"         steps        blocks  item\n")
 }
 
-/// Appends the table of a list of items: a heading, and a line for each item that has a cost, as [`costs`](crate::costs) gives
-/// them. A line has the steps that the item may take; the most blocks that are in use more than at first, up to and with the
-/// item; the item; the paths that it changes; and the paths that it only reads. Without a cost there is no table.
+/// Appends the table of a list of items: a heading, and a line for each item that has a cost, as
+/// [`costs`](crate::costs) gives them. A line has the steps that the item may take; the most blocks that are in use
+/// more than at first, up to and with the item; the item; the paths that it changes; and the paths that it only reads.
+/// Without a cost there is no table.
 ///
 /// # Errors
 ///

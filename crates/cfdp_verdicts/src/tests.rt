@@ -1,4 +1,5 @@
-//! The texts of all refusals and all statuses, and a table. The expected texts are written by hand, from the definitions.
+//! The texts of all refusals and all statuses, and a table. The expected texts are written by hand, from the
+//! definitions.
 
 use crate::{costs, push_admitted, push_refused, push_table};
 use cfdp_actions::{ListStore, Protected, Request};
@@ -132,7 +133,8 @@ const FAILURES: [Failure; 18] = [
     Failure {
         action: Action::RenameFile,
         status: Status::NotAllowed(Action::RenameFile),
-        said: "rename a to b: b has no directory above it or more than 8 names, or is below a; or a is protected, or above what is (status 23)",
+        said: "rename a to b: b has no directory above it or more than 8 names, or is below a; \
+               or a is protected, or above what is (status 23)",
     },
     Failure {
         action: Action::AppendFile,
@@ -236,7 +238,9 @@ fn a_grant_is_said(rt: HostRuntime) -> Result<(), Fail> {
     push_admitted(ID, 0, 65_536, &mut text)?;
     assert_eq!(rt;
         text.as_slice(),
-        b"1/2 admitted: 1,265 blocks, 12 steps\n1/2 admitted: 1 block, 1 step\n1/2 admitted: 0 blocks, 65,536 steps\n".as_slice()
+        b"1/2 admitted: 1,265 blocks, 12 steps\n1/2 admitted: 1 block, 1 step\n\
+          1/2 admitted: 0 blocks, 65,536 steps\n"
+            .as_slice()
     );
     Ok(())
 }

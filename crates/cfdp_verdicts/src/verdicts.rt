@@ -190,9 +190,9 @@ fn push_grant(blocks: u32, steps: u32, text: &mut Vec<u8>) -> Result<(), AllocEr
     push_counted(u64::from(steps), b" step", b" steps", text)
 }
 
-/// Appends the line of a transaction whose list of requests is refused, as `1/2 refused: request 2, rename a to b: b exists
-/// (status 22)`. The proposal is the one that was judged. It names the request and its paths, and the cause; where the
-/// status has several causes, all of them.
+/// Appends the line of a transaction whose list of requests is refused, as `1/2 refused: request 2, rename a to b: b
+/// exists (status 22)`. The proposal is the one that was judged. It names the request and its paths, and the cause;
+/// where the status has several causes, all of them.
 ///
 /// # Errors
 ///
@@ -212,8 +212,8 @@ pub fn push_refused(
     text.extend_from_slice(b"\n")
 }
 
-/// Appends the line of a transaction whose list of requests is admitted, as `1/2 admitted: 1,265 blocks, 12 steps`: how many
-/// blocks and steps are granted to it.
+/// Appends the line of a transaction whose list of requests is admitted, as `1/2 admitted: 1,265 blocks, 12 steps`: how
+/// many blocks and steps are granted to it.
 ///
 /// # Errors
 ///

@@ -15,7 +15,7 @@ use Rattle.cfdp_states.specs.Views.{only}
 use Rattle.cfdp_states.proofs.Leased.{only_leased}
 use Rattle.cfdp_verifier.specs.Verdict.{destination_allowed}
 
--- the footprint can't tell the two apart
+-- the footprint can't distinguish the two
 alike : (fp : Footprint) (F : Filestore) (x : List ℕ) → IsAlike fp 0 (alone F x) (alone (only fp F) x)
 alike fp F x = record {
   kept = λ p covered. sym (get_kept F (λ q. is_covered fp q) p ∙ ap (λ b. cond b (node_at F p) None) covered);
@@ -26,7 +26,8 @@ allowed_alike : (prefixes : List Path) (F G : Filestore) (fp : Footprint) (items
     destination_allowed prefixes F items ≡ destination_allowed prefixes G items
 allowed_alike prefixes F G fp [] same within = refl
 allowed_alike prefixes F G fp (Perform request ∷ items) same within = refl
-allowed_alike prefixes F G fp (Install p ∷ items) same within = ap (λ (o : Outcome). succeeded o.answer) (frame_of_reads prefixes fp F G 0 (Install p) same within.0).0
+allowed_alike prefixes F G fp (Install p ∷ items) same within = ap (λ (o : Outcome). succeeded o.answer)
+    (frame_of_reads prefixes fp F G 0 (Install p) same within.0).0
 
 pub record IsCovered (prefixes : List Path) (F G : Filestore) (x : List ℕ) (items : List Item) : Type 0 where
   pub allowed : destination_allowed prefixes (alone F x) items ≡ destination_allowed prefixes (alone G x) items

@@ -1,8 +1,8 @@
--- A list that is run alone on a view of what its footprint covers. What the view tells of a filestore is a parameter, as it
+-- A list that is run alone on a view of what its footprint covers. What the view says of a filestore is a parameter, as it
 -- is of `Running`.
 --     AtRequests                     the file is installed, where there is one, and the requests are next
 --     without_file, with_file        so it is with no destination;  and where the install is allowed
---     InstallGoes                    the install is answered as on the filestore, and the view after it tells of the filestore after it
+--     InstallGoes                    the install is answered as on the filestore, and the view after it describes the filestore after it
 --     Runs                           the requests go as on the filestore
 --     not_installed                  the verdict where it is not
 --     all_done, one_failed           the verdict after the requests
@@ -36,19 +36,24 @@ abbrev pub Runs : {X : Type 0} → (Filestore → ℕ → ℕ → ℕ → Type 0
 Runs Seen prefixes w items result =
     (F : Filestore) (start high taken : ℕ) → Seen F start high taken → blocks F ≤ high → EndsSo prefixes F items start high taken w result
 
--- what a view tells, at the list's prefixes
-pub installed_at : (prefixes : List Path) (v w : Sketch) (p : Path) (size : ℕ) (done : Bool) → v.prefixes ≡ prefixes → TellsInstall v w p size done → InstallGoes (IsViewOf v) (IsViewOf w) prefixes p size done
+-- what a view says, at the list's prefixes
+pub installed_at : (prefixes : List Path) (v w : Sketch) (p : Path) (size : ℕ) (done : Bool) → v.prefixes ≡ prefixes → TellsInstall v w p size done →
+    InstallGoes (IsViewOf v) (IsViewOf w) prefixes p size done
 installed_at prefixes v w p size done same tells = subst (λ (ps : List Path). InstallGoes (IsViewOf v) (IsViewOf w) ps p size done) same tells
 
-pub installed_at_closed : (prefixes : List Path) (v w : Sketch) (cs : List Path) (p : Path) (size : ℕ) (done : Bool) → v.prefixes ≡ prefixes → TellsClosedInstall v w cs p size done →
+pub installed_at_closed : (prefixes : List Path) (v w : Sketch) (cs : List Path) (p : Path) (size : ℕ) (done : Bool) → v.prefixes ≡ prefixes →
+    TellsClosedInstall v w cs p size done →
     InstallGoes (IsClosedViewOf v cs) (IsClosedViewOf w cs) prefixes p size done
-installed_at_closed prefixes v w cs p size done same tells = subst (λ (ps : List Path). InstallGoes (IsClosedViewOf v cs) (IsClosedViewOf w cs) ps p size done) same tells
+installed_at_closed prefixes v w cs p size done same tells = subst (λ (ps : List Path). InstallGoes (IsClosedViewOf v cs) (IsClosedViewOf w cs) ps p size done)
+    same tells
 
-pub runs_at : {X : Type 0} (Seen : Filestore → ℕ → ℕ → ℕ → Type 0) (prefixes : List Path) (v w : Sketch) (items : List Item) (result : Result X NotGranted) → v.prefixes ≡ prefixes → Runs Seen v.prefixes w items result → Runs Seen prefixes w items result
+pub runs_at : {X : Type 0} (Seen : Filestore → ℕ → ℕ → ℕ → Type 0) (prefixes : List Path) (v w : Sketch) (items : List Item) (result : Result X NotGranted) →
+    v.prefixes ≡ prefixes → Runs Seen v.prefixes w items result → Runs Seen prefixes w items result
 runs_at Seen prefixes v w items result same runs = subst (λ (ps : List Path). Runs Seen ps w items result) same runs
 
--- the view tells of a filestore on which the requests go as the list goes alone
-pub record AtRequests (prefixes : List Path) (F : Filestore) (x : List ℕ) (items : List Item) (requests : List Request) (Seen : Filestore → ℕ → ℕ → ℕ → Type 0) : Type 0 where
+-- the view describes a filestore on which the requests go as the list goes alone
+pub record AtRequests (prefixes : List Path) (F : Filestore) (x : List ℕ) (items : List Item) (requests : List Request) (Seen : Filestore → ℕ → ℕ → ℕ →
+    Type 0) : Type 0 where
   pub here : Filestore
   pub start : ℕ
   pub high : ℕ
@@ -69,8 +74,10 @@ no_install prefixes F (request ∷ requests) = refl
 from_start : (s p : ℕ) → s ≤ p → p - s ≡ max s p - s
 from_start s p le = omega arith
 
-pub without_file : (prefixes : List Path) (F : Filestore) (requests : List Request) (fp : Footprint) (Seen : Filestore → ℕ → ℕ → ℕ → Type 0) → fp ≡ footprint_of (map Perform requests) →
-    Seen (alone (only fp F) []) (blocks (alone (only fp F) [])) (blocks (alone (only fp F) [])) 0 → AtRequests prefixes F [] (map Perform requests) requests Seen
+pub without_file : (prefixes : List Path) (F : Filestore) (requests : List Request) (fp : Footprint) (Seen : Filestore → ℕ → ℕ → ℕ → Type 0) → fp
+    ≡ footprint_of (map Perform requests) →
+    Seen (alone (only fp F) []) (blocks (alone (only fp F) [])) (blocks (alone (only fp F) [])) 0 →
+    AtRequests prefixes F [] (map Perform requests) requests Seen
 without_file prefixes F requests fp Seen is seen =
     let items = map Perform requests in
     let G = only (footprint_of items) F in
@@ -96,7 +103,8 @@ from_staging s h g p le = omega arith
 counted : (n m : ℕ) → n + m ≡ (0 + n) + m
 counted n m = omega arith
 
-module _ (prefixes : List Path) (F : Filestore) (x : List ℕ) (p : Path) (requests : List Request) (fp : Footprint) (Seen Next : Filestore → ℕ → ℕ → ℕ → Type 0) (size : ℕ) (done : Bool)
+module _ (prefixes : List Path) (F : Filestore) (x : List ℕ) (p : Path) (requests : List Request) (fp : Footprint) (Seen Next : Filestore → ℕ → ℕ → ℕ → Type 0)
+    (size : ℕ) (done : Bool)
     (is : fp ≡ footprint_of (Install p ∷ map Perform requests))
     (seen : Seen (alone (only fp F) []) (blocks (alone (only fp F) [])) (blocks (alone (only fp F) [])) 0)
     (long : length x ≡ size) (tells : InstallGoes Seen Next prefixes p size done) where
@@ -113,7 +121,8 @@ module _ (prefixes : List Path) (F : Filestore) (x : List ℕ) (p : Path) (reque
       let items = Install p ∷ map Perform requests in
       let denied : destination_allowed prefixes (alone F x) items ≡ false =
       (covered prefixes F x items).allowed ∙ ap succeeded (sym answered_so) ∙ ap (λ b. succeeded (installed_if b)) failed in
-      ap (λ b. cond b (judged spare items (first_failure 0 (statuses_alone prefixes F x items)) (need_alone prefixes F x items) (steps_alone prefixes F x items)) (Refuse DestinationNotAllowed)) denied
+      ap (λ b. cond b (judged spare items (first_failure 0 (statuses_alone prefixes F x items)) (need_alone prefixes F x items)
+      (steps_alone prefixes F x items)) (Refuse DestinationNotAllowed)) denied
 
   pub with_file : done ≡ true → AtRequests prefixes F x (Install p ∷ map Perform requests) requests Next
   unfolding statuses steps peak
@@ -143,32 +152,41 @@ module _ (prefixes : List Path) (F : Filestore) (x : List ℕ) (p : Path) (reque
 -- the same of a destination that may be there
 module _ (prefixes : List Path) (F : Filestore) (bound : ℕ) (d : Option Path) (requests : List Request) (fp : Footprint) (Seen : Filestore → ℕ → ℕ → ℕ → Type 0)
     (seen : Seen (alone (only fp F) []) (blocks (alone (only fp F) [])) (blocks (alone (only fp F) [])) 0) where
-  pub refused_at : (Next : Filestore → ℕ → ℕ → ℕ → Type 0) (p : Path) (done : Bool) → InstallGoes Seen Next prefixes p bound done → d ≡ Some p → fp ≡ footprint_of (items_of d requests) → done ≡ false →
+  pub refused_at : (Next : Filestore → ℕ → ℕ → ℕ → Type 0) (p : Path) (done : Bool) → InstallGoes Seen Next prefixes p bound done → d ≡ Some p → fp
+      ≡ footprint_of (items_of d requests) → done ≡ false →
       (spare : ℕ) → judged_apart prefixes F spare (replicate bound 0) (items_of d requests) None ≡ Refuse DestinationNotAllowed
   refused_at Next p done tells e is failed spare =
-      subst (λ (d : Option Path). fp ≡ footprint_of (items_of d requests) → judged_apart prefixes F spare (replicate bound 0) (items_of d requests) None ≡ Refuse DestinationNotAllowed)
+      subst (λ (d : Option Path). fp ≡ footprint_of (items_of d requests) → judged_apart prefixes F spare (replicate bound 0) (items_of d requests) None
+      ≡ Refuse DestinationNotAllowed)
       (sym e) (λ is. not_installed prefixes F (replicate bound 0) p requests fp Seen Next bound done is seen (length-replicate bound 0) tells failed spare) is
 
-  pub file_at : (Next : Filestore → ℕ → ℕ → ℕ → Type 0) (p : Path) (done : Bool) → InstallGoes Seen Next prefixes p bound done → d ≡ Some p → fp ≡ footprint_of (items_of d requests) → done ≡ true →
+  pub file_at : (Next : Filestore → ℕ → ℕ → ℕ → Type 0) (p : Path) (done : Bool) → InstallGoes Seen Next prefixes p bound done → d ≡ Some p → fp
+      ≡ footprint_of (items_of d requests) → done ≡ true →
       AtRequests prefixes F (replicate bound 0) (items_of d requests) requests Next
   file_at Next p done tells e is ok =
       subst (λ (d : Option Path). fp ≡ footprint_of (items_of d requests) → AtRequests prefixes F (replicate bound 0) (items_of d requests) requests Next)
       (sym e) (λ is. with_file prefixes F (replicate bound 0) p requests fp Seen Next bound done is seen (length-replicate bound 0) tells ok) is
 
-  pub no_file_at : d ≡ None → fp ≡ footprint_of (items_of d requests) → IfNone d (bound ≡ 0) → AtRequests prefixes F (replicate bound 0) (items_of d requests) requests Seen
+  pub no_file_at : d ≡ None → fp ≡ footprint_of (items_of d requests) → IfNone d (bound ≡ 0) →
+      AtRequests prefixes F (replicate bound 0) (items_of d requests) requests Seen
   no_file_at e is none =
-      subst (λ (d : Option Path). fp ≡ footprint_of (items_of d requests) → IfNone d (bound ≡ 0) → AtRequests prefixes F (replicate bound 0) (items_of d requests) requests Seen)
-      (sym e) (λ is none. subst (λ n. AtRequests prefixes F (replicate n 0) (map Perform requests) requests Seen) (sym none) (without_file prefixes F requests fp Seen is seen)) is none
+      subst (λ (d : Option Path). fp ≡ footprint_of (items_of d requests) → IfNone d (bound ≡ 0) →
+      AtRequests prefixes F (replicate bound 0) (items_of d requests) requests Seen)
+      (sym e) (λ is none. subst (λ n. AtRequests prefixes F (replicate n 0) (map Perform requests) requests Seen) (sym none)
+      (without_file prefixes F requests fp Seen is seen)) is none
 
--- and of a view with closed directories, which may not be able to tell
-module _ (prefixes : List Path) (F : Filestore) (bound : ℕ) (d : Option Path) (requests : List Request) (fp : Footprint) (v w : Sketch) (cs : List Path) (same : v.prefixes ≡ prefixes)
-    (seen : IsClosedViewOf v cs (alone (only fp F) []) (blocks (alone (only fp F) [])) (blocks (alone (only fp F) [])) 0) (p : Path) (done : Bool) (told : Option Bool) (is_told : told ≡ Some done) (tells : IfSome told (λ done. TellsClosedInstall v w cs p bound done)) where
+-- and of a view with closed directories, which may not be able to say
+module _ (prefixes : List Path) (F : Filestore) (bound : ℕ) (d : Option Path) (requests : List Request) (fp : Footprint) (v w : Sketch) (cs : List Path)
+    (same : v.prefixes ≡ prefixes)
+    (seen : IsClosedViewOf v cs (alone (only fp F) []) (blocks (alone (only fp F) [])) (blocks (alone (only fp F) [])) 0) (p : Path) (done : Bool)
+    (told : Option Bool) (is_told : told ≡ Some done) (tells : IfSome told (λ done. TellsClosedInstall v w cs p bound done)) where
   install_told : InstallGoes (IsClosedViewOf v cs) (IsClosedViewOf w cs) prefixes p bound done
   install_told = installed_at_closed prefixes v w cs p bound done same (some_of (λ done. TellsClosedInstall v w cs p bound done) told done is_told tells)
 
   pub refused_at_closed : d ≡ Some p → fp ≡ footprint_of (items_of d requests) → done ≡ false →
       (spare : ℕ) → judged_apart prefixes F spare (replicate bound 0) (items_of d requests) None ≡ Refuse DestinationNotAllowed
-  refused_at_closed e is failed spare = refused_at prefixes F bound d requests fp (IsClosedViewOf v cs) seen (IsClosedViewOf w cs) p done install_told e is failed spare
+  refused_at_closed e is failed spare = refused_at prefixes F bound d requests fp (IsClosedViewOf v cs) seen
+      (IsClosedViewOf w cs) p done install_told e is failed spare
 
   pub file_at_closed : (ds : List Path) → ds ≡ cs → d ≡ Some p → fp ≡ footprint_of (items_of d requests) → done ≡ true →
       AtRequests prefixes F (replicate bound 0) (items_of d requests) requests (IsClosedViewOf w ds)
@@ -176,15 +194,19 @@ module _ (prefixes : List Path) (F : Filestore) (bound : ℕ) (d : Option Path) 
       subst (λ (cs : List Path). AtRequests prefixes F (replicate bound 0) (items_of d requests) requests (IsClosedViewOf w cs)) (sym stay)
       (file_at prefixes F bound d requests fp (IsClosedViewOf v cs) seen (IsClosedViewOf w cs) p done install_told e is ok)
 
-module _ (prefixes : List Path) (F : Filestore) (x : List ℕ) (items : List Item) (requests : List Request) (Seen : Filestore → ℕ → ℕ → ℕ → Type 0) (w : Sketch) (at : AtRequests prefixes F x items requests Seen) where
+module _ (prefixes : List Path) (F : Filestore) (x : List ℕ) (items : List Item) (requests : List Request) (Seen : Filestore → ℕ → ℕ → ℕ → Type 0) (w : Sketch)
+    (at : AtRequests prefixes F x items requests Seen) where
   -- the requests' own answers, need and steps
   judged_so : (spare : ℕ) → judged_apart prefixes F spare x items None
-      ≡ judged spare items (first_failure 0 (statuses prefixes at.here 0 (map Perform requests))) (need_alone prefixes F x items) (steps_alone prefixes F x items)
+      ≡ judged spare items (first_failure 0 (statuses prefixes at.here 0 (map Perform requests))) (need_alone prefixes F x items)
+      (steps_alone prefixes F x items)
   judged_so spare =
-      ap (λ b. cond b (judged spare items (first_failure 0 (statuses_alone prefixes F x items)) (need_alone prefixes F x items) (steps_alone prefixes F x items)) (Refuse DestinationNotAllowed)) at.allowed
+      ap (λ b. cond b (judged spare items (first_failure 0 (statuses_alone prefixes F x items)) (need_alone prefixes F x items)
+      (steps_alone prefixes F x items)) (Refuse DestinationNotAllowed)) at.allowed
       ∙ ap (λ f. judged spare items f (need_alone prefixes F x items) (steps_alone prefixes F x items)) at.failures
 
-  ended : {X : Type 0} (result : Result X NotGranted) → Runs Seen prefixes w (map Perform requests) result → EndsSo prefixes at.here (map Perform requests) at.start at.high at.taken w result
+  ended : {X : Type 0} (result : Result X NotGranted) → Runs Seen prefixes w (map Perform requests) result →
+      EndsSo prefixes at.here (map Perform requests) at.start at.high at.taken w result
   ended result runs = runs at.here at.start at.high at.taken at.seen at.within
 
   pub all_done : {X : Type 0} (y : X) → Runs Seen prefixes w (map Perform requests) (Ok y) → JudgesAlone prefixes F x items (Ok w)
@@ -197,7 +219,8 @@ module _ (prefixes : List Path) (F : Filestore) (x : List ℕ) (items : List Ite
         run.2 ∙ ap capped (sym at.counts),
       )
 
-  pub one_failed : (X : Type 0) (fault : NotGranted) → Runs {X = X} Seen prefixes w (map Perform requests) (Err fault) → JudgesAlone prefixes F x items (Err fault)
+  pub one_failed : (X : Type 0) (fault : NotGranted) → Runs {X = X} Seen prefixes w (map Perform requests) (Err fault) →
+      JudgesAlone prefixes F x items (Err fault)
   one_failed X no.Memory tells spare = tt
   one_failed X (no.Refused refusal) tells spare =
       let run = ended {X = X} (Err (no.Refused refusal)) tells in

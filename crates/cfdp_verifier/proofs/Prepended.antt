@@ -15,7 +15,8 @@ pub prepended_to_none : (rest : Parsed) → prepended [] rest ≡ rest
 prepended_to_none (Bad place) = refl
 prepended_to_none (Good rest) = refl
 
-one_more : (items : List Item) (request : Request) (k : ℕ) (rest : Parsed) → prepended items (and_then (Some request) k rest) ≡ prepended (items ++ Perform request ∷ []) rest
+one_more : (items : List Item) (request : Request) (k : ℕ) (rest : Parsed) → prepended items (and_then (Some request) k rest)
+    ≡ prepended (items ++ Perform request ∷ []) rest
 one_more items request k (Bad place) = refl
 one_more items request k (Good rest) = ap Good (sym (append_assoc items (Perform request ∷ []) rest))
 

@@ -1,9 +1,9 @@
--- A list of requests, run one after another on a view. What the view tells of a filestore is a parameter (`Seen`), since
--- there are views of two kinds; `Next` is what it tells after a request.
---     Goes            the request is answered as on the filestore, and the view after it tells of the filestore after it
+-- A list of requests, run one after another on a view. What the view says of a filestore is a parameter (`Seen`), since
+-- there are views of two kinds; `Next` is what it says after a request.
+--     Goes            the request is answered as on the filestore, and the view after it describes the filestore after it
 --     GoesOn          so far each request was successful, and the rest of the list goes from here as the list from its start
---     Counts          the view has the need and the steps that it tells of
---     begins, goes, fails, ends      the first place, the next place, a request that is not successful, the last place
+--     Counts          the view has the need and the steps that it describes
+--     begins, goes, fails, ends      the first index, the next index, a request that is not successful, the last index
 use Rattle.std.proofs.Common.{◌≡◌, refl, sym, ◌∙◌, ap, subst, true, false, cond, ℕ, suc, ◌+◌, ◌-◌, ◌≤◌, min, max, List, [], ◌∷◌, Some, Ok, zero, map, drop, length, get_or, Option, IfSome, ◌<◌, arith, add-zero, add-one}
 use Rattle.std.proofs.Math.Seq.{drop-cons}
 use Rattle.cfdp_status.specs.declared.status.Status.{Status}
@@ -27,8 +27,9 @@ Goes Seen Next prefixes item answer =
 abbrev pub Counts : (Filestore → ℕ → ℕ → ℕ → Type 0) → Sketch → Type 0
 Counts Seen w = (G : Filestore) (start most spent : ℕ) → Seen G start most spent → (w.need ≡ min (most - start) most_need) × (w.steps ≡ capped spent)
 
--- from F, where so many blocks were in use at first and at most, and so many steps are taken
-pub record GoesOn (prefixes : List Path) (F : Filestore) (items : List Item) (start high taken : ℕ) (Seen : Filestore → ℕ → ℕ → ℕ → Type 0) (number : ℕ) (rest : List Item) : Type 0 where
+-- from F, where this many blocks were in use at first and at most, and this many steps are taken
+pub record GoesOn (prefixes : List Path) (F : Filestore) (items : List Item) (start high taken : ℕ) (Seen : Filestore → ℕ → ℕ → ℕ → Type 0) (number : ℕ)
+    (rest : List Item) : Type 0 where
   pub here : Filestore
   pub most : ℕ
   pub spent : ℕ
@@ -55,13 +56,16 @@ added t n s = omega arith
 pub some_of : {A : Type 0} (P : A → Type 0) (o : Option A) (a : A) → o ≡ Some a → IfSome o P → P a
 some_of P o a is h = subst (λ o. IfSome o P) is h
 
--- what a view tells of an item, at the list's prefixes
-pub told_at : (prefixes : List Path) (v w : Sketch) (item : Item) (answer : Answer) → v.prefixes ≡ prefixes → Tells v w item answer → Goes (IsViewOf v) (IsViewOf w) prefixes item answer
+-- what a view says of an item, at the list's prefixes
+pub told_at : (prefixes : List Path) (v w : Sketch) (item : Item) (answer : Answer) → v.prefixes ≡ prefixes → Tells v w item answer →
+    Goes (IsViewOf v) (IsViewOf w) prefixes item answer
 told_at prefixes v w item answer same tells = subst (λ (ps : List Path). Goes (IsViewOf v) (IsViewOf w) ps item answer) same tells
 
-pub told_at_closed : (prefixes : List Path) (v w : Sketch) (cs ds : List Path) (item : Item) (answer : Answer) → v.prefixes ≡ prefixes → TellsClosed v cs w ds item answer →
+pub told_at_closed : (prefixes : List Path) (v w : Sketch) (cs ds : List Path) (item : Item) (answer : Answer) → v.prefixes ≡ prefixes →
+    TellsClosed v cs w ds item answer →
     Goes (IsClosedViewOf v cs) (IsClosedViewOf w ds) prefixes item answer
-told_at_closed prefixes v w cs ds item answer same tells = subst (λ (ps : List Path). Goes (IsClosedViewOf v cs) (IsClosedViewOf w ds) ps item answer) same tells
+told_at_closed prefixes v w cs ds item answer same tells = subst (λ (ps : List Path). Goes (IsClosedViewOf v cs) (IsClosedViewOf w ds) ps item answer) same
+    tells
 
 pub view_counts : (w : Sketch) → Counts (IsViewOf w) w
 view_counts w G start most spent seen = (seen.need, seen.steps)
@@ -128,21 +132,26 @@ module _ (prefixes : List Path) (F : Filestore) (items : List Item) (start high 
       ∙ ap (λ b. cond b (first_failure (number + 1) (statuses prefixes next 0 rest)) (Some (number, status))) failed
 
   -- the next request of a list of requests
-  pub goes_on : (Seen Next : Filestore → ℕ → ℕ → ℕ → Type 0) (requests : List Request) (number : ℕ) (request : Request) (status : Status) → number < length requests → request ≡ get_or requests number request →
+  pub goes_on : (Seen Next : Filestore → ℕ → ℕ → ℕ → Type 0) (requests : List Request) (number : ℕ) (request : Request) (status : Status) →
+      number < length requests → request ≡ get_or requests number request →
       Goes Seen Next prefixes (Perform request) (Performed status) → is_successful status ≡ true →
-      GoesOn prefixes F items start high taken Seen number (map Perform (drop number requests)) → GoesOn prefixes F items start high taken Next (number + 1) (map Perform (drop (number + 1) requests))
+      GoesOn prefixes F items start high taken Seen number (map Perform (drop number requests)) →
+      GoesOn prefixes F items start high taken Next (number + 1) (map Perform (drop (number + 1) requests))
   goes_on Seen Next requests number request status more is tells done g =
       goes Seen Next number request (map Perform (drop (number + 1) requests)) status tells done
       (subst (λ (rest : List Item). GoesOn prefixes F items start high taken Seen number rest) (next_of_them requests number request more is) g)
 
-  pub fails_at : (Seen Next : Filestore → ℕ → ℕ → ℕ → Type 0) (requests : List Request) (number : ℕ) (request : Request) (status : Status) → number < length requests → request ≡ get_or requests number request →
+  pub fails_at : (Seen Next : Filestore → ℕ → ℕ → ℕ → Type 0) (requests : List Request) (number : ℕ) (request : Request) (status : Status) →
+      number < length requests → request ≡ get_or requests number request →
       Goes Seen Next prefixes (Perform request) (Performed status) → is_successful status ≡ false →
-      GoesOn prefixes F items start high taken Seen number (map Perform (drop number requests)) → first_failure 0 (statuses prefixes F 0 items) ≡ Some (number, status)
+      GoesOn prefixes F items start high taken Seen number (map Perform (drop number requests)) → first_failure 0 (statuses prefixes F 0 items)
+      ≡ Some (number, status)
   fails_at Seen Next requests number request status more is tells failed g =
       fails Seen Next number request (map Perform (drop (number + 1) requests)) status tells failed
       (subst (λ (rest : List Item). GoesOn prefixes F items start high taken Seen number rest) (next_of_them requests number request more is) g)
 
-  pub ends : {X : Type 0} (x : X) (Seen : Filestore → ℕ → ℕ → ℕ → Type 0) (w : Sketch) → Counts Seen w → (requests : List Request) (number : ℕ) → length requests ≤ number →
+  pub ends : {X : Type 0} (x : X) (Seen : Filestore → ℕ → ℕ → ℕ → Type 0) (w : Sketch) → Counts Seen w → (requests : List Request) (number : ℕ) →
+      length requests ≤ number →
       GoesOn prefixes F items start high taken Seen number (map Perform (drop number requests)) → EndsSo {X = X} prefixes F items start high taken w (Ok x)
   unfolding statuses steps peak
   ends x Seen w counts requests number all g =

@@ -14,7 +14,8 @@ not_more : (n : ℕ) → n ≤ 64 → nat_lt 64 n ≡ false
 not_more n le = grind arith
 
 module _ (prefixes : List Path) (F : Filestore) (leases : List (TransactionId × Footprint)) (spare : ℕ) (P : Proposal) where
-  pub past_tests : (items : List Item) (fp : Footprint) (way : Option TransactionId) → length P.requests ≤ 64 → parsed P ≡ Good items → fp ≡ footprint_of items → first_conflict leases fp ≡ way →
+  pub past_tests : (items : List Item) (fp : Footprint) (way : Option TransactionId) → length P.requests ≤ 64 → parsed P ≡ Good items → fp
+      ≡ footprint_of items → first_conflict leases fp ≡ way →
       verdict prefixes F leases spare P ≡ judged_apart prefixes F spare (replicate P.bound 0) items way
   past_tests items fp way few names is first =
       ap (λ b. cond b (Refuse TooManyRequests) (verdict_of prefixes F leases spare P (parsed P))) (not_more (length P.requests) few)

@@ -2,7 +2,8 @@
 --     answered v                  the verdict that the code's own type says
 --     HasFootprint v              the footprint of what is granted is that of its items
 --     Grants v result             what is granted, or the refusal
---     HasRequests, HasItems       the requests, or all items, that were parsed, or the refusal for the first name that is no path
+--     HasRequests, HasItems       the requests, or all items, that were parsed, or the refusal for the first name that
+--                                 is no path
 use Rattle.std.specs.Prelude.{◌≡◌, ⊤, List, Result, Ok, Err, Vec, map}
 use Rattle.std.specs.declared.alloc.Global.{Global}
 use Rattle.cfdp_actions.specs.Actions.{Request, Item, Perform}
@@ -28,7 +29,7 @@ abbrev pub HasFootprint : Answer → Type 0
 HasFootprint (given.Refuse refusal) = ⊤
 HasFootprint (given.Grant grant) = grant.footprint ≡ footprint_of (granted_items grant)
 
--- what was parsed is the definition's; want of memory says nothing
+-- what was parsed is the definition's; out of memory says nothing
 abbrev pub IsBad : NotGranted → Parsed → Type 0
 IsBad (no.Refused refusal) parsed = (place : Place) × (refusal ≡ BadPath place) × (parsed ≡ Bad place)
 IsBad no.Memory parsed = ⊤
@@ -43,5 +44,6 @@ HasItems parsed (Err fault) = IsBad fault parsed
 
 -- a list is granted what its verdict grants, or refused as its verdict says
 abbrev pub Grants : Verdict → Result Granted_to NotGranted → Type 0
-Grants v (Ok grant) = (v ≡ Grant (granted_items grant) grant.blocks grant.steps) × (grant.footprint ≡ footprint_of (granted_items grant))
+Grants v (Ok grant) = (v ≡ Grant (granted_items grant) grant.blocks grant.steps)
+    × (grant.footprint ≡ footprint_of (granted_items grant))
 Grants v (Err fault) = RefusesSo fault v

@@ -1,6 +1,6 @@
--- How a list goes on a view with closed directories, which may find that it can't tell.
---     TellsClosedRun v closed w items result     as `TellsRun` has it, where the view can tell
---     JudgesClosed                               as `JudgesAlone` has it, where the view can tell
+-- How a list goes on a view with closed directories, which may find that it can't say.
+--     TellsClosedRun v closed w items result     as `TellsRun` has it, where the view can say
+--     JudgesClosed                               as `JudgesAlone` has it, where the view can say
 use Rattle.std.specs.Prelude.{⊤, ℕ, ◌≤◌, Bool, true, false, List, Option, Some, None, Result, Ok, Err}
 use Rattle.cfdp_paths.specs.Paths.{Path}
 use Rattle.cfdp_actions.specs.Filestore.{Filestore, blocks}
@@ -10,7 +10,7 @@ use Rattle.cfdp_states.specs.Closed.{IsClosedViewOf}
 use Rattle.cfdp_verifier.specs.declared.refusal.NotGranted.{NotGranted}
 use Rattle.cfdp_verifier.specs.Judging.{EndsSo, JudgesAlone}
 
--- on whatever filestore the view tells of
+-- on whatever filestore the view describes
 abbrev pub TellsClosedRun : Sketch → List Path → Sketch → List Item → Result Bool NotGranted → Type 0
 TellsClosedRun v closed w items (Ok false) = ⊤
 TellsClosedRun v closed w items (Ok true) =

@@ -1,9 +1,11 @@
 -- How a list goes on a view, in the words of the verdict.
---     TellsRun v w items result        on whatever filestore the view tells of: each item is successful, and the view after them tells
---                                      what they need and take; or the first one that is not successful is named
---     JudgesAlone, Judges              a list whose file may be installed and whose requests succeed, with the view that tells what it needs
---                                      and takes, or why it is refused;  and what it is granted
---     Affords w spare result           a list of which the view tells this is granted what it costs, or refused
+--     TellsRun v w items result        on whatever filestore the view describes: each item is successful, and the view
+--                                      after them says what they need and take; or the first one that is not
+--                                      successful is named
+--     JudgesAlone, Judges              a list whose file may be installed and whose requests succeed, with the view
+--                                      that says what it needs and takes, or why it is refused;
+--                                      and what it is granted
+--     Affords w spare result           a list of which the view says this is granted what it costs, or refused
 use Rattle.std.specs.Prelude.{◌≡◌, ⊤, ℕ, ◌+◌, ◌-◌, ◌≤◌, min, max, List, Option, Some, None, Result, Ok, Err}
 use Rattle.cfdp_status.specs.declared.status.Status.{Status}
 use Rattle.cfdp_paths.specs.Paths.{Path}
@@ -18,10 +20,11 @@ use Rattle.cfdp_verifier.specs.declared.judging.Costs.{Costs}
 use Rattle.cfdp_verifier.specs.Verdict.{WouldFail, Verdict, Refuse, Grant, capped, first_failure, judged, judged_apart}
 
 abbrev pub FailsSo : NotGranted → Option (ℕ × Status) → Type 0
-FailsSo (no.Refused refusal) failure = (i : ℕ) × (status : Status) × (failure ≡ Some (i, status)) × (refusal ≡ WouldFail i status)
+FailsSo (no.Refused refusal) failure = (i : ℕ) × (status : Status) × (failure ≡ Some (i, status))
+    × (refusal ≡ WouldFail i status)
 FailsSo no.Memory failure = ⊤
 
--- from F, where so many blocks were in use at first and at most, and so many steps are taken
+-- from F, where this many blocks were in use at first and at most, and this many steps are taken
 abbrev pub EndsSo : {X : Type 0} → List Path → Filestore → List Item → ℕ → ℕ → ℕ → Sketch → Result X NotGranted → Type 0
 EndsSo prefixes F items start high taken w (Ok _) =
     (first_failure 0 (statuses prefixes F 0 items) ≡ None)
@@ -41,7 +44,8 @@ RefusesSo no.Memory v = ⊤
 -- whatever is to spare
 abbrev pub JudgesAlone : List Path → Filestore → List ℕ → List Item → Result Sketch NotGranted → Type 0
 JudgesAlone prefixes F x items (Ok w) =
-    (needed : ℕ) × (taken : ℕ) × ((spare : ℕ) → judged_apart prefixes F spare x items None ≡ judged spare items None needed taken)
+    (needed : ℕ) × (taken : ℕ) × ((spare : ℕ) → judged_apart prefixes F spare x items None
+    ≡ judged spare items None needed taken)
     × (w.need ≡ min needed most_need) × (w.steps ≡ capped taken)
 JudgesAlone prefixes F x items (Err fault) = (spare : ℕ) → RefusesSo fault (judged_apart prefixes F spare x items None)
 
@@ -49,11 +53,12 @@ abbrev pub Judges : List Item → Verdict → Result Costs NotGranted → Type 0
 Judges items v (Ok costs) = v ≡ Grant items costs.blocks costs.steps
 Judges items v (Err fault) = RefusesSo fault v
 
--- where the view tells of a list that needs and takes so much
+-- where the view describes a list that needs and takes so much
 abbrev pub Settles : List Item → Verdict → Result Costs Refusal → Type 0
 Settles items v (Ok costs) = v ≡ Grant items costs.blocks costs.steps
 Settles items v (Err refusal) = v ≡ Refuse refusal
 
 abbrev pub Affords : Sketch → ℕ → Result Costs Refusal → Type 0
 Affords w spare result =
-    (items : List Item) (needed taken : ℕ) → w.need ≡ min needed most_need → w.steps ≡ capped taken → Settles items (judged spare items None needed taken) result
+    (items : List Item) (needed taken : ℕ) → w.need ≡ min needed most_need → w.steps ≡ capped taken →
+    Settles items (judged spare items None needed taken) result

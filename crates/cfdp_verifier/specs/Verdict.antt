@@ -1,14 +1,16 @@
 -- The verdict on a list of filestore requests, before its transaction begins: what is refused, and what is granted.
--- (CCSDS 727.0-B-5 §4.9 performs the requests once the file is there; that they are judged before is this project's own.)
+-- (The filestore procedures of CCSDS 727.0-B-5 perform the requests once the file is there; that they are judged before
+-- is this project's own.)
 --     Proposal                  a list as it was sent, with its file's destination and the bound of its length
 --     Verdict                   why it is refused (a Refusal, which may name a Place), or what it is granted
 --     named, request_named      the path of a second name;  a request of its paths;  request_by: of its names
---     Parsed, parsed P          its items, or the first name that is no path: parsed_from (and_then) goes through the requests, and
---                               with_destination (with_file) puts the install before them
+--     Parsed, parsed P          its items, or the first name that is no path: parsed_from (and_then) goes through the
+--                               requests, and with_destination (with_file) puts the install before them
 --     first_failure i answers   the first request that is not successful, counted from i
---     destination_allowed       whether the file may be installed as things stand
+--     destination_allowed       whether the file may be installed as things are
 --     capped                    a number as 32 bits carry it
---     verdict prefixes F leases spare P      by the number of requests; verdict_of: by the names; judged_apart: by the leases and the
+--     verdict prefixes F leases spare P      by the number of requests; verdict_of: by the names; judged_apart: by the
+--                                            leases and the
 --                               install; judged: by the first failure, the steps and the blocks
 use Rattle.std.specs.Prelude.{ℕ, ◌+◌, min, Bool, true, if◌then◌else◌, nat_lt, List, [], ◌∷◌, length, replicate, Option, Some, None}
 use Rattle.cfdp_status.specs.declared.action.Action.{Action}
@@ -120,12 +122,15 @@ abbrev pub judged_apart : List Path → Filestore → ℕ → List ℕ → List 
 judged_apart prefixes F spare x items (Some id) = Refuse (Conflict id)
 judged_apart prefixes F spare x items None =
     if destination_allowed prefixes (alone F x) items
-    then judged spare items (first_failure 0 (statuses_alone prefixes F x items)) (need_alone prefixes F x items) (steps_alone prefixes F x items)
+    then judged spare items (first_failure 0 (statuses_alone prefixes F x items)) (need_alone prefixes F x items)
+    (steps_alone prefixes F x items)
     else Refuse DestinationNotAllowed
 
 abbrev pub verdict_of : List Path → Filestore → Grants → ℕ → Proposal → Parsed → Verdict
 verdict_of prefixes F leases spare P (Bad place) = Refuse (BadPath place)
-verdict_of prefixes F leases spare P (Good items) = judged_apart prefixes F spare (replicate P.bound 0) items (first_conflict leases (footprint_of items))
+verdict_of prefixes F leases spare P (Good items) = judged_apart prefixes F spare (replicate P.bound 0) items
+    (first_conflict leases (footprint_of items))
 
 abbrev pub verdict : List Path → Filestore → Grants → ℕ → Proposal → Verdict
-verdict prefixes F leases spare P = if nat_lt 64 (length P.requests) then Refuse TooManyRequests else verdict_of prefixes F leases spare P (parsed P)
+verdict prefixes F leases spare P = if nat_lt 64 (length P.requests) then Refuse TooManyRequests
+    else verdict_of prefixes F leases spare P (parsed P)

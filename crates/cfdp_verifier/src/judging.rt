@@ -17,7 +17,7 @@ use cfdp_states::{ClosedView, View};
 use cfdp_status::Action;
 use std::alloc::Global;
 
-/// What a list takes at most when it runs alone; what is told of each stops at the greatest u32.
+/// What a list takes at most when it runs alone; what is said of each stops at the greatest u32.
 #[derive(Clone, Copy, Debug)]
 pub struct Costs {
     /// How many blocks more than now are in use at most.
@@ -26,8 +26,8 @@ pub struct Costs {
     pub steps: u32,
 }
 
-/// Runs the items alone, and answers what they cost where no more than that is left: the list may take so many steps,
-/// and so many blocks are to spare.
+/// Runs the items alone, and returns what they cost where no more than that is left: the list may take this many steps,
+/// and this many blocks are to spare.
 pub fn judge<S: Filestore>(
     alloc: Global,
     store: &S,
@@ -41,7 +41,8 @@ pub fn judge<S: Filestore>(
     requires few { vec_len items.now.requests ≤ 64 }
     requires bound { IfNone items.now.destination (bound ≡ 0) }
     ensures { let list = items_of items.now.destination items.now.requests.items in
-        Judges list (judged_apart protected.now (S.state store.now).filestore spare (replicate bound 0) list None) result }
+        Judges list (judged_apart protected.now (S.state store.now).filestore spare (replicate bound 0) list None)
+        result }
 {
     let view = run_alone(alloc, store, protected, footprint, items, bound)?;
     match afford(&view, spare) {
@@ -67,8 +68,8 @@ fn afford(view: &View<'_>, spare: u32) -> Result<Costs, Refusal>
     }
 }
 
-/// Runs the items alone, with a file of as many octets as the bound: the view after them, which tells what they cost, or
-/// the install or the first request that does not succeed. What is below a directory is looked at only where an item
+/// Runs the items alone, with a file of as many octets as the bound: the view after them, which says what they cost,
+/// or the install or the first request that does not succeed. What is below a directory is looked at only where an item
 /// names it.
 fn run_alone<'a, S: Filestore>(
     alloc: Global,
@@ -100,7 +101,7 @@ fn moves_directory<S: Filestore>(store: &S, requests: &[Request]) -> bool {
     })
 }
 
-/// Runs the items on a view with closed directories; `None` where that can't tell.
+/// Runs the items on a view with closed directories; `None` where that can't say.
 fn run_closed<'a, S: Filestore>(
     alloc: Global,
     store: &S,
@@ -132,7 +133,7 @@ fn run_closed<'a, S: Filestore>(
 }
 
 /// Runs the requests one after another on a view with closed directories, up to the first that is not successful;
-/// `false` where the view can't tell of one.
+/// `false` where the view can't describe one.
 fn run_requests_closed(view: &mut ClosedView<'_>, requests: &[Request]) -> Result<bool, NotGranted>
     requires { length requests.now ≤ 64 }
     ensures { TellsClosedRun view.old.view view.old.closed.items view.new.view (map Perform requests.now) result }

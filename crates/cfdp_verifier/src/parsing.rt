@@ -67,7 +67,7 @@ fn parse_requests(alloc: Global, requests: &[FilestoreRequest]) -> Result<Vec<Re
 ///
 /// # Errors
 ///
-/// Want of memory. Cost: a pass over the names, and an allocation for each.
+/// Out of memory. Cost: a pass over the names, and an allocation for each.
 pub fn parse_request(alloc: Global, request: &FilestoreRequest) -> Result<Option<Request>, Memory>
     ensures { IfOk result (λ parsed. parsed ≡ request_by request.now) }
 {

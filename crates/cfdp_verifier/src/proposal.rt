@@ -21,5 +21,9 @@ impl<'a> Model for Proposal<'a> {
 
     ghost Value = { words.Proposal };
 
-    ghost view = { λ p. record { destination = option_map (λ name. name.now) p.destination; bound = p.bound; requests = p.requests.now } };
+    ghost view = { λ p. record {
+      destination = option_map (λ name. name.now) p.destination;
+      bound = p.bound;
+      requests = p.requests.now;
+    } };
 }

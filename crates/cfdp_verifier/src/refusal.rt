@@ -25,13 +25,13 @@ pub enum Refusal {
     BadPath(Place),
     /// The first transaction in order of admission whose leased paths are in the way.
     Conflict(TransactionId),
-    /// The file can't be installed at its destination as things stand.
+    /// The file can't be installed at its destination as things are.
     DestinationNotAllowed,
     /// The requests before the one with this number are successful, and that one has this status.
     WouldFail(u8, Status),
-    /// The list may take so many steps, which is more than 65,536.
+    /// The list may take this many steps, which is more than 65,536.
     TooLong(u32),
-    /// The list may take so many blocks, and only so many are to spare.
+    /// The list may take this many blocks, and only this many are to spare.
     NoRoom(u32, u32),
 }
 

@@ -17,20 +17,20 @@ use cfdp_paths::Memory;
 use cfdp_quota::Quota;
 use std::alloc::{AllocError, Global};
 
-/// The verdict on a list of filestore requests (CCSDS 727.0-B-5 §4.9), before its transaction begins: it is granted
-/// exactly where no test refuses it, and otherwise the first that does is answered. The tests are, in this order: it has
-/// at most 64 requests; its names are paths; its footprint conflicts with no lease; run alone on the store as it is, with
-/// unlimited room and a file of as many octets as the bound, its file may be installed, and each request is successful;
-/// it takes at most 65,536 steps; and it needs no more blocks than are to spare.
+/// The verdict on a list of filestore requests (CCSDS 727.0-B-5, filestore procedures), before its transaction begins:
+/// it is granted exactly where no test refuses it, and otherwise the first that does is returned. The tests are, in
+/// this order: it has at most 64 requests; its names are paths; its footprint conflicts with no lease; run alone on the
+/// store as it is, with unlimited room and a file of as many octets as the bound, its file may be installed, and each
+/// request is successful; it takes at most 65,536 steps; and it needs no more blocks than are to spare.
 ///
 /// The list is run on a view of kinds and sizes, never on the store. Without a destination the bound has to be 0.
 ///
 /// # Errors
 ///
-/// Want of memory, which a list of more than 64 requests does not take. Cost: that of reading the names, of `footprint`,
-/// `Leases::conflict` and `View::of` on what they name, and of one `View::install` and a `View::apply` for each request.
-/// A list that moves a directory takes a `ClosedView` instead, and the `View` only if that can't tell; each list takes one
-/// `kind` for each rename.
+/// Out of memory, which a list of more than 64 requests does not take. Cost: that of reading the names, of
+/// `footprint`, `Leases::conflict` and `View::of` on what they name, and of one `View::install` and a `View::apply` for
+/// each request. A list that moves a directory takes a `ClosedView` instead, and the `View` only if that can't say;
+/// each list takes one `kind` for each rename.
 pub fn verify<S: Filestore>(
     alloc: Global,
     store: &S,
@@ -66,7 +66,8 @@ fn find_grant<S: Filestore>(
 ) -> Result<Grant, NotGranted>
     requires few { length proposal.now.requests ≤ 64 }
     requires bound { IfNone proposal.now.destination (proposal.now.bound ≡ 0) }
-    ensures { Grants (verdict protected.now (S.state store.now).filestore leases.now (spare quota.now) proposal.now) result }
+    ensures { Grants (verdict protected.now (S.state store.now).filestore leases.now (spare quota.now) proposal.now)
+        result }
 {
     let items = parse_items(alloc, proposal)?;
     let footprint = footprint(alloc, &items.requests, items.destination.as_ref())?;

@@ -1,7 +1,6 @@
 -- The way back in lists of blocks that grow at their end. Beside each block there is its way: the block before it in
--- its list, and a block further back, to which a search may jump, with how many blocks back it is. A list is given by its
--- blocks:
--- `blocks 0` is the first one, `blocks 1` the second one, and so on.
+-- its list, and a block further back, to which a search may jump, with how many blocks back it is. A list is given by
+-- its blocks: `blocks 0` is the first one, `blocks 1` the second one, and so on.
 --     no_way                        the way of a block that is in no list
 --     way_of ways block             the way of a block
 --     LeadsBack ways blocks k       the way of the block at the index k names the block before it, if there is one, and

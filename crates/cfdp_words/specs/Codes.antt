@@ -36,21 +36,28 @@ condition_words code = words_in conditions reserved code
 -- those of the registry for checksum types
 abbrev pub checksums : List (ℕ × List ℕ)
 checksums =
-    (0, codes "modular") ∷ (1, codes "Proximity-1 CRC-32") ∷ (2, codes "CRC-32C") ∷ (3, codes "CRC-32 of IEEE 802.3") ∷ (15, codes "null") ∷ []
+    (0, codes "modular") ∷ (1, codes "Proximity-1 CRC-32") ∷ (2, codes "CRC-32C") ∷ (3, codes "CRC-32 of IEEE 802.3") ∷
+    (15, codes "null") ∷ []
 
 abbrev pub checksum_words : ℕ → List ℕ
 checksum_words code = words_in checksums reserved code
 
 abbrev pub file_statuses : List (ℕ × List ℕ)
 file_statuses =
-    (0, codes "Discarded deliberately") ∷ (1, codes "Discarded due to filestore rejection") ∷ (2, codes "Retained in filestore successfully") ∷ []
+    (0, codes "Discarded deliberately") ∷ (1, codes "Discarded due to filestore rejection") ∷ (
+      2,
+      codes "Retained in filestore successfully",
+    ) ∷ []
 
 abbrev pub file_status_words : ℕ → List ℕ
 file_status_words code = words_in file_statuses (codes "File status unreported") code
 
 abbrev pub directives : List (ℕ × List ℕ)
 directives =
-    (4, codes "EOF") ∷ (5, codes "Finished") ∷ (6, codes "ACK") ∷ (7, codes "Metadata") ∷ (8, codes "NAK") ∷ (9, codes "Prompt")
+    (4, codes "EOF") ∷ (5, codes "Finished") ∷ (6, codes "ACK") ∷ (7, codes "Metadata") ∷ (8, codes "NAK") ∷ (
+      9,
+      codes "Prompt",
+    )
     ∷ (12, codes "Keep Alive") ∷ []
 
 abbrev pub directive_words : ℕ → List ℕ

@@ -126,7 +126,8 @@ response_item style r =
     ++ item_closing style
 
 abbrev pub range_item : Style → ℕ × ℕ → List ℕ
-range_item Text range = label Text names.SegmentRequest ++ decimal range.0 ++ codes " to " ++ decimal range.1 ++ codes "\n"
+range_item Text range = label Text names.SegmentRequest ++ decimal range.0 ++ codes " to " ++ decimal range.1
+    ++ codes "\n"
 range_item Json range = codes "[" ++ decimal range.0 ++ codes "," ++ decimal range.1 ++ codes "]"
 
 abbrev pub message_item : Style → List ℕ → List ℕ
@@ -215,13 +216,16 @@ nak_text style len crc (Err fault) = damaged style len (nak_fault_words fault)
 
 abbrev pub other_text : Style → ℕ → Bool → List ℕ → ℕ → List ℕ
 other_text style len crc octets code =
-    if code == 8 then nak_text style len crc (nak_within 8190 octets) else directive_text style len crc (directive_at octets)
+    if code == 8 then nak_text style len crc (nak_within 8190 octets)
+    else directive_text style len crc (directive_at octets)
 
 abbrev pub read_text : Style → ℕ → Bool → List ℕ → Result Pdu PduFault → List ℕ
-read_text style len crc octets (Ok (pdus.Metadata h m)) = pdu_text style len crc kinds.Metadata h (metadata_fields style (messages_at octets) m)
+read_text style len crc octets (Ok (pdus.Metadata h m)) =
+    pdu_text style len crc kinds.Metadata h (metadata_fields style (messages_at octets) m)
 read_text style len crc octets (Ok (pdus.FileData h d)) = pdu_text style len crc kinds.FileData h (data_fields style d)
 read_text style len crc octets (Ok (pdus.Eof h eof)) = pdu_text style len crc kinds.Eof h (eof_fields style eof)
-read_text style len crc octets (Ok (pdus.Finished h f)) = pdu_text style len crc kinds.Finished h (finished_fields style f)
+read_text style len crc octets (Ok (pdus.Finished h f)) =
+    pdu_text style len crc kinds.Finished h (finished_fields style f)
 read_text style len crc octets (Ok (pdus.NotOurs h code)) = other_text style len crc octets code
 read_text style len crc octets (Err fault) = damaged style len (text_of fault)
 

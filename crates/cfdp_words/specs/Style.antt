@@ -69,7 +69,8 @@ flag_field style name flag = label style name ++ flag_word style flag ++ field_e
 -- in JSON it is a member of its own, whose key ends in `_means`
 abbrev pub meaning_text : Style → Name → List ℕ → List ℕ
 meaning_text Text name meaning = codes ", " ++ meaning ++ codes "\n"
-meaning_text Json name meaning = codes ",\"" ++ map key_octet (name_words name) ++ codes "_means\":\"" ++ meaning ++ codes "\""
+meaning_text Json name meaning = codes ",\"" ++ map key_octet (name_words name) ++ codes "_means\":\"" ++ meaning
+    ++ codes "\""
 
 unfoldable pub code_field : Style → Name → ℕ → List ℕ → List ℕ
 code_field style name code meaning = label style name ++ decimal code ++ meaning_text style name meaning
@@ -78,4 +79,5 @@ unfoldable pub name_field : Style → Name → List ℕ → List ℕ
 name_field style name value = label style name ++ quote style ++ name_text style value ++ quote style ++ field_end style
 
 unfoldable pub digits_field : Style → Name → List ℕ → List ℕ
-digits_field style name octets = label style name ++ quote style ++ encode_lower octets ++ quote style ++ field_end style
+digits_field style name octets = label style name ++ quote style ++ encode_lower octets ++ quote style
+    ++ field_end style

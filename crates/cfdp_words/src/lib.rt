@@ -1,7 +1,8 @@
-//! PDUs in words: the kind of a PDU, and each of its fields by its name in CCSDS 727.0-B-5 §5, as lines for people or as a JSON object.
+//! PDUs in words: the kind of a PDU, and each of its fields by its name in CCSDS 727.0-B-5 §5, as lines for people or
+//! as a JSON object.
 //!
-//! [`show`] writes what octets say. Its text is a function of the octets, which `specs/Shown.antt` defines. Octets that are no PDU are
-//! shown as damaged, with the first fault.
+//! [`show`] writes what octets say. Its text is a function of the octets, which `specs/Shown.antt` defines. Octets that
+//! are no PDU are shown as damaged, with the first fault.
 #![tactic(auto)]
 
 mod codes;
@@ -11,5 +12,6 @@ mod names;
 mod said;
 mod style;
 
+pub use codes::condition_words;
 pub use said::show;
 pub use style::Style;

@@ -54,7 +54,8 @@ fn push_between(style: Style, text: &mut Vec<u8>) -> Result<(), AllocError>
 /// Appends the first field of a thing: its action.
 #[tactic(auto, unfolding(crate::specs::Shown::item_opening))]
 fn open_item(style: Style, name: Name, action: Action, text: &mut Vec<u8>) -> Result<(), AllocError>
-    ensures { OnOk result (text.new.items ≡ text.old.items ++ item_opening style name (code_of action) (action_words action)) }
+    ensures { OnOk result (text.new.items ≡ text.old.items
+        ++ item_opening style name (code_of action) (action_words action)) }
 {
     let code = u64::from(action.code());
     let words = action_words(action);
@@ -80,7 +81,8 @@ fn close_item(style: Style, text: &mut Vec<u8>) -> Result<(), AllocError>
 
 /// Appends the second file name, if there is one.
 fn push_second(style: Style, second: Option<&[u8]>, text: &mut Vec<u8>) -> Result<(), AllocError>
-    ensures { OnOk result (text.new.items ≡ text.old.items ++ second_field style (option_map (λ name. name.now) second.entry)) }
+    ensures { OnOk result (text.new.items ≡ text.old.items
+        ++ second_field style (option_map (λ name. name.now) second.entry)) }
 {
     match second {
         Some(name) => push_name_field(style, Name::SecondFileName, name, text),
@@ -239,7 +241,8 @@ pub(crate) fn push_requests(
     requests: &[FilestoreRequest],
     text: &mut Vec<u8>,
 ) -> Result<(), AllocError>
-    ensures { OnOk result (text.new.items ≡ text.old.items ++ listed style names.FilestoreRequests (request_item style) requests.now) }
+    ensures { OnOk result (text.new.items ≡ text.old.items
+        ++ listed style names.FilestoreRequests (request_item style) requests.now) }
 {
     open_list(style, Name::FilestoreRequests, text)?;
     push_each_request(style, requests, text)?;
@@ -253,7 +256,8 @@ pub(crate) fn push_responses(
     responses: &[FilestoreResponse],
     text: &mut Vec<u8>,
 ) -> Result<(), AllocError>
-    ensures { OnOk result (text.new.items ≡ text.old.items ++ listed style names.FilestoreResponses (response_item style) responses.now) }
+    ensures { OnOk result (text.new.items ≡ text.old.items
+        ++ listed style names.FilestoreResponses (response_item style) responses.now) }
 {
     open_list(style, Name::FilestoreResponses, text)?;
     push_each_response(style, responses, text)?;
@@ -267,7 +271,8 @@ pub(crate) fn push_ranges(
     ranges: &[Range],
     text: &mut Vec<u8>,
 ) -> Result<(), AllocError>
-    ensures { OnOk result (text.new.items ≡ text.old.items ++ listed style names.SegmentRequests (range_item style) ranges.now) }
+    ensures { OnOk result (text.new.items ≡ text.old.items
+        ++ listed style names.SegmentRequests (range_item style) ranges.now) }
 {
     open_list(style, Name::SegmentRequests, text)?;
     push_each_range(style, ranges, text)?;
@@ -281,7 +286,8 @@ pub(crate) fn push_messages(
     messages: Messages<'_>,
     text: &mut Vec<u8>,
 ) -> Result<(), AllocError>
-    ensures { OnOk result (text.new.items ≡ text.old.items ++ listed style names.MessagesToUser (message_item style) messages.entry) }
+    ensures { OnOk result (text.new.items ≡ text.old.items
+        ++ listed style names.MessagesToUser (message_item style) messages.entry) }
 {
     open_list(style, Name::MessagesToUser, text)?;
     push_each_message(style, messages, text)?;

@@ -163,7 +163,8 @@ fn push_start(
     header: &Header,
     text: &mut Vec<u8>,
 ) -> Result<(), AllocError>
-    ensures { OnOk result (text.new.items ≡ text.old.items ++ opening style kind came.len ++ header_fields style came.has_crc header.now) }
+    ensures { OnOk result (text.new.items ≡ text.old.items ++ opening style kind came.len
+        ++ header_fields style came.has_crc header.now) }
 {
     push_opening(style, kind, came.len, text)?;
     push_header(style, came.has_crc, header, text)
@@ -202,7 +203,8 @@ fn push_metadata(
 
 /// Appends a condition code (CCSDS 727.0-B-5, the condition codes).
 fn push_condition(style: Style, condition: u8, text: &mut Vec<u8>) -> Result<(), AllocError>
-    ensures { OnOk result (text.new.items ≡ text.old.items ++ code_field style names.ConditionCode condition (condition_words condition)) }
+    ensures { OnOk result (text.new.items ≡ text.old.items
+        ++ code_field style names.ConditionCode condition (condition_words condition)) }
 {
     push_code_field(
         style,
@@ -386,7 +388,8 @@ fn push_ack_pdu(
     ack: &Ack,
     text: &mut Vec<u8>,
 ) -> Result<(), AllocError>
-    ensures { OnOk result (text.new.items ≡ text.old.items ++ pdu_text style came.len came.has_crc kinds.Ack header.now (ack_fields style ack.now)) }
+    ensures { OnOk result (text.new.items ≡ text.old.items
+        ++ pdu_text style came.len came.has_crc kinds.Ack header.now (ack_fields style ack.now)) }
 {
     push_start(style, came, Kind::Ack, header, text)?;
     push_ack(style, ack, text)?;
@@ -401,7 +404,9 @@ fn push_prompt_pdu(
     prompt: Prompt,
     text: &mut Vec<u8>,
 ) -> Result<(), AllocError>
-    ensures { OnOk result (text.new.items ≡ text.old.items ++ pdu_text style came.len came.has_crc kinds.Prompt header.now (plain_field style names.ResponseRequired (prompt_words prompt))) }
+    ensures { OnOk result (text.new.items ≡ text.old.items
+        ++ pdu_text style came.len came.has_crc kinds.Prompt header.now
+        (plain_field style names.ResponseRequired (prompt_words prompt))) }
 {
     push_start(style, came, Kind::Prompt, header, text)?;
     push_field(style, Name::ResponseRequired, prompt_words(prompt), text)?;
@@ -416,7 +421,9 @@ fn push_keep_alive_pdu(
     progress: u64,
     text: &mut Vec<u8>,
 ) -> Result<(), AllocError>
-    ensures { OnOk result (text.new.items ≡ text.old.items ++ pdu_text style came.len came.has_crc kinds.KeepAlive header.now (number_field style names.Progress progress)) }
+    ensures { OnOk result (text.new.items ≡ text.old.items
+        ++ pdu_text style came.len came.has_crc kinds.KeepAlive header.now
+        (number_field style names.Progress progress)) }
 {
     push_start(style, came, Kind::KeepAlive, header, text)?;
     push_number_field(style, Name::Progress, progress, text)?;
@@ -430,7 +437,8 @@ fn push_directive(
     octets: &[u8],
     text: &mut Vec<u8>,
 ) -> Result<(), AllocError>
-    ensures { OnOk result (text.new.items ≡ text.old.items ++ directive_text style came.len came.has_crc (directive_at octets.now)) }
+    ensures { OnOk result (text.new.items ≡ text.old.items
+        ++ directive_text style came.len came.has_crc (directive_at octets.now)) }
 {
     match read_directive(octets) {
         Ok(Directive::Ack(header, ack)) => push_ack_pdu(style, came, &header, &ack, text),
@@ -453,7 +461,9 @@ fn push_nak_pdu(
     text: &mut Vec<u8>,
 ) -> Result<(), AllocError>
     requires { nak.now.count ≤ length requests.now }
-    ensures { OnOk result (text.new.items ≡ text.old.items ++ pdu_text style came.len came.has_crc kinds.Nak nak.now.header (nak_fields style (nak_in requests.now nak.now))) }
+    ensures { OnOk result (text.new.items ≡ text.old.items
+        ++ pdu_text style came.len came.has_crc kinds.Nak nak.now.header
+        (nak_fields style (nak_in requests.now nak.now))) }
 {
     push_start(style, came, Kind::Nak, &nak.header, text)?;
     push_nak(style, nak, requests, text)?;
@@ -468,7 +478,8 @@ fn push_read_nak(
     octets: &[u8],
     text: &mut Vec<u8>,
 ) -> Result<(), AllocError>
-    ensures { OnOk result (text.new.items ≡ text.old.items ++ nak_text style came.len came.has_crc (nak_within 8190 octets.now)) }
+    ensures { OnOk result (text.new.items ≡ text.old.items
+        ++ nak_text style came.len came.has_crc (nak_within 8190 octets.now)) }
 {
     let mut requests = vec![in alloc; (0u64, 0u64); MOST_REQUESTS]?;
     match read_nak(octets, &mut requests) {
@@ -504,7 +515,9 @@ fn push_metadata_pdu(
     metadata: &Metadata,
     text: &mut Vec<u8>,
 ) -> Result<(), AllocError>
-    ensures { OnOk result (text.new.items ≡ text.old.items ++ pdu_text style came.len came.has_crc kinds.Metadata header.now (metadata_fields style messages.entry metadata.now)) }
+    ensures { OnOk result (text.new.items ≡ text.old.items
+        ++ pdu_text style came.len came.has_crc kinds.Metadata header.now
+        (metadata_fields style messages.entry metadata.now)) }
 {
     push_start(style, came, Kind::Metadata, header, text)?;
     push_metadata(style, messages, metadata, text)?;
@@ -519,7 +532,8 @@ fn push_data_pdu(
     file_data: &FileData,
     text: &mut Vec<u8>,
 ) -> Result<(), AllocError>
-    ensures { OnOk result (text.new.items ≡ text.old.items ++ pdu_text style came.len came.has_crc kinds.FileData header.now (data_fields style file_data.now)) }
+    ensures { OnOk result (text.new.items ≡ text.old.items
+        ++ pdu_text style came.len came.has_crc kinds.FileData header.now (data_fields style file_data.now)) }
 {
     push_start(style, came, Kind::FileData, header, text)?;
     push_data(style, file_data, text)?;
@@ -534,7 +548,8 @@ fn push_eof_pdu(
     eof: &Eof,
     text: &mut Vec<u8>,
 ) -> Result<(), AllocError>
-    ensures { OnOk result (text.new.items ≡ text.old.items ++ pdu_text style came.len came.has_crc kinds.Eof header.now (eof_fields style eof.now)) }
+    ensures { OnOk result (text.new.items ≡ text.old.items
+        ++ pdu_text style came.len came.has_crc kinds.Eof header.now (eof_fields style eof.now)) }
 {
     push_start(style, came, Kind::Eof, header, text)?;
     push_eof(style, eof, text)?;
@@ -549,7 +564,8 @@ fn push_finished_pdu(
     finished: &Finished,
     text: &mut Vec<u8>,
 ) -> Result<(), AllocError>
-    ensures { OnOk result (text.new.items ≡ text.old.items ++ pdu_text style came.len came.has_crc kinds.Finished header.now (finished_fields style finished.now)) }
+    ensures { OnOk result (text.new.items ≡ text.old.items
+        ++ pdu_text style came.len came.has_crc kinds.Finished header.now (finished_fields style finished.now)) }
 {
     push_start(style, came, Kind::Finished, header, text)?;
     push_finished(style, finished, text)?;
@@ -564,7 +580,8 @@ fn push_plain(
     octets: &[u8],
     text: &mut Vec<u8>,
 ) -> Result<(), AllocError>
-    ensures { OnOk result (text.new.items ≡ text.old.items ++ read_text style came.len came.has_crc octets.now (pdu_at octets.now)) }
+    ensures { OnOk result (text.new.items ≡ text.old.items
+        ++ read_text style came.len came.has_crc octets.now (pdu_at octets.now)) }
 {
     match read_pdu(alloc, octets) {
         Ok(Pdu::Metadata(header, metadata)) => {
@@ -582,8 +599,8 @@ fn push_plain(
     }
 }
 
-/// What octets say: the kind of their PDU and each of its fields by its name (CCSDS 727.0-B-5 §5); or that they are damaged, and the
-/// first fault. The octets are scratch afterwards: a CRC is taken off in place.
+/// What octets say: the kind of their PDU and each of its fields by its name (CCSDS 727.0-B-5 §5); or that they are
+/// damaged, and the first fault. The octets are scratch afterwards: a CRC is taken off in place.
 ///
 /// Of the octets of a file it says how many they are. The fault location of an EOF PDU is left out.
 ///

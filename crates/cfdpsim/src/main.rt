@@ -1,10 +1,10 @@
 //! `cfdpsim`: runs scripts over the receiving side of CFDP (CCSDS 727.0-B-5).
 //!
-//! `cfdpsim plain` reads a script of filestore requests from standard input, and `cfdpsim replay [FILE]` one of PDUs and
-//! local events from a file, or from standard input without one. `cfdpsim links FILE..` reads one to four such files and runs
-//! them all at once, a worker each, on one entity. Each writes its report to standard output. What goes wrong is told in one
-//! line on standard error and by the exit status: 1 for a read, a write or memory that failed, a full journal, or receipts
-//! that differ from it, 2 for unknown words, 3 for a bad line.
+//! `cfdpsim plain` reads a script of filestore requests from standard input, and `cfdpsim replay [FILE]` one of PDUs
+//! and local events from a file, or from standard input without one. `cfdpsim links FILE..` reads one to four such
+//! files and runs them all at once, a worker each, on one entity. Each writes its report to standard output. What goes
+//! wrong is reported in one line on standard error and by the exit status: 1 for a read, a write or memory that failed,
+//! a full journal, or receipts that differ from it, 2 for unknown words, 3 for a bad line.
 #![tactic(auto)]
 
 use cfdp_command_line::{Asked, Opens, parse, read_all, read_words};
@@ -68,8 +68,8 @@ fn run_replay<R: AllocGlobal + Print, I: Read + Drop>(rt: &R, input: I) -> Progr
     end_of(replay(rt.alloc(), &mut reader, &mut writer))
 }
 
-/// `cfdpsim links`: from these files, which are read before a line of them is judged, to standard output, unbuffered too.
-/// More files than `links` takes are unknown words.
+/// `cfdpsim links`: from these files, which are read before a line of them is judged, to standard output, unbuffered
+/// too. More files than `links` takes are unknown words.
 fn run_links<R: AllocGlobal + Files + Print + Threads + Wait + Sync>(
     rt: &R,
     paths: &[&str],

@@ -7,7 +7,7 @@ use memchr::{memchr, memrchr};
 /// The most octets: more than two vectors have.
 const MOST: usize = 40;
 
-/// Octets with a separator at one place and at another.
+/// Octets with a separator at one index and at another.
 fn with_separators(first: usize, second: usize) -> [u8; MOST] {
     let mut octets = [b'x'; MOST];
     for (place, octet) in octets.iter_mut().enumerate() {

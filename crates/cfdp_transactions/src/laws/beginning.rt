@@ -1,5 +1,5 @@
-//! What is true of an entity that begins over a filestore which may have directories and files already, and of what is put
-//! there.
+//! What is true of an entity that begins over a filestore which may have directories and files already, and of what is
+//! put there.
 
 ghost use Rattle.cfdp_transactions.specs.Beginning.{StartIsEmpty, EmptyIsGood, PutIsGood, PutIsSound, GoodStartIsSound, HeadlineFrom, EachKeyIsAPathFrom, DoneIsInstalledFrom, FirstIsInstalledFrom, OutcomesFitFrom};
 ghost use Rattle.cfdp_transactions.specs.Restart.{PutBackIsSame};
@@ -27,8 +27,8 @@ pub fn put_is_sound()
     ensures { PutIsSound }
 {}
 
-/// All directories and files of a sound entity's filestore, in path order, can be put into the empty filestore of a new entity of
-/// the same configuration. That one then has the same, and nothing is staged.
+/// All directories and files of a sound entity's filestore, in path order, can be put into the empty filestore of a new
+/// entity of the same configuration. That one then has the same, and nothing is staged.
 pub fn put_back_is_same()
     ensures { PutBackIsSame }
 {}
@@ -38,8 +38,9 @@ pub fn good_start_is_sound()
     ensures { GoodStartIsSound }
 {}
 
-/// For every configuration, every filestore with which such an entity may begin, and every list of events: each world of the run
-/// is sound, and from each world to the next all that [`next_is_promised`](crate::laws::next_is_promised) says holds.
+/// For every configuration, every filestore with which such an entity may begin, and every list of events: each world
+/// of the run is sound, and from each world to the next all that [`next_is_promised`](crate::laws::next_is_promised)
+/// says holds.
 pub fn headline_from()
     ensures { HeadlineFrom }
 {
@@ -53,22 +54,22 @@ pub fn each_key_is_a_path_from()
     keys_stay_paths();
 }
 
-/// Whatever the filestore at the start and the events, of an entry that is done the file was installed exactly where its Metadata
-/// names a destination, and its Finished PDU says so.
+/// Whatever the filestore at the start and the events, of an entry that is done the file was installed exactly where
+/// its Metadata names a destination, and its Finished PDU says so.
 pub fn done_is_installed_from()
     ensures { DoneIsInstalledFrom }
 {}
 
-/// Whatever the events before, 'installed' is replied to a step at the first item of a transaction whose Metadata names a
-/// destination, and to no other event.
+/// Whatever the events before, 'installed' is replied to a step at the first item of a transaction whose Metadata names
+/// a destination, and to no other event.
 pub fn first_is_installed_from()
     ensures { FirstIsInstalledFrom }
 {
     lower_laws();
 }
 
-/// Whatever the filestore at the start: where each event may have come from a PDU that was read, every outcome of the run meets
-/// what the writer of Finished PDUs needs, and all its lengths fit.
+/// Whatever the filestore at the start: where each event may have come from a PDU that was read, every outcome of the
+/// run meets what the writer of Finished PDUs needs, and all its lengths fit.
 pub fn outcomes_fit_from()
     ensures { OutcomesFitFrom }
 {}

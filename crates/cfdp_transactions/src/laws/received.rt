@@ -28,7 +28,7 @@ pub fn few_gaps()
     ensures { FewGaps }
 {}
 
-/// Octets that are kept in so many separate ranges have so many pieces.
+/// Octets that are kept in n separate ranges have n pieces.
 pub fn pieces_are_ranges()
     ensures { PiecesAreRanges }
 {}

@@ -22,7 +22,8 @@ returns-in_err-extended-clause-err c =
     let octets = c.in_err-extended.ensures.err ∙ c.into_octets-octets.ensures ∙ ap octets_in (sym here) in
     on_err c.from_residual.result _
     (shown_twice k (content.File c.extend-extended.new.octets) content.Directory es c.exchange.new.self c.set.new.self c.exchange.ensures.put c.set.ensures
-    ∙ ap (λ xs. put path_cmp k (File xs) (shown es)) octets ∙ put-same k (File (octets_in (found es k))) (shown es) c.requires.sorted (file_is (found es k) c.requires.file))
+    ∙ ap (λ xs. put path_cmp k (File xs) (shown es)) octets ∙ put-same k (File (octets_in (found es k))) (shown es) c.requires.sorted
+    (file_is (found es k) c.requires.file))
 
 pub returns-clause-ok : goal.returns-clause-ok
 returns-clause-ok c =
@@ -31,7 +32,8 @@ returns-clause-ok c =
     let es = c.args.entries.now in
     let here = found_some k es c.exchange.result (sym c.exchange.ensures.old) in
     let front = c.into_octets-octets.ensures ∙ ap octets_in (sym here) in
-    let back = second_octets c.eq.result k q content.Directory es c.exchange.new.self c.into_octets-octets.result.items c.eq.ensures c.exchange.ensures.put front in
+    let back = second_octets c.eq.result k q content.Directory es c.exchange.new.self c.into_octets-octets.result.items c.eq.ensures c.exchange.ensures.put
+    front in
     let octets = c.in_ok-extended.ensures.ok ∙ ap (λ xs. c.into_octets-octets.result.items ++ xs) back ∙ ap (λ xs. xs ++ octets_in (found es q)) front in
     shown_twice k (content.File c.extend-extended.new.octets) content.Directory es c.exchange.new.self c.set.new.self c.exchange.ensures.put c.set.ensures
     ∙ ap (λ xs. put path_cmp k (File xs) (shown es)) octets
@@ -49,6 +51,14 @@ returns-clause-to c =
     let es = c.args.entries.now in
     let here = found_some k es c.exchange.result (sym c.exchange.ensures.old) in
     let front = c.into_octets-octets.ensures ∙ ap octets_in (sym here) in
-    let back = second_octets c.eq.result k q content.Directory es c.exchange.new.self c.into_octets-octets.result.items c.eq.ensures c.exchange.ensures.put front in
+    let back = second_octets c.eq.result k q content.Directory es c.exchange.new.self c.into_octets-octets.result.items c.eq.ensures c.exchange.ensures.put
+    front in
     let octets = ap (λ (xs : List ℕ). length xs) (c.in_ok-extended.ensures.ok ∙ ap (λ xs. c.into_octets-octets.result.items ++ xs) back) in
-    omega (arith, c.len-to.ensures, c.extend-extended.new.octets.ok.0, octets, length-append c.into_octets-octets.result.items (octets_in (found es q)), ap (λ (xs : List ℕ). length xs) front)
+    omega (
+      arith,
+      c.len-to.ensures,
+      c.extend-extended.new.octets.ok.0,
+      octets,
+      length-append c.into_octets-octets.result.items (octets_in (found es q)),
+      ap (λ (xs : List ℕ). length xs) front,
+    )

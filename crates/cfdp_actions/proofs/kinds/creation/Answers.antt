@@ -13,4 +13,5 @@ returns-then-is_some g c = λ F node h. elim c.then-is_some.branch [
 
 pub returns : goal.returns
 returns g c = λ F node h.
-    ap (λ o. succeeded o.answer) (create_made _ _ _ _ _ (absent_by _ _ _ (c.kind.ensures F h) c.is_some.ensures c.if-is_some.false) (sym (c.parent_is_good.ensures F h) ∙ c.if-not-parent_is_good.false))
+    ap (λ o. succeeded o.answer) (create_made _ _ _ _ _ (absent_by _ _ _ (c.kind.ensures F h) c.is_some.ensures c.if-is_some.false)
+    (sym (c.parent_is_good.ensures F h) ∙ c.if-not-parent_is_good.false))

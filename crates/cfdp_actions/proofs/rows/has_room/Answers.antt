@@ -32,7 +32,13 @@ size-requires-in-ReplaceFile-2 g c =
 
 pub overflow_add-result : goal.overflow_add-result
 overflow_add-result g c =
-    omega (arith, c.free-in-ReplaceFile.ensures.value, c.free-in-ReplaceFile.ensures.capacity, blocks_of-small c.size-in-ReplaceFile.result (omega arith), c.blocks_of-given.ensures)
+    omega (
+      arith,
+      c.free-in-ReplaceFile.ensures.value,
+      c.free-in-ReplaceFile.ensures.capacity,
+      blocks_of-small c.size-in-ReplaceFile.result (omega arith),
+      c.blocks_of-given.ensures,
+    )
 
 pub returns-in-CreateFile : goal.returns-in-CreateFile
 returns-in-CreateFile g c =
@@ -57,5 +63,7 @@ returns-in-ReplaceFile g c =
 
 pub returns-in_default : goal.returns-in_default
 returns-in_default g c =
-    let none = takes_nothing _ _ c.requires (λ e. c.in_default.not-CreateFile (c.action.ensures ∙ e)) (λ e. c.in_default.not-CreateDirectory (c.action.ensures ∙ e)) (λ e. c.in_default.not-AppendFile (c.action.ensures ∙ e)) (λ e. c.in_default.not-ReplaceFile (c.action.ensures ∙ e)) in
+    let none = takes_nothing _ _ c.requires (λ e. c.in_default.not-CreateFile (c.action.ensures ∙ e))
+    (λ e. c.in_default.not-CreateDirectory (c.action.ensures ∙ e)) (λ e. c.in_default.not-AppendFile (c.action.ensures ∙ e))
+    (λ e. c.in_default.not-ReplaceFile (c.action.ensures ∙ e)) in
     sym (le-leb _ _ (omega (arith, none)))

@@ -13,4 +13,5 @@ returns-clause-list c =
     let v = c.index_mut.result.now in
     let before = octets_of-at lists slot v within c.index_mut.ensures.value in
     let after = with_items_is v c.overwrite_list.new.list (c.overwrite_list.auto.list ∙ c.as_mut_slice.ensures.len) in
-    octets_of-set lists slot _ ∙ ap (set (octets_of lists) slot) (after ∙ c.overwrite_list.ensures ∙ ap (λ xs. overwritten xs c.args.at c.args.octets.now) (c.as_mut_slice.ensures.value ∙ sym before))
+    octets_of-set lists slot _ ∙ ap (set (octets_of lists) slot) (after ∙ c.overwrite_list.ensures
+    ∙ ap (λ xs. overwritten xs c.args.at c.args.octets.now) (c.as_mut_slice.ensures.value ∙ sym before))

@@ -8,4 +8,5 @@ invariant-loop-entry l = l.blocks + weights (shown (drop l.entry-index l.entries
 
 abbrev pub invariant-loop-list : goal.invariant-loop-list
 invariant-loop-list l =
-    l.blocks + sum_by (λ octets. blocks_of (length octets)) (octets_of (drop l.list-index l.staged)) ≡ weights (shown l.fn.entries) + sum_by (λ octets. blocks_of (length octets)) (octets_of l.staged)
+    l.blocks + sum_by (λ octets. blocks_of (length octets)) (octets_of (drop l.list-index l.staged)) ≡ weights (shown l.fn.entries)
+    + sum_by (λ octets. blocks_of (length octets)) (octets_of l.staged)

@@ -10,5 +10,6 @@ returns-in_default-clause-lines c = lines_of-last c.args.octets.now (one_line-wh
 pub returns-clause-lines : goal.returns-clause-lines
 returns-clause-lines c =
     rw (take_rest c.args.octets.now (c.in-Some.end + 1))
-    (lines_of-first c.args.octets.now c.in-Some.end (one_line-before c.args.octets.now c.in-Some.end (omega (arith, c.in-Some.ensures.0.high)) c.in-Some.ensures.0.before)
+    (lines_of-first c.args.octets.now c.in-Some.end (one_line-before c.args.octets.now c.in-Some.end
+    (omega (arith, c.in-Some.ensures.0.high)) c.in-Some.ensures.0.before)
     c.in-Some.ensures.0.high c.in-Some.ensures.1)

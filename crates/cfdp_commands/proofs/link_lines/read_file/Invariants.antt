@@ -6,7 +6,8 @@ use Rattle.cfdp_commands.proofs.link_lines.read_file.Given as goal
 
 abbrev pub invariant-lines : goal.invariant-lines
 invariant-lines l = record {
-  reads : read_from l.number (record { stage = stage_of l.stage; said = map said_of l.messages.items }) (lines_of l.rest) ≡ file_said (stage_of l.initial.stage) l.script;
+  reads : read_from l.number (record { stage = stage_of l.stage; said = map said_of l.messages.items }) (lines_of l.rest)
+      ≡ file_said (stage_of l.initial.stage) l.script;
   number : l.number + length l.rest ≤ length l.script + 1;
 }
 

@@ -3,7 +3,7 @@ use Rattle.std.proofs.lemmas.List.{get_or-map, length-map}
 use Rattle.cfdp_commands.specs.Links.{said_of}
 use Rattle.cfdp_commands.proofs.messages.are_same.Goals as goal
 
--- what stands at this place says something else, and so do the lists
+-- what is at this index says something else, and so do the lists
 pub returns-then-not-is_same : goal.returns-then-not-is_same
 returns-then-not-is_same c =
     let xs = c.args.taken.now in

@@ -10,7 +10,8 @@ returns-clause-ok c =
     let flag : c.set_flag.new.pdu ≡ with_flag (take c.args.len c.args.buffer.now) c.in_ok-field.field =
     c.set_flag.ensures ∙ ap (λ (xs : List ℕ). with_flag xs c.in_ok-field.field) front in
     let long : length (take c.args.len c.args.buffer.now) ≡ c.args.len = ap length (sym front) ∙ c.split_at_mut-pdu.ensures.front_len in
-    sealed-is (take c.args.len c.args.buffer.now) c.set_flag.new.pdu c.put_crc.new.room (drop 2 c.split_at_mut-pdu.result.1.now) c.args.len c.in_ok-field.field c.crc16.result plain flag long c.crc16.ensures c.put_crc.ensures
+    sealed-is (take c.args.len c.args.buffer.now) c.set_flag.new.pdu c.put_crc.new.room
+    (drop 2 c.split_at_mut-pdu.result.1.now) c.args.len c.in_ok-field.field c.crc16.result plain flag long c.crc16.ensures c.put_crc.ensures
 
 pub returns-clause-rest : goal.returns-clause-rest
 returns-clause-rest c =

@@ -16,5 +16,6 @@ returns-in_ok-push_said-2 c =
     let a : Drawn = (c.args.held.now.line.items, c.args.held.now.draw) in
     let b : Drawn = (c.args.line.now, c.args.draw) in
     let other : is_pdu_line b.0 ≡ false = search rules in
-    text_of_both c.push_said-else-is_pdu_line-2.result c.args.text.now.items c.push_said-else-is_pdu_line.new.text.items c.push_said-else-is_pdu_line-2.new.text.items
+    text_of_both c.push_said-else-is_pdu_line-2.result c.args.text.now.items c.push_said-else-is_pdu_line.new.text.items
+    c.push_said-else-is_pdu_line-2.new.text.items
     (said a) (said b) (both a b) (in_turn a b other) (search rules) (search rules)

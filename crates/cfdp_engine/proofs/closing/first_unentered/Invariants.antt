@@ -5,5 +5,6 @@ use Rattle.cfdp_engine.proofs.closing.first_unentered.Given as goal
 abbrev pub invariant-loop-receipt : goal.invariant-loop-receipt
 invariant-loop-receipt l = record {
   entered : AreEntered l.journal l.seat.number l.low (drop l.receipt-index l.seat.receipts) → AreEntered l.journal l.seat.number 0 l.seat.receipts;
-  not : (place : ℕ) → IsFirstUnentered l.journal l.seat.number l.low (drop l.receipt-index l.seat.receipts) place → IsFirstUnentered l.journal l.seat.number 0 l.seat.receipts place;
+  not : (place : ℕ) → IsFirstUnentered l.journal l.seat.number l.low (drop l.receipt-index l.seat.receipts) place →
+      IsFirstUnentered l.journal l.seat.number 0 l.seat.receipts place;
 }

@@ -11,7 +11,8 @@ use Rattle.cfdp_leases.proofs.footprints.covers.Goals as goal
 exclusively : (fp : Footprint) (p : Path) → is_exclusive fp p ≡ true → Some Exclusive ≡ covers fp p
 exclusively fp p e = sym (ap (λ b. if b then Some Exclusive else if (is_shared fp p) then Some Shared else None) e)
 
-otherwise : (fp : Footprint) (p : Path) (shared : Bool) → is_exclusive fp p ≡ false → is_shared fp p ≡ shared → (if shared then Some Shared else None) ≡ covers fp p
+otherwise : (fp : Footprint) (p : Path) (shared : Bool) → is_exclusive fp p ≡ false → is_shared fp p ≡ shared → (if shared then Some Shared else None)
+    ≡ covers fp p
 otherwise fp p shared e s = sym ((λ i. if (e i) then Some Exclusive else if (s i) then Some Shared else None))
 
 pub returns-then-has_above : goal.returns-then-has_above
@@ -26,7 +27,8 @@ returns-then-contains c =
     (is_exclusive-view c.footprint.inside.exclusive.items c.footprint.inside.shared.items c.args.footprint.now c.args.path.now c.footprint.view_is
     ∙ ap (list_any (λ (held : Path). is_at_or_below c.args.path.now held)) (sym c.deref.ensures.value) ∙ sym c.has_above.ensures ∙ c.if-has_above.false)
     (is_shared-view c.footprint.inside.exclusive.items c.footprint.inside.shared.items c.args.footprint.now c.args.path.now c.footprint.view_is
-    ∙ ap (list_any (λ (held : Path). same_path held c.args.path.now)) (sym c.deref-else-has_above.ensures.value) ∙ sym c.contains.ensures.value ∙ c.if-contains.true)
+    ∙ ap (list_any (λ (held : Path). same_path held c.args.path.now)) (sym c.deref-else-has_above.ensures.value) ∙ sym c.contains.ensures.value
+    ∙ c.if-contains.true)
 
 pub returns-else-contains : goal.returns-else-contains
 returns-else-contains c =
@@ -34,4 +36,5 @@ returns-else-contains c =
     (is_exclusive-view c.footprint.inside.exclusive.items c.footprint.inside.shared.items c.args.footprint.now c.args.path.now c.footprint.view_is
     ∙ ap (list_any (λ (held : Path). is_at_or_below c.args.path.now held)) (sym c.deref.ensures.value) ∙ sym c.has_above.ensures ∙ c.if-has_above.false)
     (is_shared-view c.footprint.inside.exclusive.items c.footprint.inside.shared.items c.args.footprint.now c.args.path.now c.footprint.view_is
-    ∙ ap (list_any (λ (held : Path). same_path held c.args.path.now)) (sym c.deref-else-has_above.ensures.value) ∙ sym c.contains.ensures.value ∙ c.if-contains.false)
+    ∙ ap (list_any (λ (held : Path). same_path held c.args.path.now)) (sym c.deref-else-has_above.ensures.value) ∙ sym c.contains.ensures.value
+    ∙ c.if-contains.false)

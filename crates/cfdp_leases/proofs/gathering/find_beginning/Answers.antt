@@ -8,7 +8,8 @@ use Rattle.cfdp_leases.proofs.Ordered.{searchable, found_there, sorted-insert}
 use Rattle.cfdp_leases.proofs.gathering.find_beginning.Goals as goal
 
 -- what the search found, in either case
-found : (xs : List Path) (t : Path) (r : Result ℕ ℕ) → IsSearchInRange r (length xs) → IsBinarySearchResult (λ y. path_cmp y t) xs r → IfOk r (λ _. IsTrue (list_any (same_path t) xs))
+found : (xs : List Path) (t : Path) (r : Result ℕ ℕ) → IsSearchInRange r (length xs) → IsBinarySearchResult (λ y. path_cmp y t) xs r →
+    IfOk r (λ _. IsTrue (list_any (same_path t) xs))
 found xs t (Ok k) within at = found_there xs t k within at
 found xs t (Err i) within at = tt
 
@@ -16,7 +17,8 @@ place : (xs : List Path) (r : Result ℕ ℕ) → IsSearchInRange r (length xs) 
 place xs (Ok k) within = tt
 place xs (Err i) within = within
 
-gap : (xs : List Path) (t : Path) (r : Result ℕ ℕ) → IsStrictlySortedBy path_cmp xs → IsSearchInRange r (length xs) → IsBinarySearchResult (λ y. path_cmp y t) xs r → IfErr r (λ i. IsStrictlySortedBy path_cmp (insert xs i t))
+gap : (xs : List Path) (t : Path) (r : Result ℕ ℕ) → IsStrictlySortedBy path_cmp xs → IsSearchInRange r (length xs) →
+    IsBinarySearchResult (λ y. path_cmp y t) xs r → IfErr r (λ i. IsStrictlySortedBy path_cmp (insert xs i t))
 gap xs t (Ok k) sorted within at = tt
 gap xs t (Err i) sorted within at = let parts = at (searchable xs t sorted) in sorted-insert xs t i sorted within parts.0 parts.1
 

@@ -23,7 +23,8 @@ add_install-requires-clause-above c = rw (c.new-shared.ensures.items) none_close
 -- what was gathered so far has the ancestors of its paths
 pub add_above-requires-clause-above : goal.add_above-requires-clause-above
 add_above-requires-clause-above c =
-    listed_closed (items_of (option_copied c.args.destination) (take c.loop-request.request-index c.args.requests.now)) c.loop-request.shared.items c.loop-request.invariant.shared
+    listed_closed (items_of (option_copied c.args.destination) (take c.loop-request.request-index c.args.requests.now)) c.loop-request.shared.items
+    c.loop-request.invariant.shared
 
 pub loop-request-preserved : goal.loop-request-preserved
 loop-request-preserved c =
@@ -36,14 +37,18 @@ loop-request-preserved c =
       named = c.in_ok-add_changed.ensures.named c.loop-request.invariant.named;
       exclusive =
           c.in_ok-add_changed.ensures.added
-          ∙ same_set-append c.loop-request.exclusive.items (flat_map exclusive_in (items_of destination requests)) (exclusive_in item) c.loop-request.invariant.exclusive
-          ∙ ap set.from_list (sym (items-more exclusive_in destination c.args.requests.now c.loop-request.request-index c.request-item.result c.loop-request-test.true c.request-item.is));
+          ∙ same_set-append c.loop-request.exclusive.items (flat_map exclusive_in (items_of destination requests))
+          (exclusive_in item) c.loop-request.invariant.exclusive
+          ∙ ap set.from_list (sym (items-more exclusive_in destination c.args.requests.now c.loop-request.request-index c.request-item.result
+          c.loop-request-test.true c.request-item.is));
       shared =
-          same_set-then c.loop-request.shared.items c.add_above.new.paths.items c.add_read.new.paths.items (flat_map ancestors (exclusive_in item ++ read_in item)) (read_in item)
+          same_set-then c.loop-request.shared.items c.add_above.new.paths.items c.add_read.new.paths.items
+          (flat_map ancestors (exclusive_in item ++ read_in item)) (read_in item)
           c.in_ok-parent.ensures.added c.in_ok-add_read.ensures.added
           ∙ same_set-swap c.loop-request.shared.items (flat_map ancestors (exclusive_in item ++ read_in item)) (read_in item)
           ∙ same_set-append c.loop-request.shared.items (flat_map shared_in (items_of destination requests)) (shared_in item) c.loop-request.invariant.shared
-          ∙ ap set.from_list (sym (items-more shared_in destination c.args.requests.now c.loop-request.request-index c.request-item.result c.loop-request-test.true c.request-item.is));
+          ∙ ap set.from_list (sym (items-more shared_in destination c.args.requests.now c.loop-request.request-index c.request-item.result
+          c.loop-request-test.true c.request-item.is));
     }
 
 pub invariant_of-result : goal.invariant_of-result
@@ -51,6 +56,7 @@ invariant_of-result c = record {
   of_exclusive = c.loop-request.invariant.exclusive_ordered;
   of_shared = c.loop-request.invariant.shared_ordered;
   ancestors =
-      gathered (items_of (option_copied c.args.destination) (take c.loop-request.request-index c.args.requests.now)) c.loop-request.exclusive.items c.loop-request.shared.items
+      gathered (items_of (option_copied c.args.destination) (take c.loop-request.request-index c.args.requests.now)) c.loop-request.exclusive.items
+      c.loop-request.shared.items
       c.loop-request.invariant.exclusive c.loop-request.invariant.shared c.loop-request.invariant.named;
 }

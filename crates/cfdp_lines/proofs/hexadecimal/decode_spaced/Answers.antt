@@ -31,7 +31,8 @@ returns-in_err-decode_word-clause-bad c = λ e.
     c.in-Some.ensures.steps (c.decode_word.ensures.bad same)
 
 pub returns-clause-octets : goal.returns-clause-octets
-returns-clause-octets c = decode_end c.loop-word.word-iterator c.next.new.self c.args.line.now c.loop-word.octets.items c.loop-word.invariant c.in-None.ensures.steps
+returns-clause-octets c = decode_end c.loop-word.word-iterator c.next.new.self c.args.line.now c.loop-word.octets.items c.loop-word.invariant
+    c.in-None.ensures.steps
 
 pub returns-in_err-decode_word-clause-some : goal.returns-in_err-decode_word-clause-some
 returns-in_err-decode_word-clause-some c = λ e.

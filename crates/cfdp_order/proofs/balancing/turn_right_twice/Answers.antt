@@ -25,7 +25,11 @@ join-before-requires c =
     let o = opened can.before (omega (arith, c.requires.high)) c.from.ensures c.left.ensures refl in
     let tall = higher_right links left c.from.ensures c.left.ensures c.requires.inner in
     let i = opened o.is_b (omega (arith, tall)) c.from-2.ensures c.left-2.ensures refl in
-    record { parts = first_pair (four_right can o i); small = c.requires.small; near = (omega (arith, o.high, o.near, i.high, i.near, tall, c.requires.high), omega (arith, o.high, o.near, i.high, i.near, tall, c.requires.high)) }
+    record {
+      parts = first_pair (four_right can o i);
+      small = c.requires.small;
+      near = (omega (arith, o.high, o.near, i.high, i.near, tall, c.requires.high), omega (arith, o.high, o.near, i.high, i.near, tall, c.requires.high));
+    }
 
 pub join-after-requires : goal.join-after-requires
 join-after-requires c =
@@ -51,7 +55,10 @@ join-requires c =
     record {
       parts = both_pairs (four_right can o i) one two;
       small = omega (arith, e.others.long, f.others.long, c.requires.small);
-      near = (omega (arith, o.high, o.near, i.high, i.near, tall, c.requires.high, e.height, f.height), omega (arith, o.high, o.near, i.high, i.near, tall, c.requires.high, e.height, f.height));
+      near = (
+        omega (arith, o.high, o.near, i.high, i.near, tall, c.requires.high, e.height, f.height),
+        omega (arith, o.high, o.near, i.high, i.near, tall, c.requires.high, e.height, f.height),
+      );
     }
 
 pub returns : goal.returns

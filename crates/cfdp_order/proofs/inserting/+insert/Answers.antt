@@ -90,7 +90,8 @@ returns-in-Less g t c =
     let now = grown_right is o fresh grown balanced in let side = g.S.Sought.side c.args.sought.now in
     record {
       order = now.is;
-      inserted = (λ before after parted splits. placed_right is o fresh grown balanced (λ k. side k ≡ Less) (λ k. side k ≢ Less) (λ apart. apart (sym c.in-Less.ensures))
+      inserted = (λ before after parted splits. placed_right is o fresh grown balanced (λ k. side k ≡ Less) (λ k. side k ≢ Less)
+          (λ apart. apart (sym c.in-Less.ensures))
           before after parted splits.less splits.rest (λ rest part less. e.inserted rest after part (record { less = less; rest = splits.rest })));
       one_more = now.one_more;
       least = now.least;

@@ -33,7 +33,8 @@ merge-requires g t c =
 -- the node at the top is removed
 pub returns-then-order-node : goal.returns-then-order-node
 returns-then-order-node g t c =
-    let links = c.args.links.now in let order = c.args.order in let a = nodes links c.left.result in let b = nodes links c.right.result in let root = order.root in
+    let links = c.args.links.now in let order = c.args.order in let a = nodes links c.left.result in let b = nodes links c.right.result in let root =
+    order.root in
     let o = opened c.requires.order (some_levels c.if-is_empty.ensures.1) c.from.ensures c.left.ensures c.right.ensures in
     let merged = c.merge.ensures in let same = sym c.if-order-node.true in
     let counted : (k : ℕ) → times k (nodes links order) ≡ times k a + (one root k + times k b) = λ k. ap (times k) o.listed ∙ times_middle k a root b in
@@ -109,7 +110,8 @@ returns-in-Less g t c =
     record {
       order = now.is;
       removed = (λ before after parted splits.
-          rest_right is o shrunk balanced (λ j. side j ≡ Less) (λ j. side j ≢ Less) k c.if-order-node.false (λ apart. apart (sym c.in-Less.ensures)) before after parted splits.less splits.rest
+          rest_right is o shrunk balanced (λ j. side j ≡ Less) (λ j. side j ≢ Less) k c.if-order-node.false
+          (λ apart. apart (sym c.in-Less.ensures)) before after parted splits.less splits.rest
           (λ rest part all. e.removed rest after part (record { less = all; rest = splits.rest })));
       absent = (λ none. same_right is o shrunk balanced (e.absent (omega (arith, none, counted, ap (times k) o.listed))));
       fewer = now.fewer;
@@ -133,7 +135,8 @@ returns-in-Equal g t c =
     record {
       order = now.is;
       removed = (λ before after parted splits.
-          rest_left is o shrunk balanced (λ j. side j ≡ Less) (λ j. side j ≢ Less) k c.if-order-node.false (λ less. not_less c.in-Equal.is (c.compare.ensures ∙ less))
+          rest_left is o shrunk balanced (λ j. side j ≡ Less) (λ j. side j ≢ Less) k c.if-order-node.false
+          (λ less. not_less c.in-Equal.is (c.compare.ensures ∙ less))
           before after parted splits.less splits.rest (λ rest part all. e.removed before rest part (record { less = splits.less; rest = all })));
       absent = (λ none. same_left is o shrunk balanced (e.absent (omega (arith, none, counted, ap (times k) o.listed))));
       fewer = now.fewer;

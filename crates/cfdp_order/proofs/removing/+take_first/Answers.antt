@@ -48,7 +48,8 @@ returns t c =
     let now = shrunk_left is o shrunk balanced in
     record {
       order = now.is;
-      nodes = o.listed ∙ (λ i. e.nodes i ++ root ∷ nodes c.args.links.now c.right-2.result) ∙ (λ i. front.result.node ∷ sym (left_listed is o shrunk balanced) i);
+      nodes = o.listed ∙ (λ i. e.nodes i ++ root ∷ nodes c.args.links.now c.right-2.result)
+          ∙ (λ i. front.result.node ∷ sym (left_listed is o shrunk balanced) i);
       least = now.least;
       most = now.most;
       others = now.others;

@@ -9,7 +9,8 @@ use Rattle.cfdp_order.proofs.searching.first.Goals as goal
 
 pub offset_bounds-links-from : goal.offset_bounds-links-from
 offset_bounds-links-from c =
-    let o = opened_at c.loop-found.invariant.order (some_levels c.loop-found-test.ensures.1) c.from.ensures in omega (arith, o.within, c.requires.small, c.from.ensures)
+    let o = opened_at c.loop-found.invariant.order (some_levels c.loop-found-test.ensures.1) c.from.ensures in
+    omega (arith, o.within, c.requires.small, c.from.ensures)
 
 pub bounds-links-from : goal.bounds-links-from
 bounds-links-from c =

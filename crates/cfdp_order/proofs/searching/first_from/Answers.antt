@@ -10,7 +10,8 @@ use Rattle.cfdp_order.proofs.searching.first_from.Goals as goal
 
 pub offset_bounds-links-from : goal.offset_bounds-links-from
 offset_bounds-links-from g c =
-    let o = opened_at c.loop-part.invariant.order (some_levels c.loop-part-test.ensures.1) c.from.ensures in omega (arith, o.within, c.requires.small, c.from.ensures)
+    let o = opened_at c.loop-part.invariant.order (some_levels c.loop-part-test.ensures.1) c.from.ensures in
+    omega (arith, o.within, c.requires.small, c.from.ensures)
 
 pub bounds-links-from : goal.bounds-links-from
 bounds-links-from g c =
@@ -20,7 +21,8 @@ pub compare-requires : goal.compare-requires
 compare-requires g c =
     let links = c.args.links.now in let n = c.from.result in let K = g.S.Sought.can_compare c.args.sought.now in
     let o = opened_at c.loop-part.invariant.order (some_levels c.loop-part-test.ensures.1) c.from.ensures in
-    All_at K (nodes links (left_of (links_at links n))) c.loop-part.part.root (nodes links (right_of (links_at links n))) (subst (All K) o.listed c.loop-part.invariant.known)
+    All_at K (nodes links (left_of (links_at links n))) c.loop-part.part.root (nodes links (right_of (links_at links n)))
+    (subst (All K) o.listed c.loop-part.invariant.known)
 
 pub loop-part-preserved-in-Less : goal.loop-part-preserved-in-Less
 loop-part-preserved-in-Less g c =
@@ -32,7 +34,8 @@ loop-part-preserved-in-Less g c =
       order = o.is_b;
       known = All_right K a root b (subst (All K) o.listed inv.known);
       reached = (λ before after parted splits.
-          reach_right (λ k. side k ≡ Less) (λ k. side k ≢ Less) (nodes links l.part) a root b l.found after o.listed (λ apart. apart (sym c.in-Less.ensures)) (inv.reached before after parted splits));
+          reach_right (λ k. side k ≡ Less) (λ k. side k ≢ Less) (nodes links l.part) a root b l.found after o.listed (λ apart. apart (sym c.in-Less.ensures))
+          (inv.reached before after parted splits));
     }
 
 pub loop-part-preserved : goal.loop-part-preserved
@@ -45,7 +48,8 @@ loop-part-preserved g c =
       order = o.is_a;
       known = All_left K a root b (subst (All K) o.listed inv.known);
       reached = (λ before after parted splits.
-          reach_left (λ k. side k ≡ Less) (λ k. side k ≢ Less) (nodes links l.part) a root b l.found after o.listed (λ less. not_less c.in-Equal.is (c.compare.ensures ∙ less)) (inv.reached before after parted splits));
+          reach_left (λ k. side k ≡ Less) (λ k. side k ≢ Less) (nodes links l.part) a root b l.found after o.listed
+          (λ less. not_less c.in-Equal.is (c.compare.ensures ∙ less)) (inv.reached before after parted splits));
     }
 
 pub returns : goal.returns

@@ -12,7 +12,8 @@ use Rattle.cfdp_order.proofs.tests.pair_of.Goals.{then-node-eq0, else-node-eq0}
 
 pub loop-node-init : goal.loop-node-init
 loop-node-init c =
-    let links = c.resize.new.self.items in let none = ap (λ (o : Order). o.height) c.empty-even.ensures in let no_odd = ap (λ (o : Order). o.height) c.empty-odd.ensures in
+    let links = c.resize.new.self.items in let none = ap (λ (o : Order). o.height) c.empty-even.ensures in let no_odd =
+    ap (λ (o : Order). o.height) c.empty-odd.ensures in
     let a = no_nodes links c.empty-even.result none in let b = no_nodes links c.empty-odd.result no_odd in
     record {
       even = none_is links c.empty-even.result none;
@@ -41,13 +42,16 @@ record Kept (links : List Links) (even odd : Order) (node count : ℕ) : Type 0 
   fresh : (n : ℕ) → node ≤ n → times n (nodes links even) + times n (nodes links odd) ≡ 0
   apart : (n : ℕ) → times n (nodes links even) + times n (nodes links odd) ≤ 1
 
-kept_at : (links was : List Links) (even more odd other : Order) (node count : ℕ) → links ≡ was → even ≡ more → odd ≡ other → Kept was more other node count → Kept links even odd node count
+kept_at : (links was : List Links) (even more odd other : Order) (node count : ℕ) → links ≡ was → even ≡ more → odd ≡ other → Kept was more other node count →
+    Kept links even odd node count
 kept_at links was even more odd other node count e f g kept =
     subst (λ l. Kept l even odd node count) (sym e) (subst (λ o. Kept was o odd node count) (sym f) (subst (λ o. Kept was more o node count) (sym g) kept))
 
 -- a node more in one order, and none in the other
-module _ (old new : List Links) (node : ℕ) (grown other more : Order) (is : IsOrder old other) (others : OthersStay old new (node ∷ nodes old grown)) (one_more : (n : ℕ) → times n (nodes new more) ≡ one node n + times n (nodes old grown))
-    (fresh : (n : ℕ) → node ≤ n → times n (nodes old grown) + times n (nodes old other) ≡ 0) (apart : (n : ℕ) → times n (nodes old grown) + times n (nodes old other) ≤ 1) where
+module _ (old new : List Links) (node : ℕ) (grown other more : Order) (is : IsOrder old other) (others : OthersStay old new (node ∷ nodes old grown))
+    (one_more : (n : ℕ) → times n (nodes new more) ≡ one node n + times n (nodes old grown))
+    (fresh : (n : ℕ) → node ≤ n → times n (nodes old grown) + times n (nodes old other) ≡ 0) (apart : (n : ℕ) → times n (nodes old grown)
+    + times n (nodes old other) ≤ 1) where
   all_once : (n : ℕ) → one node n + (times n (nodes old grown) + times n (nodes old other)) ≤ 1
   all_once n = elim (cases_eq node n) [
     | inl e ↦ omega (arith, one_most node n, fresh n (omega (arith, e)))
@@ -61,7 +65,13 @@ module _ (old new : List Links) (node : ℕ) (grown other more : Order) (is : Is
   now_once n = omega (arith, all_once n, one_more n, ap (times n) other_stays.listed)
 
   now_fresh : (n : ℕ) → node + 1 ≤ n → times n (nodes new more) + times n (nodes new other) ≡ 0
-  now_fresh n later = let differs : node ≢ n = omega (arith, later) in omega (arith, fresh n (omega (arith, later)), one_other node n differs, one_more n, ap (times n) other_stays.listed)
+  now_fresh n later = let differs : node ≢ n = omega (arith, later) in omega (
+    arith,
+    fresh n (omega (arith, later)),
+    one_other node n differs,
+    one_more n,
+    ap (times n) other_stays.listed,
+  )
 
 pub loop-node-preserved : goal.loop-node-preserved
 loop-node-preserved c =
@@ -71,8 +81,10 @@ loop-node-preserved c =
           let now = w.insert-even.new.links in let more = w.insert-even.result in
           let e = w.insert-even.ensures in let same = w.deref_mut.ensures.value in
           let others = subst (λ (k : List Links). OthersStay k now (l.node ∷ nodes k l.even)) same e.others in
-          let one_more : (n : ℕ) → times n (nodes now more) ≡ one l.node n + times n (nodes old l.even) = λ n. e.one_more n ∙ ap (λ k. one l.node n + times n (nodes k l.even)) same in
-          kept_at c.if-node-eq0.links.items now c.if-node-eq0.even more c.if-node-eq0.odd l.odd (l.node + 1) count (ap (λ v. v.items) w.links-is ∙ with_items_is l.links now (others.long ∙ sym l.links.ok.0)) w.even-is w.odd-is
+          let one_more : (n : ℕ) → times n (nodes now more) ≡ one l.node n + times n (nodes old l.even) = λ n. e.one_more n
+          ∙ ap (λ k. one l.node n + times n (nodes k l.even)) same in
+          kept_at c.if-node-eq0.links.items now c.if-node-eq0.even more c.if-node-eq0.odd l.odd (l.node + 1) count (ap (λ v. v.items) w.links-is
+          ∙ with_items_is l.links now (others.long ∙ sym l.links.ok.0)) w.even-is w.odd-is
           (record {
             even_is = e.order;
             odd_is = (other_stays old now l.node l.even l.odd more inv.odd others one_more inv.fresh inv.apart).is;
@@ -84,10 +96,12 @@ loop-node-preserved c =
           let now = w.insert-odd.new.links in let more = w.insert-odd.result in
           let e = w.insert-odd.ensures in let same = w.deref_mut-else-node-eq0.ensures.value in
           let others = subst (λ (k : List Links). OthersStay k now (l.node ∷ nodes k l.odd)) same e.others in
-          let one_more : (n : ℕ) → times n (nodes now more) ≡ one l.node n + times n (nodes old l.odd) = λ n. e.one_more n ∙ ap (λ k. one l.node n + times n (nodes k l.odd)) same in
+          let one_more : (n : ℕ) → times n (nodes now more) ≡ one l.node n + times n (nodes old l.odd) = λ n. e.one_more n
+          ∙ ap (λ k. one l.node n + times n (nodes k l.odd)) same in
           let fresh : (n : ℕ) → l.node ≤ n → times n (nodes old l.odd) + times n (nodes old l.even) ≡ 0 = λ n later. omega (arith, inv.fresh n later) in
           let apart : (n : ℕ) → times n (nodes old l.odd) + times n (nodes old l.even) ≤ 1 = λ n. omega (arith, inv.apart n) in
-          kept_at c.if-node-eq0.links.items now c.if-node-eq0.even l.even c.if-node-eq0.odd more (l.node + 1) count (ap (λ v. v.items) w.links-is ∙ with_items_is l.links now (others.long ∙ sym l.links.ok.0)) w.even-is w.odd-is
+          kept_at c.if-node-eq0.links.items now c.if-node-eq0.even l.even c.if-node-eq0.odd more (l.node + 1) count (ap (λ v. v.items) w.links-is
+          ∙ with_items_is l.links now (others.long ∙ sym l.links.ok.0)) w.even-is w.odd-is
           (record {
             even_is = (other_stays old now l.node l.odd l.even more inv.even others one_more fresh apart).is;
             odd_is = e.order;

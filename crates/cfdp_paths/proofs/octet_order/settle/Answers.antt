@@ -23,4 +23,5 @@ returns c =
     let ys = c.args.b.now in
     let last = c.args.both - 8 in
     up_to_lem xs ys (last + 8) _ _ _ (omega arith)
-    (word xs ys c.type_inv.a c.type_inv.b last 8 _ _ (omega arith) (omega arith) c.word.ensures c.word-2.ensures (fewer xs ys last c.loop-start.start (omega arith) c.loop-start.invariant))
+    (word xs ys c.type_inv.a c.type_inv.b last 8 _ _ (omega arith) (omega arith) c.word.ensures c.word-2.ensures
+    (fewer xs ys last c.loop-start.start (omega arith) c.loop-start.invariant))

@@ -15,7 +15,8 @@ returns-in-Some c =
     let names = c.strip_slash-names.result.now in
     let l = c.loop-index in
     let x = get_or names l.index 0 in
-    scan_fault c.args.octets.now names l.count l.start l.index l.holds_zero l.invariant x c.in-Some.fault c.loop-index-test.true refl (eq-eqb x slash c.if-octet-eq47.true) c.in-Some.ensures
+    scan_fault c.args.octets.now names l.count l.start l.index l.holds_zero l.invariant x c.in-Some.fault c.loop-index-test.true refl
+    (eq-eqb x slash c.if-octet-eq47.true) c.in-Some.ensures
 
 pub loop-index-preserved : goal.loop-index-preserved
 loop-index-preserved c =
@@ -26,7 +27,8 @@ loop-index-preserved c =
     elim c.if-octet-eq47.branch [
       | then-octet-eq47+in_default w ↦
           rw (w.count-is, w.start-is, w.holds_zero-is)
-          (scan_slash octets names l.count l.start l.index l.holds_zero l.invariant x c.loop-index-test.true refl (eq-eqb x slash w.if-octet-eq47.true) (sym (sym w.fault_at.ensures ∙ w.in_default.is)))
+          (scan_slash octets names l.count l.start l.index l.holds_zero l.invariant x c.loop-index-test.true refl (eq-eqb x slash w.if-octet-eq47.true)
+          (sym (sym w.fault_at.ensures ∙ w.in_default.is)))
       | else-octet-eq47+then-octet-eq0 w ↦
           rw (w.count-is, w.start-is, w.holds_zero-is)
           (scan_octet octets names l.count l.start l.index l.holds_zero l.invariant x _ c.loop-index-test.true refl (ne_eqb x slash w.if-octet-eq47.false)
@@ -41,10 +43,12 @@ pub returns-in-Some-fault_at : goal.returns-in-Some-fault_at
 returns-in-Some-fault_at c =
     let names = c.strip_slash-names.result.now in
     let l = c.loop-index in
-    scan_end c.args.octets.now names l.count l.start l.index l.holds_zero l.invariant c.in-Some-fault_at.fault c.loop-index-test.false c.in-Some-fault_at.ensures
+    scan_end c.args.octets.now names l.count l.start l.index l.holds_zero l.invariant c.in-Some-fault_at.fault c.loop-index-test.false
+    c.in-Some-fault_at.ensures
 
 pub returns : goal.returns
 returns c =
     let names = c.strip_slash-names.result.now in
     let l = c.loop-index in
-    scan_all c.args.octets.now names l.count l.start l.index l.holds_zero l.invariant c.loop-index-test.false (sym (sym c.fault_at-2.ensures ∙ c.in_default-fault_at.is))
+    scan_all c.args.octets.now names l.count l.start l.index l.holds_zero l.invariant c.loop-index-test.false
+    (sym (sym c.fault_at-2.ensures ∙ c.in_default-fault_at.is))

@@ -10,6 +10,7 @@ returns g c =
     let p = c.args.path.now in
     let q = path_in (option_copied c.octets.result) in
     let es = c.args.entries.now in
-    piece_of p q es c.rank-start.result c.partition_point-count.result c.octets.ensures.path c.rank-start.ensures.value c.rank-start.ensures.within c.partition_point-count.ensures.bound
+    piece_of p q es c.rank-start.result c.partition_point-count.result c.octets.ensures.path c.rank-start.ensures.value c.rank-start.ensures.within
+    c.partition_point-count.ensures.bound
     (IsPartitionPoint-from_clause (λ e. is_at_or_below e.0 p) _ _ c.partition_point-count.ensures.partitioned
     (behind_parted p q es c.rank-start.result c.octets.ensures.path c.rank-start.ensures.value c.requires) (λ a r q called. search rules))

@@ -17,6 +17,7 @@ returns-clause-absent g c =
     let place = c.rank-place.ensures.value in
     elim c.else-place-entries.branch [
       | else-place-entries-via-then-place-entries+else-is_eq w ↦ none_other k w.index-entries-place.result c.args.entries.now c.requires (omega (arith, place))
-          (subst (λ n. is_eq (path_cmp (get_or c.args.entries.now n w.index-entries-place.result).0 k) ≡ false) place (ap is_eq (sym w.cmp_sought.ensures) ∙ sym w.is_eq.ensures ∙ w.if-is_eq.false))
+          (subst (λ n. is_eq (path_cmp (get_or c.args.entries.now n w.index-entries-place.result).0 k) ≡ false) place (ap is_eq (sym w.cmp_sought.ensures)
+          ∙ sym w.is_eq.ensures ∙ w.if-is_eq.false))
       | else-place-entries-via-else-place-entries w ↦ none_behind k c.args.entries.now (omega (arith, place))
     ]

@@ -11,14 +11,16 @@ pub rebase-requires-clause-below : goal.rebase-requires-clause-below
 rebase-requires-clause-below g c =
     let i = c.loop-entry.entry-index in
     let item = c.entry-item.result in
-    let same = ap (λ es. get_or es i item) c.loop-entry.invariant ∙ not_moved_yet c.args.from.now c.args.to.now c.args.entries.now i item c.loop-entry-test.true in
+    let same = ap (λ es. get_or es i item) c.loop-entry.invariant ∙ not_moved_yet c.args.from.now c.args.to.now c.args.entries.now i item
+    c.loop-entry-test.true in
     rw same (below_at c.args.from.now c.args.entries.now i item c.requires.below c.loop-entry-test.true)
 
 pub rebase-requires-clause-room : goal.rebase-requires-clause-room
 rebase-requires-clause-room g c =
     let i = c.loop-entry.entry-index in
     let item = c.entry-item.result in
-    let same = ap (λ es. get_or es i item) c.loop-entry.invariant ∙ not_moved_yet c.args.from.now c.args.to.now c.args.entries.now i item c.loop-entry-test.true in
+    let same = ap (λ es. get_or es i item) c.loop-entry.invariant ∙ not_moved_yet c.args.from.now c.args.to.now c.args.entries.now i item
+    c.loop-entry-test.true in
     rw same (shallow_at c.args.from.now c.args.to.now c.args.entries.now i item c.requires.depth c.loop-entry-test.true)
 
 pub loop-entry-preserved : goal.loop-entry-preserved

@@ -11,21 +11,24 @@ pub all_may_stay-requires : goal.all_may_stay-requires
 all_may_stay-requires g c =
     let es = c.args.entries.now.items in
     let p = c.args.from.now in
-    ap (list_all (λ e. is_at_or_below e.0 p)) (tree_of p es c.deref.result.now c.deref-2.result.now c.piece-start.result.0 c.piece-start.result.1 c.requires.ordered c.deref.ensures.value c.deref-2.ensures.value c.piece-start.ensures)
+    ap (list_all (λ e. is_at_or_below e.0 p)) (tree_of p es c.deref.result.now c.deref-2.result.now c.piece-start.result.0 c.piece-start.result.1
+    c.requires.ordered c.deref.ensures.value c.deref-2.ensures.value c.piece-start.ensures)
     ∙ tree_all p es
 
 pub new_paths-requires-clause-tree : goal.new_paths-requires-clause-tree
 new_paths-requires-clause-tree g c =
     let es = c.args.entries.now.items in
     let p = c.args.from.now in
-    ap (list_all (λ e. is_at_or_below e.0 p)) (tree_of p es c.deref.result.now c.deref-3.result.now c.piece-start.result.0 c.piece-start.result.1 c.requires.ordered c.deref.ensures.value c.deref-3.ensures.value c.piece-start.ensures)
+    ap (list_all (λ e. is_at_or_below e.0 p)) (tree_of p es c.deref.result.now c.deref-3.result.now c.piece-start.result.0 c.piece-start.result.1
+    c.requires.ordered c.deref.ensures.value c.deref-3.ensures.value c.piece-start.ensures)
     ∙ tree_all p es
 
 pub new_paths-requires-clause-depth : goal.new_paths-requires-clause-depth
 new_paths-requires-clause-depth g c =
     let es = c.args.entries.now.items in
     let p = c.args.from.now in
-    ap (is_too_deep p c.args.to.now) (tree_of p es c.deref.result.now c.deref-3.result.now c.piece-start.result.0 c.piece-start.result.1 c.requires.ordered c.deref.ensures.value c.deref-3.ensures.value c.piece-start.ensures)
+    ap (is_too_deep p c.args.to.now) (tree_of p es c.deref.result.now c.deref-3.result.now c.piece-start.result.0 c.piece-start.result.1 c.requires.ordered
+    c.deref.ensures.value c.deref-3.ensures.value c.piece-start.ensures)
     ∙ c.requires.depth
 
 pub settle-requires-clause-ordered : goal.settle-requires-clause-ordered
@@ -33,7 +36,8 @@ settle-requires-clause-ordered g c =
     let es = c.args.entries.now.items in
     let p = c.args.from.now in
     ordered-where (λ x. not (is_at_or_below x p)) es _
-    (c.in_ok-taken.ensures.left ∙ rest_of p es c.deref.result.now c.piece-start.result.0 c.piece-start.result.1 c.requires.ordered c.deref.ensures.value c.piece-start.ensures) c.requires.ordered
+    (c.in_ok-taken.ensures.left ∙ rest_of p es c.deref.result.now c.piece-start.result.0 c.piece-start.result.1 c.requires.ordered c.deref.ensures.value
+    c.piece-start.ensures) c.requires.ordered
 
 pub settle-requires-clause-in_order : goal.settle-requires-clause-in_order
 settle-requires-clause-in_order g c =
@@ -42,8 +46,10 @@ settle-requires-clause-in_order g c =
     let q = c.args.to.now in
     let s = c.requires.ordered in
     let piece = c.piece-start.ensures in
-    let tree = tree_of p es c.deref.result.now c.deref-3.result.now c.piece-start.result.0 c.piece-start.result.1 s c.deref.ensures.value c.deref-3.ensures.value piece in
-    let taken = c.in_ok-taken.ensures.taken ∙ tree_of p es c.deref.result.now es c.piece-start.result.0 c.piece-start.result.1 s c.deref.ensures.value refl piece in
+    let tree = tree_of p es c.deref.result.now c.deref-3.result.now c.piece-start.result.0 c.piece-start.result.1 s c.deref.ensures.value
+    c.deref-3.ensures.value piece in
+    let taken = c.in_ok-taken.ensures.taken ∙ tree_of p es c.deref.result.now es c.piece-start.result.0 c.piece-start.result.1 s c.deref.ensures.value refl
+    piece in
     ap (is_sorted path_cmp) (c.renamed.ensures ∙ moved_is p q es _ _ _ c.in_ok-paths.ensures tree taken) ∙ tree_ordered p q es s
 
 pub settle-requires-clause-below : goal.settle-requires-clause-below
@@ -53,8 +59,10 @@ settle-requires-clause-below g c =
     let q = c.args.to.now in
     let s = c.requires.ordered in
     let piece = c.piece-start.ensures in
-    let tree = tree_of p es c.deref.result.now c.deref-3.result.now c.piece-start.result.0 c.piece-start.result.1 s c.deref.ensures.value c.deref-3.ensures.value piece in
-    let taken = c.in_ok-taken.ensures.taken ∙ tree_of p es c.deref.result.now es c.piece-start.result.0 c.piece-start.result.1 s c.deref.ensures.value refl piece in
+    let tree = tree_of p es c.deref.result.now c.deref-3.result.now c.piece-start.result.0 c.piece-start.result.1 s c.deref.ensures.value
+    c.deref-3.ensures.value piece in
+    let taken = c.in_ok-taken.ensures.taken ∙ tree_of p es c.deref.result.now es c.piece-start.result.0 c.piece-start.result.1 s c.deref.ensures.value refl
+    piece in
     ap (list_all (λ e. is_at_or_below e.0 q)) (c.renamed.ensures ∙ moved_is p q es _ _ _ c.in_ok-paths.ensures tree taken) ∙ moved_all p q (tree_in p es)
 
 pub settle-requires-clause-room : goal.settle-requires-clause-room
@@ -64,11 +72,23 @@ settle-requires-clause-room g c =
     let q = c.args.to.now in
     let s = c.requires.ordered in
     let piece = c.piece-start.ensures in
-    let tree = tree_of p es c.deref.result.now c.deref-3.result.now c.piece-start.result.0 c.piece-start.result.1 s c.deref.ensures.value c.deref-3.ensures.value piece in
-    let taken = c.in_ok-taken.ensures.taken ∙ tree_of p es c.deref.result.now es c.piece-start.result.0 c.piece-start.result.1 s c.deref.ensures.value refl piece in
+    let tree = tree_of p es c.deref.result.now c.deref-3.result.now c.piece-start.result.0 c.piece-start.result.1 s c.deref.ensures.value
+    c.deref-3.ensures.value piece in
+    let taken = c.in_ok-taken.ensures.taken ∙ tree_of p es c.deref.result.now es c.piece-start.result.0 c.piece-start.result.1 s c.deref.ensures.value refl
+    piece in
     let rest = c.in_ok-taken.ensures.left ∙ rest_of p es c.deref.result.now c.piece-start.result.0 c.piece-start.result.1 s c.deref.ensures.value piece in
     let moved = c.renamed.ensures ∙ moved_is p q es _ _ _ c.in_ok-paths.ensures tree taken in
-    omega (arith, c.in_ok-taken.ensures.room, ap length rest, ap length moved, length-parts p q es, c.args.entries.now.ok.0, c.args.entries.now.ok.1, c.detach.new.entries.ok.0, c.renamed.result.ok.0)
+    omega (
+      arith,
+      c.in_ok-taken.ensures.room,
+      ap length rest,
+      ap length moved,
+      length-parts p q es,
+      c.args.entries.now.ok.0,
+      c.args.entries.now.ok.1,
+      c.detach.new.entries.ok.0,
+      c.renamed.result.ok.0,
+    )
 
 pub returns-clause-ok : goal.returns-clause-ok
 returns-clause-ok g c =
@@ -77,8 +97,10 @@ returns-clause-ok g c =
     let q = c.args.to.now in
     let s = c.requires.ordered in
     let piece = c.piece-start.ensures in
-    let tree = tree_of p es c.deref.result.now c.deref-3.result.now c.piece-start.result.0 c.piece-start.result.1 s c.deref.ensures.value c.deref-3.ensures.value piece in
-    let taken = c.in_ok-taken.ensures.taken ∙ tree_of p es c.deref.result.now es c.piece-start.result.0 c.piece-start.result.1 s c.deref.ensures.value refl piece in
+    let tree = tree_of p es c.deref.result.now c.deref-3.result.now c.piece-start.result.0 c.piece-start.result.1 s c.deref.ensures.value
+    c.deref-3.ensures.value piece in
+    let taken = c.in_ok-taken.ensures.taken ∙ tree_of p es c.deref.result.now es c.piece-start.result.0 c.piece-start.result.1 s c.deref.ensures.value refl
+    piece in
     let rest = c.in_ok-taken.ensures.left ∙ rest_of p es c.deref.result.now c.piece-start.result.0 c.piece-start.result.1 s c.deref.ensures.value piece in
     let moved = c.renamed.ensures ∙ moved_is p q es _ _ _ c.in_ok-paths.ensures tree taken in
     c.settle.ensures ∙ ap (λ ys. puts ys c.renamed.result.items) rest ∙ ap (puts (rest_in p es)) moved

@@ -20,12 +20,14 @@ pub rebased-requires-clause-room : goal.rebased-requires-clause-room
 rebased-requires-clause-room g c =
     let es = c.args.entries.now.items in
     let entry = c.index-2.result.now in
-    one_shallow c.args.from.now c.args.to.now es entry (one_tree c.args.from.now es c.args.place entry entry c.requires.ordered c.requires.piece c.index-2.ensures) c.requires.depth
+    one_shallow c.args.from.now c.args.to.now es entry (one_tree c.args.from.now es c.args.place entry entry c.requires.ordered c.requires.piece
+    c.index-2.ensures) c.requires.depth
 
 pub put_reserved-requires-clause-ordered : goal.put_reserved-requires-clause-ordered
 put_reserved-requires-clause-ordered g c =
     let es = c.args.entries.now.items in
-    ordered-where (λ x. not (is_at_or_below x c.args.from.now)) es _ (c.remove-value.ensures.items ∙ one_rest c.args.from.now es c.args.place c.requires.ordered c.requires.piece) c.requires.ordered
+    ordered-where (λ x. not (is_at_or_below x c.args.from.now)) es _ (c.remove-value.ensures.items
+    ∙ one_rest c.args.from.now es c.args.place c.requires.ordered c.requires.piece) c.requires.ordered
 
 pub returns-clause-ok : goal.returns-clause-ok
 returns-clause-ok g c =
@@ -35,5 +37,6 @@ returns-clause-ok g c =
     let value = c.remove-value.result in
     let tree = one_tree p es c.args.place entry entry c.requires.ordered c.requires.piece c.index-2.ensures in
     c.put_reserved.ensures.put
-    ∙ one_moved p c.args.to.now es entry value c.in_ok-path.path tree (one_read p es c.args.place value entry c.requires.piece c.remove-value.ensures.value c.index-2.ensures) c.in_ok-path.ensures c.remove-value.new.self.items
+    ∙ one_moved p c.args.to.now es entry value c.in_ok-path.path tree (one_read p es c.args.place value entry c.requires.piece c.remove-value.ensures.value
+    c.index-2.ensures) c.in_ok-path.ensures c.remove-value.new.self.items
     (c.remove-value.ensures.items ∙ one_rest p es c.args.place c.requires.ordered c.requires.piece)

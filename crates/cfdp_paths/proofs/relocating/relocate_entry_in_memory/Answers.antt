@@ -14,12 +14,14 @@ pub rebase-requires-clause-room : goal.rebase-requires-clause-room
 rebase-requires-clause-room g c =
     let es = c.args.entries.now.items in
     let entry = c.remove-path.result in
-    one_shallow c.args.from.now c.args.to.now es entry (one_tree c.args.from.now es c.args.place entry entry c.requires.ordered c.requires.piece c.remove-path.ensures.value) c.requires.depth
+    one_shallow c.args.from.now c.args.to.now es entry (one_tree c.args.from.now es c.args.place entry entry c.requires.ordered c.requires.piece
+    c.remove-path.ensures.value) c.requires.depth
 
 pub put_reserved-requires-clause-ordered : goal.put_reserved-requires-clause-ordered
 put_reserved-requires-clause-ordered g c =
     let es = c.args.entries.now.items in
-    ordered-where (λ x. not (is_at_or_below x c.args.from.now)) es _ (c.remove-path.ensures.items ∙ one_rest c.args.from.now es c.args.place c.requires.ordered c.requires.piece) c.requires.ordered
+    ordered-where (λ x. not (is_at_or_below x c.args.from.now)) es _ (c.remove-path.ensures.items
+    ∙ one_rest c.args.from.now es c.args.place c.requires.ordered c.requires.piece) c.requires.ordered
 
 pub returns : goal.returns
 returns g c =

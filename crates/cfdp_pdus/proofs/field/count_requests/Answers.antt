@@ -17,7 +17,8 @@ returns-in_default c =
 pub returns-in_err-read_request_parts : goal.returns-in_err-read_request_parts
 returns-in_err-read_request_parts c =
     let p = err_from_is_err_and c.from_residual.result c.from_residual.ensures.1 in
-    let here = refused c.fields.rest.now c.in-Ok.field.kind c.in-Ok.field.value.now c.in-Ok.field.rest.now c.in_err-read_request_parts.field-0.0 c.in-Ok.ensures.exact c.if-field-eq-FILESTORE_REQUEST.true (sym c.in_err-read_request_parts.ensures) in
+    let here = refused c.fields.rest.now c.in-Ok.field.kind c.in-Ok.field.value.now c.in-Ok.field.rest.now c.in_err-read_request_parts.field-0.0
+    c.in-Ok.ensures.exact c.if-field-eq-FILESTORE_REQUEST.true (sym c.in_err-read_request_parts.ensures) in
     rw (p.1, p.2) (sym (ap (counted c.fields.count) here) ∙ c.fields.invariant.found)
 
 pub fields-preserved : goal.fields-preserved
@@ -28,9 +29,11 @@ fields-preserved c =
     elim c.if-field-eq-FILESTORE_REQUEST.branch [
       | then-field-eq-FILESTORE_REQUEST+in_ok-read_request_parts w ↦
           let request = w.in_ok-read_request_parts.field-0 in
-          let here = asks rest field.kind field.value.now field.rest.now request c.in-Ok.ensures.exact w.if-field-eq-FILESTORE_REQUEST.true (sym w.in_ok-read_request_parts.ensures) in
+          let here = asks rest field.kind field.value.now field.rest.now request c.in-Ok.ensures.exact w.if-field-eq-FILESTORE_REQUEST.true
+          (sym w.in_ok-read_request_parts.ensures) in
           record {
-            found = rw w.count-is (count_next c.fields.count request (requests_of (fields_at rest)) (requests_of (fields_at field.rest.now)) (count_of (requests_of (fields_at c.args.octets.now))) here c.fields.invariant.found);
+            found = rw w.count-is (count_next c.fields.count request (requests_of (fields_at rest)) (requests_of (fields_at field.rest.now))
+                (count_of (requests_of (fields_at c.args.octets.now))) here c.fields.invariant.found);
             small = omega (arith, less, w.count-is, c.fields.invariant.small);
           }
       | else-field-eq-FILESTORE_REQUEST w ↦

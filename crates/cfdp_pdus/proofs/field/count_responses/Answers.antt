@@ -15,13 +15,15 @@ returns-in_default c =
 pub returns-in_err-read_response_parts : goal.returns-in_err-read_response_parts
 returns-in_err-read_response_parts c =
     let p = err_from_is_err_and c.from_residual.result c.from_residual.ensures.1 in
-    let here = refused_response c.fields.rest.now c.in-Ok.field.kind c.in-Ok.field.value.now c.in-Ok.field.rest.now c.in_err-read_response_parts.field-0.0 c.in-Ok.ensures.exact c.if-field-eq-FILESTORE_RESPONSE.true (sym c.in_err-read_response_parts.ensures) in
+    let here = refused_response c.fields.rest.now c.in-Ok.field.kind c.in-Ok.field.value.now c.in-Ok.field.rest.now c.in_err-read_response_parts.field-0.0
+    c.in-Ok.ensures.exact c.if-field-eq-FILESTORE_RESPONSE.true (sym c.in_err-read_response_parts.ensures) in
     rw (p.1, p.2) (sym (ap (counted_outcome c.fields.count c.fields.fault) here) ∙ c.fields.invariant.found)
 
 pub returns-in_err-entity : goal.returns-in_err-entity
 returns-in_err-entity c =
     let p = err_from_is_err_and c.from_residual-in_err-entity.result c.from_residual-in_err-entity.ensures.1 in
-    let here = refused_entity c.fields.rest.now c.in-Ok.field.kind c.in-Ok.field.value.now c.in-Ok.field.rest.now c.in_err-entity.field-0.0 c.in-Ok.ensures.exact c.if-field-eq-ENTITY_ID.true c.in_err-entity.ensures in
+    let here = refused_entity c.fields.rest.now c.in-Ok.field.kind c.in-Ok.field.value.now c.in-Ok.field.rest.now c.in_err-entity.field-0.0
+    c.in-Ok.ensures.exact c.if-field-eq-ENTITY_ID.true c.in_err-entity.ensures in
     rw (p.1, p.2) (sym (ap (counted_outcome c.fields.count c.fields.fault) here) ∙ c.fields.invariant.found)
 
 pub fields-preserved : goal.fields-preserved
@@ -33,20 +35,24 @@ fields-preserved c =
     elim c.if-field-eq-FILESTORE_RESPONSE.branch [
       | then-field-eq-FILESTORE_RESPONSE+in_ok-read_response_parts w ↦
           let response = w.in_ok-read_response_parts.field-0 in
-          let here = tells rest field.kind field.value.now field.rest.now response c.in-Ok.ensures.exact w.if-field-eq-FILESTORE_RESPONSE.true (sym w.in_ok-read_response_parts.ensures) in
+          let here = tells rest field.kind field.value.now field.rest.now response c.in-Ok.ensures.exact w.if-field-eq-FILESTORE_RESPONSE.true
+          (sym w.in_ok-read_response_parts.ensures) in
           record {
-            found = rw (w.count-is, w.fault-is) (sym (count_response c.fields.count c.fields.fault response after) ∙ sym (ap (counted_outcome c.fields.count c.fields.fault) here) ∙ c.fields.invariant.found);
+            found = rw (w.count-is, w.fault-is) (sym (count_response c.fields.count c.fields.fault response after)
+                ∙ sym (ap (counted_outcome c.fields.count c.fields.fault) here) ∙ c.fields.invariant.found);
             small = omega (arith, less, w.count-is, c.fields.invariant.small);
           }
       | else-field-eq-FILESTORE_RESPONSE+then-field-eq-ENTITY_ID+in_ok-entity w ↦
           let entity = w.in_ok-entity.entity in
           let here = locates rest field.kind field.value.now field.rest.now entity c.in-Ok.ensures.exact w.if-field-eq-ENTITY_ID.true w.in_ok-entity.ensures in
           record {
-            found = rw (w.count-is, w.fault-is) (sym (count_entity c.fields.count c.fields.fault entity after) ∙ sym (ap (counted_outcome c.fields.count c.fields.fault) here) ∙ c.fields.invariant.found);
+            found = rw (w.count-is, w.fault-is) (sym (count_entity c.fields.count c.fields.fault entity after)
+                ∙ sym (ap (counted_outcome c.fields.count c.fields.fault) here) ∙ c.fields.invariant.found);
             small = omega (arith, less, w.count-is, c.fields.invariant.small);
           }
       | else-field-eq-FILESTORE_RESPONSE+else-field-eq-ENTITY_ID w ↦
-          let here = passes rest field.kind field.value.now field.rest.now c.in-Ok.ensures.exact (ne_eqb field.kind 1 w.if-field-eq-FILESTORE_RESPONSE.false) (ne_eqb field.kind 6 w.if-field-eq-ENTITY_ID.false) in
+          let here = passes rest field.kind field.value.now field.rest.now c.in-Ok.ensures.exact (ne_eqb field.kind 1 w.if-field-eq-FILESTORE_RESPONSE.false)
+          (ne_eqb field.kind 6 w.if-field-eq-ENTITY_ID.false) in
           record {
             found = rw (w.count-is, w.fault-is) (sym (ap (counted_outcome c.fields.count c.fields.fault) here) ∙ c.fields.invariant.found);
             small = omega (arith, less, w.count-is, c.fields.invariant.small);

@@ -5,4 +5,5 @@ use Rattle.cfdp_pdus.proofs.CanonicalSteps.{pdu_spelled, file_data_spelled, file
 use Rattle.cfdp_pdus.proofs.laws.file_data_reads_back.Goals as goal
 
 pub returns : goal.returns
-returns c = λ header file_data is sized fits. pdu_spelled true (pdus.FileData header file_data) (file_data_field header.large file_data) is (file_data_short header.large file_data fits) (file_data_spelled header file_data sized)
+returns c = λ header file_data is sized fits. pdu_spelled true (pdus.FileData header file_data) (file_data_field header.large file_data) is
+    (file_data_short header.large file_data fits) (file_data_spelled header file_data sized)

@@ -5,4 +5,5 @@ use Rattle.cfdp_pdus.proofs.CanonicalSteps.{pdu_spelled, finished_spelled, finis
 use Rattle.cfdp_pdus.proofs.laws.finished_reads_back.Goals as goal
 
 pub returns : goal.returns
-returns c = λ header finished is sized fits all. pdu_spelled false (pdus.Finished header finished) (finished_field header finished) is (finished_short header finished fits) (finished_spelled header finished is sized all)
+returns c = λ header finished is sized fits all. pdu_spelled false (pdus.Finished header finished) (finished_field header finished) is
+    (finished_short header finished fits) (finished_spelled header finished is sized all)

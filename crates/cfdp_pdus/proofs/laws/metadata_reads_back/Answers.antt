@@ -5,4 +5,5 @@ use Rattle.cfdp_pdus.proofs.CanonicalSteps.{pdu_spelled, metadata_spelled, metad
 use Rattle.cfdp_pdus.proofs.laws.metadata_reads_back.Goals as goal
 
 pub returns : goal.returns
-returns c = λ header metadata is sized fits all. pdu_spelled false (pdus.Metadata header metadata) (metadata_field header.large metadata) is (metadata_short header.large metadata fits) (metadata_spelled header metadata sized all)
+returns c = λ header metadata is sized fits all. pdu_spelled false (pdus.Metadata header metadata) (metadata_field header.large metadata) is
+    (metadata_short header.large metadata fits) (metadata_spelled header metadata sized all)

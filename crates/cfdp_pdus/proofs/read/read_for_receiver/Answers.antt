@@ -21,7 +21,8 @@ returns-clause-found c =
 pub returns-clause-only : goal.returns-clause-only
 returns-clause-only c = λ pdu spelled.
     let octets = c.args.octets.now in
-    only_ok Memory c.receive_whole.result (received_in (pdu_at octets)) (received pdu) c.receive_whole.ensures.exact (ap received_in (pdu_again octets pdu spelled))
+    only_ok Memory c.receive_whole.result (received_in (pdu_at octets)) (received pdu) c.receive_whole.ensures.exact
+    (ap received_in (pdu_again octets pdu spelled))
 
 pub returns-clause-lean : goal.returns-clause-lean
 returns-clause-lean c = λ pdu spelled lean.

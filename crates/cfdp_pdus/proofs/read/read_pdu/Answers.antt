@@ -14,7 +14,8 @@ pub returns-clause-only : goal.returns-clause-only
 returns-clause-only c = pdu_only c.args.octets.now c.read_whole.result c.read_whole.ensures.exact
 
 pub returns-clause-sound : goal.returns-clause-sound
-returns-clause-sound c = is_sound c.args.octets.now c.read_whole.result (octets_from c.args.octets.now (λ i. omega (arith, c.type_inv.octets i))) (pdu_found c.args.octets.now c.read_whole.result c.read_whole.ensures.exact)
+returns-clause-sound c = is_sound c.args.octets.now c.read_whole.result (octets_from c.args.octets.now (λ i. omega (arith, c.type_inv.octets i)))
+    (pdu_found c.args.octets.now c.read_whole.result c.read_whole.ensures.exact)
 
 pub returns-clause-lean : goal.returns-clause-lean
 returns-clause-lean c = λ pdu spelled lean.

@@ -13,7 +13,8 @@ invariant-loop-worked l = record {
   finished : AllByRecursion (λ worked. worked.stopped ≡ None) (into_iter_items l.worked-iterator);
   heard : AllByRecursion (λ file. AllByRecursion IsHeard (map said_of file.items)) (drop (length l.seats.items) l.files);
   handed : (others : List Seated) (counts : List ℕ)
-      → AreHanded (λ seat. told_of seat.receipts) (length l.seats.items) (map (λ file. map said_of file.items) (drop (length l.seats.items) l.files)) others counts
+      → AreHanded (λ seat. told_of seat.receipts) (length l.seats.items) (map (λ file. map said_of file.items) (drop (length l.seats.items) l.files)) others
+      counts
       → AreHanded (λ seat. told_of seat.receipts) 0 (map (λ file. map said_of file.items) l.files) (l.seats.items ++ others) (l.dropped.items ++ counts);
   readable : AllByRecursion HasReadable l.seats.items;
   seats : map (λ worked. worked.seat) l.fn.workers.items ≡ l.seats.items ++ map (λ worked. worked.seat) (into_iter_items l.worked-iterator);

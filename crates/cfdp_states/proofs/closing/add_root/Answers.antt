@@ -7,12 +7,14 @@ use Rattle.cfdp_states.proofs.closing.add_root.Goals as goal
 pub returns-in_default : goal.returns-in_default
 returns-in_default g c =
     let F = (g.S.Filestore.state c.args.store.now).filestore in
-    on_ok c.add_tree.result (λ adds test s. adds_closed c.args.extents.now c.add_tree.new.extents c.args.closed.now.items test (λ p. is_at_or_below p c.args.root.now) F s adds) c.add_tree.ensures
+    on_ok c.add_tree.result (λ adds test s. adds_closed c.args.extents.now c.add_tree.new.extents c.args.closed.now.items test
+    (λ p. is_at_or_below p c.args.root.now) F s adds) c.add_tree.ensures
 
 pub returns-then-has_below : goal.returns-then-has_below
 returns-then-has_below g c =
     let F = (g.S.Filestore.state c.args.store.now).filestore in
-    on_ok c.add_tree-then-has_below.result (λ adds test s. adds_closed c.args.extents.now c.add_tree-then-has_below.new.extents c.args.closed.now.items test (λ p. is_at_or_below p c.args.root.now) F s adds)
+    on_ok c.add_tree-then-has_below.result (λ adds test s. adds_closed c.args.extents.now c.add_tree-then-has_below.new.extents c.args.closed.now.items test
+    (λ p. is_at_or_below p c.args.root.now) F s adds)
     c.add_tree-then-has_below.ensures
 
 pub returns : goal.returns

@@ -11,7 +11,8 @@ rebased-requires-clause-below c =
 
 pub returns : goal.returns
 returns c =
-    let front : c.in_ok-front.front ≡ take (length c.args.path.now) c.in_ok-longest.longest = c.in_ok-front.ensures ∙ ap (λ k. take k c.in_ok-longest.longest) c.depth.ensures.depth in
+    let front : c.in_ok-front.front ≡ take (length c.args.path.now) c.in_ok-longest.longest = c.in_ok-front.ensures
+    ∙ ap (λ k. take k c.in_ok-longest.longest) c.depth.ensures.depth in
     subst (λ (d : Path). IsFiller c.args.path.now c.args.depth d)
     (sym (c.in_ok-filler.ensures ∙ (λ i. rebased (front i) c.args.path.now (c.in_ok-deep.ensures i))))
     (is_filler c.in_ok-longest.longest c.args.path.now c.args.depth c.in_ok-longest.ensures c.requires.below c.requires.within)

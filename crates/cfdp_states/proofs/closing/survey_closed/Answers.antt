@@ -23,5 +23,6 @@ loop-root-preserved g c =
 pub returns-clause-extents : goal.returns-clause-extents
 returns-clause-extents g c =
     let F = (g.S.Filestore.state c.args.store.now).filestore in
-    whole_closed c.exclusive-exclusive.result.now c.shared-shared.result.now c.loop-root.root-index c.args.footprint.now F c.loop-root.extents c.add_paths.new.extents c.loop-root.closed.items
+    whole_closed c.exclusive-exclusive.result.now c.shared-shared.result.now c.loop-root.root-index c.args.footprint.now F c.loop-root.extents
+    c.add_paths.new.extents c.loop-root.closed.items
     c.exclusive-exclusive.ensures.paths c.shared-shared.ensures.paths c.loop-root-test.false c.loop-root.invariant c.in_ok-add_paths.ensures

@@ -8,8 +8,10 @@ pub returns-then-earlier-place : goal.returns-then-earlier-place
 returns-then-earlier-place c = λ h root is.
     let roots = c.args.roots.now in
     let first = c.index-roots-earlier.result in
-    let here : root ≡ c.index-roots-place.result = is ∙ get_or_default roots c.args.place root c.index-roots-place.result c.requires.within ∙ sym c.index-roots-place.is in
-    let there : get_or roots c.args.earlier root ≡ first = get_or_default roots c.args.earlier root first (omega (arith, c.if-earlier-place.true, c.requires.within)) ∙ sym c.index-roots-earlier.is in
+    let here : root ≡ c.index-roots-place.result = is ∙ get_or_default roots c.args.place root c.index-roots-place.result c.requires.within
+    ∙ sym c.index-roots-place.is in
+    let there : get_or roots c.args.earlier root ≡ first = get_or_default roots c.args.earlier root first
+    (omega (arith, c.if-earlier-place.true, c.requires.within)) ∙ sym c.index-roots-earlier.is in
     let below : is_at_or_below root (get_or roots c.args.earlier root) ≡ true = (λ i. is_at_or_below (here i) (there i)) ∙ sym c.is_at_or_below.ensures ∙ h in
     inside_earlier roots c.args.earlier c.args.place root c.if-earlier-place.true (omega (arith, c.requires.within)) below
 

@@ -13,7 +13,8 @@ loop-place-preserved g c =
     let more = c.partition_point-before.result in
     record {
       adds = adds_root roots paths c.loop-place.place k more c.index-exclusive-place.result F c.loop-place-test.true c.index-exclusive-place.is
-          empty c.loop-place.extents c.add_paths.new.extents c.add_tree.new.extents c.loop-place.invariant.adds (adds_before paths k more F c.loop-place.extents c.add_paths.new.extents c.in_ok-add_paths.ensures) c.in_ok-add_tree.ensures;
+          empty c.loop-place.extents c.add_paths.new.extents c.add_tree.new.extents c.loop-place.invariant.adds
+          (adds_before paths k more F c.loop-place.extents c.add_paths.new.extents c.in_ok-add_paths.ensures) c.in_ok-add_tree.ensures;
       next = next_within paths k more c.loop-place.invariant.next c.partition_point-before.ensures.bound;
       last = omega arith;
     }
@@ -27,7 +28,8 @@ loop-place-preserved-then-is_inside g c =
     let more = c.partition_point-before.result in
     record {
       adds = adds_inside roots paths c.loop-place.place k more c.index-exclusive-place.result F c.loop-place-test.true c.index-exclusive-place.is
-          empty c.loop-place.extents c.add_paths.new.extents c.loop-place.invariant.adds (adds_before paths k more F c.loop-place.extents c.add_paths.new.extents c.in_ok-add_paths.ensures)
+          empty c.loop-place.extents c.add_paths.new.extents c.loop-place.invariant.adds
+          (adds_before paths k more F c.loop-place.extents c.add_paths.new.extents c.in_ok-add_paths.ensures)
           (c.is_inside.ensures c.if-is_inside.true c.index-exclusive-place.result c.index-exclusive-place.is);
       next = next_within paths k more c.loop-place.invariant.next c.partition_point-before.ensures.bound;
       last = omega (arith, c.loop-place.invariant.last);
@@ -39,5 +41,6 @@ returns-clause-extents g c =
     let roots = c.exclusive-exclusive.result.now in
     let paths = c.shared-shared.result.now in
     whole_survey roots paths c.args.footprint.now F c.add_paths-2.new.extents c.exclusive-exclusive.ensures.paths c.shared-shared.ensures.paths
-    (adds_rest roots paths c.loop-place.place c.loop-place.next F empty c.loop-place.extents c.add_paths-2.new.extents c.loop-place-test.false c.loop-place.invariant.adds
+    (adds_rest roots paths c.loop-place.place c.loop-place.next F empty c.loop-place.extents c.add_paths-2.new.extents c.loop-place-test.false
+    c.loop-place.invariant.adds
     (adds_behind paths c.loop-place.next F c.loop-place.extents c.add_paths-2.new.extents c.in_ok-add_paths-2.ensures))

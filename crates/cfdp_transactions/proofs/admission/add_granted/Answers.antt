@@ -19,42 +19,53 @@ grant-requires-clause-unheld g c =
 pub returns-in-Err-clause-err : goal.returns-in-Err-clause-err
 returns-in-Err-clause-err g c =
     let back : c.forget.new.self ≡ c.args.books.now.table =
-    c.forget.ensures ∙ ap (λ rows. remove rows c.len-place.result) c.in_ok-push.ensures.ok ∙ remove_last c.args.books.now.table c.new-entry.result c.len-place.result c.len-place.ensures in
+    c.forget.ensures ∙ ap (λ rows. remove rows c.len-place.result) c.in_ok-push.ensures.ok
+    ∙ remove_last c.args.books.now.table c.new-entry.result c.len-place.result c.len-place.ensures in
     rw back refl
 
 pub returns-in-Err-clause-booked : goal.returns-in-Err-clause-booked
 returns-in-Err-clause-booked g c =
     let back : c.forget.new.self ≡ c.args.books.now.table =
-    c.forget.ensures ∙ ap (λ rows. remove rows c.len-place.result) c.in_ok-push.ensures.ok ∙ remove_last c.args.books.now.table c.new-entry.result c.len-place.result c.len-place.ensures in
+    c.forget.ensures ∙ ap (λ rows. remove rows c.len-place.result) c.in_ok-push.ensures.ok
+    ∙ remove_last c.args.books.now.table c.new-entry.result c.len-place.result c.len-place.ensures in
     rw (back, c.in-Err.ensures.refused) c.requires.booked
 
 pub reserve-requires-clause-slot : goal.reserve-requires-clause-slot
 reserve-requires-clause-slot g c =
-    (first_free (g.S.Filestore.state c.args.store.now) c.args.books.now c.requires.sound c.requires.booked c.requires.few c.first_closed-slot.result c.first_closed-slot.ensures.closed c.first_closed-slot.ensures.before).1
+    (first_free (g.S.Filestore.state c.args.store.now) c.args.books.now c.requires.sound c.requires.booked c.requires.few c.first_closed-slot.result
+    c.first_closed-slot.ensures.closed c.first_closed-slot.ensures.before).1
 
 pub reserve-requires-clause-closed : goal.reserve-requires-clause-closed
 reserve-requires-clause-closed g c =
-    c.first_closed-slot.ensures.closed (first_free (g.S.Filestore.state c.args.store.now) c.args.books.now c.requires.sound c.requires.booked c.requires.few c.first_closed-slot.result c.first_closed-slot.ensures.closed c.first_closed-slot.ensures.before).1
+    c.first_closed-slot.ensures.closed (first_free (g.S.Filestore.state c.args.store.now) c.args.books.now c.requires.sound c.requires.booked c.requires.few
+    c.first_closed-slot.result c.first_closed-slot.ensures.closed c.first_closed-slot.ensures.before).1
 
 pub returns-clause-adds : goal.returns-clause-adds
 returns-clause-adds g c =
     let s = g.S.Filestore.state c.args.store.now in
-    let slot = (first_free s c.args.books.now c.requires.sound c.requires.booked c.requires.few c.first_closed-slot.result c.first_closed-slot.ensures.closed c.first_closed-slot.ensures.before).0 in
-    let row : c.new-entry.result ≡ fresh_row c.args.header.now c.args.metadata Receiving c.first_closed-slot.result (granted_items c.args.grant) c.args.grant.blocks c.args.grant.steps =
+    let slot = (first_free s c.args.books.now c.requires.sound c.requires.booked c.requires.few c.first_closed-slot.result c.first_closed-slot.ensures.closed
+    c.first_closed-slot.ensures.before).0 in
+    let row : c.new-entry.result ≡ fresh_row c.args.header.now c.args.metadata Receiving c.first_closed-slot.result
+    (granted_items c.args.grant) c.args.grant.blocks c.args.grant.steps =
     c.new-entry.ensures in
     rw (c.in_ok-push.ensures.ok, row)
-    (granted_adds s c.args.books.now c.requires.sound c.requires.booked c.requires.few c.args.header.now c.args.metadata c.first_closed-slot.result c.args.grant.blocks c.args.grant.steps (granted_items c.args.grant) slot)
+    (granted_adds s c.args.books.now c.requires.sound c.requires.booked c.requires.few c.args.header.now c.args.metadata c.first_closed-slot.result
+    c.args.grant.blocks c.args.grant.steps (granted_items c.args.grant) slot)
 
 pub returns-clause-booked : goal.returns-clause-booked
 returns-clause-booked g c =
     let s = g.S.Filestore.state c.args.store.now in
     let b = c.args.books.now in
-    let slot = (first_free s b c.requires.sound c.requires.booked c.requires.few c.first_closed-slot.result c.first_closed-slot.ensures.closed c.first_closed-slot.ensures.before).0 in
-    let row : c.new-entry.result ≡ fresh_row c.args.header.now c.args.metadata Receiving c.first_closed-slot.result (granted_items c.args.grant) c.args.grant.blocks c.args.grant.steps =
+    let slot = (first_free s b c.requires.sound c.requires.booked c.requires.few c.first_closed-slot.result c.first_closed-slot.ensures.closed
+    c.first_closed-slot.ensures.before).0 in
+    let row : c.new-entry.result ≡ fresh_row c.args.header.now c.args.metadata Receiving c.first_closed-slot.result
+    (granted_items c.args.grant) c.args.grant.blocks c.args.grant.steps =
     c.new-entry.ensures in
     let name : c.name-transaction.result ≡ id_of c.args.header.now = c.name-transaction.ensures ∙ ap row_name c.new-entry.ensures in
     let leases : c.grant.new.self ≡ b.leases ++ (id_of c.args.header.now, footprint_of (granted_items c.args.grant)) ∷ [] =
-    c.in_default.ensures.granted ∙ ap (λ id. b.leases ++ (id, c.args.grant.footprint) ∷ []) name ∙ ap (λ fp. b.leases ++ (id_of c.args.header.now, fp) ∷ []) c.requires.footprint in
+    c.in_default.ensures.granted ∙ ap (λ id. b.leases ++ (id, c.args.grant.footprint) ∷ []) name
+    ∙ ap (λ fp. b.leases ++ (id_of c.args.header.now, fp) ∷ []) c.requires.footprint in
     rw (c.in_ok-push.ensures.ok, row, leases)
-    (granted_booked s b c.requires.sound c.requires.booked c.requires.few c.args.header.now c.args.metadata c.first_closed-slot.result c.args.grant.blocks c.args.grant.steps (granted_items c.args.grant) slot
+    (granted_booked s b c.requires.sound c.requires.booked c.requires.few c.args.header.now c.args.metadata c.first_closed-slot.result c.args.grant.blocks
+    c.args.grant.steps (granted_items c.args.grant) slot
     c.reserve.new.self c.reserve.ensures.reserved c.reserve.ensures.opened c.reserve.ensures.spare)

@@ -16,7 +16,8 @@ turn-requires-clause-live g c =
 pub returns-then-checks-saturating_sub-clause-answer : goal.returns-then-checks-saturating_sub-clause-answer
 returns-then-checks-saturating_sub-clause-answer g c = λ e there.
     let phase : c.at-entry.result.now.phase ≡ Awaiting c.in-Awaiting.checks = cc in
-    let is = phase_is (g.S.Filestore.state c.args.store.now) c.args.books.now c.args.place c.at-entry.result.now c.at-entry.ensures e there (Awaiting c.in-Awaiting.checks) phase in
+    let is = phase_is (g.S.Filestore.state c.args.store.now) c.args.books.now c.args.place c.at-entry.result.now c.at-entry.ensures e there
+    (Awaiting c.in-Awaiting.checks) phase in
     check_fault _ _ c.args.place e c.in-Awaiting.checks there is (omega arith) c.end.ensures.ends
 
 pub returns-clause-answer : goal.returns-clause-answer

@@ -12,7 +12,12 @@ gave-requires-clause-used g c =
     let at = c.at-entry.ensures in
     let live = live_row s b c.args.place r c.requires.live at in
     let given = rw c.slot-slot.ensures at c.unstage-given.ensures.ticks in
-    omega (arith, given, in_use s b c.requires.sound c.requires.booked c.args.place r at live, blocks-unstaged s b c.requires.sound c.requires.booked c.args.place r at live)
+    omega (
+      arith,
+      given,
+      in_use s b c.requires.sound c.requires.booked c.args.place r at live,
+      blocks-unstaged s b c.requires.sound c.requires.booked c.args.place r at live,
+    )
 
 pub close-requires : goal.close-requires
 close-requires g c =
@@ -49,7 +54,8 @@ returns-clause-ends g c =
     let at = c.at-entry.ensures in
     let given = rw c.slot-slot.ensures at c.unstage-given.ensures.ticks in
     rw (c.unstage-given.ensures.dropped, c.slot-slot.ensures, c.end.ensures r at)
-    (ended_world s b c.requires.sound c.requires.booked c.args.place r at (live_row s b c.args.place r c.requires.live at) c.args.condition c.args.by_eof c.unstage-given.result given)
+    (ended_world s b c.requires.sound c.requires.booked c.args.place r at (live_row s b c.args.place r c.requires.live at) c.args.condition c.args.by_eof
+    c.unstage-given.result given)
 
 pub returns-clause-booked : goal.returns-clause-booked
 returns-clause-booked g c =
@@ -62,5 +68,6 @@ returns-clause-booked g c =
     let close = rw c.slot-slot.ensures at c.close.ensures.closed in
     let back = rw c.slot-slot.ensures at c.close.ensures.spare in
     rw (c.unstage-given.ensures.dropped, c.slot-slot.ensures, c.end.ensures r at, c.release.ensures, c.name-transaction.ensures)
-    (ended_booked s b c.requires.sound c.requires.booked c.args.place r at (live_row s b c.args.place r c.requires.live at) c.args.condition c.args.by_eof c.unstage-given.result given
+    (ended_booked s b c.requires.sound c.requires.booked c.args.place r at
+    (live_row s b c.args.place r c.requires.live at) c.args.condition c.args.by_eof c.unstage-given.result given
     c.gave.new.self c.close.new.self gave c.gave.ensures.spare close back)

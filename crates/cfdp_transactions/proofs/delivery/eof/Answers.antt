@@ -174,7 +174,8 @@ returns-then-not-is_whole-clause-answer g c = λ e there.
     let size = received_size s b c.requires.sound c.requires.booked k r at live in
     let wrong : is_wrong_size (world_of s b) c.args.eof (entry_in s.filestore r) ≡ false = rw size (sym c.has_wrong_size.ensures ∙ c.if-has_wrong_size.false) in
     let all = whole_row s b c.requires.sound c.requires.booked k r at live c.args.eof.size ∙ sym c.is_whole.ensures ∙ c.if-not-is_whole.true in
-    begin ∙ eof_waits _ _ k c.args.eof e there (rw same some) (rw same file) (rw same wrong) (rw same all) (rw same (rw c.is_complete-complete.ensures at c.turn-then-not-is_whole.ensures.turns))
+    begin ∙ eof_waits _ _ k c.args.eof e there (rw same some) (rw same file) (rw same wrong) (rw same all)
+    (rw same (rw c.is_complete-complete.ensures at c.turn-then-not-is_whole.ensures.turns))
 
 pub judge-requires-clause-live : goal.judge-requires-clause-live
 judge-requires-clause-live g c =
@@ -203,4 +204,5 @@ returns-clause-answer g c = λ e there.
     let size = received_size s b c.requires.sound c.requires.booked k r at live in
     let wrong : is_wrong_size (world_of s b) c.args.eof (entry_in s.filestore r) ≡ false = rw size (sym c.has_wrong_size.ensures ∙ c.if-has_wrong_size.false) in
     let all = whole_row s b c.requires.sound c.requires.booked k r at live c.args.eof.size ∙ sym c.is_whole.ensures ∙ c.if-not-is_whole.false in
-    carry _ _ _ _ c.judge.ensures.answered (begin ∙ eof_whole _ k c.args.eof e (rw same some) (rw same file) (rw same wrong) (rw same all) ∙ c.judge.ensures.answer e there)
+    carry _ _ _ _ c.judge.ensures.answered (begin ∙ eof_whole _ k c.args.eof e (rw same some) (rw same file) (rw same wrong) (rw same all)
+    ∙ c.judge.ensures.answer e there)

@@ -106,7 +106,8 @@ overflow_add-end g c =
     let p = c.args.piece.now in
     let offset : c.piece.inside.offset ≡ p.offset = ap (λ (q : FileDataFields). q.offset) c.piece.view_is in
     let octets : c.piece.inside.octets.now ≡ p.octets = ap (λ (q : FileDataFields). q.octets) c.piece.view_is in
-    let to : c.piece.inside.offset + length c.piece.inside.octets.now ≡ p.offset + length p.octets = omega (arith, offset, ap (λ (q : FileDataFields). length q.octets) c.piece.view_is) in
+    let to : c.piece.inside.offset + length c.piece.inside.octets.now ≡ p.offset + length p.octets =
+    omega (arith, offset, ap (λ (q : FileDataFields). length q.octets) c.piece.view_is) in
     omega (arith, to, c.requires.fits)
 
 pub store-requires-clause-fits : goal.store-requires-clause-fits
@@ -119,7 +120,8 @@ store-requires-clause-fits g c =
     let p = c.args.piece.now in
     let offset : c.piece.inside.offset ≡ p.offset = ap (λ (q : FileDataFields). q.offset) c.piece.view_is in
     let octets : c.piece.inside.octets.now ≡ p.octets = ap (λ (q : FileDataFields). q.octets) c.piece.view_is in
-    let to : c.piece.inside.offset + length c.piece.inside.octets.now ≡ p.offset + length p.octets = omega (arith, offset, ap (λ (q : FileDataFields). length q.octets) c.piece.view_is) in
+    let to : c.piece.inside.offset + length c.piece.inside.octets.now ≡ p.offset + length p.octets =
+    omega (arith, offset, ap (λ (q : FileDataFields). length q.octets) c.piece.view_is) in
     rw (at, to, offset) ((can_store s b c.requires.sound c.requires.booked k r at p c.requires.taken))
 
 pub returns-clause-stored : goal.returns-clause-stored
@@ -136,8 +138,10 @@ returns-clause-stored g c =
     let taken = rw whole at (rw (c.slot-slot.ensures, c.ranges-2.ensures, offset, octets) at c.in_ok-taken.ensures.taken) in
     let state = rw whole at (rw (c.slot-slot.ensures, c.ranges-2.ensures, offset, octets) at c.in_ok-taken.ensures.kept) in
     let ranges = rw whole at (rw (c.slot-slot.ensures, c.ranges-2.ensures, offset, octets) at c.in_ok-taken.ensures.ranges) in
-    let to : c.piece.inside.offset + length c.piece.inside.octets.now ≡ p.offset + length p.octets = omega (arith, offset, ap (λ (q : FileDataFields). length q.octets) c.piece.view_is) in
-    rw (c.store.ensures r at, to, offset) (stored_at s b c.requires.sound c.requires.booked k r at p c.requires.taken (g.S.Filestore.state c.keep.new.store) c.in_ok-taken.taken state ranges taken c.took.new.self)
+    let to : c.piece.inside.offset + length c.piece.inside.octets.now ≡ p.offset + length p.octets =
+    omega (arith, offset, ap (λ (q : FileDataFields). length q.octets) c.piece.view_is) in
+    rw (c.store.ensures r at, to, offset) (stored_at s b c.requires.sound c.requires.booked k r at p c.requires.taken
+    (g.S.Filestore.state c.keep.new.store) c.in_ok-taken.taken state ranges taken c.took.new.self)
 
 pub returns-clause-sound : goal.returns-clause-sound
 returns-clause-sound g c =
@@ -153,8 +157,10 @@ returns-clause-sound g c =
     let taken = rw whole at (rw (c.slot-slot.ensures, c.ranges-2.ensures, offset, octets) at c.in_ok-taken.ensures.taken) in
     let state = rw whole at (rw (c.slot-slot.ensures, c.ranges-2.ensures, offset, octets) at c.in_ok-taken.ensures.kept) in
     let ranges = rw whole at (rw (c.slot-slot.ensures, c.ranges-2.ensures, offset, octets) at c.in_ok-taken.ensures.ranges) in
-    let to : c.piece.inside.offset + length c.piece.inside.octets.now ≡ p.offset + length p.octets = omega (arith, offset, ap (λ (q : FileDataFields). length q.octets) c.piece.view_is) in
-    rw (c.store.ensures r at, to, offset) (stored_sound s b c.requires.sound c.requires.booked k r at p c.requires.taken (g.S.Filestore.state c.keep.new.store) c.in_ok-taken.taken state ranges taken c.requires.laws c.took.new.self)
+    let to : c.piece.inside.offset + length c.piece.inside.octets.now ≡ p.offset + length p.octets =
+    omega (arith, offset, ap (λ (q : FileDataFields). length q.octets) c.piece.view_is) in
+    rw (c.store.ensures r at, to, offset) (stored_sound s b c.requires.sound c.requires.booked k r at p c.requires.taken
+    (g.S.Filestore.state c.keep.new.store) c.in_ok-taken.taken state ranges taken c.requires.laws c.took.new.self)
 
 pub returns-clause-booked : goal.returns-clause-booked
 returns-clause-booked g c =
@@ -170,8 +176,11 @@ returns-clause-booked g c =
     let taken = rw whole at (rw (c.slot-slot.ensures, c.ranges-2.ensures, offset, octets) at c.in_ok-taken.ensures.taken) in
     let state = rw whole at (rw (c.slot-slot.ensures, c.ranges-2.ensures, offset, octets) at c.in_ok-taken.ensures.kept) in
     let ranges = rw whole at (rw (c.slot-slot.ensures, c.ranges-2.ensures, offset, octets) at c.in_ok-taken.ensures.ranges) in
-    let to : c.piece.inside.offset + length c.piece.inside.octets.now ≡ p.offset + length p.octets = omega (arith, offset, ap (λ (q : FileDataFields). length q.octets) c.piece.view_is) in
-    rw (c.store.ensures r at, to, offset) (stored_booked s b c.requires.sound c.requires.booked k r at p c.requires.taken (g.S.Filestore.state c.keep.new.store) c.in_ok-taken.taken state ranges taken c.took.new.self (rw c.slot-slot.ensures at c.took.ensures.taken) c.took.ensures.spare)
+    let to : c.piece.inside.offset + length c.piece.inside.octets.now ≡ p.offset + length p.octets =
+    omega (arith, offset, ap (λ (q : FileDataFields). length q.octets) c.piece.view_is) in
+    rw (c.store.ensures r at, to, offset) (stored_booked s b c.requires.sound c.requires.booked k r at p c.requires.taken
+    (g.S.Filestore.state c.keep.new.store) c.in_ok-taken.taken state ranges taken c.took.new.self
+    (rw c.slot-slot.ensures at c.took.ensures.taken) c.took.ensures.spare)
 
 pub store-requires-clause-within : goal.store-requires-clause-within
 store-requires-clause-within g c = get_below c.args.books.now.table c.args.place c.at-entry.result.now c.at-entry.ensures

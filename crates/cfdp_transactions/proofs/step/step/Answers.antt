@@ -90,7 +90,8 @@ settle-requires-clause-taken g c =
     let there = sym (rw c.in-Some.is at c.item.ensures) in
     let same = done_as c.requires.laws s b c.requires.sound c.requires.booked c.args.place r at n executing item there in
     let state = rw (c.protected.ensures, c.slot-slot.ensures, same) at c.in-Ok.ensures.state in
-    rw (c.slot-slot.ensures, c.free-before.ensures.value, c.free-after.ensures.value, state) (taken_within c.requires.laws s b c.requires.sound c.requires.booked c.args.place r at n executing item there)
+    rw (c.slot-slot.ensures, c.free-before.ensures.value, c.free-after.ensures.value, state)
+    (taken_within c.requires.laws s b c.requires.sound c.requires.booked c.args.place r at n executing item there)
 
 pub settle-requires-clause-given : goal.settle-requires-clause-given
 settle-requires-clause-given g c =
@@ -104,7 +105,8 @@ settle-requires-clause-given g c =
     let there = sym (rw c.in-Some.is at c.item.ensures) in
     let same = done_as c.requires.laws s b c.requires.sound c.requires.booked c.args.place r at n executing item there in
     let state = rw (c.protected.ensures, c.slot-slot.ensures, same) at c.in-Ok.ensures.state in
-    rw (c.free-before.ensures.value, c.free-after.ensures.value, state) (given_within c.requires.laws s b c.requires.sound c.requires.booked c.args.place r at n executing item there)
+    rw (c.free-before.ensures.value, c.free-after.ensures.value, state) (given_within c.requires.laws s b c.requires.sound c.requires.booked c.args.place r at n
+    executing item there)
 
 pub settle-requires-clause-unused : goal.settle-requires-clause-unused
 settle-requires-clause-unused g c =
@@ -142,7 +144,8 @@ advance-requires-clause-fits g c =
     let there = sym (rw c.in-Some.is at c.item.ensures) in
     let same = done_as c.requires.laws s b c.requires.sound c.requires.booked c.args.place r at n executing item there in
     let ticks_are = rw (c.protected.ensures, c.slot-slot.ensures, same) at c.in-Ok.ensures.ticks in
-    rw at (can_advance c.requires.laws s b c.requires.sound c.requires.booked c.args.place r at n executing item there c.in-Ok.ticks c.is_install-install.result ticks_are c.is_install-install.ensures)
+    rw at (can_advance c.requires.laws s b c.requires.sound c.requires.booked c.args.place r at n executing item there c.in-Ok.ticks c.is_install-install.result
+    ticks_are c.is_install-install.ensures)
 
 pub close-requires : goal.close-requires
 close-requires g c =
@@ -170,7 +173,10 @@ returns-then-last-clause-answer g c =
     let is_after = c.free-after.ensures.value ∙ ap free_blocks state in
     let is_last : (c.from.result + 1 == c.item_count.result) ≡ (suc n == length r.items) = rw (c.from.ensures, c.item_count.ensures, add-one) refl in
     let replied_is = rw (c.protected.ensures, c.slot-slot.ensures, same) at c.in-Ok.ensures.reply in
-    rw (state, c.advance.ensures r at) (step_answer c.requires.laws s b c.requires.sound c.requires.booked c.args.place r at n executing item there c.free-before.result c.free-after.result c.in-Ok.ticks (c.from.result + 1 == c.item_count.result) c.is_install-install.result c.free-before.ensures.value is_after ticks_are c.is_install-install.ensures is_last c.in-Ok.reply replied_is)
+    rw (state, c.advance.ensures r at) (step_answer c.requires.laws s b c.requires.sound c.requires.booked c.args.place r at n executing item there
+    c.free-before.result c.free-after.result c.in-Ok.ticks (c.from.result
+    + 1 == c.item_count.result) c.is_install-install.result c.free-before.ensures.value is_after ticks_are c.is_install-install.ensures is_last
+    c.in-Ok.reply replied_is)
 
 pub returns-then-last-clause-steady : goal.returns-then-last-clause-steady
 returns-then-last-clause-steady g c =
@@ -216,7 +222,10 @@ returns-else-last-clause-answer g c =
     let is_after = c.free-after.ensures.value ∙ ap free_blocks state in
     let is_last : (c.from.result + 1 == c.item_count.result) ≡ (suc n == length r.items) = rw (c.from.ensures, c.item_count.ensures, add-one) refl in
     let replied_is = rw (c.protected.ensures, c.slot-slot.ensures, same) at c.in-Ok.ensures.reply in
-    rw (state, c.advance.ensures r at) (step_answer c.requires.laws s b c.requires.sound c.requires.booked c.args.place r at n executing item there c.free-before.result c.free-after.result c.in-Ok.ticks (c.from.result + 1 == c.item_count.result) c.is_install-install.result c.free-before.ensures.value is_after ticks_are c.is_install-install.ensures is_last c.in-Ok.reply replied_is)
+    rw (state, c.advance.ensures r at) (step_answer c.requires.laws s b c.requires.sound c.requires.booked c.args.place r at n executing item there
+    c.free-before.result c.free-after.result c.in-Ok.ticks (c.from.result
+    + 1 == c.item_count.result) c.is_install-install.result c.free-before.ensures.value is_after ticks_are c.is_install-install.ensures is_last
+    c.in-Ok.reply replied_is)
 
 pub returns-else-last-clause-steady : goal.returns-else-last-clause-steady
 returns-else-last-clause-steady g c =
@@ -264,7 +273,11 @@ returns-then-last-clause-booked g c =
     let settles = rw c.slot-slot.ensures at c.settle.ensures in
     let close = rw c.slot-slot.ensures at c.close.ensures.closed in
     let back = rw c.slot-slot.ensures at c.close.ensures.spare in
-    rw (state, c.advance.ensures r at, c.release.ensures, c.name-transaction.ensures) (booked_done c.requires.laws s b c.requires.sound c.requires.booked c.args.place r at n executing item there c.free-before.result c.free-after.result c.in-Ok.ticks (c.from.result + 1 == c.item_count.result) c.is_install-install.result c.free-before.ensures.value is_after ticks_are c.is_install-install.ensures is_last c.settle.new.quota settles c.close.new.self close back (eq-eqb (c.from.result + 1) c.item_count.result c.if-last.true))
+    rw (state, c.advance.ensures r at, c.release.ensures, c.name-transaction.ensures)
+    (booked_done c.requires.laws s b c.requires.sound c.requires.booked c.args.place r at n executing item there c.free-before.result c.free-after.result
+    c.in-Ok.ticks (c.from.result + 1 == c.item_count.result) c.is_install-install.result c.free-before.ensures.value is_after ticks_are
+    c.is_install-install.ensures is_last c.settle.new.quota settles c.close.new.self close back
+    (eq-eqb (c.from.result + 1) c.item_count.result c.if-last.true))
 
 pub returns-else-last-clause-booked : goal.returns-else-last-clause-booked
 returns-else-last-clause-booked g c =
@@ -282,4 +295,7 @@ returns-else-last-clause-booked g c =
     let is_after = c.free-after.ensures.value ∙ ap free_blocks state in
     let is_last : (c.from.result + 1 == c.item_count.result) ≡ (suc n == length r.items) = rw (c.from.ensures, c.item_count.ensures, add-one) refl in
     let settles = rw c.slot-slot.ensures at c.settle.ensures in
-    rw (state, c.advance.ensures r at) (booked_more c.requires.laws s b c.requires.sound c.requires.booked c.args.place r at n executing item there c.free-before.result c.free-after.result c.in-Ok.ticks (c.from.result + 1 == c.item_count.result) c.is_install-install.result c.free-before.ensures.value is_after ticks_are c.is_install-install.ensures is_last c.settle.new.quota settles (differ (c.from.result + 1) c.item_count.result c.if-last.false))
+    rw (state, c.advance.ensures r at) (booked_more c.requires.laws s b c.requires.sound c.requires.booked c.args.place r at n executing item there
+    c.free-before.result c.free-after.result c.in-Ok.ticks (c.from.result
+    + 1 == c.item_count.result) c.is_install-install.result c.free-before.ensures.value is_after ticks_are c.is_install-install.ensures is_last
+    c.settle.new.quota settles (differ (c.from.result + 1) c.item_count.result c.if-last.false))

@@ -1,7 +1,5 @@
-use Rattle.std.proofs.Common.{◌≡◌, refl, sym, ap, ◌∙◌}
+use Rattle.std.proofs.Common.{◌≡◌, refl, ap, ◌∙◌}
 use Rattle.cfdp_pdus.specs.Values.{MetadataFields}
-use Rattle.cfdp_transactions.specs.Outcome.{outcome_of}
-use Rattle.cfdp_transactions.specs.Rows.{entry_in}
 use Rattle.cfdp_transactions.proofs.taking.make_outcome.Goals as goal
 
 pub returns : goal.returns

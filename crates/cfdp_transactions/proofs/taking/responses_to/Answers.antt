@@ -1,5 +1,5 @@
-use Rattle.std.proofs.Common.{◌≡◌, ◌+◌, ◌-◌, ◌≤◌, ◌++◌, ◌∷◌, length, refl, sym, ap, subst, ◌∙◌, arith}
-use Rattle.std.specs.Prelude.{vec_capacity, vec_len}
+use Rattle.std.proofs.Common.{◌≡◌, ◌+◌, ◌-◌, ◌++◌, length, refl, ap, subst, ◌∙◌, arith}
+use Rattle.std.specs.Prelude.{vec_len}
 use Rattle.cfdp_status.specs.declared.status.Status.TheVariants.{Successful, NotPerformed}
 use Rattle.cfdp_transactions.specs.Outcome.{answered, responses_of}
 use Rattle.cfdp_transactions.specs.Taking.{statuses_of}
@@ -18,9 +18,11 @@ loop-request-preserved c =
     (λ less. c.status_of-status.ensures.performed less ∙ ap (λ a. Successful a) c.action.ensures.value)
     (λ past. c.status_of-status.ensures.left past ∙ ap (λ a. NotPerformed a) c.action.ensures.value)) in
     let response : c.into_response.result ≡ answered r (status_at left r) = rw (c.into_response.ensures, status) refl in
-    let whole = subst (λ rs. done ++ responses_of rs (statuses_of left rs) ≡ responses_of c.args.requests.items (statuses_of c.args.performed c.args.requests.items))
+    let whole = subst (λ rs. done ++ responses_of rs (statuses_of left rs)
+    ≡ responses_of c.args.requests.items (statuses_of c.args.performed c.args.requests.items))
     c.in-Some.ensures.steps.0 c.loop-request.invariant.all in
-    let next = next_answer r rest c.args.performed n done c.push_reserved.new.self.items (responses_of c.args.requests.items (statuses_of c.args.performed c.args.requests.items))
+    let next = next_answer r rest c.args.performed n done c.push_reserved.new.self.items
+    (responses_of c.args.requests.items (statuses_of c.args.performed c.args.requests.items))
     c.into_response.result response c.push_reserved.ensures.items whole in
     let fewer : length c.loop-request.request-iterator.rest.items ≡ length rest + 1 = ap length c.in-Some.ensures.steps.0 ∙ omega arith in
     record {

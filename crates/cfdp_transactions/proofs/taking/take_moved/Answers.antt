@@ -14,7 +14,8 @@ returns-clause-answer g c =
     let here = c.at-entry.ensures in
     let taken = c.take_out.ensures.taken in
     let same : c.take_out.result ≡ row = cc in
-    let requests : c.into_requests-requests.result.items ≡ row.metadata.requests = c.into_requests-requests.ensures ∙ ap (λ (r : Row). r.metadata.requests) same in
+    let requests : c.into_requests-requests.result.items ≡ row.metadata.requests = c.into_requests-requests.ensures
+    ∙ ap (λ (r : Row). r.metadata.requests) same in
     let performed : c.from-performed.result ≡ row.performed = c.from-performed.ensures ∙ c.performed.ensures in
     let made : c.with_responses.result ≡ outcome_of (entry_in s.filestore row) =
     c.with_responses.ensures ∙ rw (c.bare_outcome-outcome.ensures s.filestore, c.responses_to.ensures, requests, performed) refl in

@@ -13,7 +13,7 @@ use Rattle.cfdp_tree.proofs.SpareLaws.{runs_stay}
 use Rattle.cfdp_tree.proofs.WriteLaws.{written_octets, written_nodes}
 use Rattle.cfdp_tree.proofs.files.set_contents.Goals as goal
 
--- the blocks of a run stand in the arena
+-- the blocks of a run are in the arena
 part_within : (arena : Blocks) (run : Run) → IsHeld arena run → (k : ℕ) → k < run.count → (block : ℕ) → block ≡ nth arena run.first k → block < length arena
 part_within arena run held k within block is = live_within arena block (held_part arena run held k within block is).live
 
@@ -27,12 +27,14 @@ set_run-requires c =
 
 pub returns-clause-nodes : goal.returns-clause-nodes
 returns-clause-nodes c =
-    written_nodes c.args.arena.now c.args.node.now c.bytes_mut-block.result.now c.set_sum.new.block c.requires.node c.bytes_mut-block.ensures.octets (c.set_sum.ensures.header ∙ c.set_size.ensures.header ∙ c.set_run.ensures.header)
+    written_nodes c.args.arena.now c.args.node.now c.bytes_mut-block.result.now c.set_sum.new.block c.requires.node c.bytes_mut-block.ensures.octets
+    (c.set_sum.ensures.header ∙ c.set_size.ensures.header ∙ c.set_run.ensures.header)
 
 pub returns-clause-row : goal.returns-clause-row
 returns-clause-row c =
     let arena = c.args.arena.now in let b = c.args.node.now in let shown = c.bytes_mut-block.result.now in let contents = c.args.contents.now in
-    ap row_of (written_octets arena b shown c.set_sum.new.block c.requires.node c.bytes_mut-block.ensures.octets (c.set_sum.ensures.header ∙ c.set_size.ensures.header ∙ c.set_run.ensures.header))
+    ap row_of (written_octets arena b shown c.set_sum.new.block c.requires.node c.bytes_mut-block.ensures.octets (c.set_sum.ensures.header
+    ∙ c.set_size.ensures.header ∙ c.set_run.ensures.header))
     ∙ c.set_sum.ensures.row
     ∙ ap (λ (r : Row). record r { sum = contents.sum }) c.set_size.ensures.row
     ∙ ap (λ (r : Row). record r { size = contents.size; sum = contents.sum }) c.set_run.ensures.row
@@ -40,16 +42,20 @@ returns-clause-row c =
 
 pub returns-clause-name : goal.returns-clause-name
 returns-clause-name c =
-    let arena = c.args.arena.now in let b = c.args.node.now in let shown = c.bytes_mut-block.result.now in let new = c.set_sum.new.block in let run = c.args.contents.now.run in
-    let long = ap (λ (r : Row). r.name_length) c.set_sum.ensures.row ∙ ap (λ (r : Row). r.name_length) c.set_size.ensures.row ∙ ap (λ (r : Row). r.name_length) c.set_run.ensures.row ∙ run_keeps (λ (r : Row). r.name_length) (row_of shown) run refl in
+    let arena = c.args.arena.now in let b = c.args.node.now in let shown = c.bytes_mut-block.result.now in let new = c.set_sum.new.block in let run =
+    c.args.contents.now.run in
+    let long = ap (λ (r : Row). r.name_length) c.set_sum.ensures.row ∙ ap (λ (r : Row). r.name_length) c.set_size.ensures.row
+    ∙ ap (λ (r : Row). r.name_length) c.set_run.ensures.row ∙ run_keeps (λ (r : Row). r.name_length) (row_of shown) run refl in
     let name : name_of new ≡ name_of shown = (λ k. take (long k) ((c.set_sum.ensures.name ∙ c.set_size.ensures.name ∙ c.set_run.ensures.name) k)) in
-    ap name_of (written_octets arena b shown new c.requires.node c.bytes_mut-block.ensures.octets (c.set_sum.ensures.header ∙ c.set_size.ensures.header ∙ c.set_run.ensures.header))
+    ap name_of (written_octets arena b shown new c.requires.node c.bytes_mut-block.ensures.octets (c.set_sum.ensures.header ∙ c.set_size.ensures.header
+    ∙ c.set_run.ensures.header))
     ∙ name
     ∙ ap name_of (node_octets arena b c.requires.node shown c.bytes_mut-block.ensures.octets)
 
 pub returns-clause-whole : goal.returns-clause-whole
 returns-clause-whole c =
-    ap length (written_octets c.args.arena.now c.args.node.now c.bytes_mut-block.result.now c.set_sum.new.block c.requires.node c.bytes_mut-block.ensures.octets (c.set_sum.ensures.header ∙ c.set_size.ensures.header ∙ c.set_run.ensures.header))
+    ap length (written_octets c.args.arena.now c.args.node.now c.bytes_mut-block.result.now c.set_sum.new.block c.requires.node c.bytes_mut-block.ensures.octets
+    (c.set_sum.ensures.header ∙ c.set_size.ensures.header ∙ c.set_run.ensures.header))
     ∙ c.set_sum.ensures.whole
 
 pub returns-clause-runs : goal.returns-clause-runs

@@ -27,7 +27,15 @@ overflow_add-heads c =
     let same = get_or_default heads place no_head c.index-heads-place.result within in
     let is : c.index-heads-place.result.count ≡ (slice_index_or heads place no_head).count = ap (λ (h : Head). h.count) (c.index-heads-place.is ∙ sym same) in
     let most = get_or-le-sum_by (λ (h : Head). h.count) heads place no_head within in
-    omega (arith, is, most, c.requires.index.counted, live_count-within (nodes_in c.args.arena.now), length-map c.args.arena.now only_node, c.free-free.ensures.capacity)
+    omega (
+      arith,
+      is,
+      most,
+      c.requires.index.counted,
+      live_count-within (nodes_in c.args.arena.now),
+      length-map c.args.arena.now only_node,
+      c.free-free.ensures.capacity,
+    )
 
 pub returns-clause-index : goal.returns-clause-index
 returns-clause-index c =

@@ -36,7 +36,8 @@ loop-step-preserved c =
     let list = chain nodes (count - l._step) next in
     let node = own_first (IsNode nodes) l.before list l.invariant.nodes in
     let next_is : next ≡ c.same_head_of-next.result =
-    ap (λ o. (row_of o).same_head) (sym (node_octets c.args.arena.now l.before node c.bytes.result.now c.bytes.ensures.octets)) ∙ sym c.same_head_of-next.ensures.value in
+    ap (λ o. (row_of o).same_head) (sym (node_octets c.args.arena.now l.before node c.bytes.result.now c.bytes.ensures.octets))
+    ∙ sym c.same_head_of-next.ensures.value in
     let list_is : list ≡ chain nodes (suc m) c.same_head_of-next.result = (λ k. chain nodes (more k) (next_is k)) in
     record {
       nodes = subst (All (IsNode nodes)) list_is (own_rest (IsNode nodes) l.before list l.invariant.nodes);
@@ -60,4 +61,5 @@ returns-then-eq-clause-there c =
     let l = c.loop-step in let nodes = nodes_in c.args.arena.now in let count = c.args.head.now.count in
     let m = count - (l._step + 1) in
     let more : count - l._step ≡ suc m = omega arith in
-    l.invariant.behind l.before (subst (λ n. Contains (chain nodes n l.before) l.before) (sym more) (has_first l.before (chain nodes m (row_at nodes l.before).same_head)))
+    l.invariant.behind l.before (subst (λ n. Contains (chain nodes n l.before) l.before) (sym more)
+    (has_first l.before (chain nodes m (row_at nodes l.before).same_head)))

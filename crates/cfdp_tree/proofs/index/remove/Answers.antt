@@ -12,24 +12,28 @@ use Rattle.cfdp_tree.proofs.UnlistLaws.{removed}
 use Rattle.cfdp_tree.proofs.index.remove.Goals as goal
 
 -- the head that the code reads is the one of the index
-head_here : (heads : List Head) (place : ℕ) (head : Head) → place < length heads → head ≡ slice_index_or heads place head → slice_index_or heads place no_head ≡ head
+head_here : (heads : List Head) (place : ℕ) (head : Head) → place < length heads → head ≡ slice_index_or heads place head → slice_index_or heads place no_head
+    ≡ head
 head_here heads place head within is = get_or_default heads place no_head head within ∙ sym is
 
 pub take_out-requires-clause-nodes : goal.take_out-requires-clause-nodes
 take_out-requires-clause-nodes c =
-    let nodes = nodes_in c.args.arena.now in let heads = c.args.heads.now in let place = c.place_of-place.result in let within = c.place_of-place.ensures.within in
+    let nodes = nodes_in c.args.arena.now in let heads = c.args.heads.now in let place = c.place_of-place.result in let within =
+    c.place_of-place.ensures.within in
     let same = head_here heads place c.index-heads-place.result within c.index-heads-place.is in
     subst (λ h. All (IsNode nodes) (list_of nodes h)) same (λ i d less. (c.requires.index.own place within i d less).node)
 
 pub take_out-requires-clause-once : goal.take_out-requires-clause-once
 take_out-requires-clause-once c =
-    let nodes = nodes_in c.args.arena.now in let heads = c.args.heads.now in let place = c.place_of-place.result in let within = c.place_of-place.ensures.within in
+    let nodes = nodes_in c.args.arena.now in let heads = c.args.heads.now in let place = c.place_of-place.result in let within =
+    c.place_of-place.ensures.within in
     let same = head_here heads place c.index-heads-place.result within c.index-heads-place.is in
     subst (λ h. AllPairs (λ x y. x ≢ y) (list_of nodes h)) same (c.requires.index.once place within)
 
 pub take_out-requires-clause-there : goal.take_out-requires-clause-there
 take_out-requires-clause-there c =
-    let nodes = nodes_in c.args.arena.now in let heads = c.args.heads.now in let place = c.place_of-place.result in let within = c.place_of-place.ensures.within in
+    let nodes = nodes_in c.args.arena.now in let heads = c.args.heads.now in let place = c.place_of-place.result in let within =
+    c.place_of-place.ensures.within in
     let entry = c.requires.entry in let b = c.args.node.now in
     let same = head_here heads place c.index-heads-place.result within c.index-heads-place.is in
     let own_place : place_of (home nodes b) (name_at nodes b) (length heads) ≡ place =

@@ -19,8 +19,10 @@ loop-path-preserved c =
     let arena = c.args.arena.now in let rest = into_iter_items c.next.new.self in let l = c.loop-path in
     let items : into_iter_items l.path-iterator ≡ (c.in-Some.path, c.in-Some.node) ∷ rest = search rules in
     record {
-      done = ap (λ xs. xs ++ map (λ e. standing_of (shown arena (nodes_in arena) e)) rest) (c.in_ok-push.ensures.items ∙ ap (λ x. l.all.items ++ x ∷ []) c.standing.ensures)
-          ∙ append_assoc l.all.items (standing_of (shown arena (nodes_in arena) (c.in-Some.path, c.in-Some.node)) ∷ []) (map (λ e. standing_of (shown arena (nodes_in arena) e)) rest)
+      done = ap (λ xs. xs ++ map (λ e. standing_of (shown arena (nodes_in arena) e)) rest) (c.in_ok-push.ensures.items
+          ∙ ap (λ x. l.all.items ++ x ∷ []) c.standing.ensures)
+          ∙ append_assoc l.all.items (standing_of (shown arena (nodes_in arena) (c.in-Some.path, c.in-Some.node)) ∷ [])
+          (map (λ e. standing_of (shown arena (nodes_in arena) e)) rest)
           ∙ ap (λ xs. l.all.items ++ map (λ e. standing_of (shown arena (nodes_in arena) e)) xs) (sym items)
           ∙ l.invariant.done;
       sound = All-tail (IsSound arena) (c.in-Some.path, c.in-Some.node) rest (subst (All (IsSound arena)) items l.invariant.sound);

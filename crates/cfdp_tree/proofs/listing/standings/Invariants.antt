@@ -9,6 +9,7 @@ use Rattle.cfdp_tree.proofs.listing.standings.Given as goal
 -- those shown so far, and those to show yet
 abbrev pub invariant-loop-path : goal.invariant-loop-path
 invariant-loop-path l = record {
-  done : l.all.items ++ map (λ e. standing_of (shown l.arena (nodes_in l.arena) e)) (into_iter_items l.path-iterator) ≡ map (λ e. standing_of (shown l.arena (nodes_in l.arena) e)) l.fn.found.items;
+  done : l.all.items ++ map (λ e. standing_of (shown l.arena (nodes_in l.arena) e)) (into_iter_items l.path-iterator)
+      ≡ map (λ e. standing_of (shown l.arena (nodes_in l.arena) e)) l.fn.found.items;
   sound : All (IsSound l.arena) (into_iter_items l.path-iterator);
 }

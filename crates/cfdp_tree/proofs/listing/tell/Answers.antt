@@ -10,15 +10,17 @@ use Rattle.cfdp_tree.proofs.TreeLaws.{node_octets}
 use Rattle.cfdp_tree.proofs.ListingLaws.{entry_directory, entry_file, file_filled}
 use Rattle.cfdp_tree.proofs.listing.tell.Goals as goal
 
--- what stands at the node, as an entry of some path
-directory_told : (c : goal.In-Directory) → record { path = []; kind = kind.Directory; size = 0; checksum = 0 } ≡ entry_of ([], node_of c.args.arena.now (octets_of (nodes_in c.args.arena.now) c.args.node.now))
+-- what is at the node, as an entry of some path
+directory_told : (c : goal.In-Directory) → record { path = []; kind = kind.Directory; size = 0; checksum = 0 }
+    ≡ entry_of ([], node_of c.args.arena.now (octets_of (nodes_in c.args.arena.now) c.args.node.now))
 directory_told c =
     let arena = c.args.arena.now in let block = c.bytes-block.result.now in
     let same = node_octets arena c.args.node.now c.requires.node block c.bytes-block.ensures.octets in
     entry_directory arena block [] c.in-Directory.ensures ∙ ap (λ o. entry_of ([], node_of arena o)) same
 
 file_told : (c : goal.After-sum_of)
-    → record { path = []; kind = kind.File; size = c.from.result; checksum = c.sum_of.result } ≡ entry_of ([], node_of c.args.arena.now (octets_of (nodes_in c.args.arena.now) c.args.node.now))
+    → record { path = []; kind = kind.File; size = c.from.result; checksum = c.sum_of.result }
+    ≡ entry_of ([], node_of c.args.arena.now (octets_of (nodes_in c.args.arena.now) c.args.node.now))
 file_told c =
     let arena = c.args.arena.now in let block = c.bytes-block.result.now in
     let same = node_octets arena c.args.node.now c.requires.node block c.bytes-block.ensures.octets in

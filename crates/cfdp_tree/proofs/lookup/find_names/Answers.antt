@@ -15,7 +15,8 @@ any_none None P p = p
 any_none (Some x) P p = tt
 
 -- the root is no node
-no_node : (nodes : Blocks) (tree : IsTree nodes) (place : Option ℕ) (p : Path) → StandsAt nodes place p → IfNone place ((b : ℕ) → IsNode nodes b → path_of nodes b ≡ p → ⊥)
+no_node : (nodes : Blocks) (tree : IsTree nodes) (place : Option ℕ) (p : Path) → StandsAt nodes place p →
+    IfNone place ((b : ℕ) → IsNode nodes b → path_of nodes b ≡ p → ⊥)
 no_node nodes tree None p stands = (λ b node e. some_path nodes tree b node (e ∙ sym stands.path))
 no_node nodes tree (Some d) p stands = tt
 
@@ -24,7 +25,11 @@ node_path nodes None p stands = tt
 node_path nodes (Some d) p stands = stands.path
 
 pub loop-name-init : goal.loop-name-init
-loop-name-init c = (0, ahead-start c.args.names c.into_iter-name-iterator.result c.into_iter-name-iterator.ensures.into_iter_gives, record { node = (λ d e. cc); path = refl })
+loop-name-init c = (
+  0,
+  ahead-start c.args.names c.into_iter-name-iterator.result c.into_iter-name-iterator.ensures.into_iter_gives,
+  record { node = (λ d e. cc); path = refl },
+)
 
 pub find-requires-clause-short : goal.find-requires-clause-short
 find-requires-clause-short c =
@@ -40,7 +45,8 @@ returns-in_err-node-clause-none c =
     any_none c.from_residual.result ((b : ℕ) → IsNode nodes b → path_of nodes b ≡ path → ⊥) (λ b node e.
     (let above = beginning nodes c.requires.tree b (i + 1) node (omega arith) (omega (arith, ap length e, next.1)) in
     let here = above.2 ∙ ap (take (i + 1)) e ∙ take_more path i [] next.1 in
-    c.in_err-node.ensures.none above.0 (entry_at nodes c.requires.tree place (take i path) c.in-Some.name.now above.0 at.2 above.1 (here ∙ ap (λ name. take i path ++ name ∷ []) (sym next.0)))))
+    c.in_err-node.ensures.none above.0 (entry_at nodes c.requires.tree place (take i path) c.in-Some.name.now above.0 at.2 above.1 (here
+    ∙ ap (λ name. take i path ++ name ∷ []) (sym next.0)))))
 
 pub loop-name-preserved : goal.loop-name-preserved
 loop-name-preserved c =

@@ -37,7 +37,8 @@ returns-in_default-clause-first t c =
     let stands = here nodes place c.requires.place in
     subst (λ (names : Path). IfSome c.least_after.result (λ b. IsFirst nodes a (a ++ names) b)) (sym c.in_default.ensures.steps.0)
     (IfSome_then c.least_after.result c.least_after.ensures.least
-    (least_first nodes c.requires.tree place a stands list (listed_in nodes c.args.orders.now c.requires.ordered place) [] None (apart_last nodes c.requires.tree place a stands list (listed_in nodes c.args.orders.now c.requires.ordered place)) (λ m behind. refl)))
+    (least_first nodes c.requires.tree place a stands list (listed_in nodes c.args.orders.now c.requires.ordered place) [] None
+    (apart_last nodes c.requires.tree place a stands list (listed_in nodes c.args.orders.now c.requires.ordered place)) (λ m behind. refl)))
 
 pub returns-in_default-clause-none : goal.returns-in_default-clause-none
 returns-in_default-clause-none t c =
@@ -45,7 +46,8 @@ returns-in_default-clause-none t c =
     let stands = here nodes place c.requires.place in
     subst (λ (names : Path). IfNone c.least_after.result ((b : ℕ) → Follows nodes a (a ++ names) b → ⊥)) (sym c.in_default.ensures.steps.0)
     (none_then c.least_after.result c.least_after.ensures.none
-    (none_first nodes c.requires.tree place a stands list (listed_in nodes c.args.orders.now c.requires.ordered place) [] None (apart_last nodes c.requires.tree place a stands list (listed_in nodes c.args.orders.now c.requires.ordered place))))
+    (none_first nodes c.requires.tree place a stands list (listed_in nodes c.args.orders.now c.requires.ordered place) [] None
+    (apart_last nodes c.requires.tree place a stands list (listed_in nodes c.args.orders.now c.requires.ordered place))))
 
 names_good : (p rest : Path) (name : Name) → p ≡ name ∷ rest → All IsName p → IsName name × All IsName rest
 names_good p rest name e all = let parts = subst (All IsName) e all in (All-head IsName name rest parts, All-tail IsName name rest parts)
@@ -71,7 +73,8 @@ next_below-below-requires t c =
 
 pub returns-then-is_some-clause-first : goal.returns-then-is_some-clause-first
 returns-then-is_some-clause-first t c =
-    let nodes = nodes_in c.args.arena.now in let place = c.args.place.now in let a = path_at nodes place in let name = c.in-Some.name.now in let rest : Path = c.next.new.self in
+    let nodes = nodes_in c.args.arena.now in let place = c.args.place.now in let a = path_at nodes place in let name = c.in-Some.name.now in let rest : Path =
+    c.next.new.self in
     let stands = here nodes place c.requires.place in
     let way = path_entry nodes c.requires.tree place a name c.in-Some-find.node stands c.in-Some-find.ensures.found in
     subst (λ (names : Path). IfSome c.next_below-below.result (λ b. IsFirst nodes a (a ++ names) b)) (sym c.in-Some.ensures.steps)
@@ -80,7 +83,8 @@ returns-then-is_some-clause-first t c =
     (first_below nodes c.requires.tree place a stands name rest))
 
 -- nothing follows below the name's own path
-none_found : (nodes : Blocks) (tree : IsTree nodes) (place : Option ℕ) (stands : StandsAt nodes place (path_at nodes place)) (name : Name) (rest : Path) (d : ℕ) → IsEntry nodes place name d
+none_found : (nodes : Blocks) (tree : IsTree nodes) (place : Option ℕ) (stands : StandsAt nodes place (path_at nodes place)) (name : Name) (rest : Path)
+    (d : ℕ) → IsEntry nodes place name d
     → ((b : ℕ) → Follows nodes (path_of nodes d) (path_of nodes d ++ rest) b → ⊥) → NoneBelow nodes tree place (path_at nodes place) stands name rest
 none_found nodes tree place stands name rest d entry none c follows =
     let way = path_entry nodes tree place (path_at nodes place) name d stands entry in
@@ -88,7 +92,8 @@ none_found nodes tree place stands name rest d entry none c follows =
 
 pub returns-clause-first : goal.returns-clause-first
 returns-clause-first t c =
-    let nodes = nodes_in c.args.arena.now in let tree = c.requires.tree in let place = c.args.place.now in let a = path_at nodes place in let name = c.in-Some.name.now in let rest : Path = c.next.new.self in
+    let nodes = nodes_in c.args.arena.now in let tree = c.requires.tree in let place = c.args.place.now in let a = path_at nodes place in let name =
+    c.in-Some.name.now in let rest : Path = c.next.new.self in
     let list = in_order c.args.orders.now place in
     let stands = here nodes place c.requires.place in
     let none : NoneBelow nodes tree place a stands name rest = elim c.match-find.branch [
@@ -98,11 +103,14 @@ returns-clause-first t c =
     ] in
     subst (λ (names : Path). IfSome c.least_after-2.result (λ b. IsFirst nodes a (a ++ names) b)) (sym c.in-Some.ensures.steps)
     (IfSome_then c.least_after-2.result c.least_after-2.ensures.least
-    (least_first nodes tree place a stands list (listed_in nodes c.args.orders.now c.requires.ordered place) (name ∷ rest) (Some name) (apart_name nodes tree place a stands name rest list (listed_in nodes c.args.orders.now c.requires.ordered place) none) (behind_name nodes tree place a stands name rest)))
+    (least_first nodes tree place a stands list (listed_in nodes c.args.orders.now c.requires.ordered place) (name ∷ rest) (Some name)
+    (apart_name nodes tree place a stands name rest list (listed_in nodes c.args.orders.now c.requires.ordered place) none)
+    (behind_name nodes tree place a stands name rest)))
 
 pub returns-clause-none : goal.returns-clause-none
 returns-clause-none t c =
-    let nodes = nodes_in c.args.arena.now in let tree = c.requires.tree in let place = c.args.place.now in let a = path_at nodes place in let name = c.in-Some.name.now in let rest : Path = c.next.new.self in
+    let nodes = nodes_in c.args.arena.now in let tree = c.requires.tree in let place = c.args.place.now in let a = path_at nodes place in let name =
+    c.in-Some.name.now in let rest : Path = c.next.new.self in
     let list = in_order c.args.orders.now place in
     let stands = here nodes place c.requires.place in
     let none : NoneBelow nodes tree place a stands name rest = elim c.match-find.branch [
@@ -112,4 +120,5 @@ returns-clause-none t c =
     ] in
     subst (λ (names : Path). IfNone c.least_after-2.result ((b : ℕ) → Follows nodes a (a ++ names) b → ⊥)) (sym c.in-Some.ensures.steps)
     (none_then c.least_after-2.result c.least_after-2.ensures.none
-    (none_first nodes tree place a stands list (listed_in nodes c.args.orders.now c.requires.ordered place) (name ∷ rest) (Some name) (apart_name nodes tree place a stands name rest list (listed_in nodes c.args.orders.now c.requires.ordered place) none)))
+    (none_first nodes tree place a stands list (listed_in nodes c.args.orders.now c.requires.ordered place) (name ∷ rest) (Some name)
+    (apart_name nodes tree place a stands name rest list (listed_in nodes c.args.orders.now c.requires.ordered place) none)))

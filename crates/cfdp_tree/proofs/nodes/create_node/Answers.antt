@@ -17,7 +17,8 @@ use Rattle.cfdp_tree.proofs.nodes.create_node.Goals as goal
 pub returns-clause-nodes : goal.returns-clause-nodes
 returns-clause-nodes c =
     let a = c.args.arena.now in let t = c.take_block-node in let b = t.result in let new = c.write_node.new.block in
-    subst (λ later. nodes_in later ≡ with_block (nodes_in a) b (octets_of (nodes_in later) b)) (sym (taken_written a t.new.arena b blank_block new t.ensures.zeros))
+    subst (λ later. nodes_in later ≡ with_block (nodes_in a) b (octets_of (nodes_in later) b))
+    (sym (taken_written a t.new.arena b blank_block new t.ensures.zeros))
     (created_nodes a b new t.ensures.within (ap (λ (h : Header). h.kind) c.write_node.ensures.header))
 
 pub returns-clause-row : goal.returns-clause-row

@@ -9,7 +9,8 @@ use Rattle.cfdp_tree.proofs.nodes.rename_node.Goals as goal
 
 pub returns-clause-nodes : goal.returns-clause-nodes
 returns-clause-nodes c =
-    written_nodes c.args.arena.now c.args.node.now c.bytes_mut-block.result.now c.set_name.new.block c.requires.node c.bytes_mut-block.ensures.octets (c.set_name.ensures.header ∙ c.set_parent.ensures.header)
+    written_nodes c.args.arena.now c.args.node.now c.bytes_mut-block.result.now c.set_name.new.block c.requires.node c.bytes_mut-block.ensures.octets
+    (c.set_name.ensures.header ∙ c.set_parent.ensures.header)
 
 pub returns-clause-row : goal.returns-clause-row
 returns-clause-row c =
@@ -27,12 +28,14 @@ returns-clause-home c =
 
 pub returns-clause-name : goal.returns-clause-name
 returns-clause-name c =
-    ap name_of (written_octets c.args.arena.now c.args.node.now c.bytes_mut-block.result.now c.set_name.new.block c.requires.node c.bytes_mut-block.ensures.octets (c.set_name.ensures.header ∙ c.set_parent.ensures.header))
+    ap name_of (written_octets c.args.arena.now c.args.node.now c.bytes_mut-block.result.now c.set_name.new.block c.requires.node
+    c.bytes_mut-block.ensures.octets (c.set_name.ensures.header ∙ c.set_parent.ensures.header))
     ∙ c.set_name.ensures.name
 
 pub returns-clause-whole : goal.returns-clause-whole
 returns-clause-whole c =
-    ap length (written_octets c.args.arena.now c.args.node.now c.bytes_mut-block.result.now c.set_name.new.block c.requires.node c.bytes_mut-block.ensures.octets (c.set_name.ensures.header ∙ c.set_parent.ensures.header))
+    ap length (written_octets c.args.arena.now c.args.node.now c.bytes_mut-block.result.now c.set_name.new.block c.requires.node
+    c.bytes_mut-block.ensures.octets (c.set_name.ensures.header ∙ c.set_parent.ensures.header))
     ∙ c.set_name.ensures.whole
 
 pub returns-clause-runs : goal.returns-clause-runs

@@ -10,7 +10,8 @@ returns-clause-row c =
     let counted = set block 19 (length name) in
     let whole : length counted ≡ 128 = length-set block 19 (length name) ∙ c.told-block in
     let told : row_of counted ≡ record (row_of block) { name_length = length name } = search rules in
-    row_same c.put_part.new.block counted (λ i within. ap (λ xs. get_or xs i 0) c.put_part.ensures ∙ octet-part counted 24 name whole i (omega arith) (omega arith))
+    row_same c.put_part.new.block counted (λ i within. ap (λ xs. get_or xs i 0) c.put_part.ensures
+    ∙ octet-part counted 24 name whole i (omega arith) (omega arith))
     ∙ told
 
 pub returns-clause-name : goal.returns-clause-name

@@ -50,7 +50,8 @@ loop-parent-smaller c =
     let nodes = nodes_in c.args.arena.now in let b = c.loop-parent.node in let node = c.loop-parent.invariant.node in
     let same = node_octets c.args.arena.now b node c.bytes-block.result.now c.bytes-block.ensures.octets in
     let there : home nodes b ≡ Some c.in-Some.parent = ap (home_in b) (sym same) ∙ sym c.in-Some.ensures in
-    let way : path_of nodes b ≡ path_of nodes c.in-Some.parent ++ name_at nodes b ∷ [] = path_by_home nodes c.requires.tree b node ∙ ap (λ x. path_at nodes x ++ name_at nodes b ∷ []) there in
+    let way : path_of nodes b ≡ path_of nodes c.in-Some.parent ++ name_at nodes b ∷ [] = path_by_home nodes c.requires.tree b node
+    ∙ ap (λ x. path_at nodes x ++ name_at nodes b ∷ []) there in
     omega (arith, ap length way, length-append (path_of nodes c.in-Some.parent) (name_at nodes b ∷ []))
 
 pub put_before-start-requires-in-Some-clause-room : goal.put_before-start-requires-in-Some-clause-room
@@ -69,10 +70,20 @@ loop-parent-preserved c =
     let name : c.name_in.result.now ≡ name_at nodes b = c.name_in.ensures ∙ ap name_of same in
     let there : home nodes b ≡ Some c.in-Some.parent = ap (home_in b) (sym same) ∙ sym c.in-Some.ensures in
     let short = (c.requires.tree.named b node).name.short in let above = path_of nodes c.in-Some.parent in
-    let way : path_of nodes b ≡ above ++ name_at nodes b ∷ [] = path_by_home nodes c.requires.tree b node ∙ ap (λ x. path_at nodes x ++ name_at nodes b ∷ []) there in
+    let way : path_of nodes b ≡ above ++ name_at nodes b ∷ [] = path_by_home nodes c.requires.tree b node
+    ∙ ap (λ x. path_at nodes x ++ name_at nodes b ∷ []) there in
     record {
       node = (c.requires.tree.homes b c.in-Some.parent node there).node;
-      room = omega (arith, ap length way, length-append above (name_at nodes b ∷ []), l.invariant.room, one.ensures.start, two.ensures.start, ap length name, short);
+      room = omega (
+        arith,
+        ap length way,
+        length-append above (name_at nodes b ∷ []),
+        l.invariant.room,
+        one.ensures.start,
+        two.ensures.start,
+        ap length name,
+        short,
+      );
       within = omega (arith, one.ensures.start, one.ensures.length, two.ensures.start, two.ensures.length, l.invariant.within);
       long = two.ensures.length ∙ one.ensures.length ∙ l.invariant.long;
       text = ap (λ t. text_of octet above ++ t) (two.ensures.text ∙ ap (λ t. octet ∷ t) (one.ensures.text ∙ ap (λ n. n ++ drop l.start l.text) name))

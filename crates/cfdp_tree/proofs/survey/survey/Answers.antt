@@ -31,12 +31,16 @@ pub with_paths-requires-clause-nodes : goal.with_paths-requires-clause-nodes
 with_paths-requires-clause-nodes c =
     let nodes_now = nodes_in c.args.arena.now in let orders = c.args.orders.now in let place = c.args.place.now in let depth = c.args.depth in
     let found : c.collect_nodes.new.found.items ≡ c.match-place.nodes.items ++ walks orders (8 - depth) (in_order orders place) =
-    c.in_ok-collect_nodes.ensures ∙ ap (λ xs. c.match-place.nodes.items ++ xs) (one_deeper orders depth (nodes orders.links.items c.of.result) ∙ ap (λ (o : Order). walks orders (8 - depth) (nodes orders.links.items o)) c.of.ensures) in
+    c.in_ok-collect_nodes.ensures ∙ ap (λ xs. c.match-place.nodes.items ++ xs) (one_deeper orders depth (nodes orders.links.items c.of.result)
+    ∙ ap (λ (o : Order). walks orders (8 - depth) (nodes orders.links.items o)) c.of.ensures) in
     let all : c.match-place.nodes.items ++ walks orders (8 - depth) (in_order orders place) ≡ walk_from orders depth place =
     elim c.match-place.branch [
       | in-Some+in_ok-push w ↦ some_begun orders depth place c.match-place.nodes.items w.in-Some.node w.in-Some.is
-          (ap (λ (v : Vec BlockId Global). v.items) w.nodes-is ∙ w.in_ok-push.ensures.items ∙ ap (λ (xs : List ℕ). xs ++ w.in-Some.node ∷ []) c.new-nodes.ensures.items)
-      | in_default w ↦ none_begun orders depth place c.match-place.nodes.items w.in_default.is (ap (λ (v : Vec BlockId Global). v.items) w.nodes-is ∙ c.new-nodes.ensures.items)
+          (ap (λ (v : Vec BlockId Global). v.items) w.nodes-is ∙ w.in_ok-push.ensures.items
+          ∙ ap (λ (xs : List ℕ). xs ++ w.in-Some.node ∷ []) c.new-nodes.ensures.items)
+      | in_default w ↦ none_begun orders depth place c.match-place.nodes.items w.in_default.is (ap (λ (v : Vec BlockId Global). v.items) w.nodes-is
+          ∙ c.new-nodes.ensures.items)
     ] in
     subst (All (IsNode nodes_now)) (sym (c.deref.ensures.value ∙ found ∙ all))
-    (under_nodes nodes_now _ (walk_from orders depth place) (survey_from nodes_now c.requires.tree orders c.requires.ordered place depth c.requires.place c.requires.depth))
+    (under_nodes nodes_now _ (walk_from orders depth place) (survey_from nodes_now c.requires.tree orders c.requires.ordered place depth c.requires.place
+    c.requires.depth))

@@ -14,7 +14,8 @@ one_more path list made b d e within is same =
     let k = length list - (made + 1) in
     let next : suc k ≡ length list - made = omega (arith, within) in
     let first : drop k list ≡ b ∷ drop (length list - made) list = drop-cons list k d (omega (arith, within)) ∙ (λ i. sym is i ∷ drop (next i) list) in
-    (λ i. reverse (map path (drop (length list - made) list)) ++ same i ∷ []) ∙ sym (reverse-append (path b ∷ []) (map path (drop (length list - made) list))) ∙ ap (λ xs. reverse (map path xs)) (sym first)
+    (λ i. reverse (map path (drop (length list - made) list)) ++ same i ∷ []) ∙ sym (reverse-append (path b ∷ []) (map path (drop (length list - made) list)))
+    ∙ ap (λ xs. reverse (map path xs)) (sym first)
 
 pub loop-made-preserved : goal.loop-made-preserved
 loop-made-preserved c =

@@ -15,4 +15,7 @@ pub first_after-next-requires-clause-known : goal.first_after-next-requires-clau
 first_after-next-requires-clause-known c =
     let now = nodes_in c.store.inside.arena in let orders = c.store.inside.orders in
     subst (λ ls. All (IsKnown now) (nodes ls orders.root)) (sym c.deref.ensures.value)
-    (All-weaker (IsMember now None None) (IsKnown now) (λ m member. record { node = member.node; named = c.store.invariant.store.kept.tree.named m member.node }) (in_order orders None) (c.store.invariant.ordered.own None))
+    (All-weaker (IsMember now None None) (IsKnown now) (λ m member. record {
+      node = member.node;
+      named = c.store.invariant.store.kept.tree.named m member.node;
+    }) (in_order orders None) (c.store.invariant.ordered.own None))

@@ -15,23 +15,27 @@ returns-then-is_empty-clause-value t c =
 
 pub index-requires : goal.index-requires
 index-requires t c =
-    let top = top_inside c.args.arena.now c.requires.tree c.args.orders.now c.requires.ordered c.free-free.ensures.capacity.1 c.args.order c.args.depth c.requires.order (filled c.is_empty.result c.args.order.height c.if-is_empty.false c.is_empty.ensures.1) c.requires.deep in
+    let top = top_inside c.args.arena.now c.requires.tree c.args.orders.now c.requires.ordered c.free-free.ensures.capacity.1 c.args.order c.args.depth
+    c.requires.order (filled c.is_empty.result c.args.order.height c.if-is_empty.false c.is_empty.ensures.1) c.requires.deep in
     omega (arith, c.from.ensures, top.0, c.args.orders.now.links.ok.0)
 
 pub index-requires-2 : goal.index-requires-2
 index-requires-2 t c =
-    let top = top_inside c.args.arena.now c.requires.tree c.args.orders.now c.requires.ordered c.free-free.ensures.capacity.1 c.args.order c.args.depth c.requires.order (filled c.is_empty.result c.args.order.height c.if-is_empty.false c.is_empty.ensures.1) c.requires.deep in
+    let top = top_inside c.args.arena.now c.requires.tree c.args.orders.now c.requires.ordered c.free-free.ensures.capacity.1 c.args.order c.args.depth
+    c.requires.order (filled c.is_empty.result c.args.order.height c.if-is_empty.false c.is_empty.ensures.1) c.requires.deep in
     omega (arith, c.from-2.ensures, top.1, c.args.orders.now.directories.ok.0)
 
 pub overflow_add-depth : goal.overflow_add-depth
 overflow_add-depth t c =
-    let p = read_parts c.args.arena.now c.requires.tree c.args.orders.now c.requires.ordered c.free-free.ensures.capacity.1 c.args.order c.args.depth c.requires.order (filled c.is_empty.result c.args.order.height c.if-is_empty.false c.is_empty.ensures.1) c.requires.deep
+    let p = read_parts c.args.arena.now c.requires.tree c.args.orders.now c.requires.ordered c.free-free.ensures.capacity.1 c.args.order c.args.depth
+    c.requires.order (filled c.is_empty.result c.args.order.height c.if-is_empty.false c.is_empty.ensures.1) c.requires.deep
     c.from.result c.from-2.result c.from.ensures c.from-2.ensures c.index.result.now c.index-2.result.now c.index.ensures c.index-2.ensures in
     omega (arith, p.few)
 
 pub deepest_in-before-requires : goal.deepest_in-before-requires
 deepest_in-before-requires t c =
-    let p = read_parts c.args.arena.now c.requires.tree c.args.orders.now c.requires.ordered c.free-free.ensures.capacity.1 c.args.order c.args.depth c.requires.order (filled c.is_empty.result c.args.order.height c.if-is_empty.false c.is_empty.ensures.1) c.requires.deep
+    let p = read_parts c.args.arena.now c.requires.tree c.args.orders.now c.requires.ordered c.free-free.ensures.capacity.1 c.args.order c.args.depth
+    c.requires.order (filled c.is_empty.result c.args.order.height c.if-is_empty.false c.is_empty.ensures.1) c.requires.deep
     c.from.result c.from-2.result c.from.ensures c.from-2.ensures c.index.result.now c.index-2.result.now c.index.ensures c.index-2.ensures in (
       omega (arith, c.decreases, p.low_before, ap (λ (o : Order). o.height) c.left-left.ensures),
       (
@@ -40,7 +44,8 @@ deepest_in-before-requires t c =
           c.requires.ordered,
           (
             subst (λ (o : Order). IsOrder c.args.orders.now.links.items o) (sym c.left-left.ensures) p.is_before,
-            subst (λ (o : Order). StandAt (nodes_in c.args.arena.now) c.args.depth (nodes c.args.orders.now.links.items o)) (sym c.left-left.ensures) p.deep_before,
+            subst (λ (o : Order). StandAt (nodes_in c.args.arena.now) c.args.depth (nodes c.args.orders.now.links.items o))
+                (sym c.left-left.ensures) p.deep_before,
           ),
         ),
       ),
@@ -48,15 +53,22 @@ deepest_in-before-requires t c =
 
 pub deepest_in-below-requires : goal.deepest_in-below-requires
 deepest_in-below-requires t c =
-    let p = read_parts c.args.arena.now c.requires.tree c.args.orders.now c.requires.ordered c.free-free.ensures.capacity.1 c.args.order c.args.depth c.requires.order (filled c.is_empty.result c.args.order.height c.if-is_empty.false c.is_empty.ensures.1) c.requires.deep
+    let p = read_parts c.args.arena.now c.requires.tree c.args.orders.now c.requires.ordered c.free-free.ensures.capacity.1 c.args.order c.args.depth
+    c.requires.order (filled c.is_empty.result c.args.order.height c.if-is_empty.false c.is_empty.ensures.1) c.requires.deep
     c.from.result c.from-2.result c.from.ensures c.from-2.ensures c.index.result.now c.index-2.result.now c.index.ensures c.index-2.ensures in (
-      omega (arith, c.decreases, falls_below c.args.depth c.index-2.result.now.height c.args.order.height p.few p.low_below (filled c.is_empty.result c.args.order.height c.if-is_empty.false c.is_empty.ensures.1)),
+      omega (
+        arith,
+        c.decreases,
+        falls_below c.args.depth c.index-2.result.now.height c.args.order.height p.few p.low_below
+            (filled c.is_empty.result c.args.order.height c.if-is_empty.false c.is_empty.ensures.1),
+      ),
       (c.requires.tree, (c.requires.ordered, (p.is_below, p.deep_below))),
     )
 
 pub deepest_in-after-requires : goal.deepest_in-after-requires
 deepest_in-after-requires t c =
-    let p = read_parts c.args.arena.now c.requires.tree c.args.orders.now c.requires.ordered c.free-free.ensures.capacity.1 c.args.order c.args.depth c.requires.order (filled c.is_empty.result c.args.order.height c.if-is_empty.false c.is_empty.ensures.1) c.requires.deep
+    let p = read_parts c.args.arena.now c.requires.tree c.args.orders.now c.requires.ordered c.free-free.ensures.capacity.1 c.args.order c.args.depth
+    c.requires.order (filled c.is_empty.result c.args.order.height c.if-is_empty.false c.is_empty.ensures.1) c.requires.deep
     c.from.result c.from-2.result c.from.ensures c.from-2.ensures c.index.result.now c.index-2.result.now c.index.ensures c.index-2.ensures in (
       omega (arith, c.decreases, p.low_after, ap (λ (o : Order). o.height) c.right-right.ensures),
       (
@@ -65,7 +77,8 @@ deepest_in-after-requires t c =
           c.requires.ordered,
           (
             subst (λ (o : Order). IsOrder c.args.orders.now.links.items o) (sym c.right-right.ensures) p.is_after,
-            subst (λ (o : Order). StandAt (nodes_in c.args.arena.now) c.args.depth (nodes c.args.orders.now.links.items o)) (sym c.right-right.ensures) p.deep_after,
+            subst (λ (o : Order). StandAt (nodes_in c.args.arena.now) c.args.depth (nodes c.args.orders.now.links.items o))
+                (sym c.right-right.ensures) p.deep_after,
           ),
         ),
       ),
@@ -78,39 +91,64 @@ Told now orders depth part value = (value ≡ longest now (walks_at orders depth
 none_told : (now : Blocks) (orders : Orders) (depth : ℕ) (part : Order) (value : ℕ) → value ≡ 0 → part.height ≡ 0 → Told now orders depth part value
 none_told now orders depth part value zero empty = (zero ∙ ap (longest now) (sym (no_walk orders (9 - depth) part empty)), omega (arith, zero))
 
-some_told : (now : Blocks) (orders : Orders) (depth : ℕ) (part other : Order) (value result : ℕ) → value ≡ result → part ≡ other → Told now orders depth part result → Told now orders depth other value
+some_told : (now : Blocks) (orders : Orders) (depth : ℕ) (part other : Order) (value result : ℕ) → value ≡ result → part ≡ other →
+    Told now orders depth part result → Told now orders depth other value
 some_told now orders depth part other value result is same told =
     (is ∙ told.0 ∙ ap (λ (o : Order). longest now (walks_at orders depth (nodes orders.links.items o))) same, omega (arith, is, told.1))
 
-none_at : (now : Blocks) (orders : Orders) (depth : ℕ) (part other : Order) (value : ℕ) → value ≡ 0 → part ≡ other → part.height ≡ 0 → Told now orders depth other value
+none_at : (now : Blocks) (orders : Orders) (depth : ℕ) (part other : Order) (value : ℕ) → value ≡ 0 → part ≡ other → part.height ≡ 0 →
+    Told now orders depth other value
 none_at now orders depth part other value zero same empty = none_told now orders depth other value zero (sym (ap (λ (o : Order). o.height) same) ∙ empty)
 
 pub returns-clause-value : goal.returns-clause-value
 returns-clause-value t c =
     let now = nodes_in c.args.arena.now in let orders = c.args.orders.now in let depth = c.args.depth in
-    let p = read_parts c.args.arena.now c.requires.tree c.args.orders.now c.requires.ordered c.free-free.ensures.capacity.1 c.args.order c.args.depth c.requires.order (filled c.is_empty.result c.args.order.height c.if-is_empty.false c.is_empty.ensures.1) c.requires.deep
+    let p = read_parts c.args.arena.now c.requires.tree c.args.orders.now c.requires.ordered c.free-free.ensures.capacity.1 c.args.order c.args.depth
+    c.requires.order (filled c.is_empty.result c.args.order.height c.if-is_empty.false c.is_empty.ensures.1) c.requires.deep
     c.from.result c.from-2.result c.from.ensures c.from-2.ensures c.index.result.now c.index-2.result.now c.index.ensures c.index-2.ensures in
     let below : Told now orders (depth + 1) c.index-2.result.now c.if-is_empty-2.below = elim c.if-is_empty-2.branch [
       | then-is_empty-2 w ↦ none_told now orders (depth + 1) c.index-2.result.now c.if-is_empty-2.below w.below-is (c.is_empty-2.ensures.0 w.if-is_empty-2.true)
-      | else-is_empty-2 w ↦ some_told now orders (depth + 1) c.index-2.result.now c.index-2.result.now c.if-is_empty-2.below w.deepest_in-below.result w.below-is refl (w.deepest_in-below.ensures.value, w.deepest_in-below.ensures.within)
+      | else-is_empty-2 w ↦ some_told now orders (depth + 1) c.index-2.result.now c.index-2.result.now c.if-is_empty-2.below w.deepest_in-below.result
+          w.below-is refl (w.deepest_in-below.ensures.value, w.deepest_in-below.ensures.within)
     ] in
     let before : Told now orders depth (left_of c.index.result.now) c.if-is_empty-3.before = elim c.if-is_empty-3.branch [
-      | then-is_empty-3 w ↦ none_at now orders depth c.left-left.result (left_of c.index.result.now) c.if-is_empty-3.before w.before-is c.left-left.ensures (c.is_empty-3.ensures.0 w.if-is_empty-3.true)
-      | else-is_empty-3 w ↦ some_told now orders depth c.left-left.result (left_of c.index.result.now) c.if-is_empty-3.before w.deepest_in-before.result w.before-is c.left-left.ensures (w.deepest_in-before.ensures.value, w.deepest_in-before.ensures.within)
+      | then-is_empty-3 w ↦ none_at now orders depth c.left-left.result (left_of c.index.result.now) c.if-is_empty-3.before w.before-is c.left-left.ensures
+          (c.is_empty-3.ensures.0 w.if-is_empty-3.true)
+      | else-is_empty-3 w ↦ some_told now orders depth c.left-left.result (left_of c.index.result.now) c.if-is_empty-3.before w.deepest_in-before.result
+          w.before-is c.left-left.ensures (w.deepest_in-before.ensures.value, w.deepest_in-before.ensures.within)
     ] in
     let after : Told now orders depth (right_of c.index.result.now) c.if-is_empty-4.after = elim c.if-is_empty-4.branch [
-      | then-is_empty-4 w ↦ none_at now orders depth c.right-right.result (right_of c.index.result.now) c.if-is_empty-4.after w.after-is c.right-right.ensures (c.is_empty-4.ensures.0 w.if-is_empty-4.true)
-      | else-is_empty-4 w ↦ some_told now orders depth c.right-right.result (right_of c.index.result.now) c.if-is_empty-4.after w.deepest_in-after.result w.after-is c.right-right.ensures (w.deepest_in-after.ensures.value, w.deepest_in-after.ensures.within)
+      | then-is_empty-4 w ↦ none_at now orders depth c.right-right.result (right_of c.index.result.now) c.if-is_empty-4.after w.after-is c.right-right.ensures
+          (c.is_empty-4.ensures.0 w.if-is_empty-4.true)
+      | else-is_empty-4 w ↦ some_told now orders depth c.right-right.result
+          (right_of c.index.result.now) c.if-is_empty-4.after w.deepest_in-after.result w.after-is c.right-right.ensures (
+            w.deepest_in-after.ensures.value,
+            w.deepest_in-after.ensures.within,
+          )
     ] in
-    let most : c.max-3.result ≡ max (max (max depth c.if-is_empty-2.below) c.if-is_empty-3.before) c.if-is_empty-4.after = grind (arith, c.max-3.ensures, c.max-2.ensures, c.max.ensures) in
+    let most : c.max-3.result ≡ max (max (max depth c.if-is_empty-2.below) c.if-is_empty-3.before) c.if-is_empty-4.after =
+    grind (arith, c.max-3.ensures, c.max-2.ensures, c.max.ensures) in
     most ∙ (λ k. max (max (max depth (below.0 k)) (before.0 k)) (after.0 k)) ∙ sym p.longest_is
 
 pub returns-clause-within : goal.returns-clause-within
 returns-clause-within t c =
     let now = nodes_in c.args.arena.now in let orders = c.args.orders.now in let depth = c.args.depth in
-    let p = read_parts c.args.arena.now c.requires.tree c.args.orders.now c.requires.ordered c.free-free.ensures.capacity.1 c.args.order c.args.depth c.requires.order (filled c.is_empty.result c.args.order.height c.if-is_empty.false c.is_empty.ensures.1) c.requires.deep
+    let p = read_parts c.args.arena.now c.requires.tree c.args.orders.now c.requires.ordered c.free-free.ensures.capacity.1 c.args.order c.args.depth
+    c.requires.order (filled c.is_empty.result c.args.order.height c.if-is_empty.false c.is_empty.ensures.1) c.requires.deep
     c.from.result c.from-2.result c.from.ensures c.from-2.ensures c.index.result.now c.index-2.result.now c.index.ensures c.index-2.ensures in
-    let below : c.if-is_empty-2.below ≤ 8 = elim c.if-is_empty-2.branch [ then-is_empty-2 w ↦ omega (arith, w.below-is) | else-is_empty-2 w ↦ omega (arith, w.below-is, w.deepest_in-below.ensures.within) ] in
-    let before : c.if-is_empty-3.before ≤ 8 = elim c.if-is_empty-3.branch [ then-is_empty-3 w ↦ omega (arith, w.before-is) | else-is_empty-3 w ↦ omega (arith, w.before-is, w.deepest_in-before.ensures.within) ] in
-    let after : c.if-is_empty-4.after ≤ 8 = elim c.if-is_empty-4.branch [ then-is_empty-4 w ↦ omega (arith, w.after-is) | else-is_empty-4 w ↦ omega (arith, w.after-is, w.deepest_in-after.ensures.within) ] in
+    let below : c.if-is_empty-2.below ≤ 8 = elim c.if-is_empty-2.branch [
+      | then-is_empty-2 w ↦ omega (arith, w.below-is)
+      | else-is_empty-2 w ↦
+          omega (arith, w.below-is, w.deepest_in-below.ensures.within)
+    ] in
+    let before : c.if-is_empty-3.before ≤ 8 = elim c.if-is_empty-3.branch [
+      | then-is_empty-3 w ↦ omega (arith, w.before-is)
+      | else-is_empty-3 w ↦
+          omega (arith, w.before-is, w.deepest_in-before.ensures.within)
+    ] in
+    let after : c.if-is_empty-4.after ≤ 8 = elim c.if-is_empty-4.branch [
+      | then-is_empty-4 w ↦ omega (arith, w.after-is)
+      | else-is_empty-4 w ↦
+          omega (arith, w.after-is, w.deepest_in-after.ensures.within)
+    ] in
     grind (arith, c.max-3.ensures, c.max-2.ensures, c.max.ensures, p.few, before, below, after)

@@ -7,5 +7,6 @@ pub returns : goal.returns
 unfolding rename_not_allowed
 returns c =
     three c.push_said-3.result c.args.text.now.items c.push_said.new.text.items c.push_said-2.new.text.items c.push_said-3.new.text.items
-    (told_of c.args.second.now (codes " has no directory above it or more than 8 names, or is below ")) (told_of c.args.first.now (codes "; or ")) (told_of c.args.first.now (codes " is protected, or above what is"))
+    (told_of c.args.second.now (codes " has no directory above it or more than 8 names, or is below ")) (told_of c.args.first.now (codes "; or "))
+    (told_of c.args.first.now (codes " is protected, or above what is"))
     c.in_ok-push_said.ensures c.in_ok-push_said-2.ensures c.push_said-3.ensures

@@ -11,6 +11,8 @@ returns-then-not-branch c =
 pub returns : goal.returns
 returns c =
     let written : c.push.new.self.items ≡ c.args.costs.now.items ++ told_by c.install.new.self ∷ [] = search rules in
-    begun c.args.view.now c.install.new.self c.args.path.now c.args.bound (map Perform c.args.requests.now) c.add_requests.result c.view_installs.ensures c.in_ok-install.field-0
-    c.args.costs.now.items c.push.new.self.items c.add_requests.new.costs.items c.if-not-branch.false c.in_ok-install.ensures.prefixes c.in_ok-install.ensures.told written
+    begun c.args.view.now c.install.new.self c.args.path.now c.args.bound (map Perform c.args.requests.now) c.add_requests.result c.view_installs.ensures
+    c.in_ok-install.field-0
+    c.args.costs.now.items c.push.new.self.items c.add_requests.new.costs.items c.if-not-branch.false c.in_ok-install.ensures.prefixes
+    c.in_ok-install.ensures.told written
     c.add_requests.ensures

@@ -12,7 +12,8 @@ abbrev pub invariant-requests : goal.invariant-requests
 invariant-requests l =
     (fp : Footprint) (F : Filestore) (x : List ℕ) (done : List Item) (answers : List Answer) → HasRun l.initial.view fp F x done answers →
     AllByRecursion (IsWithin fp) (map Perform l.requests) →
-    Goes fp F x l.initial.view.prefixes l.view (map Perform l.rest) l.costs.items (l.initial.costs.items ++ costs_from l.initial.view.prefixes F x done (map Perform l.requests))
+    Goes fp F x l.initial.view.prefixes l.view (map Perform l.rest) l.costs.items (l.initial.costs.items
+    ++ costs_from l.initial.view.prefixes F x done (map Perform l.requests))
 
 abbrev pub decreases-requests : goal.decreases-requests
 decreases-requests l = length l.rest

@@ -24,8 +24,10 @@ returns-in-Some-false g c =
     let v = c.in-Some.view in
     let same : v.view.prefixes ≡ prefixes = some_of (λ it. it.view.prefixes ≡ prefixes) c.in_ok-view.field-0 v c.in-Some.is c.in_ok-view.ensures.prefixes in
     let G = alone (only fp F) [] in
-    let seen : IsClosedViewOf v.view v.closed.items G (blocks G) (blocks G) 0 = some_of (λ it. IsClosedViewOf it.view it.closed.items G (blocks G) (blocks G) 0) c.in_ok-view.field-0 v c.in-Some.is c.in_ok-view.ensures.told in
-    refused_at_closed prefixes F bound d requests fp v.view c.install.new.self.view v.closed.items same seen c.in-Some-destination.path c.in-Some-false.field-0 c.in_ok-install.field-0
+    let seen : IsClosedViewOf v.view v.closed.items G (blocks G) (blocks G) 0 =
+    some_of (λ it. IsClosedViewOf it.view it.closed.items G (blocks G) (blocks G) 0) c.in_ok-view.field-0 v c.in-Some.is c.in_ok-view.ensures.told in
+    refused_at_closed prefixes F bound d requests fp v.view c.install.new.self.view v.closed.items same seen c.in-Some-destination.path c.in-Some-false.field-0
+    c.in_ok-install.field-0
     c.in-Some-false.is c.in_ok-install.ensures.told c.in-Some-destination.is c.requires.footprint c.in-Some-false.field-0-test
 
 pub returns-in_err-run_requests_closed : goal.returns-in_err-run_requests_closed
@@ -39,17 +41,21 @@ returns-in_err-run_requests_closed g c =
     let v = c.in-Some.view in
     let same : v.view.prefixes ≡ prefixes = some_of (λ it. it.view.prefixes ≡ prefixes) c.in_ok-view.field-0 v c.in-Some.is c.in_ok-view.ensures.prefixes in
     let G = alone (only fp F) [] in
-    let seen : IsClosedViewOf v.view v.closed.items G (blocks G) (blocks G) 0 = some_of (λ it. IsClosedViewOf it.view it.closed.items G (blocks G) (blocks G) 0) c.in_ok-view.field-0 v c.in-Some.is c.in_ok-view.ensures.told in
+    let seen : IsClosedViewOf v.view v.closed.items G (blocks G) (blocks G) 0 =
+    some_of (λ it. IsClosedViewOf it.view it.closed.items G (blocks G) (blocks G) 0) c.in_ok-view.field-0 v c.in-Some.is c.in_ok-view.ensures.told in
     let u = c.match-items.view in
     let still : u.view.prefixes ≡ prefixes = elim c.match-items.branch [
       | in-Some-destination+in_ok-install+in-Some-true w ↦ rw w.view-is (w.in_ok-install.ensures.prefixes ∙ same)
       | in_default-destination w ↦ rw w.view-is same
     ] in
     let at : AtRequests prefixes F (replicate bound 0) (items_of d requests) requests (IsClosedViewOf u.view u.closed.items) = elim c.match-items.branch [
-      | in-Some-destination+in_ok-install+in-Some-true w ↦ rw w.view-is (file_at_closed prefixes F bound d requests fp v.view w.install.new.self.view v.closed.items same seen
-          w.in-Some-destination.path w.in-Some-true.field-0 w.in_ok-install.field-0 w.in-Some-true.is w.in_ok-install.ensures.told w.install.new.self.closed.items w.in_ok-install.ensures.closed
+      | in-Some-destination+in_ok-install+in-Some-true w ↦ rw w.view-is (file_at_closed prefixes F bound d requests fp v.view w.install.new.self.view
+          v.closed.items same seen
+          w.in-Some-destination.path w.in-Some-true.field-0 w.in_ok-install.field-0 w.in-Some-true.is w.in_ok-install.ensures.told
+          w.install.new.self.closed.items w.in_ok-install.ensures.closed
           w.in-Some-destination.is c.requires.footprint w.in-Some-true.field-0-test)
-      | in_default-destination w ↦ rw w.view-is (no_file_at prefixes F bound d requests fp (IsClosedViewOf v.view v.closed.items) seen w.in_default-destination.is c.requires.footprint c.requires.bound)
+      | in_default-destination w ↦ rw w.view-is (no_file_at prefixes F bound d requests fp
+          (IsClosedViewOf v.view v.closed.items) seen w.in_default-destination.is c.requires.footprint c.requires.bound)
     ] in
     let n = c.run_requests_closed.new.view in
     let p = err_from_is_err_and c.from_residual-in_err-run_requests_closed.result c.from_residual-in_err-run_requests_closed.ensures.1 in
@@ -69,20 +75,25 @@ returns g c =
     let v = c.in-Some.view in
     let same : v.view.prefixes ≡ prefixes = some_of (λ it. it.view.prefixes ≡ prefixes) c.in_ok-view.field-0 v c.in-Some.is c.in_ok-view.ensures.prefixes in
     let G = alone (only fp F) [] in
-    let seen : IsClosedViewOf v.view v.closed.items G (blocks G) (blocks G) 0 = some_of (λ it. IsClosedViewOf it.view it.closed.items G (blocks G) (blocks G) 0) c.in_ok-view.field-0 v c.in-Some.is c.in_ok-view.ensures.told in
+    let seen : IsClosedViewOf v.view v.closed.items G (blocks G) (blocks G) 0 =
+    some_of (λ it. IsClosedViewOf it.view it.closed.items G (blocks G) (blocks G) 0) c.in_ok-view.field-0 v c.in-Some.is c.in_ok-view.ensures.told in
     let u = c.match-items.view in
     let still : u.view.prefixes ≡ prefixes = elim c.match-items.branch [
       | in-Some-destination+in_ok-install+in-Some-true w ↦ rw w.view-is (w.in_ok-install.ensures.prefixes ∙ same)
       | in_default-destination w ↦ rw w.view-is same
     ] in
     let at : AtRequests prefixes F (replicate bound 0) (items_of d requests) requests (IsClosedViewOf u.view u.closed.items) = elim c.match-items.branch [
-      | in-Some-destination+in_ok-install+in-Some-true w ↦ rw w.view-is (file_at_closed prefixes F bound d requests fp v.view w.install.new.self.view v.closed.items same seen
-          w.in-Some-destination.path w.in-Some-true.field-0 w.in_ok-install.field-0 w.in-Some-true.is w.in_ok-install.ensures.told w.install.new.self.closed.items w.in_ok-install.ensures.closed
+      | in-Some-destination+in_ok-install+in-Some-true w ↦ rw w.view-is (file_at_closed prefixes F bound d requests fp v.view w.install.new.self.view
+          v.closed.items same seen
+          w.in-Some-destination.path w.in-Some-true.field-0 w.in_ok-install.field-0 w.in-Some-true.is w.in_ok-install.ensures.told
+          w.install.new.self.closed.items w.in_ok-install.ensures.closed
           w.in-Some-destination.is c.requires.footprint w.in-Some-true.field-0-test)
-      | in_default-destination w ↦ rw w.view-is (no_file_at prefixes F bound d requests fp (IsClosedViewOf v.view v.closed.items) seen w.in_default-destination.is c.requires.footprint c.requires.bound)
+      | in_default-destination w ↦ rw w.view-is (no_file_at prefixes F bound d requests fp
+          (IsClosedViewOf v.view v.closed.items) seen w.in_default-destination.is c.requires.footprint c.requires.bound)
     ] in
     let n = c.run_requests_closed.new.view in
-    let done = subst (λ b. TellsClosedRun u.view u.closed.items n.view (map Perform c.deref.result.now) (Ok b)) c.if-not-branch.false c.in_ok-run_requests_closed.ensures in
+    let done = subst (λ b. TellsClosedRun u.view u.closed.items n.view (map Perform c.deref.result.now) (Ok b)) c.if-not-branch.false
+    c.in_ok-run_requests_closed.ensures in
     subst (λ (w : Sketch). JudgesAlone prefixes F (replicate bound 0) (items_of d requests) (Ok w)) (sym c.into_view.ensures)
     (all_done prefixes F (replicate bound 0) (items_of d requests) requests (IsClosedViewOf u.view u.closed.items) n.view at true
     (runs_at {X = Bool} (IsClosedViewOf u.view u.closed.items) prefixes u.view n.view (map Perform requests) (Ok true) still

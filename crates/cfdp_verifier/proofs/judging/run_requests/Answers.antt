@@ -11,9 +11,11 @@ returns-then-not-is_successful c =
     λ F start high taken seen within. (
       c.loop-number.number,
       c.in_ok-status.status,
-      fails_at c.args.view.now.prefixes F (map Perform c.args.requests.now) start high taken (IsViewOf c.loop-number.view) (IsViewOf c.apply.new.self) c.args.requests.now c.loop-number.number
+      fails_at c.args.view.now.prefixes F (map Perform c.args.requests.now) start high taken (IsViewOf c.loop-number.view)
+          (IsViewOf c.apply.new.self) c.args.requests.now c.loop-number.number
           c.index-requests-number.result c.in_ok-status.status c.loop-number-test.true c.index-requests-number.is
-          (told_at c.args.view.now.prefixes c.loop-number.view c.apply.new.self (Perform c.index-requests-number.result) (Performed c.in_ok-status.status) c.loop-number.invariant.0 c.in_ok-status.ensures.told) failed
+          (told_at c.args.view.now.prefixes c.loop-number.view c.apply.new.self (Perform c.index-requests-number.result)
+          (Performed c.in_ok-status.status) c.loop-number.invariant.0 c.in_ok-status.ensures.told) failed
           (c.loop-number.invariant.1 F start high taken seen within),
       refl,
     )
@@ -23,13 +25,16 @@ loop-number-preserved c =
     let done : is_successful c.in_ok-status.status ≡ true = cc in (
       c.in_ok-status.ensures.prefixes ∙ c.loop-number.invariant.0,
       λ F start high taken seen within.
-          goes_on c.args.view.now.prefixes F (map Perform c.args.requests.now) start high taken (IsViewOf c.loop-number.view) (IsViewOf c.apply.new.self) c.args.requests.now c.loop-number.number
+          goes_on c.args.view.now.prefixes F (map Perform c.args.requests.now) start high taken (IsViewOf c.loop-number.view)
+          (IsViewOf c.apply.new.self) c.args.requests.now c.loop-number.number
           c.index-requests-number.result c.in_ok-status.status c.loop-number-test.true c.index-requests-number.is
-          (told_at c.args.view.now.prefixes c.loop-number.view c.apply.new.self (Perform c.index-requests-number.result) (Performed c.in_ok-status.status) c.loop-number.invariant.0 c.in_ok-status.ensures.told) done
+          (told_at c.args.view.now.prefixes c.loop-number.view c.apply.new.self (Perform c.index-requests-number.result)
+          (Performed c.in_ok-status.status) c.loop-number.invariant.0 c.in_ok-status.ensures.told) done
           (c.loop-number.invariant.1 F start high taken seen within),
     )
 
 pub returns : goal.returns
 returns c = λ F start high taken seen within.
-    ends c.args.view.now.prefixes F (map Perform c.args.requests.now) start high taken {X = Unit {0}} tt (IsViewOf c.loop-number.view) c.loop-number.view (view_counts c.loop-number.view) c.args.requests.now c.loop-number.number
+    ends c.args.view.now.prefixes F (map Perform c.args.requests.now) start high taken {X = Unit {0}} tt (IsViewOf c.loop-number.view) c.loop-number.view
+    (view_counts c.loop-number.view) c.args.requests.now c.loop-number.number
     c.loop-number-test.false (c.loop-number.invariant.1 F start high taken seen within)

@@ -12,13 +12,16 @@ returns-then-not-is_successful c =
     let w = c.apply.new.self in
     let request = c.index-requests-number.result in
     let told : TellsClosed v.view v.closed.items w.view w.closed.items (Perform request) (Performed c.in-Some.status) =
-    some_of (λ status. TellsClosed v.view v.closed.items w.view w.closed.items (Perform request) (Performed status)) c.in_ok-status.field-0 c.in-Some.status c.in-Some.is c.in_ok-status.ensures.told in
+    some_of (λ status. TellsClosed v.view v.closed.items w.view w.closed.items (Perform request) (Performed status)) c.in_ok-status.field-0 c.in-Some.status
+    c.in-Some.is c.in_ok-status.ensures.told in
     λ F start high taken seen within. (
       c.loop-number.number,
       c.in-Some.status,
-      fails_at c.args.view.now.view.prefixes F (map Perform c.args.requests.now) start high taken (IsClosedViewOf v.view v.closed.items) (IsClosedViewOf w.view w.closed.items) c.args.requests.now c.loop-number.number
+      fails_at c.args.view.now.view.prefixes F (map Perform c.args.requests.now) start high taken (IsClosedViewOf v.view v.closed.items)
+          (IsClosedViewOf w.view w.closed.items) c.args.requests.now c.loop-number.number
           request c.in-Some.status c.loop-number-test.true c.index-requests-number.is
-          (told_at_closed c.args.view.now.view.prefixes v.view w.view v.closed.items w.closed.items (Perform request) (Performed c.in-Some.status) c.loop-number.invariant.0 told) failed
+          (told_at_closed c.args.view.now.view.prefixes v.view w.view v.closed.items w.closed.items (Perform request)
+          (Performed c.in-Some.status) c.loop-number.invariant.0 told) failed
           (c.loop-number.invariant.1 F start high taken seen within),
       refl,
     )
@@ -30,12 +33,15 @@ loop-number-preserved c =
     let w = c.apply.new.self in
     let request = c.index-requests-number.result in
     let told : TellsClosed v.view v.closed.items w.view w.closed.items (Perform request) (Performed c.in-Some.status) =
-    some_of (λ status. TellsClosed v.view v.closed.items w.view w.closed.items (Perform request) (Performed status)) c.in_ok-status.field-0 c.in-Some.status c.in-Some.is c.in_ok-status.ensures.told in (
+    some_of (λ status. TellsClosed v.view v.closed.items w.view w.closed.items (Perform request) (Performed status)) c.in_ok-status.field-0 c.in-Some.status
+    c.in-Some.is c.in_ok-status.ensures.told in (
       c.in_ok-status.ensures.prefixes ∙ c.loop-number.invariant.0,
       λ F start high taken seen within.
-          goes_on c.args.view.now.view.prefixes F (map Perform c.args.requests.now) start high taken (IsClosedViewOf v.view v.closed.items) (IsClosedViewOf w.view w.closed.items) c.args.requests.now c.loop-number.number
+          goes_on c.args.view.now.view.prefixes F (map Perform c.args.requests.now) start high taken (IsClosedViewOf v.view v.closed.items)
+          (IsClosedViewOf w.view w.closed.items) c.args.requests.now c.loop-number.number
           request c.in-Some.status c.loop-number-test.true c.index-requests-number.is
-          (told_at_closed c.args.view.now.view.prefixes v.view w.view v.closed.items w.closed.items (Perform request) (Performed c.in-Some.status) c.loop-number.invariant.0 told) done
+          (told_at_closed c.args.view.now.view.prefixes v.view w.view v.closed.items w.closed.items (Perform request)
+          (Performed c.in-Some.status) c.loop-number.invariant.0 told) done
           (c.loop-number.invariant.1 F start high taken seen within),
     )
 
@@ -43,5 +49,6 @@ pub returns : goal.returns
 returns c =
     let v = c.loop-number.view in
     λ F start high taken seen within.
-    ends c.args.view.now.view.prefixes F (map Perform c.args.requests.now) start high taken true (IsClosedViewOf v.view v.closed.items) v.view (closed_view_counts v.view v.closed.items) c.args.requests.now c.loop-number.number
+    ends c.args.view.now.view.prefixes F (map Perform c.args.requests.now) start high taken true (IsClosedViewOf v.view v.closed.items) v.view
+    (closed_view_counts v.view v.closed.items) c.args.requests.now c.loop-number.number
     c.loop-number-test.false (c.loop-number.invariant.1 F start high taken seen within)

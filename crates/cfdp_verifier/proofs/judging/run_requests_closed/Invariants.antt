@@ -10,4 +10,5 @@ abbrev pub invariant-loop-number : goal.invariant-loop-number
 invariant-loop-number l =
     (l.view.view.prefixes ≡ l.initial.view.view.prefixes)
     × ((F : Filestore) (start high taken : ℕ) → IsClosedViewOf l.initial.view.view l.initial.view.closed.items F start high taken → blocks F ≤ high →
-    GoesOn l.initial.view.view.prefixes F (map Perform l.requests) start high taken (IsClosedViewOf l.view.view l.view.closed.items) l.number (map Perform (drop l.number l.requests)))
+    GoesOn l.initial.view.view.prefixes F (map Perform l.requests) start high taken (IsClosedViewOf l.view.view l.view.closed.items) l.number
+    (map Perform (drop l.number l.requests)))

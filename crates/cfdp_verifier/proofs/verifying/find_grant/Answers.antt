@@ -24,11 +24,15 @@ returns-in_err-costs g c =
     rw (c.as_ref.ensures.value, c.deref.ensures.value) at c.in_ok-footprint.ensures in
     let list = items_of c.in_ok-items.items.destination c.in_ok-items.items.requests.items in
     let tested = past_tests c.args.protected.now (g.S.Filestore.state c.args.store.now).filestore c.args.leases.now (spare c.args.quota.now) c.args.proposal.now
-    (items_of c.in_ok-items.items.destination c.in_ok-items.items.requests.items) c.in_ok-footprint.footprint None few c.in_ok-items.ensures.items leased (sym c.conflict.ensures.first ∙ c.in_default.is) in
+    (items_of c.in_ok-items.items.destination c.in_ok-items.items.requests.items) c.in_ok-footprint.footprint None few c.in_ok-items.ensures.items leased
+    (sym c.conflict.ensures.first ∙ c.in_default.is) in
     let p = err_from_is_err_and c.from_residual-in_err-costs.result c.from_residual-in_err-costs.ensures.1 in
-    let same : judged_apart c.args.protected.now (g.S.Filestore.state c.args.store.now).filestore c.spare-spare.result (replicate c.proposal.inside.bound 0) list None
-    ≡ judged_apart c.args.protected.now (g.S.Filestore.state c.args.store.now).filestore (spare c.args.quota.now) (replicate c.args.proposal.now.bound 0) list None =
-    λ i. judged_apart c.args.protected.now (g.S.Filestore.state c.args.store.now).filestore (c.spare-spare.ensures.spare i) (replicate (c.proposal.view_is i).bound 0) list None in
+    let same : judged_apart c.args.protected.now (g.S.Filestore.state c.args.store.now).filestore c.spare-spare.result
+    (replicate c.proposal.inside.bound 0) list None
+    ≡ judged_apart c.args.protected.now (g.S.Filestore.state c.args.store.now).filestore (spare c.args.quota.now)
+    (replicate c.args.proposal.now.bound 0) list None =
+    λ i. judged_apart c.args.protected.now (g.S.Filestore.state c.args.store.now).filestore (c.spare-spare.ensures.spare i)
+    (replicate (c.proposal.view_is i).bound 0) list None in
     rw (p.1, p.2) (subst (λ (v : Verdict). RefusesSo c.in_err-costs.field-0.0 v) (same ∙ sym tested) c.in_err-costs.ensures)
 
 pub returns : goal.returns
@@ -38,8 +42,12 @@ returns g c =
     rw (c.as_ref.ensures.value, c.deref.ensures.value) at c.in_ok-footprint.ensures in
     let list = items_of c.in_ok-items.items.destination c.in_ok-items.items.requests.items in
     let tested = past_tests c.args.protected.now (g.S.Filestore.state c.args.store.now).filestore c.args.leases.now (spare c.args.quota.now) c.args.proposal.now
-    (items_of c.in_ok-items.items.destination c.in_ok-items.items.requests.items) c.in_ok-footprint.footprint None few c.in_ok-items.ensures.items leased (sym c.conflict.ensures.first ∙ c.in_default.is) in
-    let same : judged_apart c.args.protected.now (g.S.Filestore.state c.args.store.now).filestore c.spare-spare.result (replicate c.proposal.inside.bound 0) list None
-    ≡ judged_apart c.args.protected.now (g.S.Filestore.state c.args.store.now).filestore (spare c.args.quota.now) (replicate c.args.proposal.now.bound 0) list None =
-    λ i. judged_apart c.args.protected.now (g.S.Filestore.state c.args.store.now).filestore (c.spare-spare.ensures.spare i) (replicate (c.proposal.view_is i).bound 0) list None in
+    (items_of c.in_ok-items.items.destination c.in_ok-items.items.requests.items) c.in_ok-footprint.footprint None few c.in_ok-items.ensures.items leased
+    (sym c.conflict.ensures.first ∙ c.in_default.is) in
+    let same : judged_apart c.args.protected.now (g.S.Filestore.state c.args.store.now).filestore c.spare-spare.result
+    (replicate c.proposal.inside.bound 0) list None
+    ≡ judged_apart c.args.protected.now (g.S.Filestore.state c.args.store.now).filestore (spare c.args.quota.now)
+    (replicate c.args.proposal.now.bound 0) list None =
+    λ i. judged_apart c.args.protected.now (g.S.Filestore.state c.args.store.now).filestore (c.spare-spare.ensures.spare i)
+    (replicate (c.proposal.view_is i).bound 0) list None in
     (tested ∙ sym same ∙ c.in_ok-costs.ensures, leased)

@@ -7,4 +7,5 @@ pub returns-clause-led : goal.returns-clause-led
 returns-clause-led c blocks led there next fresh =
     let n = c.args.last.now.index in let way = c.way_after.ensures in
     subst (λ i. IsLed (set c.args.ways.now i c.way_after.result) blocks (n + 2)) (sym c.number.ensures.same_number)
-    (led_longer c.args.ways.now blocks n c.args.block c.way_after.result led next fresh c.requires.within (way.before ∙ there) (way.jump blocks led there) way.some way.within)
+    (led_longer c.args.ways.now blocks n c.args.block c.way_after.result led next fresh c.requires.within (way.before ∙ there)
+    (way.jump blocks led there) way.some way.within)

@@ -13,7 +13,8 @@ loop-cursor-preserved c =
       };
       later = step.ensures.within;
       nearer = omega (arith, step.ensures.nearer, inv.nearer);
-      block = (λ blocks led there. step.ensures.block blocks (led_shorter ways blocks (c.args.from.index + 1) (l.cursor.index + 1) (omega (arith, inv.nearer)) led) (inv.block blocks led there));
+      block = (λ blocks led there. step.ensures.block blocks (led_shorter ways blocks (c.args.from.index + 1) (l.cursor.index + 1)
+          (omega (arith, inv.nearer)) led) (inv.block blocks led there));
     }
 
 pub returns-clause-block : goal.returns-clause-block

@@ -24,5 +24,10 @@ pub returns : goal.returns
 returns c =
     let all : c.loop-slot._slot ≡ 64 = omega (arith, c.loop-slot-test.false, c.loop-slot.auto._slot-end) in
     ap (λ es. store_of es c.loop-slot.staged.items c.args.blocks) c.new-2.ensures
-    ∙ ap (λ (m : finite.FinMap path_cmp Node). record { filestore = record { nodes = m; staged = octets_of c.loop-slot.staged.items }; capacity = c.args.blocks; takes_no_memory = false }) empty_nodes
-    ∙ ap (λ (lists : List (List ℕ)). record { filestore = record { nodes = finite.empty; staged = lists }; capacity = c.args.blocks; takes_no_memory = false }) (c.loop-slot.invariant ∙ ap (λ n. replicate n []) all)
+    ∙ ap (λ (m : finite.FinMap path_cmp Node). record {
+      filestore = record { nodes = m; staged = octets_of c.loop-slot.staged.items };
+      capacity = c.args.blocks;
+      takes_no_memory = false;
+    }) empty_nodes
+    ∙ ap (λ (lists : List (List ℕ)). record { filestore = record { nodes = finite.empty; staged = lists }; capacity = c.args.blocks; takes_no_memory = false })
+    (c.loop-slot.invariant ∙ ap (λ n. replicate n []) all)

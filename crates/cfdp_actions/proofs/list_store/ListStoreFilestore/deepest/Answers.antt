@@ -8,5 +8,6 @@ use Rattle.cfdp_actions.proofs.list_store.ListStoreFilestore.deepest.Goals as go
 
 pub returns-clause-value : goal.returns-clause-value
 returns-clause-value c =
-    let tree = ap shown c.tree.ensures ∙ shown_where (λ q. is_at_or_below q c.args.path.now) c.self.inside.entries ∙ sym (seen_tree _ _ _ _ c.self.invariant _ c.self.view_is c.args.path.now) in
+    let tree = ap shown c.tree.ensures ∙ shown_where (λ q. is_at_or_below q c.args.path.now) c.self.inside.entries
+    ∙ sym (seen_tree _ _ _ _ c.self.invariant _ c.self.view_is c.args.path.now) in
     c.deepest.ensures.value ∙ ap deepest_of tree

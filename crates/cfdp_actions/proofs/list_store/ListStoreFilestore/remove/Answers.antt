@@ -34,4 +34,5 @@ returns-clause-ticks c =
 
 pub returns-clause-gone : goal.returns-clause-gone
 returns-clause-gone c =
-    seen_gone _ _ _ _ c.self.invariant _ c.self.view_is c.remove.new.self c.args.path.now (ap shown c.remove.ensures.removed ∙ shown_without c.args.path.now c.self.inside.entries)
+    seen_gone _ _ _ _ c.self.invariant _ c.self.view_is c.remove.new.self c.args.path.now (ap shown c.remove.ensures.removed
+    ∙ shown_without c.args.path.now c.self.inside.entries)

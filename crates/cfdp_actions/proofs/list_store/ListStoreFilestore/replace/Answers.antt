@@ -12,7 +12,13 @@ use Rattle.cfdp_actions.proofs.list_store.ListStoreFilestore.replace.Goals as go
 
 pub blocks_of-taken-requires : goal.blocks_of-taken-requires
 blocks_of-taken-requires c =
-    omega (arith, c.len.ensures, c.in_ok-octets.octets.ok.0, ap (λ (xs : List ℕ). length xs) (c.in_ok-octets.ensures.items ∙ c.octets_at.ensures), octets_small _ _ _ _ c.self.invariant c.args.second.now)
+    omega (
+      arith,
+      c.len.ensures,
+      c.in_ok-octets.octets.ok.0,
+      ap (λ (xs : List ℕ). length xs) (c.in_ok-octets.ensures.items ∙ c.octets_at.ensures),
+      octets_small _ _ _ _ c.self.invariant c.args.second.now,
+    )
 
 pub exchange-old-requires : goal.exchange-old-requires
 exchange-old-requires c = stands c.args.first.now c.self.inside.entries (there_file _ _ _ _ c.self.invariant _ c.self.view_is c.args.first.now c.requires.first)
@@ -24,27 +30,46 @@ blocks_of-given-requires c =
 
 pub overflow_add-self : goal.overflow_add-self
 overflow_add-self c =
-    let long : c.len.result ≡ length (octets_in (found c.self.inside.entries c.args.second.now)) = omega (arith, c.len.ensures, c.in_ok-octets.octets.ok.0, ap (λ (xs : List ℕ). length xs) (c.in_ok-octets.ensures.items ∙ c.octets_at.ensures)) in
+    let long : c.len.result ≡ length (octets_in (found c.self.inside.entries c.args.second.now)) =
+    omega (arith, c.len.ensures, c.in_ok-octets.octets.ok.0, ap (λ (xs : List ℕ). length xs) (c.in_ok-octets.ensures.items ∙ c.octets_at.ensures)) in
     let taken = c.blocks_of-taken.ensures ∙ ap blocks_of long in
-    omega (arith, taken, few_used _ _ _ _ c.self.invariant, blocks_of-small (length (octets_in (found c.self.inside.entries c.args.second.now))) (octets_small _ _ _ _ c.self.invariant c.args.second.now))
+    omega (
+      arith,
+      taken,
+      few_used _ _ _ _ c.self.invariant,
+      blocks_of-small (length (octets_in (found c.self.inside.entries c.args.second.now)))
+          (octets_small _ _ _ _ c.self.invariant c.args.second.now),
+    )
 
 pub overflow_sub-self : goal.overflow_sub-self
 overflow_sub-self c =
     let here = found_some c.args.first.now c.self.inside.entries c.exchange-old.result (sym c.exchange-old.ensures.old) in
     let given = c.blocks_of-given.ensures ∙ ap (λ (xs : List ℕ). blocks_of (length xs)) (c.octets.ensures ∙ ap octets_in (sym here)) in
-    omega (arith, given, weight_there _ _ _ _ c.self.invariant _ c.self.view_is c.args.first.now c.requires.first, found_small _ _ _ _ c.self.invariant c.args.first.now)
+    omega (
+      arith,
+      given,
+      weight_there _ _ _ _ c.self.invariant _ c.self.view_is c.args.first.now c.requires.first,
+      found_small _ _ _ _ c.self.invariant c.args.first.now,
+    )
 
 pub overflow_mul-result : goal.overflow_mul-result
 overflow_mul-result c =
-    let long : c.len.result ≡ length (octets_in (found c.self.inside.entries c.args.second.now)) = omega (arith, c.len.ensures, c.in_ok-octets.octets.ok.0, ap (λ (xs : List ℕ). length xs) (c.in_ok-octets.ensures.items ∙ c.octets_at.ensures)) in
+    let long : c.len.result ≡ length (octets_in (found c.self.inside.entries c.args.second.now)) =
+    omega (arith, c.len.ensures, c.in_ok-octets.octets.ok.0, ap (λ (xs : List ℕ). length xs) (c.in_ok-octets.ensures.items ∙ c.octets_at.ensures)) in
     let taken = c.blocks_of-taken.ensures ∙ ap blocks_of long in
-    omega (arith, taken, blocks_of-small (length (octets_in (found c.self.inside.entries c.args.second.now))) (octets_small _ _ _ _ c.self.invariant c.args.second.now))
+    omega (
+      arith,
+      taken,
+      blocks_of-small (length (octets_in (found c.self.inside.entries c.args.second.now)))
+          (octets_small _ _ _ _ c.self.invariant c.args.second.now),
+    )
 
 pub overflow_add-result : goal.overflow_add-result
 overflow_add-result c =
     let here = found_some c.args.first.now c.self.inside.entries c.exchange-old.result (sym c.exchange-old.ensures.old) in
     let given = c.blocks_of-given.ensures ∙ ap (λ (xs : List ℕ). blocks_of (length xs)) (c.octets.ensures ∙ ap octets_in (sym here)) in
-    let long : c.len.result ≡ length (octets_in (found c.self.inside.entries c.args.second.now)) = omega (arith, c.len.ensures, c.in_ok-octets.octets.ok.0, ap (λ (xs : List ℕ). length xs) (c.in_ok-octets.ensures.items ∙ c.octets_at.ensures)) in
+    let long : c.len.result ≡ length (octets_in (found c.self.inside.entries c.args.second.now)) =
+    omega (arith, c.len.ensures, c.in_ok-octets.octets.ok.0, ap (λ (xs : List ℕ). length xs) (c.in_ok-octets.ensures.items ∙ c.octets_at.ensures)) in
     let taken = c.blocks_of-taken.ensures ∙ ap blocks_of long in
     omega (
       arith,
@@ -61,13 +86,15 @@ invariant_of-self c =
     let es = c.self.inside.entries in
     let here = found_some c.args.first.now c.self.inside.entries c.exchange-old.result (sym c.exchange-old.ensures.old) in
     let given = c.blocks_of-given.ensures ∙ ap (λ (xs : List ℕ). blocks_of (length xs)) (c.octets.ensures ∙ ap octets_in (sym here)) in
-    let long : c.len.result ≡ length (octets_in (found c.self.inside.entries c.args.second.now)) = omega (arith, c.len.ensures, c.in_ok-octets.octets.ok.0, ap (λ (xs : List ℕ). length xs) (c.in_ok-octets.ensures.items ∙ c.octets_at.ensures)) in
+    let long : c.len.result ≡ length (octets_in (found c.self.inside.entries c.args.second.now)) =
+    omega (arith, c.len.ensures, c.in_ok-octets.octets.ok.0, ap (λ (xs : List ℕ). length xs) (c.in_ok-octets.ensures.items ∙ c.octets_at.ensures)) in
     let taken = c.blocks_of-taken.ensures ∙ ap blocks_of long in
     let octets = c.in_ok-octets.ensures.items ∙ c.octets_at.ensures in
     let e = ap shown c.exchange-old.ensures.put ∙ shown_put p (content.File c.in_ok-octets.octets) es ∙ ap (λ xs. put path_cmp p (File xs) (shown es)) octets in
     let first = ap (λ (o : Option Node). blocks_of (length (octets_in o))) (seen_node _ _ _ _ c.self.invariant _ c.self.view_is p) in
     let second = ap (λ (o : Option Node). blocks_of (length (octets_in o))) (seen_node _ _ _ _ c.self.invariant _ c.self.view_is q) in
-    put_kept _ _ _ _ c.self.invariant c.exchange-old.new.self p (File (octets_in (found es q))) (c.self.inside.used + c.blocks_of-taken.result - c.blocks_of-given.result) e
+    put_kept _ _ _ _ c.self.invariant c.exchange-old.new.self p (File (octets_in (found es q))) (c.self.inside.used
+    + c.blocks_of-taken.result - c.blocks_of-given.result) e
     (omega (arith, given, taken, weight_there _ _ _ _ c.self.invariant _ c.self.view_is p c.requires.first, found_small _ _ _ _ c.self.invariant p))
     (omega (arith, given, taken, first, second, c.requires.room, seen_free _ _ _ _ c.self.invariant _ c.self.view_is))
 
@@ -76,7 +103,8 @@ returns-clause-ticks c =
     let F = c.args.self.now.filestore in
     let here = found_some c.args.first.now c.self.inside.entries c.exchange-old.result (sym c.exchange-old.ensures.old) in
     let given = c.blocks_of-given.ensures ∙ ap (λ (xs : List ℕ). blocks_of (length xs)) (c.octets.ensures ∙ ap octets_in (sym here)) in
-    let long : c.len.result ≡ length (octets_in (found c.self.inside.entries c.args.second.now)) = omega (arith, c.len.ensures, c.in_ok-octets.octets.ok.0, ap (λ (xs : List ℕ). length xs) (c.in_ok-octets.ensures.items ∙ c.octets_at.ensures)) in
+    let long : c.len.result ≡ length (octets_in (found c.self.inside.entries c.args.second.now)) =
+    omega (arith, c.len.ensures, c.in_ok-octets.octets.ok.0, ap (λ (xs : List ℕ). length xs) (c.in_ok-octets.ensures.items ∙ c.octets_at.ensures)) in
     let taken = c.blocks_of-taken.ensures ∙ ap blocks_of long in
     let first = ap (λ (o : Option Node). blocks_of (length (octets_in o))) (seen_node _ _ _ _ c.self.invariant _ c.self.view_is c.args.first.now) in
     let second = ap (λ (o : Option Node). blocks_of (length (octets_in o))) (seen_node _ _ _ _ c.self.invariant _ c.self.view_is c.args.second.now) in

@@ -10,4 +10,10 @@ pub returns-clause-within : goal.returns-clause-within
 returns-clause-within c =
     let v = c.index.result.now in
     let here : c.from.result < length c.self.inside.staged.items = omega (arith, c.from.ensures, c.requires, c.self.invariant.slots) in
-    omega (arith, c.len.ensures, v.ok.0, ap (λ (xs : List ℕ). length xs) (octets_of-at c.self.inside.staged.items c.from.result v here c.index.ensures), staged_small _ _ _ _ c.self.invariant c.from.result)
+    omega (
+      arith,
+      c.len.ensures,
+      v.ok.0,
+      ap (λ (xs : List ℕ). length xs) (octets_of-at c.self.inside.staged.items c.from.result v here c.index.ensures),
+      staged_small _ _ _ _ c.self.invariant c.from.result,
+    )

@@ -8,5 +8,6 @@ use Rattle.cfdp_actions.proofs.list_store.ListStoreFilestore.standing.Goals as g
 
 pub returns : goal.returns
 returns c =
-    let tree = ap shown c.tree.ensures ∙ shown_where (λ q. is_at_or_below q c.args.path.now) c.self.inside.entries ∙ sym (seen_tree _ _ _ _ c.self.invariant _ c.self.view_is c.args.path.now) in
+    let tree = ap shown c.tree.ensures ∙ shown_where (λ q. is_at_or_below q c.args.path.now) c.self.inside.entries
+    ∙ sym (seen_tree _ _ _ _ c.self.invariant _ c.self.view_is c.args.path.now) in
     subst (λ xs. IfOk c.standing.result (λ found. found.items ≡ xs)) (ap (map standing_of) tree) c.standing.ensures

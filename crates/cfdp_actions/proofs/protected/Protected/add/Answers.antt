@@ -15,10 +15,12 @@ room_left n cap b e f h = grind (arith, nat_tests)
 pub invariant_of-self : goal.invariant_of-self
 invariant_of-self c =
     let before = c.self.inside.prefixes.items in
-    rw (c.push.ensures.items, present-push before c.args.path, length-append (present before) (c.args.path ∷ []), length-append before (Some c.args.path ∷ [])) (omega (arith, c.self.invariant))
+    rw (c.push.ensures.items, present-push before c.args.path, length-append (present before) (c.args.path ∷ []), length-append before (Some c.args.path ∷ []))
+    (omega (arith, c.self.invariant))
 
 pub returns-clause-ok : goal.returns-clause-ok
-returns-clause-ok c = ap present c.push.ensures.items ∙ present-push c.self.inside.prefixes.items c.args.path ∙ ap (λ paths. paths ++ c.args.path ∷ []) c.self.view_is
+returns-clause-ok c = ap present c.push.ensures.items ∙ present-push c.self.inside.prefixes.items c.args.path
+    ∙ ap (λ paths. paths ++ c.args.path ∷ []) c.self.view_is
 
 pub returns-clause-few : goal.returns-clause-few
 returns-clause-few c =

@@ -7,4 +7,5 @@ use Rattle.cfdp_actions.proofs.protected.Protected.reaches_below.Given as goal
 -- no prefix that was passed is at or below the path
 abbrev pub invariant-loop-prefix : goal.invariant-loop-prefix
 invariant-loop-prefix l =
-    list_any (λ prefix. is_at_or_below prefix l.path) (present (drop l.prefix-index l.prefix-items)) ≡ list_any (λ prefix. is_at_or_below prefix l.path) (present l.prefix-items)
+    list_any (λ prefix. is_at_or_below prefix l.path) (present (drop l.prefix-index l.prefix-items))
+    ≡ list_any (λ prefix. is_at_or_below prefix l.path) (present l.prefix-items)

@@ -6,4 +6,7 @@ pub block-requires : goal.block-requires
 block-requires c = record { within = within c.self.invariant c.self.view_is c.number.ensures.same_number c.requires.live }
 
 pub returns : goal.returns
-returns c = record { octets = octets c.self.invariant c.self.view_is c.number.ensures.same_number c.requires.live ∙ ap Some (sym c.block.ensures.value); whole = c.block.ensures.whole }
+returns c = record {
+  octets = octets c.self.invariant c.self.view_is c.number.ensures.same_number c.requires.live ∙ ap Some (sym c.block.ensures.value);
+  whole = c.block.ensures.whole;
+}

@@ -22,16 +22,21 @@ append_blank_spec 𝓤 𝓛 𝓜 𝓡 wired =
     proved 𝓛 f.ended stayed c 𝓜 𝓡 (Goes-ref 𝓛 1 0 tt (plain (λ _. R)), (Goes-dropped 𝓛 1 (plain (λ _. usize)) yes (λ κs x w. refl), tt))
     f.Key.name code.function (code.unfolded 𝓤 𝓛.H 𝓜 𝓡 wired)
     (λ κs. (mut_vals, (uint_vals w64, tt))) (λ κs. (mut_Tells (named 0) κs.0 R, (uint_Tells w64, tt))) (λ κs qs bounds a _ are.
-    let κ = κs.0 in let q = qs.0 in let b = a.0.ref_ptr.0 in let o = a.0.ref_ptr.1 in let d = a.0.now in let i = a.1.0 in let count = length d.blocks in let xs = d.blocks ++ replicate 128 0 ∷ [] in
+    let κ = κs.0 in let q = qs.0 in let b = a.0.ref_ptr.0 in let o = a.0.ref_ptr.1 in let d = a.0.now in let i = a.1.0 in let count = length d.blocks in
+    let xs = d.blocks ++ replicate 128 0 ∷ [] in
     let y : W.Ghost = ((κs, qs, bounds, a, (vptr b o ∷ [], (vint w64 i ∷ [], tt))), tt) in
     qed 𝓛 (((‵ (flft κ q) ⊛ ‵ ftrue) ⊛ ‵ (owns (types_at f.ended.signature.params κs) a y.0.4)) ∷ raw (fact 𝓤 (i ≡ count)) ∷ raw (fact 𝓤 (i < d.room)) ∷ []) ∵
     move ! (1 ∷ 2 ∷ []) $ heard ! _ (λ next. heard ! _ (λ more. split ! $ split ! $ move ! (2 ∷ []) $ fsplit ! $ fsplit3 ! $ keep ! (1 ∷ 2 ∷ 4 ∷ []) $
     enter ! _ _ _ _ _ $ alloc_all ! (λ l. pass_all ! refl ((tt, tt), ((tt, record { fits = are.1.0.1 }), tt)) $
     opens ! tt R b o (λ vs. move ! (1 ∷ []) $ fsplit ! $ peeks ! Fields (Is Fields) (shows 𝓛 Fields) (d.base, (d.room, tt)) vs (λ told. move ! (1 ∷ []) $
-    in_a_block ! d.base (λ p. region_owns p d.room d.blocks) (id⊢ 𝓤 (never 𝓤)) (λ b' o' e. fsplit ! $ fsplit ! $ flt_l ! (λ few. flt_l ! (λ small. fsplit ! $ move ! (1 ∷ []) $ fsplit ! $
-    let at = i * 128 + o' in let far : i * 128 < 2 ^ 64 = omega arith in let left : d.room - count ≡ suc (d.room - (i + 1)) = omega arith in let here : count * 128 + o' ≡ at = omega arith in
-    rewrite ! 0 (λ (n : ℕ). ‵ (froom (ty_array block_type n) b' (count * 128 + o'))) left refl $ rewrite ! 0 (λ (n : ℕ). ‵ (froom (ty_array block_type (suc (d.room - (i + 1)))) b' n)) here refl $
-    use1 𝓛 (‵ (froom block_type b' at) ⊛ ‵ (froom (ty_array block_type (d.room - (i + 1))) b' (at + 128))) (𝓛.laws.room_uncons block_type (d.room - (i + 1)) b' at) $ split ! $
+    in_a_block ! d.base (λ p. region_owns p d.room d.blocks) (id⊢ 𝓤 (never 𝓤))
+    (λ b' o' e. fsplit ! $ fsplit ! $ flt_l ! (λ few. flt_l ! (λ small. fsplit ! $ move ! (1 ∷ []) $ fsplit ! $
+    let at = i * 128 + o' in let far : i * 128 < 2 ^ 64 = omega arith in let left : d.room - count ≡ suc (d.room - (i + 1)) = omega arith in
+    let here : count * 128 + o' ≡ at = omega arith in
+    rewrite ! 0 (λ (n : ℕ). ‵ (froom (ty_array block_type n) b' (count * 128 + o'))) left refl $ rewrite ! 0
+    (λ (n : ℕ). ‵ (froom (ty_array block_type (suc (d.room - (i + 1)))) b' n)) here refl $
+    use1 𝓛 (‵ (froom block_type b' at) ⊛ ‵ (froom (ty_array block_type (d.room - (i + 1))) b' (at + 128)))
+    (𝓛.laws.room_uncons block_type (d.room - (i + 1)) b' at) $ split ! $
     -- [the room of one block; the room after it; the right; the blocks; what the fields own; the region's cell; the open borrow, in three entries]
     let Cell = λ (ws : List Val). ‵ (cell_at full_share Fields.mir ws b o) in let word_is = fields_told d.base d.room vs told in rewrite ! 5 Cell word_is refl $
     first ! $ blocks ! $
@@ -45,10 +50,13 @@ append_blank_spec 𝓤 𝓛 𝓜 𝓡 wired =
     use1 𝓛 (‵ (part_at Block full_share (replicate 128 0) b' at)) (blank_in 𝓛 b' at) $ move ! (3 ∷ 0 ∷ []) $
     use2 𝓛 (‵ (blocks_own b' o' xs)) (row_append 𝓛 b' o' d.blocks (replicate 128 0) at (sym here)) $
     -- [the blocks; the room; the right; what the fields own; the region's cell; the open borrow]
-    let long : length xs ≡ i + 1 = omega (arith, length-append d.blocks (replicate 128 0 ∷ [])) in let there : at + 128 ≡ length xs * 128 + o' = omega arith in let rest : d.room - (i + 1) ≡ d.room - length xs = omega arith in
-    move ! (1 ∷ 2 ∷ []) $ rewrite ! 0 (λ (n : ℕ). ‵ (froom (ty_array block_type n) b' (at + 128))) rest refl $ rewrite ! 0 (λ (n : ℕ). ‵ (froom (ty_array block_type (d.room - length xs)) b' n)) there refl $ fjoin ! $
+    let long : length xs ≡ i + 1 = omega (arith, length-append d.blocks (replicate 128 0 ∷ [])) in let there : at + 128 ≡ length xs * 128 + o' = omega arith in
+    let rest : d.room - (i + 1) ≡ d.room - length xs = omega arith in
+    move ! (1 ∷ 2 ∷ []) $ rewrite ! 0 (λ (n : ℕ). ‵ (froom (ty_array block_type n) b' (at + 128))) rest refl $ rewrite ! 0
+    (λ (n : ℕ). ‵ (froom (ty_array block_type (d.room - length xs)) b' n)) there refl $ fjoin ! $
     move ! (1 ∷ 0 ∷ []) $ fjoin ! $ flt_i ! (d.room * 128) (2 ^ 63) small $ flt_i ! (length xs) (d.room + 1) (omega arith) $ fjoin ! $ fjoin ! $
-    rewrite ! 0 (λ (p : Ptr). ‵ (region_owns p d.room xs)) (sym e) refl $ move ! (1 ∷ 0 ∷ []) $ fjoin ! $ move ! (1 ∷ 0 ∷ []) $ closes ! tt R (record d { blocks = xs }) vs b o $
+    rewrite ! 0 (λ (p : Ptr). ‵ (region_owns p d.room xs)) (sym e) refl $ move ! (1 ∷ 0 ∷ []) $ fjoin ! $ move ! (1 ∷ 0 ∷ []) $ closes ! tt R
+    (record d { blocks = xs }) vs b o $
     returns ! (look_at ! 0 refl) $ free_all ! refl $ keep ! (0 ∷ 1 ∷ 2 ∷ []) $
     suffices ! _ (ends_at 𝓛 f.ended stayed c y vunit tt (record d { blocks = xs }, (tt, tt)) (tt, (tt, tt))) $ says_two ! (refl, refl) $
     feq_i ! (List Val) (vunit ∷ []) (vunit ∷ []) refl $ move ! (1 ∷ 2 ∷ 3 ∷ 0 ∷ []) $ nothing ! $ move ! (3 ∷ 0 ∷ []) $ join ! $ frame ! $

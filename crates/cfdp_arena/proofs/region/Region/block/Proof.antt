@@ -15,7 +15,10 @@ stayed = (stay_dropped (RefOf (0 ∷ []) tt (plain (λ _. C.the_row)) (λ _. tt)
 pub block_spec : {M : Type 1} → statement M
 block_spec 𝓤 𝓛 𝓜 𝓡 wired =
     let c = f.clauses 𝓛 𝓜.mem 𝓡.returns in let W = walk_of 𝓛 f.ended stayed c in let 𝓣 = tables 𝓤 𝓛.H 𝓜 𝓡 𝓡.env in
-    proved 𝓛 f.ended stayed c 𝓜 𝓡 (Goes-dropped 𝓛 1 (RefOf (0 ∷ []) tt (plain (λ _. C.the_row)) (λ _. tt)) yes (λ κs x w. refl), (Goes-dropped 𝓛 1 (plain (λ _. usize)) yes (λ κs x w. refl), tt))
+    proved 𝓛 f.ended stayed c 𝓜 𝓡 (
+      Goes-dropped 𝓛 1 (RefOf (0 ∷ []) tt (plain (λ _. C.the_row)) (λ _. tt)) yes (λ κs x w. refl),
+      (Goes-dropped 𝓛 1 (plain (λ _. usize)) yes (λ κs x w. refl), tt),
+    )
     f.Key.name code.function (code.unfolded 𝓤 𝓛.H 𝓜 𝓡 wired)
     (λ κs. (shr_vals, (uint_vals w64, tt))) (λ κs. (shr_Tells (named 0) κs.0 C.the_row, (uint_Tells w64, tt))) (λ κs qs bounds a _ are.
     let κ = κs.0 in let q = qs.0 in let b = a.0.ref_ptr.0 in let o = a.0.ref_ptr.1 in let d = a.0.now in let i = a.1.0 in let x = get_or d.blocks i [] in
@@ -24,13 +27,15 @@ block_spec 𝓤 𝓛 𝓜 𝓡 wired =
     move ! (1 ∷ []) $ heard ! _ (λ within. split ! $ split ! $ move ! (2 ∷ []) $ fsplit ! $ fsplit ! $ drop ! $ keep ! (0 ∷ 2 ∷ []) $
     -- [what the `&` shows; the token]
     enter ! _ _ _ _ _ $ alloc_all ! (λ l. pass_all ! refl ((tt, tt), ((tt, record { fits = are.1.0.1 }), tt)) $
-    use1 𝓛 (‵ (hidden_shr Fields κ (d.base, (d.room, tt)) b o) ⊛ ‵ (fhide (C.the_lent d (block_ptr b o) κ))) (lent_out 𝓛 C.struct C.the_codes C.the_heap C.the_lent κ d b o) $ split ! $ move ! (1 ∷ []) $
+    use1 𝓛 (‵ (hidden_shr Fields κ (d.base, (d.room, tt)) b o) ⊛ ‵ (fhide (C.the_lent d (block_ptr b o) κ)))
+    (lent_out 𝓛 C.struct C.the_codes C.the_heap C.the_lent κ d b o) $ split ! $ move ! (1 ∷ []) $
     unhide ! $ in_a_block ! d.base (λ p. region_lends p d.room d.blocks κ) (id⊢ 𝓤 (never 𝓤)) (λ b' o' e. fsplit ! $ fsplit ! $ flt_l ! (λ few. flt_l ! (λ small.
     let at = i * 128 + o' in let far : i * 128 < 2 ^ 64 = omega arith in
     use1 𝓛 (‵ (shared_of Block x b' at κ)) (block_seen 𝓛 κ b' o' d.blocks i within at refl) $
     fsplit ! $ feq_l ! (λ long. feq_i ! ℕ (length x) 128 long $ fjoin ! $ hide ! $ move ! (1 ∷ 2 ∷ []) $
     -- [what the `&` shows of the fields; the token; what it shows of the block]
-    looks ! tt Fields (fields_open 𝓛) (d.base, (d.room, tt)) b o (λ q' vs. move ! (1 ∷ []) $ peeks ! Fields (Is Fields) (shows 𝓛 Fields) (d.base, (d.room, tt)) vs (λ told.
+    looks ! tt Fields (fields_open 𝓛) (d.base, (d.room, tt)) b o (λ q' vs.
+    move ! (1 ∷ []) $ peeks ! Fields (Is Fields) (shows 𝓛 Fields) (d.base, (d.room, tt)) vs (λ told.
     let Cell = λ (ws : List Val). ‵ (cell_at q' Fields.mir ws b o) in let word_is = fields_told d.base d.room vs told in rewrite ! 1 Cell word_is refl $
     first ! $ blocks ! $
     sets ! (is ! (of_opd ! (load ! (through ! refl (fld ! refl (stop !))) (look_in ! 1 (sub ! 0 refl (whole !))))) (ap ptr_val e)) refl (tt, tt) $
@@ -43,4 +48,5 @@ block_spec 𝓤 𝓛 𝓜 𝓡 wired =
     -- [the token; what the `&` shows of the fields; what it shows of the block]
     returns ! (look_at ! 0 refl) $ free_all ! refl $ keep ! (0 ∷ 2 ∷ []) $
     suffices ! _ (ends_at 𝓛 f.ended stayed c y (vptr b' at) (record { ref_ptr = (b', at); now = x }) (tt, (tt, tt)) (tt, (tt, tt))) $ says_two ! (refl, long) $
-    nothing ! $ move ! (1 ∷ 0 ∷ []) $ join ! $ frame ! $ feq_i ! (List Val) (vptr b' at ∷ []) (vptr b' at ∷ []) refl $ fjoin ! $ nothing ! $ nothing ! $ fjoin ! $ nothing ! $ fjoin ! $ done !)))))))))
+    nothing ! $ move ! (1 ∷ 0 ∷ []) $ join ! $ frame ! $ feq_i ! (List Val) (vptr b' at ∷ [])
+    (vptr b' at ∷ []) refl $ fjoin ! $ nothing ! $ nothing ! $ fjoin ! $ nothing ! $ fjoin ! $ done !)))))))))

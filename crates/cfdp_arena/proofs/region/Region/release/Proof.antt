@@ -23,7 +23,10 @@ stayed = (stay_dropped (plain (λ _. C.the_row)) yes, (stay_dropped (RefOf (0 �
 pub release_spec : {M : Type 1} → statement M
 release_spec 𝓤 𝓛 𝓜 𝓡 wired =
     let c = f.clauses 𝓛 𝓜.mem 𝓡.returns in let W = walk_of 𝓛 f.ended stayed c in let 𝓣 = tables 𝓤 𝓛.H 𝓜 𝓡 𝓡.env in
-    proved 𝓛 f.ended stayed c 𝓜 𝓡 (Goes-blank 𝓛 1 (plain (λ _. C.the_row)) yes (λ κs x w. tt), (Goes-dropped 𝓛 1 (RefOf (0 ∷ []) tt (plain (λ _. HP.the_row)) (λ _. tt)) yes (λ κs x w. refl), tt))
+    proved 𝓛 f.ended stayed c 𝓜 𝓡 (
+      Goes-blank 𝓛 1 (plain (λ _. C.the_row)) yes (λ κs x w. tt),
+      (Goes-dropped 𝓛 1 (RefOf (0 ∷ []) tt (plain (λ _. HP.the_row)) (λ _. tt)) yes (λ κs x w. refl), tt),
+    )
     f.Key.name code.function (code.unfolded 𝓤 𝓛.H 𝓜 𝓡 wired)
     (λ κs. ((λ d. word d.base d.room ∷ []), (shr_vals, tt))) (λ κs. (region_told 𝓛, (shr_Tells (named 0) κs.0 HP.the_row, tt))) (λ κs qs bounds a _ are.
     let κ = κs.0 in let q = qs.0 in let d = a.0 in let room = d.room in let p = a.1.0.ref_ptr in let τ = region_type room in let count = length d.blocks in
@@ -33,7 +36,8 @@ release_spec 𝓤 𝓛 𝓜 𝓡 wired =
     -- [the blocks, the room and the right; what the `&` shows of the handle; the token]
     let fits : room < 2 ^ 64 = fields_fit d.base room _ are.0.0 in
     enter ! _ _ _ _ _ $ alloc_all ! (λ l. pass_all ! refl (word_good d.base room fits, ((tt, tt), tt)) $
-    in_a_block ! d.base (λ z. region_owns z room d.blocks) (id⊢ 𝓤 (never 𝓤)) (λ b o e. fsplit ! $ fsplit ! $ flt_l ! (λ few. flt_l ! (λ small. fsplit ! $ move ! (1 ∷ []) $ fsplit ! $ move ! (2 ∷ 0 ∷ []) $
+    in_a_block ! d.base (λ z. region_owns z room d.blocks) (id⊢ 𝓤 (never 𝓤))
+    (λ b o e. fsplit ! $ fsplit ! $ flt_l ! (λ few. flt_l ! (λ small. fsplit ! $ move ! (1 ∷ []) $ fsplit ! $ move ! (2 ∷ 0 ∷ []) $
     let bytes : room * 128 < 2 ^ 64 = omega arith in let all : room ≡ count + (room - count) = omega arith in
     use2 𝓛 (‵ (froom τ b o)) (blocks_room 𝓛 b o d.blocks (room - count) room (count * 128 + o) all refl) $
     -- [the room; the right; what the `&` shows of the handle; the token]
@@ -43,11 +47,13 @@ release_spec 𝓤 𝓛 𝓜 𝓡 wired =
     sets ! (bin ! (get ! refl) (lit ! tt) (record { fits = bytes })) refl (tt, record { fits = bytes }) $
     let G = Gives 𝓛 𝓜.mem 𝓡.returns in let z = at_gives 𝓛 𝓜.mem 𝓡.returns κ q p a.1.0.now (room * 128) τ b o in
     group ! 4 $ use1 𝓛 (raw (G.pre z)) (gives_goes 𝓛 𝓜.mem 𝓡.returns κ q p a.1.0.now (room * 128) τ b o (region_size room bytes) refl bytes) $
-    calls_at_last ! (framed 𝓤 𝓛.H 𝓜 𝓣) G (met 𝓤 𝓛 𝓜 𝓡 (code.calls-std_heap::GlobalAllocator::deallocate 𝓡.env wired)) z (and_then ! (get ! refl) (and_then ! (get ! refl) (and_then ! (get ! refl) (and_then ! (lit ! tt) (no_more !))))) (λ v.
+    calls_at_last ! (framed 𝓤 𝓛.H 𝓜 𝓣) G (met 𝓤 𝓛 𝓜 𝓡 (code.calls-std_heap::GlobalAllocator::deallocate 𝓡.env wired)) z
+    (and_then ! (get ! refl) (and_then ! (get ! refl) (and_then ! (get ! refl) (and_then ! (lit ! tt) (no_more !))))) (λ v.
     use1 𝓛 (later (given (v ≡ vunit) (‵ (flft κ q)))) (gives_gives 𝓛 𝓜.mem 𝓡.returns κ q p a.1.0.now (room * 128) τ b o v) $ await ! tt $ learn ! (λ is_unit.
     lands_last ! refl (subst (λ (w : Val). T (has_ty ty_unit w) × WT w) (sym is_unit) (tt, tt)) $
     exec ! 𝓣.C 𝓣.Λ (env code.Mir.locals l) (after 3 (code.function).body) (at_ret _ (W.post y)) $
     sets ! (of_opd ! (unit_lit !)) refl (tt, tt) $ returns ! (look_at ! 0 refl) $ free_all ! refl $ keep ! (0 ∷ []) $
     suffices ! _ (ends_at 𝓛 f.ended stayed c y vunit tt (tt, (tt, tt)) (tt, (tt, tt))) $
-    nothing ! $ move ! (1 ∷ 0 ∷ []) $ join ! $ feq_i ! (List Val) (vunit ∷ []) (vunit ∷ []) refl $ nothing ! $ nothing ! $ fjoin ! $ nothing ! $ fjoin ! $ join ! $ move ! (1 ∷ 0 ∷ []) $ join ! $
+    nothing ! $ move ! (1 ∷ 0 ∷ []) $ join ! $ feq_i ! (List Val) (vunit ∷ [])
+    (vunit ∷ []) refl $ nothing ! $ nothing ! $ fjoin ! $ nothing ! $ fjoin ! $ join ! $ move ! (1 ∷ 0 ∷ []) $ join ! $
     nothing ! $ move ! (1 ∷ 0 ∷ []) $ done !)))))))

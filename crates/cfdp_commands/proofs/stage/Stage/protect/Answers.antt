@@ -11,5 +11,6 @@ returns-in-Err-Memory-clause-bad c = (
       let spelled : path_of c.args.octets.now ≢ None =
       path-refused c.args.octets.now (λ fault is. let was = c.in-Err-Memory.ensures.first fault is in cc) in
       absurd
-      (protected-good c.in-Preparing.is_first _ c.args.octets.now (rw c.len.ensures.value at c.if-len-ge-MOST_PREFIXES.false) spelled (rw c.in-Preparing.is at none)),
+      (protected-good c.in-Preparing.is_first _ c.args.octets.now (rw c.len.ensures.value at c.if-len-ge-MOST_PREFIXES.false) spelled
+      (rw c.in-Preparing.is at none)),
 )

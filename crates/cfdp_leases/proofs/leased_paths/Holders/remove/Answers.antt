@@ -10,4 +10,5 @@ returns-in-Many c =
     let id = c.args.transaction in
     let kept = filter_same _ (λ holder. not (is_same holder.transaction id)) _ (λ x b f' k. search rules) _ _ c.retain.ensures.filtered in
     ap (λ row. unless_none (others id (holders_in row))) c.in-Many.is
-    ∙ row_left c.retain.new.self.items (others id c.in-Many.holders.items) c.retain.new.self.len c.is_empty.result kept (omega (arith, c.retain.new.self.ok.0)) c.is_empty.ensures
+    ∙ row_left c.retain.new.self.items (others id c.in-Many.holders.items) c.retain.new.self.len c.is_empty.result kept
+    (omega (arith, c.retain.new.self.ok.0)) c.is_empty.ensures

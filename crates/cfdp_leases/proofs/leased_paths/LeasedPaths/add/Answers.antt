@@ -19,7 +19,8 @@ returns-in-Some-clause-err c = λ holders held.
     let new : LeasedPaths = record { rows = c.get_mut.follows.lender (record { path = row.path; holders = c.add.new.self }); others = old.others } in
     let own = (same_path-Decides row.path k).0 (sym c.eq.ensures ∙ c.if-eq.true) in
     on_err_weaker c.add.result
-    (λ same. under_written old new holders held k holders (λ q other. refl) c.hash.result c.hash.ensures row (sym c.in-Some.ensures.value) own (λ p. refl) c.add.new.self
+    (λ same. under_written old new holders held k holders (λ q other. refl) c.hash.result c.hash.ensures row (sym c.in-Some.ensures.value) own
+    (λ p. refl) c.add.new.self
     ((c.get_mut.follows.holds (record { path = row.path; holders = c.add.new.self })).3 (search rules)).0
     (ap Some same ∙ under_is old k holders held c.hash.result c.hash.ensures row (sym c.in-Some.ensures.value) own)) c.add.ensures.err
 

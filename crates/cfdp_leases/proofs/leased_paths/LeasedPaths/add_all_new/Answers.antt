@@ -19,9 +19,11 @@ returns-in_err-add_new-clause-err c = λ holders rows free.
 pub loop-path-preserved : goal.loop-path-preserved
 loop-path-preserved c = λ holders rows free.
     holds_same c.add_new.new.self
-    (λ p. (holders p ++ when (list_any (same_path p) (take c.loop-path.path-index c.args.paths.now)) c.args.holder) ++ when (same_path p c.path-item.result) c.args.holder) _
+    (λ p. (holders p ++ when (list_any (same_path p) (take c.loop-path.path-index c.args.paths.now)) c.args.holder)
+    ++ when (same_path p c.path-item.result) c.args.holder) _
     (λ p. when_more c.args.paths.now c.loop-path.path-index c.path-item.result p c.args.holder (holders p) c.requires c.loop-path-test.true c.path-item.is)
-    (c.in_ok-add_new.ensures.ok _ (c.loop-path.invariant holders rows free) (free_yet c.args.paths.now c.loop-path.path-index c.path-item.result c.args.holder holders c.requires c.loop-path-test.true c.path-item.is free))
+    (c.in_ok-add_new.ensures.ok _ (c.loop-path.invariant holders rows free)
+    (free_yet c.args.paths.now c.loop-path.path-index c.path-item.result c.args.holder holders c.requires c.loop-path-test.true c.path-item.is free))
 
 pub returns-clause-ok : goal.returns-clause-ok
 returns-clause-ok c = λ holders rows free.

@@ -8,4 +8,5 @@ use Rattle.cfdp_leases.proofs.leased_paths.LeasedPaths.add_all_new.Given as goal
 -- the paths so far have one holder more
 abbrev pub invariant-loop-path : goal.invariant-loop-path
 invariant-loop-path l =
-    (holders : Path → List Holder) → Holds l.initial.self holders → AreFree (λ p. list_any (same_path p) l.paths) holders → Holds l.self (λ p. holders p ++ when (list_any (same_path p) (take l.path-index l.paths)) l.holder)
+    (holders : Path → List Holder) → Holds l.initial.self holders → AreFree (λ p. list_any (same_path p) l.paths) holders →
+    Holds l.self (λ p. holders p ++ when (list_any (same_path p) (take l.path-index l.paths)) l.holder)

@@ -29,7 +29,8 @@ returns-clause-ok c = λ holders rows free.
     on_ok_weaker c.add_all.result
     (holds_same c.add_all.new.self (λ p. (holders p ++ when (list_any (same_path p) xs) first) ++ when (list_any (same_path p) ys) second) _
     (λ p. append_assoc (holders p) (when (list_any (same_path p) xs) first) (when (list_any (same_path p) ys) second)
-    ∙ ap (λ more. holders p ++ more) (λ i. when (in_slice xs fp.exclusive p c.exclusive.ensures.paths i) first ++ when (in_slice ys fp.shared p c.shared.ensures.paths i) second)))
+    ∙ ap (λ more. holders p ++ more) (λ i. when (in_slice xs fp.exclusive p c.exclusive.ensures.paths i) first
+    ++ when (in_slice ys fp.shared p c.shared.ensures.paths i) second)))
     (c.add_all.ensures.ok _ (c.in_ok-add_all_new.ensures.ok holders rows (λ p has. free p (sym (in_slice xs fp.exclusive p c.exclusive.ensures.paths) ∙ has))))
 
 pub returns-clause-err : goal.returns-clause-err
@@ -39,7 +40,8 @@ returns-clause-err c = λ holders rows free.
     let ys = c.shared.result.now in
     let first : Holder = record { transaction = c.args.transaction; lease = Exclusive } in
     on_err_weaker c.add_all.result
-    (λ some. some_wider c.args.transaction (λ p. list_any (same_path p) ys) (set.contains (leased fp)) (λ p. holders p ++ when (list_any (same_path p) xs) first) holders c.add_all.new.self
+    (λ some. some_wider c.args.transaction (λ p. list_any (same_path p) ys) (set.contains (leased fp)) (λ p. holders p
+    ++ when (list_any (same_path p) xs) first) holders c.add_all.new.self
     some
     (λ p. others_when first (list_any (same_path p) xs) (holders p))
     (λ p none. (

@@ -28,7 +28,8 @@ returns-in_ok-insert-in-Occupied-clause-ok c = λ holders held free.
     let k = c.args.path.now in
     let h = c.args.holder in
     let old = c.args.self.now in
-    other_changed old _ holders held k (λ p. holders p ++ when (same_path p k) h) (λ q other. when_not (same_path q k) h (holders q) other) (Some (One h)) (λ q. search rules)
+    other_changed old _ holders held k (λ p. holders p ++ when (same_path p k) h) (λ q other. when_not (same_path q k) h (holders q) other) (Some (One h))
+    (λ q. search rules)
     (λ q. c.in_ok-insert-in-Occupied.ensures.updates.0 q ∙ (λ i. cond (is_eq (path_cmp (c.in_ok-path.ensures i) q)) (Some (One h)) (get path_cmp old.others q)))
     (free_none old k holders held free).0
     (ap Some (ap (λ xs. xs ++ h ∷ []) (sym free)) ∙ some_pushed (holders k) h ∙ ap unless_none (when_here k h (holders k)))
@@ -41,7 +42,8 @@ returns-in-Vacant-clause-ok c = λ holders held free.
     let old = c.args.self.now in
     let hash = c.hash-hash.result in
     let absent : get nat_cmp old.rows hash ≡ None = search rules in
-    under_changed old _ holders held k (λ p. holders p ++ when (same_path p k) h) (λ q other. when_not (same_path q k) h (holders q) other) hash c.hash-hash.ensures
+    under_changed old _ holders held k (λ p. holders p ++ when (same_path p k) h)
+    (λ q other. when_not (same_path q k) h (holders q) other) hash c.hash-hash.ensures
     (Some (record { path = c.in_ok-path.path; holders = One h })) (λ q. search rules) (λ p. refl)
     (subst (IsOf k) (sym absent) tt) c.in_ok-path.ensures
     (free_none old k holders held free).1

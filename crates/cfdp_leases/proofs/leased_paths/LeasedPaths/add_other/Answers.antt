@@ -26,6 +26,7 @@ returns-in-Some-clause-ok c = λ holders held.
     let new : LeasedPaths = record { rows = old.rows; others = c.get_mut.follows.lender row } in
     let before = other_there old k holders held c.requires c.in-Some.holders.now (sym c.in-Some.ensures.value) in
     on_ok_weaker c.add.result
-    (λ more. other_changed old new holders held k (λ p. holders p ++ when (same_path p k) h) (λ q other. when_not (same_path q k) h (holders q) other) (Some row) (λ q. refl)
+    (λ more. other_changed old new holders held k (λ p. holders p ++ when (same_path p k) h) (λ q other. when_not (same_path q k) h (holders q) other)
+    (Some row) (λ q. refl)
     ((c.get_mut.follows.holds row).3 (search rules)).0 c.requires
     (ap Some (more ∙ ap (λ xs. xs ++ h ∷ []) before) ∙ some_pushed (holders k) h ∙ ap unless_none (when_here k h (holders k)))) c.add.ensures.ok

@@ -15,7 +15,8 @@ returns-in-Some c = λ holders held.
     let old = c.args.self.now in
     let new : LeasedPaths = record { rows = c.remove.new.self; others = old.others } in
     under_removed old new holders held k (λ p. emptied (same_path p k) (holders p)) (λ q other. ap (λ b. emptied b (holders q)) other)
-    c.hash-hash.result c.hash-hash.ensures row (sym c.in-Some.ensures.value) ((same_path-Decides row.path k).0 (sym c.eq.ensures ∙ c.if-eq.true)) (λ p. refl) c.remove.ensures.updates.0
+    c.hash-hash.result c.hash-hash.ensures row (sym c.in-Some.ensures.value) ((same_path-Decides row.path k).0 (sym c.eq.ensures ∙ c.if-eq.true))
+    (λ p. refl) c.remove.ensures.updates.0
     (sym (ap (λ b. unless_none (emptied b (holders k))) (same_path-itself k)))
 
 pub returns-in_default : goal.returns-in_default
@@ -25,8 +26,11 @@ returns-in_default c = λ holders held.
     let new : LeasedPaths = record { rows = old.rows; others = c.remove-in_default.new.self } in
     let before : IsOther old k × Holds old holders = elim c.in_default.branch [
       | in_default-via-in-Some+else-eq w ↦
-          subst (λ paths. IsOther paths k × Holds paths holders) (sym w.self-is)
-          (other_apart c.args.self.now k c.hash-hash.result c.hash-hash.ensures w.in-Some.row.now (sym w.in-Some.ensures.value) (sym w.eq.ensures ∙ w.if-eq.false), held)
+          subst (λ paths. IsOther paths k × Holds paths holders) (sym w.self-is) (
+            other_apart c.args.self.now k c.hash-hash.result c.hash-hash.ensures w.in-Some.row.now (sym w.in-Some.ensures.value) (sym w.eq.ensures
+                ∙ w.if-eq.false),
+            held,
+          )
       | in_default-via-in_default w ↦
           subst (λ paths. IsOther paths k × Holds paths holders) (sym w.self-is)
           (other_absent c.args.self.now k c.hash-hash.result c.hash-hash.ensures (sym w.in_default.ensures.value), held)

@@ -23,8 +23,10 @@ returns-then-remove c = λ holders held.
     let before = under_there old k holders held hash c.hash-hash.ensures row (sym c.in-Some.ensures.value) own in
     under_removed old new holders held k (λ p. left id (same_path p k) (holders p)) (λ q other. left_elsewhere id q k (holders q) other)
     hash c.hash-hash.ensures row (sym c.in-Some.ensures.value) own (λ p. refl)
-    (λ q. c.remove-then-remove.ensures.updates.0 q ∙ ap (cond (is_eq (nat_cmp hash q)) None) (((c.get_mut.follows.holds after).3 (search rules)).0 q) ∙ cond_twice (is_eq (nat_cmp hash q)) None (Some after) (get nat_cmp old.rows q))
-    (sym (ap (λ hs. unless_none (others id hs)) (sym before) ∙ c.remove.ensures ∙ ap (λ b. cond b None (Some (holders_in c.remove.new.self))) c.if-remove.true) ∙ ap unless_none (left_here id k (holders k)))
+    (λ q. c.remove-then-remove.ensures.updates.0 q ∙ ap (cond (is_eq (nat_cmp hash q)) None) (((c.get_mut.follows.holds after).3 (search rules)).0 q)
+    ∙ cond_twice (is_eq (nat_cmp hash q)) None (Some after) (get nat_cmp old.rows q))
+    (sym (ap (λ hs. unless_none (others id hs)) (sym before) ∙ c.remove.ensures ∙ ap (λ b. cond b None (Some (holders_in c.remove.new.self))) c.if-remove.true)
+    ∙ ap unless_none (left_here id k (holders k)))
 
 pub returns-else-remove : goal.returns-else-remove
 returns-else-remove c = λ holders held.
@@ -39,7 +41,8 @@ returns-else-remove c = λ holders held.
     under_written old new holders held k (λ p. left id (same_path p k) (holders p)) (λ q other. left_elsewhere id q k (holders q) other)
     c.hash-hash.result c.hash-hash.ensures row (sym c.in-Some.ensures.value) own (λ p. refl) c.remove.new.self
     ((c.get_mut.follows.holds after).3 (search rules)).0
-    (sym (ap (λ hs. unless_none (others id hs)) (sym before) ∙ c.remove.ensures ∙ ap (λ b. cond b None (Some (holders_in c.remove.new.self))) c.if-remove.false) ∙ ap unless_none (left_here id k (holders k)))
+    (sym (ap (λ hs. unless_none (others id hs)) (sym before) ∙ c.remove.ensures ∙ ap (λ b. cond b None (Some (holders_in c.remove.new.self))) c.if-remove.false)
+    ∙ ap unless_none (left_here id k (holders k)))
 
 -- another path is under the hash, and its row is lent back as it was; or none is
 pub returns-in_default : goal.returns-in_default
@@ -51,7 +54,8 @@ returns-in_default c = λ holders held.
           let row = w.in-Some.row.now in
           let new : LeasedPaths = record { rows = c.get_mut.follows.lender row; others = old.others } in
           subst (λ paths. Holds paths holders) (sym w.self-is)
-          (holds_unwritten old new holders held c.hash-hash.result row ((c.get_mut.follows.holds row).3 (search rules)).0 (sym w.in-Some.ensures.value) (λ p. refl))
+          (holds_unwritten old new holders held c.hash-hash.result row ((c.get_mut.follows.holds row).3 (search rules)).0 (sym w.in-Some.ensures.value)
+          (λ p. refl))
       | in_default-via-in-None-1 w ↦
           let new : LeasedPaths = record { rows = c.get_mut.follows.lender-at-none; others = old.others } in
           subst (λ paths. Holds paths holders) (sym w.self-is)

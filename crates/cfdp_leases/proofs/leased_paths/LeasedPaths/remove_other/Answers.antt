@@ -27,9 +27,11 @@ returns-then-remove c = λ holders held.
     let new : LeasedPaths = record { rows = old.rows; others = c.remove-then-remove.new.self } in
     let before = other_there old k holders held c.requires c.in-Some.holders.now (sym c.in-Some.ensures.value) in
     other_changed old new holders held k (λ p. left id (same_path p k) (holders p)) (λ q other. left_elsewhere id q k (holders q) other) None (λ h. refl)
-    (λ q. c.remove-then-remove.ensures.updates.0 q ∙ ap (cond (is_eq (path_cmp k q)) None) (((c.get_mut.follows.holds row).3 (search rules)).0 q) ∙ cond_twice (is_eq (path_cmp k q)) None (Some row) (get path_cmp old.others q))
+    (λ q. c.remove-then-remove.ensures.updates.0 q ∙ ap (cond (is_eq (path_cmp k q)) None) (((c.get_mut.follows.holds row).3 (search rules)).0 q)
+    ∙ cond_twice (is_eq (path_cmp k q)) None (Some row) (get path_cmp old.others q))
     c.requires
-    (sym (ap (λ hs. unless_none (others id hs)) (sym before) ∙ c.remove.ensures ∙ ap (λ b. cond b None (Some (holders_in row))) c.if-remove.true) ∙ ap unless_none (left_here id k (holders k)))
+    (sym (ap (λ hs. unless_none (others id hs)) (sym before) ∙ c.remove.ensures ∙ ap (λ b. cond b None (Some (holders_in row))) c.if-remove.true)
+    ∙ ap unless_none (left_here id k (holders k)))
 
 pub returns-else-remove : goal.returns-else-remove
 returns-else-remove c = λ holders held.
@@ -41,4 +43,5 @@ returns-else-remove c = λ holders held.
     let before = other_there old k holders held c.requires c.in-Some.holders.now (sym c.in-Some.ensures.value) in
     other_changed old new holders held k (λ p. left id (same_path p k) (holders p)) (λ q other. left_elsewhere id q k (holders q) other) (Some row) (λ h. refl)
     ((c.get_mut.follows.holds row).3 (search rules)).0 c.requires
-    (sym (ap (λ hs. unless_none (others id hs)) (sym before) ∙ c.remove.ensures ∙ ap (λ b. cond b None (Some (holders_in row))) c.if-remove.false) ∙ ap unless_none (left_here id k (holders k)))
+    (sym (ap (λ hs. unless_none (others id hs)) (sym before) ∙ c.remove.ensures ∙ ap (λ b. cond b None (Some (holders_in row))) c.if-remove.false)
+    ∙ ap unless_none (left_here id k (holders k)))

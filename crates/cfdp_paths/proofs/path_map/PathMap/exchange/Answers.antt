@@ -13,7 +13,8 @@ invariant_of-self g c =
     let q = path_in (option_copied c.octets.result) in
     let found = subst (λ r. IfOk r (λ place. IsPlaceOf q c.deref.result.now place)) c.unwrap-place.ensures c.search.ensures.found in
     let at = placed k q es c.deref.result.now c.unwrap-place.result c.octets.ensures.path c.deref.ensures.value found in
-    ordered-put k c.replace.new.dest es _ (put_at k c.replace.new.dest es c.unwrap-place.result c.index_mut.result.now at c.index_mut.ensures.value) c.self.invariant
+    ordered-put k c.replace.new.dest es _ (put_at k c.replace.new.dest es c.unwrap-place.result c.index_mut.result.now at c.index_mut.ensures.value)
+    c.self.invariant
 
 pub returns-clause-old : goal.returns-clause-old
 returns-clause-old g c =
@@ -22,7 +23,8 @@ returns-clause-old g c =
     let q = path_in (option_copied c.octets.result) in
     let found = subst (λ r. IfOk r (λ place. IsPlaceOf q c.deref.result.now place)) c.unwrap-place.ensures c.search.ensures.found in
     let at = placed k q es c.deref.result.now c.unwrap-place.result c.octets.ensures.path c.deref.ensures.value found in
-    sym (ap Some c.replace.ensures.value ∙ value_at k es c.unwrap-place.result c.index_mut.result.now at c.index_mut.ensures.value ∙ ap (find path_cmp k) c.self.view_is)
+    sym (ap Some c.replace.ensures.value ∙ value_at k es c.unwrap-place.result c.index_mut.result.now at c.index_mut.ensures.value
+    ∙ ap (find path_cmp k) c.self.view_is)
 
 pub returns-clause-put : goal.returns-clause-put
 returns-clause-put g c =

@@ -9,5 +9,6 @@ use Rattle.cfdp_paths.proofs.path_map.PathMap.find.Goals as goal
 pub returns : goal.returns
 returns g c =
     let k = path_in (option_copied c.args.sought) in
-    value_at k c.self.inside.entries.items c.in-Ok.place c.index.result.now (subst (λ es. IsPlaceOf k es c.in-Ok.place) c.deref.ensures.value c.in-Ok.ensures.found) c.index.ensures
+    value_at k c.self.inside.entries.items c.in-Ok.place c.index.result.now
+    (subst (λ es. IsPlaceOf k es c.in-Ok.place) c.deref.ensures.value c.in-Ok.ensures.found) c.index.ensures
     ∙ ap (find path_cmp k) c.self.view_is

@@ -10,25 +10,31 @@ pub returns-in_default-clause-removed : goal.returns-in_default-clause-removed
 returns-in_default-clause-removed g c =
     let k = c.args.path.now in
     let same = c.deref.ensures.value ∙ c.self.view_is in
-    sym (without_none k c.args.self.now (sym (ap (λ p. find path_cmp p c.deref.result.now) c.octets.ensures.path ∙ ap (find path_cmp k) same) ∙ c.in_default.ensures.absent))
+    sym (without_none k c.args.self.now (sym (ap (λ p. find path_cmp p c.deref.result.now) c.octets.ensures.path ∙ ap (find path_cmp k) same)
+    ∙ c.in_default.ensures.absent))
 
 pub invariant_of-self : goal.invariant_of-self
 invariant_of-self g c =
     let k = c.args.path.now in
     let es = c.self.inside.entries.items in
-    let at = placed k (path_in (option_copied c.octets.result)) es c.deref.result.now c.in-Ok.place c.octets.ensures.path c.deref.ensures.value c.in-Ok.ensures.found in
-    ordered-where _ es _ (c.remove-value.ensures.items ∙ removed_at k es c.in-Ok.place c.remove-value.result c.self.invariant at c.remove-value.ensures.value) c.self.invariant
+    let at = placed k (path_in (option_copied c.octets.result)) es c.deref.result.now c.in-Ok.place c.octets.ensures.path c.deref.ensures.value
+    c.in-Ok.ensures.found in
+    ordered-where _ es _ (c.remove-value.ensures.items ∙ removed_at k es c.in-Ok.place c.remove-value.result c.self.invariant at c.remove-value.ensures.value)
+    c.self.invariant
 
 pub returns-clause-value : goal.returns-clause-value
 returns-clause-value g c =
     let k = c.args.path.now in
     let es = c.self.inside.entries.items in
-    let at = placed k (path_in (option_copied c.octets.result)) es c.deref.result.now c.in-Ok.place c.octets.ensures.path c.deref.ensures.value c.in-Ok.ensures.found in
+    let at = placed k (path_in (option_copied c.octets.result)) es c.deref.result.now c.in-Ok.place c.octets.ensures.path c.deref.ensures.value
+    c.in-Ok.ensures.found in
     value_at k es c.in-Ok.place c.remove-value.result at c.remove-value.ensures.value ∙ ap (find path_cmp k) c.self.view_is
 
 pub returns-clause-removed : goal.returns-clause-removed
 returns-clause-removed g c =
     let k = c.args.path.now in
     let es = c.self.inside.entries.items in
-    let at = placed k (path_in (option_copied c.octets.result)) es c.deref.result.now c.in-Ok.place c.octets.ensures.path c.deref.ensures.value c.in-Ok.ensures.found in
-    c.remove-value.ensures.items ∙ removed_at k es c.in-Ok.place c.remove-value.result c.self.invariant at c.remove-value.ensures.value ∙ ap (without k) c.self.view_is
+    let at = placed k (path_in (option_copied c.octets.result)) es c.deref.result.now c.in-Ok.place c.octets.ensures.path c.deref.ensures.value
+    c.in-Ok.ensures.found in
+    c.remove-value.ensures.items ∙ removed_at k es c.in-Ok.place c.remove-value.result c.self.invariant at c.remove-value.ensures.value
+    ∙ ap (without k) c.self.view_is

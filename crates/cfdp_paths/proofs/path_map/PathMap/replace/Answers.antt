@@ -9,7 +9,8 @@ pub invariant_of-self : goal.invariant_of-self
 invariant_of-self g c =
     let k = c.args.path in
     let es = c.self.inside.entries.items in
-    let at = placed k (path_in (option_copied c.octets.result)) es c.deref.result.now c.in-Ok.place c.octets.ensures.path c.deref.ensures.value c.in-Ok.ensures.found in
+    let at = placed k (path_in (option_copied c.octets.result)) es c.deref.result.now c.in-Ok.place c.octets.ensures.path c.deref.ensures.value
+    c.in-Ok.ensures.found in
     ordered-put k c.replace.new.dest es _ (put_at k c.replace.new.dest es c.in-Ok.place c.index_mut.result.now at c.index_mut.ensures.value) c.self.invariant
 
 pub invariant_of-self-in-Err : goal.invariant_of-self-in-Err
@@ -18,21 +19,24 @@ invariant_of-self-in-Err g c =
     let es = c.self.inside.entries.items in
     ordered-put k c.args.value es _
     (c.in_ok-insert-in-Err.ensures.items
-    ∙ put_between k (path_in (option_copied c.octets.result)) c.args.value es c.deref.result.now c.in-Err.place c.octets.ensures.path c.deref.ensures.value c.in-Err.ensures.absent c.in-Err.ensures.place)
+    ∙ put_between k (path_in (option_copied c.octets.result)) c.args.value es c.deref.result.now c.in-Err.place c.octets.ensures.path c.deref.ensures.value
+    c.in-Err.ensures.absent c.in-Err.ensures.place)
     c.self.invariant
 
 pub returns-in-Ok-clause-old : goal.returns-in-Ok-clause-old
 returns-in-Ok-clause-old g c =
     let k = c.args.path in
     let es = c.self.inside.entries.items in
-    let at = placed k (path_in (option_copied c.octets.result)) es c.deref.result.now c.in-Ok.place c.octets.ensures.path c.deref.ensures.value c.in-Ok.ensures.found in
+    let at = placed k (path_in (option_copied c.octets.result)) es c.deref.result.now c.in-Ok.place c.octets.ensures.path c.deref.ensures.value
+    c.in-Ok.ensures.found in
     ap Some c.replace.ensures.value ∙ value_at k es c.in-Ok.place c.index_mut.result.now at c.index_mut.ensures.value ∙ ap (find path_cmp k) c.self.view_is
 
 pub returns-in-Ok-clause-ok : goal.returns-in-Ok-clause-ok
 returns-in-Ok-clause-ok g c =
     let k = c.args.path in
     let es = c.self.inside.entries.items in
-    let at = placed k (path_in (option_copied c.octets.result)) es c.deref.result.now c.in-Ok.place c.octets.ensures.path c.deref.ensures.value c.in-Ok.ensures.found in
+    let at = placed k (path_in (option_copied c.octets.result)) es c.deref.result.now c.in-Ok.place c.octets.ensures.path c.deref.ensures.value
+    c.in-Ok.ensures.found in
     put_at k c.replace.new.dest es c.in-Ok.place c.index_mut.result.now at c.index_mut.ensures.value
     ∙ ap (λ v. put path_cmp k v es) c.replace.ensures.after ∙ ap (put path_cmp k c.args.value) c.self.view_is
 
@@ -40,6 +44,7 @@ pub returns-in_ok-insert-in-Err-clause-ok : goal.returns-in_ok-insert-in-Err-cla
 returns-in_ok-insert-in-Err-clause-ok g c =
     let k = c.args.path in
     c.in_ok-insert-in-Err.ensures.items
-    ∙ put_between k (path_in (option_copied c.octets.result)) c.args.value c.self.inside.entries.items c.deref.result.now c.in-Err.place c.octets.ensures.path c.deref.ensures.value c.in-Err.ensures.absent
+    ∙ put_between k (path_in (option_copied c.octets.result)) c.args.value c.self.inside.entries.items c.deref.result.now c.in-Err.place c.octets.ensures.path
+    c.deref.ensures.value c.in-Err.ensures.absent
     c.in-Err.ensures.place
     ∙ ap (put path_cmp k c.args.value) c.self.view_is

@@ -6,7 +6,8 @@ use Rattle.cfdp_paths.proofs.paths.Path.may_stay.Goals as goal
 
 pub suits_front-requires : goal.suits_front-requires
 suits_front-requires c =
-    let below : is_at_or_below (names_of c.self.inside.octets.items) (names_of c.from.inside.octets.items) ≡ true = rw (c.self.view_is, c.from.view_is) c.requires in
+    let below : is_at_or_below (names_of c.self.inside.octets.items) (names_of c.from.inside.octets.items) ≡ true =
+    rw (c.self.view_is, c.from.view_is) c.requires in
     let long = ap length (behind c.self.inside.octets.items c.from.inside.octets.items below).0 in
     omega (
       arith,

@@ -20,7 +20,8 @@ short_at p names i = elim (cases_lt i (length p)) [
 
 pub returns-clause-name : goal.returns-clause-name
 returns-clause-name c =
-    let item = nth_from_yields_List c.nth.result c.nth.new.self c.args.index c.nth.ensures.ran (YieldsList-from_first (λ x. x.now) (λ (names : Path). names) c.args.self.now c.names.ensures.names) in
+    let item = nth_from_yields_List c.nth.result c.nth.new.self c.args.index c.nth.ensures.ran
+    (YieldsList-from_first (λ x. x.now) (λ (names : Path). names) c.args.self.now c.names.ensures.names) in
     let place = c.args.index in
     ap (λ x. x.now) c.unwrap_or.ensures
     ∙ seen (λ x. x.now) c.nth.result _

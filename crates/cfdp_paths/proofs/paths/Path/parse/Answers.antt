@@ -22,19 +22,22 @@ pub returns-clause-path : goal.returns-clause-path
 returns-clause-path c =
     let octets = c.args.octets.now in
     let none = c.in-Ok.ensures.0 in
-    subst (Spells octets) (sym (names_of-spelled octets c.strip_slash.result.now c.in_ok-octets.octets.items (path_from_no_fault octets none) c.strip_slash.ensures c.in_ok-octets.ensures))
+    subst (Spells octets) (sym (names_of-spelled octets c.strip_slash.result.now c.in_ok-octets.octets.items
+    (path_from_no_fault octets none) c.strip_slash.ensures c.in_ok-octets.ensures))
     (spelled_from_no_fault octets none)
 
 pub returns-clause-only : goal.returns-clause-only
 returns-clause-only c =
     let octets = c.args.octets.now in
     let none = c.in-Ok.ensures.0 in
-    let same = names_of-spelled octets c.strip_slash.result.now c.in_ok-octets.octets.items (path_from_no_fault octets none) c.strip_slash.ensures c.in_ok-octets.ensures in
+    let same = names_of-spelled octets c.strip_slash.result.now c.in_ok-octets.octets.items
+    (path_from_no_fault octets none) c.strip_slash.ensures c.in_ok-octets.ensures in
     λ path h. inl (ap (λ p. Ok p) (same ∙ names_in-spelled octets path h))
 
 pub returns-clause-path_of : goal.returns-clause-path_of
 returns-clause-path_of c =
     let octets = c.args.octets.now in
     let none = c.in-Ok.ensures.0 in
-    let same = names_of-spelled octets c.strip_slash.result.now c.in_ok-octets.octets.items (path_from_no_fault octets none) c.strip_slash.ensures c.in_ok-octets.ensures in
+    let same = names_of-spelled octets c.strip_slash.result.now c.in_ok-octets.octets.items
+    (path_from_no_fault octets none) c.strip_slash.ensures c.in_ok-octets.ensures in
     path_of_spelled octets (names_in octets) (spelled_from_no_fault octets none) ∙ ap (λ p. Some p) (sym same)

@@ -7,4 +7,5 @@ use Rattle.cfdp_paths.proofs.paths.PathOrd.cmp.Goals as goal
 pub returns : goal.returns
 returns c =
     rw (← c.self.view_is, ← c.other.view_is)
-    (c.order.ensures ∙ (λ i. slice_cmp nat_cmp (c.deref.ensures.value i) (c.deref-2.ensures.value i)) ∙ sym (path_cmp-names_of c.self.inside.octets.items c.other.inside.octets.items))
+    (c.order.ensures ∙ (λ i. slice_cmp nat_cmp (c.deref.ensures.value i) (c.deref-2.ensures.value i))
+    ∙ sym (path_cmp-names_of c.self.inside.octets.items c.other.inside.octets.items))

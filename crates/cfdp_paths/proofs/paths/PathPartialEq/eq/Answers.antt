@@ -6,4 +6,5 @@ use Rattle.cfdp_paths.proofs.paths.PathPartialEq.eq.Goals as goal
 pub returns : goal.returns
 returns c =
     rw (← c.self.view_is, ← c.other.view_is)
-    (c.is_same.ensures ∙ (λ i. pointwise nat_eq (c.deref.ensures.value i) (c.deref-2.ensures.value i)) ∙ sym (same_path-names_of c.self.inside.octets.items c.other.inside.octets.items))
+    (c.is_same.ensures ∙ (λ i. pointwise nat_eq (c.deref.ensures.value i) (c.deref-2.ensures.value i))
+    ∙ sym (same_path-names_of c.self.inside.octets.items c.other.inside.octets.items))

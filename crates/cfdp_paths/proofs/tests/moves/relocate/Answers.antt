@@ -14,7 +14,8 @@ by_depths : {X : Type 0} → (p q : Path) (es : List (Path × X)) → length q �
     → is_too_deep p q es ≡ list_any (λ e. nat_lt (8 + length p) (length e.0 + length q)) es
 by_depths p q [] few = refl
 by_depths p q (e ∷ es) few =
-    ap (λ b. b || is_too_deep p q es) (ap (λ n. nat_lt 8 n) (length-append q (drop (length p) e.0) ∙ ap (λ n. length q + n) (length-drop (length p) e.0)) ∙ same_test (length p) (length q) (length e.0) few)
+    ap (λ b. b || is_too_deep p q es) (ap (λ n. nat_lt 8 n) (length-append q (drop (length p) e.0) ∙ ap (λ n. length q + n) (length-drop (length p) e.0))
+    ∙ same_test (length p) (length q) (length e.0) few)
     ∙ ap (λ b. nat_lt (8 + length p) (length e.0 + length q) || b) (by_depths p q es few)
 
 pub relocate-requires : goal.relocate-requires

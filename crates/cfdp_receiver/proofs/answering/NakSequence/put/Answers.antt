@@ -86,7 +86,8 @@ returns-clause-enough c =
     let s = c.self.inside in
     let p = c.in-Some.part in
     let n = c.args.number in
-    let fit = fits s.header s.most s.low s.high n c.deref.result.now s.requests.items p.requests.now p.scope c.self.invariant c.deref.ensures.0 c.in-Some.ensures in
+    let fit = fits s.header s.most s.low s.high n c.deref.result.now s.requests.items p.requests.now p.scope c.self.invariant c.deref.ensures.0
+    c.in-Some.ensures in
     let most : length c.deref.result.now ≤ 33 = c.deref.ensures.1 in
     let same = ap (λ (xs : List Range). length xs) c.deref.ensures.0 in
     let done = c.written.ensures in

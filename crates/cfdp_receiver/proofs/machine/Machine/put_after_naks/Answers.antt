@@ -12,6 +12,7 @@ returns-then-number-eq0-clause-enough c =
     let h = c.in-Some.header in
     let k = c.in-Some.keep_alive in
     let done = c.written.ensures in
-    let fits = subst (λ (x : Option (Header × KeepAlive)). IfSome x (λ p. IsHeader p.0 × IsSizedKeepAlive p.0.large p.1)) c.in-Some.is c.answer.invariant.keep_alive in
+    let fits = subst (λ (x : Option (Header × KeepAlive)). IfSome x (λ p. IsHeader p.0 × IsSizedKeepAlive p.0.large p.1)) c.in-Some.is
+    c.answer.invariant.keep_alive in
     put_enough (keep_alive_pdu h k) c.args.out.now c.put_keep_alive.result c.written.result c.put_keep_alive.ensures.fits done.ok done.err
     (keep_alive_short h k fits.0)

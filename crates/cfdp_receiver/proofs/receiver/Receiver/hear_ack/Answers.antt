@@ -9,7 +9,8 @@ use Rattle.cfdp_receiver.proofs.receiver.Receiver.hear_ack.Goals.{After-ack}
 
 as_it_came : (c : After-ack) → Turns (at_moment c.args.now c.args.self.now) c.ack.new.self c.ack.result (AckPdu c.args.now c.args.header.now c.args.ack)
 as_it_came c =
-    moved c.args.self.now c.later.new.self c.ack.new.self c.ack.result c.args.now (λ (n : ℕ). AckPdu n c.args.header.now c.args.ack) (λ R x y. refl) (λ R V rs x y. refl)
+    moved c.args.self.now c.later.new.self c.ack.new.self c.ack.result c.args.now (λ (n : ℕ). AckPdu n c.args.header.now c.args.ack) (λ R x y. refl)
+    (λ R V rs x y. refl)
     (c.later.ensures ∙ ap (at_moment c.args.now) c.self.view_is) c.ack.ensures
 
 pub invariant_of-self : goal.invariant_of-self

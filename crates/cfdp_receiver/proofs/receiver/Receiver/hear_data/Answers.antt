@@ -7,9 +7,11 @@ use Rattle.cfdp_receiver.proofs.Whole.{whole_turn}
 use Rattle.cfdp_receiver.proofs.receiver.Receiver.hear_data.Goals as goal
 use Rattle.cfdp_receiver.proofs.receiver.Receiver.hear_data.Goals.{After-data}
 
-as_it_came : (c : After-data) → Turns (at_moment c.args.now c.args.self.now) c.data.new.self c.data.result (DataPdu c.args.now c.args.header.now c.args.piece.now)
+as_it_came : (c : After-data) → Turns (at_moment c.args.now c.args.self.now) c.data.new.self c.data.result
+    (DataPdu c.args.now c.args.header.now c.args.piece.now)
 as_it_came c =
-    moved c.args.self.now c.later.new.self c.data.new.self c.data.result c.args.now (λ (n : ℕ). DataPdu n c.args.header.now c.args.piece.now) (λ R x y. refl) (λ R V rs x y. refl)
+    moved c.args.self.now c.later.new.self c.data.new.self c.data.result c.args.now (λ (n : ℕ). DataPdu n c.args.header.now c.args.piece.now) (λ R x y. refl)
+    (λ R V rs x y. refl)
     (c.later.ensures ∙ ap (at_moment c.args.now) c.self.view_is) c.data.ensures
 
 pub invariant_of-self : goal.invariant_of-self
@@ -18,4 +20,5 @@ invariant_of-self c =
     (c.stays_whole.ensures (DataPdu c.args.now c.args.header.now c.args.piece.now)) (as_it_came (goal.at.invariant_of-self c).After-data)
 
 pub returns-clause-ok : goal.returns-clause-ok
-returns-clause-ok c = turned c.args.self.now c.data.new.self c.data.result (DataPdu c.args.now c.args.header.now c.args.piece.now) (as_it_came (goal.at.returns-clause-ok c).After-data)
+returns-clause-ok c = turned c.args.self.now c.data.new.self c.data.result (DataPdu c.args.now c.args.header.now c.args.piece.now)
+    (as_it_came (goal.at.returns-clause-ok c).After-data)

@@ -9,7 +9,8 @@ use Rattle.cfdp_receiver.proofs.receiver.Receiver.hear_eof.Goals.{After-eof}
 
 as_it_came : (c : After-eof) → Turns (at_moment c.args.now c.args.self.now) c.eof.new.self c.eof.result (EofPdu c.args.now c.args.header.now c.args.eof)
 as_it_came c =
-    moved c.args.self.now c.later.new.self c.eof.new.self c.eof.result c.args.now (λ (n : ℕ). EofPdu n c.args.header.now c.args.eof) (λ R x y. refl) (λ R V rs x y. refl)
+    moved c.args.self.now c.later.new.self c.eof.new.self c.eof.result c.args.now (λ (n : ℕ). EofPdu n c.args.header.now c.args.eof) (λ R x y. refl)
+    (λ R V rs x y. refl)
     (c.later.ensures ∙ ap (at_moment c.args.now) c.self.view_is) c.eof.ensures
 
 pub invariant_of-self : goal.invariant_of-self

@@ -9,7 +9,8 @@ use Rattle.cfdp_receiver.proofs.receiver.Receiver.hear_other.Goals.{After-other}
 
 as_it_came : (c : After-other) → Turns (at_moment c.args.now c.args.self.now) c.later.new.self c.other.result (OtherPdu c.args.now c.args.header.now)
 as_it_came c =
-    moved c.args.self.now c.later.new.self c.later.new.self c.other.result c.args.now (λ (n : ℕ). OtherPdu n c.args.header.now) (λ R x y. refl) (λ R V rs x y. refl)
+    moved c.args.self.now c.later.new.self c.later.new.self c.other.result c.args.now (λ (n : ℕ). OtherPdu n c.args.header.now) (λ R x y. refl)
+    (λ R V rs x y. refl)
     (c.later.ensures ∙ ap (at_moment c.args.now) c.self.view_is) c.other.ensures
 
 pub invariant_of-self : goal.invariant_of-self

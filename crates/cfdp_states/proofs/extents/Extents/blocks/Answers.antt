@@ -9,4 +9,9 @@ returns-clause-value c =
 
 pub returns-clause-within : goal.returns-clause-within
 returns-clause-within c =
-    omega (arith, c.self.invariant.counted, few_blocks c.self.inside.entries c.self.invariant.ordered c.self.invariant.small, ap length c.entries.ensures.entries)
+    omega (
+      arith,
+      c.self.invariant.counted,
+      few_blocks c.self.inside.entries c.self.invariant.ordered c.self.invariant.small,
+      ap length c.entries.ensures.entries,
+    )

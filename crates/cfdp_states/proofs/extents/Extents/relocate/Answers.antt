@@ -6,7 +6,8 @@ use Rattle.cfdp_states.proofs.extents.Extents.relocate.Goals as goal
 
 pub relocate-requires : goal.relocate-requires
 relocate-requires c =
-    ap (λ es. is_too_deep c.args.from.now c.args.to.now (tree_in c.args.from.now es)) (kept_entries c.self.inside.entries c.self.inside.used c.args.self.now c.self.invariant c.self.view_is) ∙ c.requires
+    ap (λ es. is_too_deep c.args.from.now c.args.to.now (tree_in c.args.from.now es))
+    (kept_entries c.self.inside.entries c.self.inside.used c.args.self.now c.self.invariant c.self.view_is) ∙ c.requires
 
 pub invariant_of-self-then-not-is_free : goal.invariant_of-self-then-not-is_free
 invariant_of-self-then-not-is_free c =
@@ -22,8 +23,10 @@ invariant_of-self-else-not-is_free c =
 
 pub returns-then-not-is_free-clause-ok : goal.returns-then-not-is_free-clause-ok
 returns-then-not-is_free-clause-ok c =
-    moved_map c.args.from.now c.args.to.now c.self.inside.entries c.relocate.new.self c.self.inside.used c.args.self.now c.self.invariant c.self.view_is c.in_ok-relocate.ensures.ok
+    moved_map c.args.from.now c.args.to.now c.self.inside.entries c.relocate.new.self c.self.inside.used c.args.self.now c.self.invariant c.self.view_is
+    c.in_ok-relocate.ensures.ok
 
 pub returns-else-not-is_free-clause-ok : goal.returns-else-not-is_free-clause-ok
 returns-else-not-is_free-clause-ok c =
-    moved_map c.args.from.now c.args.to.now c.self.inside.entries c.relocate.new.self c.self.inside.used c.args.self.now c.self.invariant c.self.view_is c.in_ok-relocate.ensures.ok
+    moved_map c.args.from.now c.args.to.now c.self.inside.entries c.relocate.new.self c.self.inside.used c.args.self.now c.self.invariant c.self.view_is
+    c.in_ok-relocate.ensures.ok

@@ -6,7 +6,12 @@ use Rattle.cfdp_states.proofs.extents.Extents.remove.Goals as goal
 
 pub overflow_sub-self : goal.overflow_sub-self
 overflow_sub-self c =
-    omega (arith, weight_within c.args.path.now c.self.inside.entries c.self.inside.used c.self.invariant, c.weigh.ensures.value, ap weight_in c.remove-old.ensures.value)
+    omega (
+      arith,
+      weight_within c.args.path.now c.self.inside.entries c.self.inside.used c.self.invariant,
+      c.weigh.ensures.value,
+      ap weight_in c.remove-old.ensures.value,
+    )
 
 pub invariant_of-self : goal.invariant_of-self
 invariant_of-self c =
@@ -17,4 +22,5 @@ invariant_of-self c =
 
 pub returns : goal.returns
 returns c =
-    ap from_sorted c.remove-old.ensures.removed ∙ without_map c.args.path.now c.self.inside.entries c.self.invariant.ordered ∙ ap (λ m. remove m c.args.path.now) c.self.view_is
+    ap from_sorted c.remove-old.ensures.removed ∙ without_map c.args.path.now c.self.inside.entries c.self.invariant.ordered
+    ∙ ap (λ m. remove m c.args.path.now) c.self.view_is

@@ -5,7 +5,8 @@ use Rattle.cfdp_states.proofs.view.View.apply.Goals as goal
 pub returns-in_err-status-clause-thrifty : goal.returns-in_err-status-clause-thrifty
 returns-in_err-status-clause-thrifty c =
     let gone = err_from_is_err_and c.from_residual.result c.from_residual.ensures.1 in
-    rw gone.1 (tells_wanting c.args.self.now c.self.inside.protected.now c.self.inside.extents c.self.inside.base c.self.inside.need c.self.inside.steps c.args.request.now
+    rw gone.1 (tells_wanting c.args.self.now c.self.inside.protected.now c.self.inside.extents c.self.inside.base c.self.inside.need c.self.inside.steps
+    c.args.request.now
     c.self.view_is c.in_err-status.ensures.1 c.in_err-status.ensures.2)
 
 pub returns-clause-told : goal.returns-clause-told

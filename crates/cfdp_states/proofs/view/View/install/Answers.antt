@@ -4,7 +4,8 @@ use Rattle.cfdp_states.proofs.view.View.install.Goals as goal
 
 pub returns-then-not-can_install-clause-told : goal.returns-then-not-can_install-clause-told
 returns-then-not-can_install-clause-told c =
-    tells_refused c.args.self.now c.self.inside.protected.now c.self.inside.extents c.self.inside.base c.self.inside.need c.self.inside.steps c.args.path.now c.args.bound
+    tells_refused c.args.self.now c.self.inside.protected.now c.self.inside.extents c.self.inside.base c.self.inside.need c.self.inside.steps c.args.path.now
+    c.args.bound
     c.self.view_is c.can_install.ensures.named
     (sym c.can_install.ensures.value ∙ c.if-not-can_install.true)
 

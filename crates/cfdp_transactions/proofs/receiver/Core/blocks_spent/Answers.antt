@@ -17,5 +17,6 @@ returns g c =
     let F = (g.S.Filestore.state c.self.inside.store).filestore in
     let rows = c.self.inside.books.table in
     let f : Entry → ℤ = λ e. e.blocks_spent in
-    let spent : to_z w64 (of_z w64 c.blocks_spent.result) ≡ c.in-Some.entry.now.blocks_spent = to_z-of_z w64 c.blocks_spent.result (let h = c.blocks_spent.type_inv in search rules) ∙ c.blocks_spent.ensures in
+    let spent : to_z w64 (of_z w64 c.blocks_spent.result) ≡ c.in-Some.entry.now.blocks_spent =
+    to_z-of_z w64 c.blocks_spent.result (let h = c.blocks_spent.type_inv in search rules) ∙ c.blocks_spent.ensures in
     rw (← c.self.view_is, read_in f F c.args.id rows, ← c.get.ensures, c.in-Some.is, spent) refl

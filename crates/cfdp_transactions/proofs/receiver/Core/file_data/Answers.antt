@@ -14,10 +14,14 @@ invariant_of-self g c =
     let b = c.self.inside.books in
     let t = g.S.Filestore.state c.receive.new.store in
     let d = c.receive.new.books in
-    let carried = found_carries s b (id_of c.args.header.now) (λ k o. data_came (world_of s b) k c.args.piece.now o) (world_of t d) c.receive.result c.in-Some.place (rw c.transaction_of.ensures at c.in-Some.ensures.found) c.in-Some.ensures.within c.receive.ensures.answer in
+    let carried = found_carries s b (id_of c.args.header.now) (λ k o. data_came (world_of s b) k c.args.piece.now o)
+    (world_of t d) c.receive.result c.in-Some.place (rw c.transaction_of.ensures at c.in-Some.ensures.found) c.in-Some.ensures.within
+    c.receive.ensures.answer in
     let mine : (c.args.header.now.destination == b.config.entity) ≡ true = eq-eqb _ _ (c.if-header-entity.false ∙ c.entity.ensures) in
-    let follows = carries_follows (world_of s b) (world_of t d) (DataCame c.args.header.now c.args.piece.now) c.receive.result (ours (world_of s b) _ c.args.header.now _ _ mine carried) in
-    still_whole c.follows_is_sound.ensures s t b d (DataCame c.args.header.now c.args.piece.now) c.receive.result c.self.invariant follows c.receive.ensures.booked
+    let follows = carries_follows (world_of s b) (world_of t d) (DataCame c.args.header.now c.args.piece.now) c.receive.result
+    (ours (world_of s b) _ c.args.header.now _ _ mine carried) in
+    still_whole c.follows_is_sound.ensures s t b d (DataCame c.args.header.now c.args.piece.now) c.receive.result c.self.invariant follows
+    c.receive.ensures.booked
 
 pub returns-clause-follows : goal.returns-clause-follows
 returns-clause-follows g c =
@@ -25,9 +29,12 @@ returns-clause-follows g c =
     let b = c.self.inside.books in
     let t = g.S.Filestore.state c.receive.new.store in
     let d = c.receive.new.books in
-    let carried = found_carries s b (id_of c.args.header.now) (λ k o. data_came (world_of s b) k c.args.piece.now o) (world_of t d) c.receive.result c.in-Some.place (rw c.transaction_of.ensures at c.in-Some.ensures.found) c.in-Some.ensures.within c.receive.ensures.answer in
+    let carried = found_carries s b (id_of c.args.header.now) (λ k o. data_came (world_of s b) k c.args.piece.now o)
+    (world_of t d) c.receive.result c.in-Some.place (rw c.transaction_of.ensures at c.in-Some.ensures.found) c.in-Some.ensures.within
+    c.receive.ensures.answer in
     let mine : (c.args.header.now.destination == b.config.entity) ≡ true = eq-eqb _ _ (c.if-header-entity.false ∙ c.entity.ensures) in
-    let follows = carries_follows (world_of s b) (world_of t d) (DataCame c.args.header.now c.args.piece.now) c.receive.result (ours (world_of s b) _ c.args.header.now _ _ mine carried) in
+    let follows = carries_follows (world_of s b) (world_of t d) (DataCame c.args.header.now c.args.piece.now) c.receive.result
+    (ours (world_of s b) _ c.args.header.now _ _ mine carried) in
     rw (← c.self.view_is) follows
 
 pub returns-in_default-clause-follows : goal.returns-in_default-clause-follows

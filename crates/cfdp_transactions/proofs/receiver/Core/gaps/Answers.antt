@@ -18,4 +18,5 @@ returns g c =
     let b = c.self.inside.books in
     let at : slice_get b.table (row_place c.args.id b.table) ≡ Some c.in-Some.entry.now = rw c.in-Some.is at (sym c.get.ensures) in
     rw (← c.self.view_is, read_in gaps s.filestore c.args.id b.table, ← c.get.ensures, c.in-Some.is, c.gaps.ensures)
-    (ap (λ (ranges : List (ℕ × ℕ)). Some ranges) (sym (gaps_row s b c.self.invariant.sound c.self.invariant.booked (row_place c.args.id b.table) c.in-Some.entry.now at)))
+    (ap (λ (ranges : List (ℕ × ℕ)). Some ranges) (sym (gaps_row s b c.self.invariant.sound c.self.invariant.booked
+    (row_place c.args.id b.table) c.in-Some.entry.now at)))

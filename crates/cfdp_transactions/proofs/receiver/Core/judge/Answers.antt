@@ -13,7 +13,8 @@ returns-then-is_some-clause-follows g c =
     let s = g.S.Filestore.state c.self.inside.store in
     let b = c.self.inside.books in
     let mine : (c.args.header.now.destination == b.config.entity) ≡ true = eq-eqb _ _ (c.if-header-entity.false ∙ c.entity.ensures) in
-    let there = found_some s b (id_of c.args.header.now) c.find.result (rw c.transaction_of.ensures at c.find.ensures.found) c.find.ensures.within (sym c.is_some.ensures ∙ c.if-is_some.true) in
+    let there = found_some s b (id_of c.args.header.now) c.find.result (rw c.transaction_of.ensures at c.find.ensures.found) c.find.ensures.within
+    (sym c.is_some.ensures ∙ c.if-is_some.true) in
     rw (← c.self.view_is, mine, there.1) refl
 
 pub returns-then-len-ge-MOST_TRANSACTIONS-clause-follows : goal.returns-then-len-ge-MOST_TRANSACTIONS-clause-follows
@@ -21,7 +22,8 @@ returns-then-len-ge-MOST_TRANSACTIONS-clause-follows g c =
     let s = g.S.Filestore.state c.self.inside.store in
     let b = c.self.inside.books in
     let mine : (c.args.header.now.destination == b.config.entity) ≡ true = eq-eqb _ _ (c.if-header-entity.false ∙ c.entity.ensures) in
-    let none = absent_none s b (id_of c.args.header.now) c.find.result (rw c.transaction_of.ensures at c.find.ensures.absent) (sym c.is_some.ensures ∙ c.if-is_some.false) in
+    let none = absent_none s b (id_of c.args.header.now) c.find.result (rw c.transaction_of.ensures at c.find.ensures.absent) (sym c.is_some.ensures
+    ∙ c.if-is_some.false) in
     let full : 64 ≤ length (world_of s b).table = omega (arith, c.len.ensures, c.if-len-ge-MOST_TRANSACTIONS.true, length_in s.filestore b.table) in
     rw (← c.self.view_is) (full_answer (world_of s b) c.args.header.now c.args.metadata.now mine none full)
 
@@ -31,7 +33,8 @@ returns-then-len-gt-MOST_REQUESTS-clause-follows g c =
     let b = c.self.inside.books in
     let m = c.args.metadata.now in
     let mine : (c.args.header.now.destination == b.config.entity) ≡ true = eq-eqb _ _ (c.if-header-entity.false ∙ c.entity.ensures) in
-    let none = absent_none s b (id_of c.args.header.now) c.find.result (rw c.transaction_of.ensures at c.find.ensures.absent) (sym c.is_some.ensures ∙ c.if-is_some.false) in
+    let none = absent_none s b (id_of c.args.header.now) c.find.result (rw c.transaction_of.ensures at c.find.ensures.absent) (sym c.is_some.ensures
+    ∙ c.if-is_some.false) in
     let few : length (world_of s b).table < 64 = omega (arith, c.len.ensures, c.if-len-ge-MOST_TRANSACTIONS.false, length_in s.filestore b.table) in
     let long : 64 < length m.requests = rw (← c.metadata.view_is) (omega (arith, c.len-2.ensures, c.if-len-gt-MOST_REQUESTS.true)) in
     rw (← c.self.view_is) (long_answer (world_of s b) c.args.header.now m mine none few long)
@@ -42,7 +45,8 @@ returns-in-Ok-clause-begins g c =
     let b = c.self.inside.books in
     let m = c.args.metadata.now in
     let mine : (c.args.header.now.destination == b.config.entity) ≡ true = eq-eqb _ _ (c.if-header-entity.false ∙ c.entity.ensures) in
-    let none = absent_none s b (id_of c.args.header.now) c.find.result (rw c.transaction_of.ensures at c.find.ensures.absent) (sym c.is_some.ensures ∙ c.if-is_some.false) in
+    let none = absent_none s b (id_of c.args.header.now) c.find.result (rw c.transaction_of.ensures at c.find.ensures.absent) (sym c.is_some.ensures
+    ∙ c.if-is_some.false) in
     let few : length (world_of s b).table < 64 = omega (arith, c.len.ensures, c.if-len-ge-MOST_TRANSACTIONS.false, length_in s.filestore b.table) in
     let short : length m.requests ≤ 64 = rw (← c.metadata.view_is) (omega (arith, c.len-2.ensures, c.if-len-gt-MOST_REQUESTS.false)) in
     rw (← c.self.view_is) (begins_when (world_of s b) c.args.header.now m (record { mine = mine; absent = none; few = few; short = short }))

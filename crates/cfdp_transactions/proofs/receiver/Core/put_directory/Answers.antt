@@ -6,7 +6,8 @@ use Rattle.cfdp_transactions.proofs.receiver.Core.put_directory.Goals as goal
 pub invariant_of-self : goal.invariant_of-self
 invariant_of-self g c = record {
   sound =
-      put_keeps (world_of (g.S.Filestore.state c.self.inside.store) c.self.inside.books) (world_of (g.S.Filestore.state c.put_directory.new.store) c.put_directory.new.books) c.args.path.now Directory c.put_directory.result
+      put_keeps (world_of (g.S.Filestore.state c.self.inside.store) c.self.inside.books)
+      (world_of (g.S.Filestore.state c.put_directory.new.store) c.put_directory.new.books) c.args.path.now Directory c.put_directory.result
       c.self.invariant.sound c.put_directory.ensures.ok c.put_directory.ensures.put c.put_directory.ensures.unchanged;
   booked = c.put_directory.ensures.booked;
 }

@@ -37,7 +37,8 @@ invariant_of-self g c =
     let h = c.args.header.now in
     let m = c.args.metadata in
     let begun = begins_so (world_of s b) h m (rw (← c.self.view_is) at c.requires.begins) in
-    let carried : Carries (world_of s b) (world_of s d) (metadata_came (world_of s b) h m (entry_of (world_of s b) (id_of h))) c.record.result = rw begun.absent c.record.ensures.answer in
+    let carried : Carries (world_of s b) (world_of s d) (metadata_came (world_of s b) h m (entry_of (world_of s b) (id_of h))) c.record.result =
+    rw begun.absent c.record.ensures.answer in
     let follows = carries_follows (world_of s b) (world_of s d) (MetadataCame h m) c.record.result (ours (world_of s b) _ h _ _ begun.mine carried) in
     still_whole c.follows_is_sound.ensures s s b d (MetadataCame h m) c.record.result c.self.invariant follows c.record.ensures.booked
 
@@ -49,6 +50,7 @@ returns-clause-follows g c =
     let h = c.args.header.now in
     let m = c.args.metadata in
     let begun = begins_so (world_of s b) h m (rw (← c.self.view_is) at c.requires.begins) in
-    let carried : Carries (world_of s b) (world_of s d) (metadata_came (world_of s b) h m (entry_of (world_of s b) (id_of h))) c.record.result = rw begun.absent c.record.ensures.answer in
+    let carried : Carries (world_of s b) (world_of s d) (metadata_came (world_of s b) h m (entry_of (world_of s b) (id_of h))) c.record.result =
+    rw begun.absent c.record.ensures.answer in
     let follows = carries_follows (world_of s b) (world_of s d) (MetadataCame h m) c.record.result (ours (world_of s b) _ h _ _ begun.mine carried) in
     rw (← c.self.view_is) follows

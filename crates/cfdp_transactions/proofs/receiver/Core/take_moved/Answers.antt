@@ -11,7 +11,8 @@ invariant_of-self g c =
     let b = c.self.inside.books in
     let t = s in
     let d = c.take_moved.new.books in
-    let carried = found_carries s b c.args.id (λ k o. taken_out (world_of s b) k o) (world_of t d) c.take_moved.result c.in-Some.place c.in-Some.ensures.found c.in-Some.ensures.within c.take_moved.ensures.answer in
+    let carried = found_carries s b c.args.id (λ k o. taken_out (world_of s b) k o)
+    (world_of t d) c.take_moved.result c.in-Some.place c.in-Some.ensures.found c.in-Some.ensures.within c.take_moved.ensures.answer in
     let follows = carries_follows (world_of s b) (world_of t d) (Take c.args.id) c.take_moved.result carried in
     still_whole c.follows_is_sound.ensures s t b d (Take c.args.id) c.take_moved.result c.self.invariant follows c.take_moved.ensures.booked
 
@@ -21,7 +22,8 @@ returns-clause-follows g c =
     let b = c.self.inside.books in
     let t = s in
     let d = c.take_moved.new.books in
-    let carried = found_carries s b c.args.id (λ k o. taken_out (world_of s b) k o) (world_of t d) c.take_moved.result c.in-Some.place c.in-Some.ensures.found c.in-Some.ensures.within c.take_moved.ensures.answer in
+    let carried = found_carries s b c.args.id (λ k o. taken_out (world_of s b) k o)
+    (world_of t d) c.take_moved.result c.in-Some.place c.in-Some.ensures.found c.in-Some.ensures.within c.take_moved.ensures.answer in
     let follows = carries_follows (world_of s b) (world_of t d) (Take c.args.id) c.take_moved.result carried in
     rw (← c.self.view_is) follows
 

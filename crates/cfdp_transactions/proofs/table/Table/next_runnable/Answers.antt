@@ -13,7 +13,8 @@ returns-in-Executing c =
 pub loop-place-preserved : goal.loop-place-preserved
 loop-place-preserved c =
     let later : first_executing (drop c.loop-place.place c.args.self.now) ≡ first_executing (drop (c.loop-place.place + 1) c.args.self.now) =
-    rw add-one (executing_later c.args.self.now c.loop-place.place c.at-entry.result.now c.at-entry.ensures (λ n h. c.in_default.not-Executing n (c.phase.ensures ∙ h))) in
+    rw add-one (executing_later c.args.self.now c.loop-place.place c.at-entry.result.now c.at-entry.ensures
+    (λ n h. c.in_default.not-Executing n (c.phase.ensures ∙ h))) in
     c.loop-place.invariant ∙ later
 
 pub returns : goal.returns

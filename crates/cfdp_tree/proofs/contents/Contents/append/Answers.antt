@@ -35,7 +35,8 @@ returns-clause-octets c =
     let front = contents_in a old in
     let back = contents_in a s in
     let end : n + s.size ≡ n + length back = omega (arith, length-contents a s r.source) in
-    written_contents m.new.arena m.new.self m.ensures.filled c.copy.new.arena n part (omega (arith, m.ensures.size, length-take {A = ℕ})) c.copy.ensures.held c.copy.ensures.octets
+    written_contents m.new.arena m.new.self m.ensures.filled c.copy.new.arena n part
+    (omega (arith, m.ensures.size, length-take {A = ℕ})) c.copy.ensures.held c.copy.ensures.octets
     ∙ (λ k. overwritten (m.ensures.octets k) n (take s.size (spared.0.octets k)))
     ∙ overwritten-extended front back n (n + s.size) (length-contents a old r.filled) end
 
@@ -44,13 +45,15 @@ returns-clause-filled c =
     let a = c.args.arena.now in let old = c.args.self.now in let s = c.args.source.now in let m = c.make_room-to in let r = c.requires in
     let part = take s.size (octets_in m.new.arena s.run) in
     let joined = joined_sum (contents_in a old) (contents_in a s) old.size (length-contents a old r.filled) in
-    written_filled m.new.arena m.new.self m.ensures.filled c.copy.new.arena old.size part (omega (arith, m.ensures.size, length-take {A = ℕ})) c.copy.ensures.held c.copy.ensures.octets _
+    written_filled m.new.arena m.new.self m.ensures.filled c.copy.new.arena old.size part
+    (omega (arith, m.ensures.size, length-take {A = ℕ})) c.copy.ensures.held c.copy.ensures.octets _
     (omega (arith, m.ensures.sum, r.filled.summed, c.sum_at-added.ensures, joined) ∙ ap checksum (sym (returns-clause-octets c)))
 
 pub returns-clause-spares : goal.returns-clause-spares
 returns-clause-spares c =
     let m = c.make_room-to in let after = m.new.self.run in
-    spares_then c.args.arena.now m.new.arena c.copy.new.arena c.args.self.now.run after after m.ensures.spares (spares_kept m.new.arena c.copy.new.arena after c.copy.ensures.others)
+    spares_then c.args.arena.now m.new.arena c.copy.new.arena c.args.self.now.run after after m.ensures.spares
+    (spares_kept m.new.arena c.copy.new.arena after c.copy.ensures.others)
 
 pub returns-clause-ways : goal.returns-clause-ways
 returns-clause-ways c =

@@ -42,7 +42,8 @@ returns-clause-octets c =
 pub returns-clause-filled : goal.returns-clause-filled
 returns-clause-filled c =
     let a = c.args.arena.now in let old = c.args.self.now in let n = old.size in let m = c.make_room-to in let copy = c.copy.ensures in
-    let part = take n (octets_in m.new.arena m.new.self.run) in let fits : n + length part ≤ m.new.self.size = omega (arith, m.ensures.size, length-take {A = ℕ}) in
+    let part = take n (octets_in m.new.arena m.new.self.run) in let fits : n + length part ≤ m.new.self.size =
+    omega (arith, m.ensures.size, length-take {A = ℕ}) in
     let joined = joined_sum (contents_in a old) (contents_in a old) n (length-contents a old c.requires.filled) in
     written_filled m.new.arena m.new.self m.ensures.filled c.copy.new.arena n part fits copy.held copy.octets _
     (omega (arith, m.ensures.sum, c.requires.filled.summed, c.sum_at-added.ensures, joined) ∙ ap checksum (sym (returns-clause-octets c)))

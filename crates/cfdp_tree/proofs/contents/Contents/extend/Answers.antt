@@ -18,18 +18,21 @@ grow_to-requires-clause-few c = omega (arith, c.blocks_of.ensures, blocks_of-mos
 
 pub returns-clause-octets : goal.returns-clause-octets
 returns-clause-octets c =
-    let f = c.requires.filled in let old = c.args.self.now in let run = old.run in let size = c.args.size in let n = c.blocks_of.result in let g = c.grow_to.ensures in
+    let f = c.requires.filled in let old = c.args.self.now in let run = old.run in let size = c.args.size in let n = c.blocks_of.result in let g =
+    c.grow_to.ensures in
     let xs = octets_in c.args.arena.now run in
     let long = length-run c.args.arena.now run.first 0 run.count run.first f.held.parts in
     let least = blocks_of-fits old.size in
     let fits = blocks_of-fits size in
     let more = blocks_of-le old.size size c.requires.longer in
     ap (take size) g.octets
-    ∙ extended_octets xs old.size run.count long (omega (arith, f.blocks, least)) f.zeros size n c.requires.longer (omega (arith, c.blocks_of.ensures, fits)) (omega (arith, f.blocks, c.blocks_of.ensures, more))
+    ∙ extended_octets xs old.size run.count long (omega (arith, f.blocks, least)) f.zeros size n c.requires.longer (omega (arith, c.blocks_of.ensures, fits))
+    (omega (arith, f.blocks, c.blocks_of.ensures, more))
 
 pub returns-clause-filled : goal.returns-clause-filled
 returns-clause-filled c =
-    let f = c.requires.filled in let old = c.args.self.now in let run = old.run in let size = c.args.size in let n = c.blocks_of.result in let g = c.grow_to.ensures in
+    let f = c.requires.filled in let old = c.args.self.now in let run = old.run in let size = c.args.size in let n = c.blocks_of.result in let g =
+    c.grow_to.ensures in
     let xs = octets_in c.args.arena.now run in
     let long = length-run c.args.arena.now run.first 0 run.count run.first f.held.parts in
     let least = blocks_of-fits old.size in
@@ -39,7 +42,8 @@ returns-clause-filled c =
       held = g.held;
       blocks = g.count ∙ c.blocks_of.ensures;
       zeros = ap (drop size) g.octets
-          ∙ extended_zeros xs old.size run.count long (omega (arith, f.blocks, least)) f.zeros size n c.requires.longer (omega (arith, c.blocks_of.ensures, fits)) (omega (arith, f.blocks, c.blocks_of.ensures, more))
+          ∙ extended_zeros xs old.size run.count long (omega (arith, f.blocks, least)) f.zeros size n c.requires.longer
+          (omega (arith, c.blocks_of.ensures, fits)) (omega (arith, f.blocks, c.blocks_of.ensures, more))
           ∙ ap (λ k. replicate (120 * k - size) 0) (sym g.count);
       summed = f.summed ∙ sym (ap checksum (returns-clause-octets c) ∙ extended_sum (contents_in c.args.arena.now old) size);
     }
@@ -52,4 +56,5 @@ returns-clause-spares c =
 pub returns-clause-other_ways : goal.returns-clause-other_ways
 returns-clause-other_ways c =
     let g = c.grow_to.ensures in let old = c.args.self.now in
-    keeps_spared c.args.arena.now c.grow_to.new.arena c.args.ways.now c.grow_to.new.ways old.run c.grow_to.new.self g.size (g.ways.long ∙ g.size ∙ sym c.requires.ways.long) (returns-clause-spares c) g.ways_stay
+    keeps_spared c.args.arena.now c.grow_to.new.arena c.args.ways.now c.grow_to.new.ways old.run c.grow_to.new.self g.size (g.ways.long ∙ g.size
+    ∙ sym c.requires.ways.long) (returns-clause-spares c) g.ways_stay

@@ -12,7 +12,8 @@ write-last-requires-clause-range c = omega (arith, c.requires.filled.blocks, c.r
 
 pub returns-clause-octets : goal.returns-clause-octets
 returns-clause-octets c =
-    written_contents c.args.arena.now c.args.self.now c.requires.filled c.write-last.new.arena c.args.at c.args.octets.now c.requires.range c.write-last.ensures.held c.write-last.ensures.octets
+    written_contents c.args.arena.now c.args.self.now c.requires.filled c.write-last.new.arena c.args.at c.args.octets.now c.requires.range
+    c.write-last.ensures.held c.write-last.ensures.octets
 
 pub returns-clause-filled : goal.returns-clause-filled
 returns-clause-filled c =

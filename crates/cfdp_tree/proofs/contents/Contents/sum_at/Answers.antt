@@ -10,7 +10,8 @@ pub sum_of-requires-clause-range : goal.sum_of-requires-clause-range
 sum_of-requires-clause-range c = omega (arith, c.requires.filled.blocks, blocks_of-fits c.args.self.now.size)
 
 pub returns-then-offset-eq0 : goal.returns-then-offset-eq0
-returns-then-offset-eq0 c = c.requires.filled.summed ∙ only-places-count 0 c.args.offset (contents_in c.args.arena.now c.args.self.now) (omega (arith, c.if-offset-eq0.true))
+returns-then-offset-eq0 c = c.requires.filled.summed ∙ only-places-count 0 c.args.offset (contents_in c.args.arena.now c.args.self.now)
+    (omega (arith, c.if-offset-eq0.true))
 
 pub returns : goal.returns
 returns c =

@@ -9,7 +9,10 @@ use Rattle.cfdp_tree.proofs.orders.Orders.enter.Goals as goal
 pub of-order-requires : goal.of-order-requires
 of-order-requires c =
     let nodes = nodes_in c.args.arena.now in
-    record { within = place_inside nodes c.args.self.now _ c.args.directory c.requires.ordered (home_node nodes c.requires.tree c.args.directory c.args.name.now c.args.node.now c.requires.entry) }
+    record {
+      within = place_inside nodes c.args.self.now _ c.args.directory c.requires.ordered
+          (home_node nodes c.requires.tree c.args.directory c.args.name.now c.args.node.now c.requires.entry);
+    }
 
 pub insert-order-requires-clause-fresh : goal.insert-order-requires-clause-fresh
 insert-order-requires-clause-fresh c =
@@ -19,7 +22,10 @@ insert-order-requires-clause-fresh c =
 pub set-requires : goal.set-requires
 set-requires c =
     let nodes = nodes_in c.args.arena.now in
-    record { within = place_inside nodes c.args.self.now _ c.args.directory c.requires.ordered (home_node nodes c.requires.tree c.args.directory c.args.name.now c.args.node.now c.requires.entry) }
+    record {
+      within = place_inside nodes c.args.self.now _ c.args.directory c.requires.ordered
+          (home_node nodes c.requires.tree c.args.directory c.args.name.now c.args.node.now c.requires.entry);
+    }
 
 pub returns : goal.returns
 returns c =
@@ -29,5 +35,6 @@ returns c =
     (λ before after e splits. i.inserted before after ((λ k. trees.nodes (value k) (of k)) ∙ e) splits ∙ ap (λ x. before ++ x ∷ after) same)
     (λ m. i.one_more m ∙ (λ k. times m (same k ∷ trees.nodes (value k) (of k))))
     (same_change _ _ _ _ _ _ _ value of same i.others)
-    c.set.new.self (c.set.ensures.links ∙ with_items_is c.args.self.now.links c.insert-order.new.links (c.insert-order.auto.links ∙ c.deref_mut.ensures.len)) c.set.ensures.here
+    c.set.new.self (c.set.ensures.links ∙ with_items_is c.args.self.now.links c.insert-order.new.links (c.insert-order.auto.links ∙ c.deref_mut.ensures.len))
+    c.set.ensures.here
     c.set.ensures.others c.set.ensures.length

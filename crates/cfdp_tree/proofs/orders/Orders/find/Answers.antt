@@ -23,7 +23,8 @@ pub of-order-requires : goal.of-order-requires
 of-order-requires c = record { within = place_inside (nodes_in c.args.arena.now) c.args.self.now _ c.args.directory.now c.requires.ordered c.requires.place }
 
 -- what a search for a name finds
-module _ (nodes : Blocks) (orders : Orders) (place : Option ℕ) (ordered : IsOrdered nodes orders None) (name : Name) (list : List ℕ) (is : list ≡ in_order orders place) (r : Option ℕ)
+module _ (nodes : Blocks) (orders : Orders) (place : Option ℕ) (ordered : IsOrdered nodes orders None) (name : Name) (list : List ℕ) (is : list
+    ≡ in_order orders place) (r : Option ℕ)
     (ends : (before after : List ℕ) → list ≡ before ++ after → SplitsFrom (λ m. name_cmp (name_at nodes m) name) before after → r ≡ slice_get after 0) where
   abbrev own : List ℕ
   own = in_order orders place
@@ -48,32 +49,38 @@ module _ (nodes : Blocks) (orders : Orders) (place : Option ℕ) (ordered : IsOr
   other_entry b some other = absent (other_from nodes own (ordered.rising place) name parts.0 parts.1 parts.2 parts.3 b (sym found_is ∙ some) other)
 
   found_member : (b : ℕ) → r ≡ Some b → IsMember nodes None place b
-  found_member b some = member_at nodes orders None ordered place b (there_from nodes own (ordered.rising place) name parts.0 parts.1 parts.2 parts.3 b (sym found_is ∙ some))
+  found_member b some = member_at nodes orders None ordered place b (there_from nodes own (ordered.rising place) name parts.0 parts.1 parts.2 parts.3 b
+      (sym found_is ∙ some))
 
 pub returns-in_err-found-clause-none : goal.returns-in_err-found-clause-none
 returns-in_err-found-clause-none c =
     let nodes = nodes_in c.args.arena.now in let place = c.args.directory.now in let name = c.args.name.now in
     subst (λ r. IfNone r ((b : ℕ) → IsEntry nodes place name b → ⊥)) (sym c.from_residual.ensures)
-    (none_entry nodes c.args.self.now place c.requires.ordered name _ (λ k. trees.nodes (c.deref.ensures.value k) (c.of-order.ensures k)) c.first_from.result c.first_from.ensures c.in_err-found.was)
+    (none_entry nodes c.args.self.now place c.requires.ordered name _ (λ k. trees.nodes (c.deref.ensures.value k) (c.of-order.ensures k)) c.first_from.result
+    c.first_from.ensures c.in_err-found.was)
 
 pub bytes-requires : goal.bytes-requires
 bytes-requires c =
     let number = c.of_number-node.ensures.same_number ∙ c.from.ensures in
-    let member = found_member (nodes_in c.args.arena.now) c.args.self.now c.args.directory.now c.requires.ordered c.args.name.now _ (λ k. trees.nodes (c.deref.ensures.value k) (c.of-order.ensures k))
+    let member = found_member (nodes_in c.args.arena.now) c.args.self.now c.args.directory.now c.requires.ordered c.args.name.now _
+    (λ k. trees.nodes (c.deref.ensures.value k) (c.of-order.ensures k))
     c.first_from.result c.first_from.ensures c.of_number-node.result (c.in_ok-found.was ∙ ap Some (sym number)) in
     record { live = node_live c.args.arena.now c.of_number-node.result member.node }
 
 pub name_is-requires-clause-fits : goal.name_is-requires-clause-fits
 name_is-requires-clause-fits c =
     let number = c.of_number-node.ensures.same_number ∙ c.from.ensures in let arena = c.args.arena.now in let b = c.of_number-node.result in
-    let member = found_member (nodes_in arena) c.args.self.now c.args.directory.now c.requires.ordered c.args.name.now _ (λ k. trees.nodes (c.deref.ensures.value k) (c.of-order.ensures k))
+    let member = found_member (nodes_in arena) c.args.self.now c.args.directory.now c.requires.ordered c.args.name.now _
+    (λ k. trees.nodes (c.deref.ensures.value k) (c.of-order.ensures k))
     c.first_from.result c.first_from.ensures b (c.in_ok-found.was ∙ ap Some (sym number)) in
-    subst (λ o. (row_of o).name_length ≤ 96) (sym (node_octets arena b member.node c.bytes.result.now c.bytes.ensures.octets)) (c.requires.tree.named b member.node).fits
+    subst (λ o. (row_of o).name_length ≤ 96) (sym (node_octets arena b member.node c.bytes.result.now c.bytes.ensures.octets))
+    (c.requires.tree.named b member.node).fits
 
 pub returns-then-name_is-clause-found : goal.returns-then-name_is-clause-found
 returns-then-name_is-clause-found c =
     let number = c.of_number-node.ensures.same_number ∙ c.from.ensures in let arena = c.args.arena.now in let b = c.of_number-node.result in
-    let member = found_member (nodes_in arena) c.args.self.now c.args.directory.now c.requires.ordered c.args.name.now _ (λ k. trees.nodes (c.deref.ensures.value k) (c.of-order.ensures k))
+    let member = found_member (nodes_in arena) c.args.self.now c.args.directory.now c.requires.ordered c.args.name.now _
+    (λ k. trees.nodes (c.deref.ensures.value k) (c.of-order.ensures k))
     c.first_from.result c.first_from.ensures b (c.in_ok-found.was ∙ ap Some (sym number)) in
     record {
       node = member.node;
@@ -88,6 +95,9 @@ pub returns-else-name_is-clause-none : goal.returns-else-name_is-clause-none
 returns-else-name_is-clause-none c =
     let number = c.of_number-node.ensures.same_number ∙ c.from.ensures in let arena = c.args.arena.now in let b = c.of_number-node.result in
     let some = c.in_ok-found.was ∙ ap Some (sym number) in
-    let member = found_member (nodes_in arena) c.args.self.now c.args.directory.now c.requires.ordered c.args.name.now _ (λ k. trees.nodes (c.deref.ensures.value k) (c.of-order.ensures k)) c.first_from.result c.first_from.ensures b some in
-    other_entry (nodes_in arena) c.args.self.now c.args.directory.now c.requires.ordered c.args.name.now _ (λ k. trees.nodes (c.deref.ensures.value k) (c.of-order.ensures k)) c.first_from.result c.first_from.ensures b some
-    (λ same. false_true c.if-name_is.false (c.name_is.ensures.1 (ap name_of (node_octets arena b member.node c.bytes.result.now c.bytes.ensures.octets) ∙ same)))
+    let member = found_member (nodes_in arena) c.args.self.now c.args.directory.now c.requires.ordered c.args.name.now _
+    (λ k. trees.nodes (c.deref.ensures.value k) (c.of-order.ensures k)) c.first_from.result c.first_from.ensures b some in
+    other_entry (nodes_in arena) c.args.self.now c.args.directory.now c.requires.ordered c.args.name.now _
+    (λ k. trees.nodes (c.deref.ensures.value k) (c.of-order.ensures k)) c.first_from.result c.first_from.ensures b some
+    (λ same. false_true c.if-name_is.false (c.name_is.ensures.1 (ap name_of (node_octets arena b member.node c.bytes.result.now c.bytes.ensures.octets)
+    ∙ same)))

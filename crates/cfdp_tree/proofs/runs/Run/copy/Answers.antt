@@ -31,7 +31,8 @@ after-from-requires-clause-place c =
 
 pub loop-index-preserved : goal.loop-index-preserved
 loop-index-preserved c =
-    let l = c.loop-index in let inv = l.invariant in let r = c.requires in let a = c.args.arena.now in let run = c.args.self.now in let source = c.args.source.now in
+    let l = c.loop-index in let inv = l.invariant in let r = c.requires in let a = c.args.arena.now in let run = c.args.self.now in let source =
+    c.args.source.now in
     let at = c.args.at in let len = c.args.len in let n = c.min-count.result in
     let after = c.copy_block.new.arena in let e = c.copy_block.ensures in
     let src = octets_in a source in let old = octets_in a run in

@@ -17,7 +17,8 @@ pub copy_in-requires-3-clause-from : goal.copy_in-requires-3-clause-from
 copy_in-requires-3-clause-from c =
     let r = c.requires in let run = c.args.self.now in let a = c.args.arena.now in let e = c.copy_in-2.ensures in
     let old_long = length-run a run.first 0 run.count run.first r.held.parts in
-    let still = front_nth a c.copy_in-2.new.arena run c.args.source.now _ _ _ r.source_stays e.held e.octets (omega (arith, old_long)) e.places e.others r.source in
+    let still = front_nth a c.copy_in-2.new.arena run c.args.source.now _ _ _ r.source_stays e.held e.octets
+    (omega (arith, old_long)) e.places e.others r.source in
     (r.from.0, r.from.1 ∙ sym (still c.args.from.now.index r.from.0))
 
 pub returns-clause-octets : goal.returns-clause-octets

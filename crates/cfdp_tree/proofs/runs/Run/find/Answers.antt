@@ -11,12 +11,14 @@ find_back-requires-clause-on c =
 pub returns-then-from-tail-clause-place : goal.returns-then-from-tail-clause-place
 returns-then-from-tail-clause-place c =
     let r = c.requires in let found = c.find_back in
-    found_at c.args.arena.now c.args.ways.now c.args.self.now c.args.from found.result c.args.index r.ways r.from (omega (arith, c.if-from-tail.true, c.tail-tail.ensures.index))
+    found_at c.args.arena.now c.args.ways.now c.args.self.now c.args.from found.result c.args.index r.ways r.from
+    (omega (arith, c.if-from-tail.true, c.tail-tail.ensures.index))
     found.ensures.index found.ensures.block (omega (arith, c.if-index-from.true))
 
 pub returns-clause-place : goal.returns-clause-place
 returns-clause-place c =
     let r = c.requires in let found = c.find_back-2 in let run = c.args.self.now in let tail = c.tail-tail in
     let some : 0 < run.count = omega (arith, c.if-tail-index.false, tail.ensures.index) in
-    found_at c.args.arena.now c.args.ways.now run tail.result found.result c.args.index r.ways (tail_place c.args.arena.now run tail.result r.held some tail.ensures.block tail.ensures.index)
+    found_at c.args.arena.now c.args.ways.now run tail.result found.result c.args.index r.ways
+    (tail_place c.args.arena.now run tail.result r.held some tail.ensures.block tail.ensures.index)
     (omega (arith, some, tail.ensures.index)) found.ensures.index found.ensures.block (omega (arith, c.if-tail-index.false))

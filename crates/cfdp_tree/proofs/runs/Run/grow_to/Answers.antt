@@ -42,8 +42,10 @@ begun c =
       | then-self-eq0+then-count-gt0 w ↦ (
           let s = w.start_with_block in let e = s.ensures in
           begun_is a s.new.arena c.if-self-eq0.arena ways s.new.ways c.if-self-eq0.ways run s.new.self c.if-self-eq0.self w.arena-is w.ways-is w.self-is
-          (begun_first a s.new.arena ways s.new.ways run s.new.self w.if-self-eq0.true e.held e.count e.octets e.taken e.size e.others e.fresh e.nodes e.live e.ways e.ways_stay))
-      | else-self-eq0 w ↦ begun_is a a c.if-self-eq0.arena ways ways c.if-self-eq0.ways run run c.if-self-eq0.self w.arena-is w.ways-is w.self-is (begun_same a ways run r.held r.ways)
+          (begun_first a s.new.arena ways s.new.ways run s.new.self w.if-self-eq0.true e.held e.count e.octets e.taken e.size e.others e.fresh e.nodes e.live
+          e.ways e.ways_stay))
+      | else-self-eq0 w ↦ begun_is a a c.if-self-eq0.arena ways ways c.if-self-eq0.ways run run c.if-self-eq0.self w.arena-is w.ways-is w.self-is
+          (begun_same a ways run r.held r.ways)
     ]
 
 -- there is a block, if there are to be some
@@ -55,7 +57,10 @@ some_begun c = elim c.if-self-eq0.branch [
   | else-self-eq0 w ↦ (
       let same = ap (λ (x : Run). x.count) w.self-is in
       elim w.else-self-eq0.branch [
-        | else-self-eq0-via-then-self-eq0+else-count-gt0 v ↦ (omega (arith, same, c.requires.more), (λ more. absurd (omega (arith, more, v.if-count-gt0.false))))
+        | else-self-eq0-via-then-self-eq0+else-count-gt0 v ↦ (
+          omega (arith, same, c.requires.more),
+          (λ more. absurd (omega (arith, more, v.if-count-gt0.false))),
+        )
         | else-self-eq0-via-else-self-eq0 v ↦ (omega (arith, same, c.requires.more), (λ more. omega (arith, same, v.if-self-eq0.false)))
       ])
 ]

@@ -12,31 +12,41 @@ bytes_mut-requires c = let r = c.requires in let k = c.args.cursor.now in
 
 pub returns-clause-held : goal.returns-clause-held
 returns-clause-held c = let r = c.requires in let k = c.args.cursor.now in let old = c.bytes_mut.result.now in
-    let same = ap header_of c.put_part.ensures ∙ header-part old c.args.at c.args.part.now c.bytes_mut.ensures.whole ∙ ap header_of (octets_are c.args.arena.now k.block old c.bytes_mut.ensures.octets) in
-    put_held c.args.arena.now c.args.self.now r.held k.index r.within k.block r.place.1 c.put_part.new.block (ap length c.put_part.ensures ∙ whole-part old c.args.at c.args.part.now c.bytes_mut.ensures.whole r.fits) same
+    let same = ap header_of c.put_part.ensures ∙ header-part old c.args.at c.args.part.now c.bytes_mut.ensures.whole
+    ∙ ap header_of (octets_are c.args.arena.now k.block old c.bytes_mut.ensures.octets) in
+    put_held c.args.arena.now c.args.self.now r.held k.index r.within k.block r.place.1 c.put_part.new.block (ap length c.put_part.ensures
+    ∙ whole-part old c.args.at c.args.part.now c.bytes_mut.ensures.whole r.fits) same
 
 pub returns-clause-places : goal.returns-clause-places
 returns-clause-places c = let r = c.requires in let k = c.args.cursor.now in let old = c.bytes_mut.result.now in
-    let same = ap header_of c.put_part.ensures ∙ header-part old c.args.at c.args.part.now c.bytes_mut.ensures.whole ∙ ap header_of (octets_are c.args.arena.now k.block old c.bytes_mut.ensures.octets) in
-    put_nth c.args.arena.now c.args.self.now r.held k.index r.within k.block r.place.1 c.put_part.new.block (ap length c.put_part.ensures ∙ whole-part old c.args.at c.args.part.now c.bytes_mut.ensures.whole r.fits) same
+    let same = ap header_of c.put_part.ensures ∙ header-part old c.args.at c.args.part.now c.bytes_mut.ensures.whole
+    ∙ ap header_of (octets_are c.args.arena.now k.block old c.bytes_mut.ensures.octets) in
+    put_nth c.args.arena.now c.args.self.now r.held k.index r.within k.block r.place.1 c.put_part.new.block (ap length c.put_part.ensures
+    ∙ whole-part old c.args.at c.args.part.now c.bytes_mut.ensures.whole r.fits) same
 
 pub returns-clause-others : goal.returns-clause-others
 returns-clause-others c = let r = c.requires in let k = c.args.cursor.now in let old = c.bytes_mut.result.now in
-    let same = ap header_of c.put_part.ensures ∙ header-part old c.args.at c.args.part.now c.bytes_mut.ensures.whole ∙ ap header_of (octets_are c.args.arena.now k.block old c.bytes_mut.ensures.octets) in
-    put_others c.args.arena.now c.args.self.now r.held k.index r.within k.block r.place.1 c.put_part.new.block (ap length c.put_part.ensures ∙ whole-part old c.args.at c.args.part.now c.bytes_mut.ensures.whole r.fits) same
+    let same = ap header_of c.put_part.ensures ∙ header-part old c.args.at c.args.part.now c.bytes_mut.ensures.whole
+    ∙ ap header_of (octets_are c.args.arena.now k.block old c.bytes_mut.ensures.octets) in
+    put_others c.args.arena.now c.args.self.now r.held k.index r.within k.block r.place.1 c.put_part.new.block (ap length c.put_part.ensures
+    ∙ whole-part old c.args.at c.args.part.now c.bytes_mut.ensures.whole r.fits) same
 
 pub returns-clause-nodes : goal.returns-clause-nodes
 returns-clause-nodes c = let r = c.requires in let k = c.args.cursor.now in let old = c.bytes_mut.result.now in
-    let same = ap header_of c.put_part.ensures ∙ header-part old c.args.at c.args.part.now c.bytes_mut.ensures.whole ∙ ap header_of (octets_are c.args.arena.now k.block old c.bytes_mut.ensures.octets) in
-    put_nodes c.args.arena.now c.args.self.now r.held k.index r.within k.block r.place.1 c.put_part.new.block (ap length c.put_part.ensures ∙ whole-part old c.args.at c.args.part.now c.bytes_mut.ensures.whole r.fits) same
+    let same = ap header_of c.put_part.ensures ∙ header-part old c.args.at c.args.part.now c.bytes_mut.ensures.whole
+    ∙ ap header_of (octets_are c.args.arena.now k.block old c.bytes_mut.ensures.octets) in
+    put_nodes c.args.arena.now c.args.self.now r.held k.index r.within k.block r.place.1 c.put_part.new.block (ap length c.put_part.ensures
+    ∙ whole-part old c.args.at c.args.part.now c.bytes_mut.ensures.whole r.fits) same
 
 pub returns-clause-octets : goal.returns-clause-octets
 returns-clause-octets c = let r = c.requires in let k = c.args.cursor.now in let old = c.bytes_mut.result.now in
     let shown = octets_are c.args.arena.now k.block old c.bytes_mut.ensures.octets in
     let same = ap header_of c.put_part.ensures ∙ header-part old c.args.at c.args.part.now c.bytes_mut.ensures.whole ∙ ap header_of shown in
-    put_octets c.args.arena.now c.args.self.now r.held k.index r.within k.block r.place.1 c.put_part.new.block (ap length c.put_part.ensures ∙ whole-part old c.args.at c.args.part.now c.bytes_mut.ensures.whole r.fits) same
+    put_octets c.args.arena.now c.args.self.now r.held k.index r.within k.block r.place.1 c.put_part.new.block (ap length c.put_part.ensures
+    ∙ whole-part old c.args.at c.args.part.now c.bytes_mut.ensures.whole r.fits) same
     c.args.at c.args.part.now r.fits
-    (ap payload c.put_part.ensures ∙ payload-part old c.args.at c.args.part.now c.bytes_mut.ensures.whole ∙ ap (λ o. overwritten (payload o) c.args.at c.args.part.now) shown)
+    (ap payload c.put_part.ensures ∙ payload-part old c.args.at c.args.part.now c.bytes_mut.ensures.whole
+    ∙ ap (λ o. overwritten (payload o) c.args.at c.args.part.now) shown)
 
 pub returns-clause-free : goal.returns-clause-free
 returns-clause-free c = let r = c.requires in let k = c.args.cursor.now in

@@ -15,7 +15,8 @@ parts-preserved c =
     let whole : length piece ≡ count = omega (arith, c.get_in.auto.buffer, length-take {A = ℕ}, length-drop {A = ℕ}, begins, ends) in
     let next = inv.next (omega (arith, less, l.auto.buffer)) in
     let piece_is : piece ≡ take count (drop (at + l.filled) all) =
-    c.get_in.ensures ∙ slice_is all (120 * l.cursor.index + l.place) _ count (omega (arith, c.get_in.auto.buffer, whole)) ∙ ap (λ n. take count (drop n all)) next in
+    c.get_in.ensures ∙ slice_is all (120 * l.cursor.index + l.place) _ count (omega (arith, c.get_in.auto.buffer, whole))
+    ∙ ap (λ n. take count (drop n all)) next in
     let read = step_read all l.buffer piece at l.filled count inv.octets piece_is whole (omega (arith, upto, ends)) in
     record {
       within = omega (arith, l.auto.buffer, ends);

@@ -23,7 +23,8 @@ parts-preserved c =
       octets = put.octets
           ∙ (λ k. overwritten (inv.octets k) (120 * l.cursor.index + l.place) (parts.front k))
           ∙ step_write (octets_in a run) octets l.rest.now at done count (120 * l.cursor.index + l.place)
-          (omega (arith, length-run a run.first 0 run.count run.first c.requires.held.parts, c.requires.range)) (omega (arith, fewer, inv.fewer)) inv.rest (inv.next some)
+          (omega (arith, length-run a run.first 0 run.count run.first c.requires.held.parts, c.requires.range)) (omega (arith, fewer, inv.fewer)) inv.rest
+          (inv.next some)
           ∙ ap (λ n. overwritten (octets_in a run) at (take n octets)) later;
       place = c.after-cursor.ensures.place;
       inside = omega arith;

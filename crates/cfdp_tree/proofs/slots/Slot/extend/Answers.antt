@@ -10,7 +10,8 @@ returns-then-not-within-clause-placed c =
     let start = c.start-self.ensures in
     record {
       place = (omega (arith, start.index), start.block ∙ ap (nth c.extend.new.arena c.extend.new.self.run.first) (sym start.index));
-      unwritten = slot_grown c.args.arena.now c.extend.new.arena c.args.self.now _ c.args.size c.requires.filled c.requires.placed.unwritten c.requires.longer c.extend.ensures.octets c.extend.ensures.size refl refl;
+      unwritten = slot_grown c.args.arena.now c.extend.new.arena c.args.self.now _ c.args.size c.requires.filled c.requires.placed.unwritten c.requires.longer
+          c.extend.ensures.octets c.extend.ensures.size refl refl;
     }
 
 pub returns-else-not-within-clause-placed : goal.returns-else-not-within-clause-placed
@@ -21,5 +22,6 @@ returns-else-not-within-clause-placed c =
     let grown : was.contents.run.count ≤ after.run.count = omega (arith, c.requires.filled.blocks, c.extend.ensures.filled.blocks, size, more) in
     record {
       place = (omega (arith, at.0, grown), at.1 ∙ sym (c.extend.ensures.places was.place.index c.if-not-within.false));
-      unwritten = slot_grown c.args.arena.now c.extend.new.arena c.args.self.now _ c.args.size c.requires.filled c.requires.placed.unwritten c.requires.longer c.extend.ensures.octets c.extend.ensures.size refl refl;
+      unwritten = slot_grown c.args.arena.now c.extend.new.arena c.args.self.now _ c.args.size c.requires.filled c.requires.placed.unwritten c.requires.longer
+          c.extend.ensures.octets c.extend.ensures.size refl refl;
     }

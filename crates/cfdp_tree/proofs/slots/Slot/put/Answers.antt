@@ -14,7 +14,8 @@ use Rattle.cfdp_tree.proofs.slots.Slot.put.Goals as goal
 pub returns-clause-ways : goal.returns-clause-ways
 returns-clause-ways c =
     let put = c.put-self.ensures in let later = c.put-self.new.arena in let run = c.args.self.now.contents.run in
-    let still : (k : ℕ) → k < run.count → nth later run.first k ≡ nth c.args.arena.now run.first k = (λ k less. ap (λ (r : Run). nth later r.first k) (sym put.run) ∙ put.places k (omega (arith, less))) in
+    let still : (k : ℕ) → k < run.count → nth later run.first k ≡ nth c.args.arena.now run.first k =
+    (λ k less. ap (λ (r : Run). nth later r.first k) (sym put.run) ∙ put.places k (omega (arith, less))) in
     subst (HasWays later c.args.ways.now) (sym put.run) (ways_still c.args.arena.now later c.args.ways.now run put.capacity still c.requires.ways)
 
 pub returns-clause-other_ways : goal.returns-clause-other_ways
@@ -38,14 +39,17 @@ same_octets xs ys slot e known = subst (λ zs. IsUnwritten zs slot) (sym e) know
 
 pub returns-clause-placed : goal.returns-clause-placed
 returns-clause-placed c =
-    let a = c.args.arena.now in let slot = c.args.self.now in let r = c.requires in let put = c.put-self.ensures in let at = c.args.at in let part = c.args.octets.now in
+    let a = c.args.arena.now in let slot = c.args.self.now in let r = c.requires in let put = c.put-self.ensures in let at = c.args.at in let part =
+    c.args.octets.now in
     let octets = contents_in a slot.contents in
     let long : length octets ≡ slot.contents.size = length-contents a slot.contents r.filled in
     let known = r.placed.unwritten in
     record {
       place = put.place;
       unwritten = same_octets _ _ _ put.octets (record {
-        end = end_written octets part at (blank_end slot) _ (omega (arith, r.range, long)) known.end (omega (arith, c.max-self.ensures)) (omega (arith, c.max-self.ensures)) (omega (arith, c.max-self.ensures, known.end.ordered, r.range, put.size)) put.size;
-        gap = c.gap_after-self.ensures.blank octets part (long ∙ sym put.size) refl (omega (arith, r.range, long)) (same_unwritten octets slot _ put.size refl refl known);
+        end = end_written octets part at (blank_end slot) _ (omega (arith, r.range, long)) known.end (omega (arith, c.max-self.ensures))
+            (omega (arith, c.max-self.ensures)) (omega (arith, c.max-self.ensures, known.end.ordered, r.range, put.size)) put.size;
+        gap = c.gap_after-self.ensures.blank octets part (long ∙ sym put.size) refl (omega (arith, r.range, long))
+            (same_unwritten octets slot _ put.size refl refl known);
       });
     }

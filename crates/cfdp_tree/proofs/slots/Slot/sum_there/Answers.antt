@@ -22,7 +22,8 @@ returns-then-self-start c =
     let there : Gap = record { from = c.args.at; to = c.args.end } in
     nothing octets c.args.at c.args.end (elim c.then-self-start.branch [
       | then-self-start-via-then-self-start w ↦ part_blank octets (blank_end slot) known.end there w.if-self-start.true r.ordered r.range
-      | then-self-start-via-else-self-start+then-covers w ↦ (let inside = w.covers.ensures.0 w.if-covers.true in part_blank octets slot.gap known.gap there inside.0 r.ordered inside.1)
+      | then-self-start-via-else-self-start+then-covers w ↦ (let inside = w.covers.ensures.0 w.if-covers.true in
+          part_blank octets slot.gap known.gap there inside.0 r.ordered inside.1)
     ])
 
 pub sum_of-requires-clause-range : goal.sum_of-requires-clause-range
@@ -33,5 +34,6 @@ returns c =
     let a = c.args.arena.now in let contents = c.args.self.now.contents in let r = c.requires in let at = c.args.at in
     let all : at + (c.args.end - at) ≡ c.args.end = omega (arith, r.ordered) in
     c.sum_of.ensures
-    ∙ ap (checksum_at at) (front_read (octets_in a contents.run) contents.size (within_run a contents r.filled) at (c.args.end - at) (omega (arith, r.ordered, r.range)))
+    ∙ ap (checksum_at at) (front_read (octets_in a contents.run) contents.size (within_run a contents r.filled) at (c.args.end - at)
+    (omega (arith, r.ordered, r.range)))
     ∙ ap (λ e. checksum_at at (slice_range (contents_in a contents) at e)) all

@@ -20,7 +20,8 @@ find_file-file-requires-clause-most c = file_most _ _ _ c.self.invariant.store _
 
 pub set_contents-requires-clause-held : goal.set_contents-requires-clause-held
 set_contents-requires-clause-held c =
-    (slot_filled _ _ _ c.self.invariant.store _ c.self.view_is c.from-index.result (omega (arith, c.from-index.ensures, c.requires.slot)) c.index.result.now c.index.ensures).held
+    (slot_filled _ _ _ c.self.invariant.store _ c.self.view_is c.from-index.result
+    (omega (arith, c.from-index.ensures, c.requires.slot)) c.index.result.now c.index.ensures).held
 
 pub invariant_of-self : goal.invariant_of-self
 invariant_of-self c =
@@ -28,10 +29,13 @@ invariant_of-self c =
     let after = c.hold.new.self in let held = c.hold.ensures in
     record {
       store = exchange_store _ _ _ c.self.invariant.store _ c.self.view_is b c.args.path.now file.node file.path c.requires.file
-          c.from-index.result (omega (arith, c.from-index.ensures, c.requires.slot)) c.index.result.now c.index.ensures later (octets_of (nodes_in later) b) set.nodes set.row set.name set.whole set.runs set.free set.capacity
-          after (held.contents ∙ file.contents) (slot_starts later after (held.block ∙ ap (λ (x : Contents). x.run.first) (sym held.contents)) held.index (held.blank ∙ ap (λ (x : Contents). x.size) (sym held.contents)) held.gap);
+          c.from-index.result (omega (arith, c.from-index.ensures, c.requires.slot)) c.index.result.now c.index.ensures later
+          (octets_of (nodes_in later) b) set.nodes set.row set.name set.whole set.runs set.free set.capacity
+          after (held.contents ∙ file.contents) (slot_starts later after (held.block ∙ ap (λ (x : Contents). x.run.first) (sym held.contents)) held.index
+          (held.blank ∙ ap (λ (x : Contents). x.size) (sym held.contents)) held.gap);
       ordered = ordered_written (nodes_in c.self.inside.arena) c.self.invariant.store.kept.tree b file.node
-          (kind_there _ _ _ c.self.invariant.store _ c.self.view_is b c.args.path.now file.node file.path c.requires.file) _ _ (octets_of _ b) c.index.result.now.contents refl set.nodes set.row set.name set.whole c.self.inside.orders c.self.invariant.ordered;
+          (kind_there _ _ _ c.self.invariant.store _ c.self.view_is b c.args.path.now file.node file.path c.requires.file) _ _
+          (octets_of _ b) c.index.result.now.contents refl set.nodes set.row set.name set.whole c.self.inside.orders c.self.invariant.ordered;
     }
 
 pub returns-clause-exchanged : goal.returns-clause-exchanged
@@ -40,6 +44,8 @@ returns-clause-exchanged c =
     let after = c.hold.new.self in let held = c.hold.ensures in
     let F = c.args.self.now.filestore in let path = c.args.path.now in
     exchange_seen _ _ _ c.self.invariant.store _ c.self.view_is b path file.node file.path c.requires.file
-    c.from-index.result (omega (arith, c.from-index.ensures, c.requires.slot)) c.index.result.now c.index.ensures later (octets_of (nodes_in later) b) set.nodes set.row set.name set.whole set.runs set.free set.capacity
-    after (held.contents ∙ file.contents) (slot_starts later after (held.block ∙ ap (λ (x : Contents). x.run.first) (sym held.contents)) held.index (held.blank ∙ ap (λ (x : Contents). x.size) (sym held.contents)) held.gap)
+    c.from-index.result (omega (arith, c.from-index.ensures, c.requires.slot)) c.index.result.now c.index.ensures later
+    (octets_of (nodes_in later) b) set.nodes set.row set.name set.whole set.runs set.free set.capacity
+    after (held.contents ∙ file.contents) (slot_starts later after (held.block ∙ ap (λ (x : Contents). x.run.first) (sym held.contents)) held.index (held.blank
+    ∙ ap (λ (x : Contents). x.size) (sym held.contents)) held.gap)
     ∙ ap (λ k. with_changes c.args.self.now (Stages k (octets_at F path) ∷ Becomes path (Some (File (staged_in F k))) ∷ [])) c.from-index.ensures

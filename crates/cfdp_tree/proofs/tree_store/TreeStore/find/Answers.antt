@@ -6,7 +6,8 @@ use Rattle.cfdp_tree.proofs.SoundLaws.{node_sound}
 use Rattle.cfdp_tree.proofs.tree_store.TreeStore.find.Goals as goal
 
 pub returns-in_err-node : goal.returns-in_err-node
-returns-in_err-node c = c.from_residual.ensures ∙ sym (ap (option_map found_of) (seen_none _ _ _ c.self.invariant.store _ c.self.view_is c.args.names c.in_err-node.ensures.none))
+returns-in_err-node c = c.from_residual.ensures ∙ sym (ap (option_map found_of)
+    (seen_none _ _ _ c.self.invariant.store _ c.self.view_is c.args.names c.in_err-node.ensures.none))
 
 pub tell-requires : goal.tell-requires
 tell-requires c =

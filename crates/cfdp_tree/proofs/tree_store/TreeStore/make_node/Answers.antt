@@ -16,30 +16,37 @@ use Rattle.cfdp_tree.proofs.tree_store.TreeStore.make_node.Goals as goal
 pub enter-requires-clause-tree : goal.enter-requires-clause-tree
 enter-requires-clause-tree c =
     let made = c.create_node-node.ensures in let found = c.lookup.ensures in
-    tree_made _ _ _ c.self.invariant.store _ c.self.view_is c.args.path.now c.depth-depth.ensures.within _ (omega (arith, c.depth-depth.ensures.depth, c.depth-depth.ensures.within.some)) c.requires.parent
+    tree_made _ _ _ c.self.invariant.store _ c.self.view_is c.args.path.now c.depth-depth.ensures.within _
+    (omega (arith, c.depth-depth.ensures.depth, c.depth-depth.ensures.within.some)) c.requires.parent
     c.lookup.result found.node found.path found.none c.name-name.result.now c.name-name.ensures.name
-    c.requires.absent c.create_node-node.new.arena c.create_node-node.result c.args.kind made.fresh made.within made.nodes made.row made.home made.name made.whole
+    c.requires.absent c.create_node-node.new.arena c.create_node-node.result c.args.kind made.fresh made.within made.nodes made.row made.home made.name
+    made.whole
 
 pub enter-requires-clause-ordered : goal.enter-requires-clause-ordered
 enter-requires-clause-ordered c =
     let made = c.create_node-node.ensures in let arena = c.self.inside.arena in let b = c.create_node-node.result in
     subst (λ ns. IsOrdered ns c.self.inside.orders (Some b)) (sym made.nodes)
-    (ordered_made (nodes_in arena) c.self.inside.orders b (octets_of (nodes_in c.create_node-node.new.arena) b) (get_or-map only_node arena b None ∙ ap only_node made.fresh) c.self.invariant.ordered)
+    (ordered_made (nodes_in arena) c.self.inside.orders b (octets_of (nodes_in c.create_node-node.new.arena) b) (get_or-map only_node arena b None
+    ∙ ap only_node made.fresh) c.self.invariant.ordered)
 
 pub insert-requires-clause-tree : goal.insert-requires-clause-tree
 insert-requires-clause-tree c =
     let made = c.create_node-node.ensures in let found = c.lookup.ensures in
-    tree_made _ _ _ c.self.invariant.store _ c.self.view_is c.args.path.now c.depth-depth.ensures.within _ (omega (arith, c.depth-depth.ensures.depth, c.depth-depth.ensures.within.some)) c.requires.parent
+    tree_made _ _ _ c.self.invariant.store _ c.self.view_is c.args.path.now c.depth-depth.ensures.within _
+    (omega (arith, c.depth-depth.ensures.depth, c.depth-depth.ensures.within.some)) c.requires.parent
     c.lookup.result found.node found.path found.none c.name-name.result.now c.name-name.ensures.name
-    c.requires.absent c.create_node-node.new.arena c.create_node-node.result c.args.kind made.fresh made.within made.nodes made.row made.home made.name made.whole
+    c.requires.absent c.create_node-node.new.arena c.create_node-node.result c.args.kind made.fresh made.within made.nodes made.row made.home made.name
+    made.whole
 
 pub insert-requires-clause-index : goal.insert-requires-clause-index
 insert-requires-clause-index c =
     let made = c.create_node-node.ensures in let found = c.lookup.ensures in
     subst (λ hs. IsIndex (nodes_in c.create_node-node.new.arena) hs (Some c.create_node-node.result)) (sym c.deref_mut.ensures.value)
-    (index_made _ _ _ c.self.invariant.store _ c.self.view_is c.args.path.now c.depth-depth.ensures.within _ (omega (arith, c.depth-depth.ensures.depth, c.depth-depth.ensures.within.some)) c.requires.parent
+    (index_made _ _ _ c.self.invariant.store _ c.self.view_is c.args.path.now c.depth-depth.ensures.within _
+    (omega (arith, c.depth-depth.ensures.depth, c.depth-depth.ensures.within.some)) c.requires.parent
     c.lookup.result found.node found.path found.none c.name-name.result.now c.name-name.ensures.name
-    c.requires.absent c.create_node-node.new.arena c.create_node-node.result c.args.kind made.fresh made.within made.nodes made.row made.home made.name made.whole)
+    c.requires.absent c.create_node-node.new.arena c.create_node-node.result c.args.kind made.fresh made.within made.nodes made.row made.home made.name
+    made.whole)
 
 pub invariant_of-self : goal.invariant_of-self
 invariant_of-self c =
@@ -48,19 +55,27 @@ invariant_of-self c =
     let heads = with_items_is c.self.inside.heads c.insert.new.heads (c.insert.auto.heads ∙ c.deref_mut.ensures.len) in
     record {
       store = subst (λ hs. IsStore later c.self.inside.ways.items hs c.self.inside.slots.items) (sym heads)
-          (make_store _ _ _ c.self.invariant.store _ c.self.view_is c.args.path.now c.depth-depth.ensures.within _ (omega (arith, c.depth-depth.ensures.depth, c.depth-depth.ensures.within.some)) c.requires.parent
+          (make_store _ _ _ c.self.invariant.store _ c.self.view_is c.args.path.now c.depth-depth.ensures.within _
+          (omega (arith, c.depth-depth.ensures.depth, c.depth-depth.ensures.within.some)) c.requires.parent
           c.lookup.result found.node found.path found.none c.name-name.result.now c.name-name.ensures.name
-          c.requires.absent c.create_node-node.new.arena c.create_node-node.result c.args.kind made.fresh made.within made.nodes made.row made.home made.name made.whole
-          later linked.links c.insert.new.heads linked.index (runs_then c.self.inside.arena c.create_node-node.new.arena later made.runs linked.runs) (linked.size ∙ made.capacity) (ap (λ n. n + 1) linked.free ∙ made.taken));
-      ordered = ordered_kept (nodes_in c.create_node-node.new.arena) (nodes_in later) c.enter.new.self None (nodes_long c.create_node-node.new.arena later linked.size)
-          (kept_places (nodes_in c.create_node-node.new.arena) (nodes_in later) None (relinked_places (nodes_in c.create_node-node.new.arena) (nodes_in later) linked.links)) c.enter.ensures;
+          c.requires.absent c.create_node-node.new.arena c.create_node-node.result c.args.kind made.fresh made.within made.nodes made.row made.home made.name
+          made.whole
+          later linked.links c.insert.new.heads linked.index (runs_then c.self.inside.arena c.create_node-node.new.arena later made.runs linked.runs)
+          (linked.size ∙ made.capacity) (ap (λ n. n + 1) linked.free ∙ made.taken));
+      ordered = ordered_kept (nodes_in c.create_node-node.new.arena) (nodes_in later) c.enter.new.self None
+          (nodes_long c.create_node-node.new.arena later linked.size)
+          (kept_places (nodes_in c.create_node-node.new.arena) (nodes_in later) None
+          (relinked_places (nodes_in c.create_node-node.new.arena) (nodes_in later) linked.links)) c.enter.ensures;
     }
 
 pub returns : goal.returns
 returns c =
     let made = c.create_node-node.ensures in let found = c.lookup.ensures in let linked = c.insert.ensures in
     let later = c.insert.new.arena in
-    make_view _ _ _ c.self.invariant.store _ c.self.view_is c.args.path.now c.depth-depth.ensures.within _ (omega (arith, c.depth-depth.ensures.depth, c.depth-depth.ensures.within.some)) c.requires.parent
+    make_view _ _ _ c.self.invariant.store _ c.self.view_is c.args.path.now c.depth-depth.ensures.within _
+    (omega (arith, c.depth-depth.ensures.depth, c.depth-depth.ensures.within.some)) c.requires.parent
     c.lookup.result found.node found.path found.none c.name-name.result.now c.name-name.ensures.name
-    c.requires.absent c.create_node-node.new.arena c.create_node-node.result c.args.kind made.fresh made.within made.nodes made.row made.home made.name made.whole
-    later linked.links c.insert.new.heads linked.index (runs_then c.self.inside.arena c.create_node-node.new.arena later made.runs linked.runs) (linked.size ∙ made.capacity) (ap (λ n. n + 1) linked.free ∙ made.taken)
+    c.requires.absent c.create_node-node.new.arena c.create_node-node.result c.args.kind made.fresh made.within made.nodes made.row made.home made.name
+    made.whole
+    later linked.links c.insert.new.heads linked.index (runs_then c.self.inside.arena c.create_node-node.new.arena later made.runs linked.runs) (linked.size
+    ∙ made.capacity) (ap (λ n. n + 1) linked.free ∙ made.taken)

@@ -37,7 +37,8 @@ append-contents-requires-clause-ways c =
 pub append-contents-requires-clause-source : goal.append-contents-requires-clause-source
 append-contents-requires-clause-source c =
     let source = c.find_file-source.ensures in
-    found_filled _ _ _ c.self.invariant.store _ c.self.view_is c.args.second.now c.requires.second c.find_file-source.result source.node source.path source.contents
+    found_filled _ _ _ c.self.invariant.store _ c.self.view_is c.args.second.now c.requires.second c.find_file-source.result source.node source.path
+    source.contents
 
 pub append-contents-requires-clause-same : goal.append-contents-requires-clause-same
 append-contents-requires-clause-same c =
@@ -67,7 +68,8 @@ pub overflow_sub-result : goal.overflow_sub-result
 overflow_sub-result c =
     let a = c.find_file-file.result.contents.size in let b = c.find_file-source.result.contents.size in
     let file = c.find_file-file.ensures in
-    let first = found_filled _ _ _ c.self.invariant.store _ c.self.view_is c.args.first.now c.requires.first c.find_file-file.result file.node file.path file.contents in
+    let first = found_filled _ _ _ c.self.invariant.store _ c.self.view_is c.args.first.now c.requires.first c.find_file-file.result file.node file.path
+    file.contents in
     let after = c.append-contents.ensures in
     omega (arith, filled_blocks _ _ first, filled_blocks _ _ after.filled, ap blocks_of after.size, blocks_of-le a (a + b) (omega arith))
 
@@ -75,9 +77,11 @@ pub overflow_add-result : goal.overflow_add-result
 overflow_add-result c =
     let a = c.find_file-file.result.contents.size in let b = c.find_file-source.result.contents.size in
     let file = c.find_file-file.ensures in let source = c.find_file-source.ensures in
-    let most = append_most _ _ _ c.self.invariant.store _ c.self.view_is c.args.first.now c.requires.first c.find_file-file.result file.node file.path file.contents
+    let most = append_most _ _ _ c.self.invariant.store _ c.self.view_is c.args.first.now c.requires.first c.find_file-file.result file.node file.path
+    file.contents
     c.args.second.now c.requires.second c.find_file-source.result source.node source.path source.contents c.requires.room in
-    let second = found_filled _ _ _ c.self.invariant.store _ c.self.view_is c.args.second.now c.requires.second c.find_file-source.result source.node source.path source.contents in
+    let second = found_filled _ _ _ c.self.invariant.store _ c.self.view_is c.args.second.now c.requires.second c.find_file-source.result source.node
+    source.path source.contents in
     let after = c.append-contents.ensures in
     omega (
       arith,
@@ -99,31 +103,44 @@ invariant_of-self c =
     record {
       store = subst (λ ws. IsStore c.set_contents.new.arena ws c.self.inside.heads.items c.self.inside.slots.items) (sym ways)
           (found_store _ _ _ c.self.invariant.store _ c.self.view_is c.args.first.now c.requires.first c.find_file-file.result file.node file.path file.contents
-          c.append-contents.new.arena c.set_contents.new.arena c.append-contents.result (octets_of (nodes_in c.set_contents.new.arena) c.find_file-file.result.node)
-          after.nodes after.capacity after.spares after.filled (taken _ _ _ _ _ after.taken after.size) set.nodes set.row set.name set.whole set.runs set.free set.capacity _ after.octets
+          c.append-contents.new.arena c.set_contents.new.arena c.append-contents.result
+          (octets_of (nodes_in c.set_contents.new.arena) c.find_file-file.result.node)
+          after.nodes after.capacity after.spares after.filled (taken _ _ _ _ _ after.taken after.size) set.nodes set.row set.name set.whole set.runs set.free
+          set.capacity _ after.octets
           c.append-contents.new.ways after.ways
-          (subst (λ ws. KeepsWays c.self.inside.arena c.append-contents.new.arena ws c.append-contents.new.ways c.find_file-file.result.contents.run) c.deref_mut.ensures.value after.other_ways));
+          (subst (λ ws. KeepsWays c.self.inside.arena c.append-contents.new.arena ws c.append-contents.new.ways c.find_file-file.result.contents.run)
+          c.deref_mut.ensures.value after.other_ways));
       ordered = ordered_written (nodes_in c.self.inside.arena) c.self.invariant.store.kept.tree c.find_file-file.result.node file.node
-          (kind_there _ _ _ c.self.invariant.store _ c.self.view_is c.find_file-file.result.node c.args.first.now file.node file.path c.requires.first) _ _ (octets_of _ c.find_file-file.result.node) c.append-contents.result after.nodes set.nodes set.row set.name set.whole c.self.inside.orders c.self.invariant.ordered;
+          (kind_there _ _ _ c.self.invariant.store _ c.self.view_is c.find_file-file.result.node c.args.first.now file.node file.path c.requires.first) _ _
+          (octets_of _ c.find_file-file.result.node) c.append-contents.result after.nodes set.nodes set.row set.name set.whole c.self.inside.orders
+          c.self.invariant.ordered;
     }
 
 pub returns-clause-ticks : goal.returns-clause-ticks
 returns-clause-ticks c =
     let file = c.find_file-file.ensures in let source = c.find_file-source.ensures in
-    let first = found_size _ _ _ c.self.invariant.store _ c.self.view_is c.args.first.now c.requires.first c.find_file-file.result file.node file.path file.contents in
-    let second = found_size _ _ _ c.self.invariant.store _ c.self.view_is c.args.second.now c.requires.second c.find_file-source.result source.node source.path source.contents in
+    let first = found_size _ _ _ c.self.invariant.store _ c.self.view_is c.args.first.now c.requires.first c.find_file-file.result file.node file.path
+    file.contents in
+    let second = found_size _ _ _ c.self.invariant.store _ c.self.view_is c.args.second.now c.requires.second c.find_file-source.result source.node source.path
+    source.contents in
     let after = c.append-contents.ensures in
     let both = filled_blocks _ _ after.filled ∙ ap blocks_of (after.size ∙ (λ k. sym first k + sym second k)) in
-    (λ k. both k - (found_blocks _ _ _ c.self.invariant.store _ c.self.view_is c.args.first.now c.requires.first c.find_file-file.result file.node file.path file.contents) k
-    + (found_blocks _ _ _ c.self.invariant.store _ c.self.view_is c.args.second.now c.requires.second c.find_file-source.result source.node source.path source.contents) k)
+    (λ k. both k - (found_blocks _ _ _ c.self.invariant.store _ c.self.view_is c.args.first.now c.requires.first c.find_file-file.result file.node file.path
+    file.contents) k
+    + (found_blocks _ _ _ c.self.invariant.store _ c.self.view_is c.args.second.now c.requires.second c.find_file-source.result source.node source.path
+    source.contents) k)
 
 pub returns-clause-appended : goal.returns-clause-appended
 returns-clause-appended c =
-    let file = c.find_file-file.ensures in let source = c.find_file-source.ensures in let after = c.append-contents.ensures in let set = c.set_contents.ensures in
+    let file = c.find_file-file.ensures in let source = c.find_file-source.ensures in let after = c.append-contents.ensures in let set =
+    c.set_contents.ensures in
     let F = c.args.self.now.filestore in
-    let first = found_octets _ _ _ c.self.invariant.store _ c.self.view_is c.args.first.now c.requires.first c.find_file-file.result file.node file.path file.contents in
-    let second = found_octets _ _ _ c.self.invariant.store _ c.self.view_is c.args.second.now c.requires.second c.find_file-source.result source.node source.path source.contents in
+    let first = found_octets _ _ _ c.self.invariant.store _ c.self.view_is c.args.first.now c.requires.first c.find_file-file.result file.node file.path
+    file.contents in
+    let second = found_octets _ _ _ c.self.invariant.store _ c.self.view_is c.args.second.now c.requires.second c.find_file-source.result source.node
+    source.path source.contents in
     found_changes _ _ _ c.self.invariant.store _ c.self.view_is c.args.first.now c.requires.first c.find_file-file.result file.node file.path file.contents
     c.append-contents.new.arena c.set_contents.new.arena c.append-contents.result (octets_of (nodes_in c.set_contents.new.arena) c.find_file-file.result.node)
-    after.nodes after.capacity after.spares after.filled (taken _ _ _ _ _ after.taken after.size) set.nodes set.row set.name set.whole set.runs set.free set.capacity
+    after.nodes after.capacity after.spares after.filled (taken _ _ _ _ _ after.taken after.size) set.nodes set.row set.name set.whole set.runs set.free
+    set.capacity
     (octets_at F c.args.first.now ++ octets_at F c.args.second.now) (after.octets ∙ (λ k. sym first k ++ sym second k))

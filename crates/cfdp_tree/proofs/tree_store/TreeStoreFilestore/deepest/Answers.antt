@@ -35,7 +35,8 @@ deepest_in-below-requires-clause-deep c =
     let nodes = nodes_in c.self.inside.arena in let orders = c.self.inside.orders in let b = c.unwrap-node.result in let path = c.args.path.now in
     let way = subst (λ r. IfSome r (λ b. path_of nodes b ≡ path)) c.unwrap-node.ensures c.find_path.ensures.path in
     subst (λ (o : Order). StandAt nodes (c.depth-depth.result + 1) (trees.nodes orders.links.items o)) (sym c.of-entries.ensures)
-    (place_deep nodes c.self.invariant.store.kept.tree orders c.self.invariant.ordered (Some b) c.depth-depth.result (ap length way ∙ sym c.depth-depth.ensures.depth))
+    (place_deep nodes c.self.invariant.store.kept.tree orders c.self.invariant.ordered (Some b) c.depth-depth.result (ap length way
+    ∙ sym c.depth-depth.ensures.depth))
 
 some_node : (P : ℕ → Type 0) (b : ℕ) → P b → (d : ℕ) → Some b ≡ Some d → P d
 some_node P b has d e = subst P (same e) has
@@ -45,7 +46,8 @@ some_node P b has d e = subst P (same e) has
 
 pub returns-clause-value : goal.returns-clause-value
 returns-clause-value c =
-    let arena = c.self.inside.arena in let nodes = nodes_in arena in let orders = c.self.inside.orders in let b = c.unwrap-node.result in let path = c.args.path.now in let depth = c.depth-depth.result in
+    let arena = c.self.inside.arena in let nodes = nodes_in arena in let orders = c.self.inside.orders in let b = c.unwrap-node.result in let path =
+    c.args.path.now in let depth = c.depth-depth.result in
     let tree = c.self.invariant.store.kept.tree in
     let node = subst (λ r. IfSome r (λ b. IsNode nodes b)) c.unwrap-node.ensures c.find_path.ensures.node in
     let way = subst (λ r. IfSome r (λ b. path_of nodes b ≡ path)) c.unwrap-node.ensures c.find_path.ensures.path in
@@ -53,6 +55,8 @@ returns-clause-value c =
     let survey = survey_from nodes tree orders c.self.invariant.ordered (Some b) depth (some_node (IsNode nodes) b node) long in
     let below : c.deepest_in-below.result ≡ longest nodes (walks orders (8 - depth) (in_order orders (Some b))) =
     c.deepest_in-below.ensures.value
-    ∙ ap (longest nodes) (one_deeper orders depth (trees.nodes orders.links.items c.of-entries.result) ∙ ap (λ (o : Order). walks orders (8 - depth) (trees.nodes orders.links.items o)) c.of-entries.ensures) in
+    ∙ ap (longest nodes) (one_deeper orders depth (trees.nodes orders.links.items c.of-entries.result)
+    ∙ ap (λ (o : Order). walks orders (8 - depth) (trees.nodes orders.links.items o)) c.of-entries.ensures) in
     c.max.ensures ∙ (λ k. max (sym long k) (below k))
-    ∙ deepest_is nodes arena c.args.self.now.filestore (shows _ _ _ c.self.invariant.store _ c.self.view_is) path (walk_from orders depth (Some b)) (subst (λ p. IsSurvey nodes p (walk_from orders depth (Some b))) way survey)
+    ∙ deepest_is nodes arena c.args.self.now.filestore (shows _ _ _ c.self.invariant.store _ c.self.view_is) path (walk_from orders depth (Some b))
+    (subst (λ p. IsSurvey nodes p (walk_from orders depth (Some b))) way survey)

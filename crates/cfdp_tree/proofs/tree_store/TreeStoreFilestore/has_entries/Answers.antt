@@ -20,7 +20,8 @@ told false h k some test same filled none = elim (cases_eq h 0) [
 
 pub returns-in-Some : goal.returns-in-Some
 returns-in-Some c =
-    let arena = c.self.inside.arena in let nodes = nodes_in arena in let b = c.in-Some.node in let orders = c.self.inside.orders in let tree = c.self.invariant.store.kept.tree in
+    let arena = c.self.inside.arena in let nodes = nodes_in arena in let b = c.in-Some.node in let orders = c.self.inside.orders in let tree =
+    c.self.invariant.store.kept.tree in
     let seen = shows _ _ _ c.self.invariant.store _ c.self.view_is in let found = c.in-Some.ensures in
     told c.is_empty.result c.of.result.height _ _ c.is_empty.ensures (ap (λ (o : Order). o.height) c.of.ensures)
     (order_some nodes tree arena c.args.self.now.filestore seen b c.args.path.now found.node found.path orders c.self.invariant.ordered)
@@ -29,4 +30,5 @@ returns-in-Some c =
 pub returns-in-None : goal.returns-in-None
 returns-in-None c =
     let arena = c.self.inside.arena in let seen = shows _ _ _ c.self.invariant.store _ c.self.view_is in
-    sym (absent_none (nodes_in arena) c.self.invariant.store.kept.tree arena c.args.self.now.filestore seen c.args.path.now c.in-None.ensures.some c.in-None.ensures.none)
+    sym (absent_none (nodes_in arena) c.self.invariant.store.kept.tree arena c.args.self.now.filestore seen c.args.path.now c.in-None.ensures.some
+    c.in-None.ensures.none)

@@ -6,10 +6,12 @@ use Rattle.cfdp_tree.proofs.SeenLaws.{seen_block, seen_none, told_kind}
 use Rattle.cfdp_tree.proofs.tree_store.TreeStoreFilestore.kind.Goals as goal
 
 pub returns-in_err-node : goal.returns-in_err-node
-returns-in_err-node c = c.from_residual.ensures ∙ sym (ap kind_in (seen_none _ _ _ c.self.invariant.store _ c.self.view_is c.args.path.now c.in_err-node.ensures.none))
+returns-in_err-node c = c.from_residual.ensures ∙ sym (ap kind_in (seen_none _ _ _ c.self.invariant.store _ c.self.view_is c.args.path.now
+    c.in_err-node.ensures.none))
 
 pub returns : goal.returns
 returns c =
     let arena = c.self.inside.arena in let block = c.bytes.result.now in
-    let there = seen_block _ _ _ c.self.invariant.store _ c.self.view_is c.in_ok-node.node c.args.path.now block c.in_ok-node.ensures.node c.in_ok-node.ensures.path c.bytes.ensures.octets in
+    let there = seen_block _ _ _ c.self.invariant.store _ c.self.view_is c.in_ok-node.node c.args.path.now block c.in_ok-node.ensures.node
+    c.in_ok-node.ensures.path c.bytes.ensures.octets in
     ap Some (c.kind_of.ensures ∙ sym (told_kind arena (kind_told (row_of block).kind) (file_of block))) ∙ sym (ap kind_in there)

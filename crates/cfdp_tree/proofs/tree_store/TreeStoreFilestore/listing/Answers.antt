@@ -16,13 +16,18 @@ pub entries-requires : goal.entries-requires
 entries-requires c =
     let nodes = nodes_in c.self.inside.arena in let orders = c.self.inside.orders in let list = walk_from orders 0 None in
     let survey = survey_from nodes c.self.invariant.store.kept.tree orders c.self.invariant.ordered None 0 (λ d e. cc) refl in
-    record { sound = found_sound _ _ _ c.self.invariant.store _ c.self.view_is list c.in_ok-found.found.items (under_nodes nodes [] list survey) c.in_ok-found.ensures }
+    record {
+      sound = found_sound _ _ _ c.self.invariant.store _ c.self.view_is list c.in_ok-found.found.items
+          (under_nodes nodes [] list survey) c.in_ok-found.ensures;
+    }
 
 pub returns : goal.returns
 returns c =
-    let arena = c.self.inside.arena in let nodes = nodes_in arena in let orders = c.self.inside.orders in let tree = c.self.invariant.store.kept.tree in let ordered = c.self.invariant.ordered in
+    let arena = c.self.inside.arena in let nodes = nodes_in arena in let orders = c.self.inside.orders in let tree = c.self.invariant.store.kept.tree in
+    let ordered = c.self.invariant.ordered in
     let list = walk_from orders 0 None in let found = c.in_ok-found.found.items in let F = c.args.self.now.filestore in
-    let told = told_tree nodes tree [] list (survey_from nodes tree orders ordered None 0 (λ d e. cc) refl) (survey_rising nodes tree orders ordered None 0 (λ d e. cc)) found c.in_ok-found.ensures
+    let told = told_tree nodes tree [] list (survey_from nodes tree orders ordered None 0 (λ d e. cc) refl)
+    (survey_rising nodes tree orders ordered None 0 (λ d e. cc)) found c.in_ok-found.ensures
     arena F (shows _ _ _ c.self.invariant.store _ c.self.view_is) in
     items_are (λ (v : Vec Entry Global). v.items) c.entries.result (map (λ e. entry_of (shown arena nodes e)) found) (listing_of F) c.entries.ensures
     (sym (map-map entry_of (shown arena nodes) found) ∙ ap (map entry_of) (told ∙ tree_whole F))

@@ -9,7 +9,8 @@ use Rattle.cfdp_tree.proofs.tree_store.TreeStoreFilestore.parent_is_good.Goals a
 pub returns-in-Some : goal.returns-in-Some
 returns-in-Some c =
     let arena = c.self.inside.arena in let block = c.bytes.result.now in let path = c.args.path.now in let depth = c.depth-depth.result - 1 in
-    let there = seen_block _ _ _ c.self.invariant.store _ c.self.view_is c.in-Some.node (take depth path) block c.in-Some.ensures.node c.in-Some.ensures.path c.bytes.ensures.octets in
+    let there = seen_block _ _ _ c.self.invariant.store _ c.self.view_is c.in-Some.node
+    (take depth path) block c.in-Some.ensures.node c.in-Some.ensures.path c.bytes.ensures.octets in
     ap not (c.is_file.ensures ∙ ap is_file_kind c.kind_of.ensures)
     ∙ sym (told_directory arena (kind_told (row_of block).kind) (file_of block))
     ∙ sym (ap is_directory there)

@@ -10,7 +10,8 @@ pub overflow_cast-at : goal.overflow_cast-at
 overflow_cast-at c = omega (arith, c.requires.range, staged_small _ _ _ c.self.invariant.store _ c.self.view_is c.args.slot)
 
 pub get-requires-clause-filled : goal.get-requires-clause-filled
-get-requires-clause-filled c = slot_filled _ _ _ c.self.invariant.store _ c.self.view_is c.from.result (omega (arith, c.from.ensures, c.requires.slot)) c.index-slot.result.now c.index-slot.ensures
+get-requires-clause-filled c = slot_filled _ _ _ c.self.invariant.store _ c.self.view_is c.from.result
+    (omega (arith, c.from.ensures, c.requires.slot)) c.index-slot.result.now c.index-slot.ensures
 
 pub get-requires-clause-ways : goal.get-requires-clause-ways
 get-requires-clause-ways c =

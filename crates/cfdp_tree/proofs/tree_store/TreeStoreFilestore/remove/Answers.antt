@@ -97,7 +97,8 @@ invariant_of-self c =
           (runs_then one c.remove.new.arena later c.remove.ensures.runs c.delete_node.ensures.runs)
           (c.delete_node.ensures.capacity ∙ c.remove.ensures.size ∙ c.release.ensures.capacity)
           (omega (arith, c.delete_node.ensures.freed, c.remove.ensures.free, c.release.ensures.freed, ap (λ (x : Contents). blocks_of x.size) held)));
-      ordered = subst (λ ns. IsOrdered ns c.leave.new.self None) (sym c.delete_node.ensures.nodes) (ordered_gone (nodes_in two) c.leave.new.self b (alike.places.nodes b ∙ node) out);
+      ordered = subst (λ ns. IsOrdered ns c.leave.new.self None) (sym c.delete_node.ensures.nodes)
+          (ordered_gone (nodes_in two) c.leave.new.self b (alike.places.nodes b ∙ node) out);
     }
 
 pub returns-clause-ticks : goal.returns-clause-ticks
@@ -107,7 +108,12 @@ returns-clause-ticks c =
     let way = subst (λ r. IfSome r (λ x. path_of (nodes_in arena) x ≡ path)) c.unwrap-node.ensures c.find_path.ensures.path in
     let same = node_octets arena b node c.bytes-block.result.now c.bytes-block.ensures.octets in
     let held = c.held_by-held.ensures ∙ held_by_node _ _ _ c.self.invariant.store _ c.self.view_is path b node way c.bytes-block.result.now same in
-    omega (arith, ap (λ (x : Contents). x.run.count) held, (held_filled _ _ _ c.self.invariant.store _ c.self.view_is path b node way).blocks, weight_is _ _ _ c.self.invariant.store _ c.self.view_is path b node way)
+    omega (
+      arith,
+      ap (λ (x : Contents). x.run.count) held,
+      (held_filled _ _ _ c.self.invariant.store _ c.self.view_is path b node way).blocks,
+      weight_is _ _ _ c.self.invariant.store _ c.self.view_is path b node way,
+    )
 
 pub returns-clause-gone : goal.returns-clause-gone
 returns-clause-gone c =

@@ -59,7 +59,8 @@ rename_node-requires-clause-directory c =
     let arena = c.self.inside.arena in let b = c.unwrap-node.result in let p = c.args.from.now in let q = c.args.to.now in
     let node = subst (λ r. IfSome r (λ x. IsNode (nodes_in arena) x)) c.unwrap-node.ensures c.find_path.ensures.node in
     let way = subst (λ r. IfSome r (λ x. path_of (nodes_in arena) x ≡ p)) c.unwrap-node.ensures c.find_path.ensures.path in
-    place_nodes _ _ _ c.self.invariant.store _ c.self.view_is p b node way q c.depth-depth.ensures.within _ (omega (arith, c.depth-depth.ensures.depth, c.depth-depth.ensures.within.some)) c.requires.parent
+    place_nodes _ _ _ c.self.invariant.store _ c.self.view_is p b node way q c.depth-depth.ensures.within _
+    (omega (arith, c.depth-depth.ensures.depth, c.depth-depth.ensures.within.some)) c.requires.parent
     c.lookup.result c.lookup.ensures.node c.lookup.ensures.path c.lookup.ensures.none c.name-new_name.result.now c.name-new_name.ensures.name c.requires.apart
     c.remove.new.arena (alike_two _ _ _ c.self.invariant.store _ c.self.view_is p b node way arena refl c.remove.new.arena c.remove.ensures.links)
 
@@ -68,7 +69,8 @@ rename_node-requires-clause-apart c =
     let arena = c.self.inside.arena in let b = c.unwrap-node.result in let p = c.args.from.now in let q = c.args.to.now in
     let node = subst (λ r. IfSome r (λ x. IsNode (nodes_in arena) x)) c.unwrap-node.ensures c.find_path.ensures.node in
     let way = subst (λ r. IfSome r (λ x. path_of (nodes_in arena) x ≡ p)) c.unwrap-node.ensures c.find_path.ensures.path in
-    place_other _ _ _ c.self.invariant.store _ c.self.view_is p b node way q c.depth-depth.ensures.within _ (omega (arith, c.depth-depth.ensures.depth, c.depth-depth.ensures.within.some)) c.requires.parent
+    place_other _ _ _ c.self.invariant.store _ c.self.view_is p b node way q c.depth-depth.ensures.within _
+    (omega (arith, c.depth-depth.ensures.depth, c.depth-depth.ensures.within.some)) c.requires.parent
     c.lookup.result c.lookup.ensures.node c.lookup.ensures.path c.lookup.ensures.none c.name-new_name.result.now c.name-new_name.ensures.name c.requires.apart
 
 pub enter-requires-clause-tree : goal.enter-requires-clause-tree
@@ -76,10 +78,12 @@ enter-requires-clause-tree c =
     let arena = c.self.inside.arena in let b = c.unwrap-node.result in let p = c.args.from.now in let q = c.args.to.now in
     let node = subst (λ r. IfSome r (λ x. IsNode (nodes_in arena) x)) c.unwrap-node.ensures c.find_path.ensures.node in
     let way = subst (λ r. IfSome r (λ x. path_of (nodes_in arena) x ≡ p)) c.unwrap-node.ensures c.find_path.ensures.path in
-    tree_three _ _ _ c.self.invariant.store _ c.self.view_is p b node way q c.depth-depth.ensures.within _ (omega (arith, c.depth-depth.ensures.depth, c.depth-depth.ensures.within.some)) c.requires.parent
+    tree_three _ _ _ c.self.invariant.store _ c.self.view_is p b node way q c.depth-depth.ensures.within _
+    (omega (arith, c.depth-depth.ensures.depth, c.depth-depth.ensures.within.some)) c.requires.parent
     c.lookup.result c.lookup.ensures.node c.lookup.ensures.path c.lookup.ensures.none c.name-new_name.result.now c.name-new_name.ensures.name c.requires.apart
     c.remove.new.arena (alike_two _ _ _ c.self.invariant.store _ c.self.view_is p b node way arena refl c.remove.new.arena c.remove.ensures.links)
-    c.rename_node.new.arena _ c.rename_node.ensures.nodes c.rename_node.ensures.row c.rename_node.ensures.home c.rename_node.ensures.name c.rename_node.ensures.whole c.requires.absent c.requires.depth
+    c.rename_node.new.arena _ c.rename_node.ensures.nodes c.rename_node.ensures.row c.rename_node.ensures.home c.rename_node.ensures.name
+    c.rename_node.ensures.whole c.requires.absent c.requires.depth
 
 pub enter-requires-clause-ordered : goal.enter-requires-clause-ordered
 enter-requires-clause-ordered c =
@@ -90,38 +94,46 @@ enter-requires-clause-ordered c =
     let alike = alike_two _ _ _ c.self.invariant.store _ c.self.view_is p b node way arena refl two c.remove.ensures.links in
     subst (λ ns. IsOrdered ns c.leave.new.self (Some b)) (sym c.rename_node.ensures.nodes)
     (ordered_moved (nodes_in two) c.leave.new.self b (octets_of (nodes_in c.rename_node.new.arena) b)
-    (ordered_kept (nodes_in arena) (nodes_in two) c.leave.new.self (Some b) (nodes_long arena two c.remove.ensures.size) (kept_places (nodes_in arena) (nodes_in two) (Some b) alike.places) c.leave.ensures))
+    (ordered_kept (nodes_in arena) (nodes_in two) c.leave.new.self (Some b) (nodes_long arena two c.remove.ensures.size)
+    (kept_places (nodes_in arena) (nodes_in two) (Some b) alike.places) c.leave.ensures))
 
 pub insert-requires-clause-tree : goal.insert-requires-clause-tree
 insert-requires-clause-tree c =
     let arena = c.self.inside.arena in let b = c.unwrap-node.result in let p = c.args.from.now in let q = c.args.to.now in
     let node = subst (λ r. IfSome r (λ x. IsNode (nodes_in arena) x)) c.unwrap-node.ensures c.find_path.ensures.node in
     let way = subst (λ r. IfSome r (λ x. path_of (nodes_in arena) x ≡ p)) c.unwrap-node.ensures c.find_path.ensures.path in
-    tree_three _ _ _ c.self.invariant.store _ c.self.view_is p b node way q c.depth-depth.ensures.within _ (omega (arith, c.depth-depth.ensures.depth, c.depth-depth.ensures.within.some)) c.requires.parent
+    tree_three _ _ _ c.self.invariant.store _ c.self.view_is p b node way q c.depth-depth.ensures.within _
+    (omega (arith, c.depth-depth.ensures.depth, c.depth-depth.ensures.within.some)) c.requires.parent
     c.lookup.result c.lookup.ensures.node c.lookup.ensures.path c.lookup.ensures.none c.name-new_name.result.now c.name-new_name.ensures.name c.requires.apart
     c.remove.new.arena (alike_two _ _ _ c.self.invariant.store _ c.self.view_is p b node way arena refl c.remove.new.arena c.remove.ensures.links)
-    c.rename_node.new.arena _ c.rename_node.ensures.nodes c.rename_node.ensures.row c.rename_node.ensures.home c.rename_node.ensures.name c.rename_node.ensures.whole c.requires.absent c.requires.depth
+    c.rename_node.new.arena _ c.rename_node.ensures.nodes c.rename_node.ensures.row c.rename_node.ensures.home c.rename_node.ensures.name
+    c.rename_node.ensures.whole c.requires.absent c.requires.depth
 
 pub insert-requires-clause-entry : goal.insert-requires-clause-entry
 insert-requires-clause-entry c =
     let arena = c.self.inside.arena in let b = c.unwrap-node.result in let p = c.args.from.now in let q = c.args.to.now in
     let node = subst (λ r. IfSome r (λ x. IsNode (nodes_in arena) x)) c.unwrap-node.ensures c.find_path.ensures.node in
     let way = subst (λ r. IfSome r (λ x. path_of (nodes_in arena) x ≡ p)) c.unwrap-node.ensures c.find_path.ensures.path in
-    entry_three _ _ _ c.self.invariant.store _ c.self.view_is p b node way q c.depth-depth.ensures.within _ (omega (arith, c.depth-depth.ensures.depth, c.depth-depth.ensures.within.some)) c.requires.parent
+    entry_three _ _ _ c.self.invariant.store _ c.self.view_is p b node way q c.depth-depth.ensures.within _
+    (omega (arith, c.depth-depth.ensures.depth, c.depth-depth.ensures.within.some)) c.requires.parent
     c.lookup.result c.lookup.ensures.node c.lookup.ensures.path c.lookup.ensures.none c.name-new_name.result.now c.name-new_name.ensures.name c.requires.apart
     c.remove.new.arena (alike_two _ _ _ c.self.invariant.store _ c.self.view_is p b node way arena refl c.remove.new.arena c.remove.ensures.links)
-    c.rename_node.new.arena _ c.rename_node.ensures.nodes c.rename_node.ensures.row c.rename_node.ensures.home c.rename_node.ensures.name c.rename_node.ensures.whole c.requires.absent c.requires.depth
+    c.rename_node.new.arena _ c.rename_node.ensures.nodes c.rename_node.ensures.row c.rename_node.ensures.home c.rename_node.ensures.name
+    c.rename_node.ensures.whole c.requires.absent c.requires.depth
 
 pub insert-requires-clause-index : goal.insert-requires-clause-index
 insert-requires-clause-index c =
     let arena = c.self.inside.arena in let b = c.unwrap-node.result in let p = c.args.from.now in let q = c.args.to.now in
     let node = subst (λ r. IfSome r (λ x. IsNode (nodes_in arena) x)) c.unwrap-node.ensures c.find_path.ensures.node in
     let way = subst (λ r. IfSome r (λ x. path_of (nodes_in arena) x ≡ p)) c.unwrap-node.ensures c.find_path.ensures.path in
-    subst (λ hs. IsIndex (nodes_in c.rename_node.new.arena) hs (Some b)) (sym (c.deref_mut-2.ensures.value ∙ with_items_is c.self.inside.heads c.remove.new.heads (c.remove.auto.heads ∙ c.deref_mut.ensures.len)))
-    (index_three _ _ _ c.self.invariant.store _ c.self.view_is p b node way q c.depth-depth.ensures.within _ (omega (arith, c.depth-depth.ensures.depth, c.depth-depth.ensures.within.some)) c.requires.parent
+    subst (λ hs. IsIndex (nodes_in c.rename_node.new.arena) hs (Some b)) (sym (c.deref_mut-2.ensures.value
+    ∙ with_items_is c.self.inside.heads c.remove.new.heads (c.remove.auto.heads ∙ c.deref_mut.ensures.len)))
+    (index_three _ _ _ c.self.invariant.store _ c.self.view_is p b node way q c.depth-depth.ensures.within _
+    (omega (arith, c.depth-depth.ensures.depth, c.depth-depth.ensures.within.some)) c.requires.parent
     c.lookup.result c.lookup.ensures.node c.lookup.ensures.path c.lookup.ensures.none c.name-new_name.result.now c.name-new_name.ensures.name c.requires.apart
     c.remove.new.arena (alike_two _ _ _ c.self.invariant.store _ c.self.view_is p b node way arena refl c.remove.new.arena c.remove.ensures.links)
-    c.rename_node.new.arena _ c.rename_node.ensures.nodes c.rename_node.ensures.row c.rename_node.ensures.home c.rename_node.ensures.name c.rename_node.ensures.whole c.requires.absent c.requires.depth c.remove.new.heads c.remove.ensures.index)
+    c.rename_node.new.arena _ c.rename_node.ensures.nodes c.rename_node.ensures.row c.rename_node.ensures.home c.rename_node.ensures.name
+    c.rename_node.ensures.whole c.requires.absent c.requires.depth c.remove.new.heads c.remove.ensures.index)
 
 pub invariant_of-self : goal.invariant_of-self
 invariant_of-self c =
@@ -136,12 +148,16 @@ invariant_of-self c =
     let heads = with_items_is (with_items c.self.inside.heads c.remove.new.heads) c.insert.new.heads (c.insert.auto.heads ∙ c.deref_mut-2.ensures.len) in
     record {
       store = subst (λ hs. IsStore later c.self.inside.ways.items hs c.self.inside.slots.items) (sym heads)
-          (shift_store _ _ _ c.self.invariant.store _ c.self.view_is p b node way q c.depth-depth.ensures.within _ (omega (arith, c.depth-depth.ensures.depth, c.depth-depth.ensures.within.some)) c.requires.parent
-          c.lookup.result c.lookup.ensures.node c.lookup.ensures.path c.lookup.ensures.none c.name-new_name.result.now c.name-new_name.ensures.name c.requires.apart
+          (shift_store _ _ _ c.self.invariant.store _ c.self.view_is p b node way q c.depth-depth.ensures.within _
+          (omega (arith, c.depth-depth.ensures.depth, c.depth-depth.ensures.within.some)) c.requires.parent
+          c.lookup.result c.lookup.ensures.node c.lookup.ensures.path c.lookup.ensures.none c.name-new_name.result.now c.name-new_name.ensures.name
+          c.requires.apart
           c.remove.new.arena (alike_two _ _ _ c.self.invariant.store _ c.self.view_is p b node way arena refl c.remove.new.arena c.remove.ensures.links)
-          c.rename_node.new.arena _ c.rename_node.ensures.nodes c.rename_node.ensures.row c.rename_node.ensures.home c.rename_node.ensures.name c.rename_node.ensures.whole c.requires.absent c.requires.depth
+          c.rename_node.new.arena _ c.rename_node.ensures.nodes c.rename_node.ensures.row c.rename_node.ensures.home c.rename_node.ensures.name
+          c.rename_node.ensures.whole c.requires.absent c.requires.depth
           later alike runs c.insert.new.heads c.insert.ensures.index long free);
-      ordered = ordered_kept (nodes_in three) (nodes_in later) c.enter.new.self None (nodes_long three later c.insert.ensures.size) (kept_places (nodes_in three) (nodes_in later) None alike.places) c.enter.ensures;
+      ordered = ordered_kept (nodes_in three) (nodes_in later) c.enter.new.self None (nodes_long three later c.insert.ensures.size)
+          (kept_places (nodes_in three) (nodes_in later) None alike.places) c.enter.ensures;
     }
 
 pub returns-clause-moved : goal.returns-clause-moved
@@ -154,8 +170,10 @@ returns-clause-moved c =
     let runs = runs_then arena three later (runs_then arena two three c.remove.ensures.runs c.rename_node.ensures.runs) c.insert.ensures.runs in
     let long = c.insert.ensures.size ∙ c.rename_node.ensures.capacity ∙ c.remove.ensures.size in
     let free = c.insert.ensures.free ∙ c.rename_node.ensures.free ∙ c.remove.ensures.free in
-    shift_view _ _ _ c.self.invariant.store _ c.self.view_is p b node way q c.depth-depth.ensures.within _ (omega (arith, c.depth-depth.ensures.depth, c.depth-depth.ensures.within.some)) c.requires.parent
+    shift_view _ _ _ c.self.invariant.store _ c.self.view_is p b node way q c.depth-depth.ensures.within _
+    (omega (arith, c.depth-depth.ensures.depth, c.depth-depth.ensures.within.some)) c.requires.parent
     c.lookup.result c.lookup.ensures.node c.lookup.ensures.path c.lookup.ensures.none c.name-new_name.result.now c.name-new_name.ensures.name c.requires.apart
     c.remove.new.arena (alike_two _ _ _ c.self.invariant.store _ c.self.view_is p b node way arena refl c.remove.new.arena c.remove.ensures.links)
-    c.rename_node.new.arena _ c.rename_node.ensures.nodes c.rename_node.ensures.row c.rename_node.ensures.home c.rename_node.ensures.name c.rename_node.ensures.whole c.requires.absent c.requires.depth
+    c.rename_node.new.arena _ c.rename_node.ensures.nodes c.rename_node.ensures.row c.rename_node.ensures.home c.rename_node.ensures.name
+    c.rename_node.ensures.whole c.requires.absent c.requires.depth
     later alike runs c.insert.new.heads c.insert.ensures.index long free

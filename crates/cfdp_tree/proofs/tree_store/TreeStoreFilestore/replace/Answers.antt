@@ -30,7 +30,8 @@ find_file-source-requires-clause-most c = file_most _ _ _ c.self.invariant.store
 pub returns-then-eq-clause-ticks : goal.returns-then-eq-clause-ticks
 returns-then-eq-clause-ticks c =
     let file = c.find_file-file.ensures in let source = c.find_file-source.ensures in let F = c.args.self.now.filestore in
-    let one = found_one _ _ _ c.self.invariant.store _ c.self.view_is c.args.first.now c.requires.first c.find_file-file.result file.node file.path file.contents
+    let one = found_one _ _ _ c.self.invariant.store _ c.self.view_is c.args.first.now c.requires.first c.find_file-file.result file.node file.path
+    file.contents
     c.args.second.now c.requires.second c.find_file-source.result source.node source.path source.contents
     (eqb-true c.find_file-file.result.node c.find_file-source.result.node (sym c.eq.ensures ∙ c.if-eq.true)) in
     sym (ap (λ same. if same then 0 else blocks_of (length (octets_at F c.args.first.now)) + 2 * blocks_of (length (octets_at F c.args.second.now))) one)
@@ -38,7 +39,8 @@ returns-then-eq-clause-ticks c =
 pub returns-then-eq-clause-replaced : goal.returns-then-eq-clause-replaced
 returns-then-eq-clause-replaced c =
     let file = c.find_file-file.ensures in let source = c.find_file-source.ensures in let F = c.args.self.now.filestore in
-    let one = found_one _ _ _ c.self.invariant.store _ c.self.view_is c.args.first.now c.requires.first c.find_file-file.result file.node file.path file.contents
+    let one = found_one _ _ _ c.self.invariant.store _ c.self.view_is c.args.first.now c.requires.first c.find_file-file.result file.node file.path
+    file.contents
     c.args.second.now c.requires.second c.find_file-source.result source.node source.path source.contents
     (eqb-true c.find_file-file.result.node c.find_file-source.result.node (sym c.eq.ensures ∙ c.if-eq.true)) in
     sym (ap (λ same. with_changes c.args.self.now (if same then [] else Becomes c.args.first.now (Some (File (octets_at F c.args.second.now))) ∷ [])) one)
@@ -57,7 +59,8 @@ replace-requires-clause-ways c =
 pub replace-requires-clause-source : goal.replace-requires-clause-source
 replace-requires-clause-source c =
     let source = c.find_file-source.ensures in
-    found_filled _ _ _ c.self.invariant.store _ c.self.view_is c.args.second.now c.requires.second c.find_file-source.result source.node source.path source.contents
+    found_filled _ _ _ c.self.invariant.store _ c.self.view_is c.args.second.now c.requires.second c.find_file-source.result source.node source.path
+    source.contents
 
 pub replace-requires-clause-apart : goal.replace-requires-clause-apart
 replace-requires-clause-apart c =
@@ -81,15 +84,18 @@ replace-requires-clause-room c =
 pub overflow_mul-result : goal.overflow_mul-result
 overflow_mul-result c =
     let source = c.find_file-source.ensures in
-    let count = found_blocks _ _ _ c.self.invariant.store _ c.self.view_is c.args.second.now c.requires.second c.find_file-source.result source.node source.path source.contents in
+    let count = found_blocks _ _ _ c.self.invariant.store _ c.self.view_is c.args.second.now c.requires.second c.find_file-source.result source.node source.path
+    source.contents in
     let m = length (octets_at c.args.self.now.filestore c.args.second.now) in
     omega (arith, count, blocks_of-most m (file_small _ _ _ c.self.invariant.store _ c.self.view_is c.args.second.now))
 
 pub overflow_add-result : goal.overflow_add-result
 overflow_add-result c =
     let file = c.find_file-file.ensures in let source = c.find_file-source.ensures in let F = c.args.self.now.filestore in
-    let first = found_blocks _ _ _ c.self.invariant.store _ c.self.view_is c.args.first.now c.requires.first c.find_file-file.result file.node file.path file.contents in
-    let second = found_blocks _ _ _ c.self.invariant.store _ c.self.view_is c.args.second.now c.requires.second c.find_file-source.result source.node source.path source.contents in
+    let first = found_blocks _ _ _ c.self.invariant.store _ c.self.view_is c.args.first.now c.requires.first c.find_file-file.result file.node file.path
+    file.contents in
+    let second = found_blocks _ _ _ c.self.invariant.store _ c.self.view_is c.args.second.now c.requires.second c.find_file-source.result source.node
+    source.path source.contents in
     omega (
       arith,
       first,
@@ -110,19 +116,26 @@ invariant_of-self c =
       store = subst (λ ws. IsStore c.set_contents.new.arena ws c.self.inside.heads.items c.self.inside.slots.items) (sym ways)
           (found_store _ _ _ c.self.invariant.store _ c.self.view_is c.args.first.now c.requires.first c.find_file-file.result file.node file.path file.contents
           c.replace.new.arena c.set_contents.new.arena c.replace.new.self (octets_of (nodes_in c.set_contents.new.arena) c.find_file-file.result.node)
-          after.nodes after.capacity after.spares after.filled (taken _ _ _ _ _ after.taken after.size) set.nodes set.row set.name set.whole set.runs set.free set.capacity _ after.octets
+          after.nodes after.capacity after.spares after.filled (taken _ _ _ _ _ after.taken after.size) set.nodes set.row set.name set.whole set.runs set.free
+          set.capacity _ after.octets
           c.replace.new.ways after.ways
-          (subst (λ ws. KeepsWays c.self.inside.arena c.replace.new.arena ws c.replace.new.ways c.find_file-file.result.contents.run) c.deref_mut.ensures.value after.other_ways));
+          (subst (λ ws. KeepsWays c.self.inside.arena c.replace.new.arena ws c.replace.new.ways c.find_file-file.result.contents.run) c.deref_mut.ensures.value
+          after.other_ways));
       ordered = ordered_written (nodes_in c.self.inside.arena) c.self.invariant.store.kept.tree c.find_file-file.result.node file.node
-          (kind_there _ _ _ c.self.invariant.store _ c.self.view_is c.find_file-file.result.node c.args.first.now file.node file.path c.requires.first) _ _ (octets_of _ c.find_file-file.result.node) c.replace.new.self after.nodes set.nodes set.row set.name set.whole c.self.inside.orders c.self.invariant.ordered;
+          (kind_there _ _ _ c.self.invariant.store _ c.self.view_is c.find_file-file.result.node c.args.first.now file.node file.path c.requires.first) _ _
+          (octets_of _ c.find_file-file.result.node) c.replace.new.self after.nodes set.nodes set.row set.name set.whole c.self.inside.orders
+          c.self.invariant.ordered;
     }
 
 pub returns-clause-ticks : goal.returns-clause-ticks
 returns-clause-ticks c =
     let file = c.find_file-file.ensures in let source = c.find_file-source.ensures in let F = c.args.self.now.filestore in
-    let first = found_blocks _ _ _ c.self.invariant.store _ c.self.view_is c.args.first.now c.requires.first c.find_file-file.result file.node file.path file.contents in
-    let second = found_blocks _ _ _ c.self.invariant.store _ c.self.view_is c.args.second.now c.requires.second c.find_file-source.result source.node source.path source.contents in
-    let two = found_two _ _ _ c.self.invariant.store _ c.self.view_is c.args.first.now c.requires.first c.find_file-file.result file.node file.path file.contents
+    let first = found_blocks _ _ _ c.self.invariant.store _ c.self.view_is c.args.first.now c.requires.first c.find_file-file.result file.node file.path
+    file.contents in
+    let second = found_blocks _ _ _ c.self.invariant.store _ c.self.view_is c.args.second.now c.requires.second c.find_file-source.result source.node
+    source.path source.contents in
+    let two = found_two _ _ _ c.self.invariant.store _ c.self.view_is c.args.first.now c.requires.first c.find_file-file.result file.node file.path
+    file.contents
     c.args.second.now c.requires.second c.find_file-source.result source.node source.path source.contents
     (eqb-false c.find_file-file.result.node c.find_file-source.result.node (sym c.eq.ensures ∙ c.if-eq.false)) in
     (λ k. first k + 2 * second k)
@@ -132,12 +145,15 @@ pub returns-clause-replaced : goal.returns-clause-replaced
 returns-clause-replaced c =
     let file = c.find_file-file.ensures in let source = c.find_file-source.ensures in let after = c.replace.ensures in let set = c.set_contents.ensures in
     let F = c.args.self.now.filestore in
-    let second = found_octets _ _ _ c.self.invariant.store _ c.self.view_is c.args.second.now c.requires.second c.find_file-source.result source.node source.path source.contents in
-    let two = found_two _ _ _ c.self.invariant.store _ c.self.view_is c.args.first.now c.requires.first c.find_file-file.result file.node file.path file.contents
+    let second = found_octets _ _ _ c.self.invariant.store _ c.self.view_is c.args.second.now c.requires.second c.find_file-source.result source.node
+    source.path source.contents in
+    let two = found_two _ _ _ c.self.invariant.store _ c.self.view_is c.args.first.now c.requires.first c.find_file-file.result file.node file.path
+    file.contents
     c.args.second.now c.requires.second c.find_file-source.result source.node source.path source.contents
     (eqb-false c.find_file-file.result.node c.find_file-source.result.node (sym c.eq.ensures ∙ c.if-eq.false)) in
     found_changes _ _ _ c.self.invariant.store _ c.self.view_is c.args.first.now c.requires.first c.find_file-file.result file.node file.path file.contents
     c.replace.new.arena c.set_contents.new.arena c.replace.new.self (octets_of (nodes_in c.set_contents.new.arena) c.find_file-file.result.node)
-    after.nodes after.capacity after.spares after.filled (taken _ _ _ _ _ after.taken after.size) set.nodes set.row set.name set.whole set.runs set.free set.capacity
+    after.nodes after.capacity after.spares after.filled (taken _ _ _ _ _ after.taken after.size) set.nodes set.row set.name set.whole set.runs set.free
+    set.capacity
     (octets_at F c.args.second.now) (after.octets ∙ sym second)
     ∙ sym (ap (λ same. with_changes c.args.self.now (if same then [] else Becomes c.args.first.now (Some (File (octets_at F c.args.second.now))) ∷ [])) two)

@@ -13,7 +13,8 @@ overflow_cast-at c = omega (arith, c.requires.range, staged_small _ _ _ c.self.i
 
 pub put-requires-clause-filled : goal.put-requires-clause-filled
 put-requires-clause-filled c =
-    slot_filled _ _ _ c.self.invariant.store _ c.self.view_is c.from.result (omega (arith, c.from.ensures, c.requires.slot)) c.index_mut-slot.result.now c.index_mut-slot.ensures.value
+    slot_filled _ _ _ c.self.invariant.store _ c.self.view_is c.from.result
+    (omega (arith, c.from.ensures, c.requires.slot)) c.index_mut-slot.result.now c.index_mut-slot.ensures.value
 
 pub put-requires-clause-ways : goal.put-requires-clause-ways
 put-requires-clause-ways c =
@@ -23,7 +24,8 @@ put-requires-clause-ways c =
 
 pub put-requires-clause-range : goal.put-requires-clause-range
 put-requires-clause-range c =
-    let slot = c.index_mut-slot.result.now in let is = subst (λ k. slot ≡ get_or c.self.inside.slots.items k slot) c.from.ensures c.index_mut-slot.ensures.value in
+    let slot = c.index_mut-slot.result.now in let is = subst (λ k. slot ≡ get_or c.self.inside.slots.items k slot) c.from.ensures
+    c.index_mut-slot.ensures.value in
     omega (arith, staged_size _ _ _ c.self.invariant.store _ c.self.view_is c.args.slot c.requires.slot slot is, c.requires.range)
 
 -- no block is taken
@@ -34,7 +36,8 @@ pub invariant_of-self : goal.invariant_of-self
 invariant_of-self c =
     let after = c.put.ensures in
     record {
-      store = slot_store c.self.inside.arena c.put.new.arena c.self.inside.heads.items c.self.inside.slots.items c.self.invariant.store c.from.result (omega (arith, c.from.ensures, c.requires.slot))
+      store = slot_store c.self.inside.arena c.put.new.arena c.self.inside.heads.items c.self.inside.slots.items c.self.invariant.store c.from.result
+          (omega (arith, c.from.ensures, c.requires.slot))
           c.index_mut-slot.result.now c.index_mut-slot.ensures.value c.put.new.self after.nodes after.capacity after.spares after.filled after.placed
           (same_taken _ _ c.index_mut-slot.result.now.contents c.put.new.self.contents after.free after.size)
           c.self.inside.ways.items (subst (λ ws. HasWays c.put.new.arena ws c.put.new.self.contents.run) c.deref.ensures.value after.ways)
@@ -45,9 +48,11 @@ invariant_of-self c =
 pub returns : goal.returns
 returns c =
     let after = c.put.ensures in
-    let slot = c.index_mut-slot.result.now in let is = subst (λ k. slot ≡ get_or c.self.inside.slots.items k slot) c.from.ensures c.index_mut-slot.ensures.value in
+    let slot = c.index_mut-slot.result.now in let is = subst (λ k. slot ≡ get_or c.self.inside.slots.items k slot) c.from.ensures
+    c.index_mut-slot.ensures.value in
     let was = seen_staged _ _ _ c.self.invariant.store _ c.self.view_is c.args.slot c.requires.slot slot is in
-    slot_changes c.self.inside.arena c.put.new.arena c.self.inside.heads.items c.self.inside.slots.items c.self.invariant.store c.from.result (omega (arith, c.from.ensures, c.requires.slot))
+    slot_changes c.self.inside.arena c.put.new.arena c.self.inside.heads.items c.self.inside.slots.items c.self.invariant.store c.from.result
+    (omega (arith, c.from.ensures, c.requires.slot))
     slot c.index_mut-slot.ensures.value c.put.new.self after.nodes after.capacity after.spares after.filled after.placed
     (same_taken _ _ slot.contents c.put.new.self.contents after.free after.size)
     c.args.self.now c.self.view_is c.args.slot c.from.ensures (overwritten (staged_in c.args.self.now.filestore c.args.slot) c.args.at c.args.octets.now)

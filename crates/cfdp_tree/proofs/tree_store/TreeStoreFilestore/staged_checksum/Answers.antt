@@ -6,6 +6,8 @@ use Rattle.cfdp_tree.proofs.tree_store.TreeStoreFilestore.staged_checksum.Goals 
 
 pub returns : goal.returns
 returns c =
-    let filled = slot_filled _ _ _ c.self.invariant.store _ c.self.view_is c.from.result (omega (arith, c.from.ensures, c.requires)) c.index.result.now c.index.ensures in
-    let octets = seen_staged _ _ _ c.self.invariant.store _ c.self.view_is c.from.result (omega (arith, c.from.ensures, c.requires)) c.index.result.now c.index.ensures in
+    let filled = slot_filled _ _ _ c.self.invariant.store _ c.self.view_is c.from.result
+    (omega (arith, c.from.ensures, c.requires)) c.index.result.now c.index.ensures in
+    let octets = seen_staged _ _ _ c.self.invariant.store _ c.self.view_is c.from.result
+    (omega (arith, c.from.ensures, c.requires)) c.index.result.now c.index.ensures in
     filled.summed ∙ ap checksum (sym octets ∙ ap (staged_in c.args.self.now.filestore) c.from.ensures)

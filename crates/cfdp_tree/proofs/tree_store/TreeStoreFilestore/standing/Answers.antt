@@ -28,19 +28,28 @@ some_node P b has d e = subst P (same e) has
 
 pub standings-requires : goal.standings-requires
 standings-requires c =
-    let nodes = nodes_in c.self.inside.arena in let orders = c.self.inside.orders in let b = c.in-Some.node in let depth = c.depth.result in let list = walk_from orders depth (Some b) in
-    let survey = survey_from nodes c.self.invariant.store.kept.tree orders c.self.invariant.ordered (Some b) depth (some_node (IsNode nodes) b c.in-Some.ensures.node) (ap length c.in-Some.ensures.path ∙ sym c.depth.ensures.depth) in
-    record { sound = found_sound _ _ _ c.self.invariant.store _ c.self.view_is list c.in_ok-found.found.items (under_nodes nodes _ list survey) c.in_ok-found.ensures }
+    let nodes = nodes_in c.self.inside.arena in let orders = c.self.inside.orders in let b = c.in-Some.node in let depth = c.depth.result in let list =
+    walk_from orders depth (Some b) in
+    let survey = survey_from nodes c.self.invariant.store.kept.tree orders c.self.invariant.ordered (Some b) depth
+    (some_node (IsNode nodes) b c.in-Some.ensures.node) (ap length c.in-Some.ensures.path ∙ sym c.depth.ensures.depth) in
+    record {
+      sound = found_sound _ _ _ c.self.invariant.store _ c.self.view_is list c.in_ok-found.found.items
+          (under_nodes nodes _ list survey) c.in_ok-found.ensures;
+    }
 
 pub returns : goal.returns
 returns c =
-    let arena = c.self.inside.arena in let nodes = nodes_in arena in let orders = c.self.inside.orders in let b = c.in-Some.node in let path = c.args.path.now in let depth = c.depth.result in
-    let tree = c.self.invariant.store.kept.tree in let ordered = c.self.invariant.ordered in let list = walk_from orders depth (Some b) in let found = c.in_ok-found.found.items in let F = c.args.self.now.filestore in
+    let arena = c.self.inside.arena in let nodes = nodes_in arena in let orders = c.self.inside.orders in let b = c.in-Some.node in let path =
+    c.args.path.now in let depth = c.depth.result in
+    let tree = c.self.invariant.store.kept.tree in let ordered = c.self.invariant.ordered in let list = walk_from orders depth (Some b) in let found =
+    c.in_ok-found.found.items in let F = c.args.self.now.filestore in
     let node = some_node (IsNode nodes) b c.in-Some.ensures.node in
     let survey = survey_from nodes tree orders ordered (Some b) depth node (ap length c.in-Some.ensures.path ∙ sym c.depth.ensures.depth) in
-    let told = told_tree nodes tree path list (subst (λ p. IsSurvey nodes p list) c.in-Some.ensures.path survey) (survey_rising nodes tree orders ordered (Some b) depth node) found c.in_ok-found.ensures
+    let told = told_tree nodes tree path list (subst (λ p. IsSurvey nodes p list) c.in-Some.ensures.path survey)
+    (survey_rising nodes tree orders ordered (Some b) depth node) found c.in_ok-found.ensures
     arena F (shows _ _ _ c.self.invariant.store _ c.self.view_is) in
-    items_are (λ (v : Vec Standing Global). v.items) c.standings.result (map (λ e. standing_of (shown arena nodes e)) found) (standings_of F path) c.standings.ensures
+    items_are (λ (v : Vec Standing Global). v.items) c.standings.result (map (λ e. standing_of (shown arena nodes e)) found)
+    (standings_of F path) c.standings.ensures
     (sym (map-map standing_of (shown arena nodes) found) ∙ ap (map standing_of) told)
 
 not_some : (r : Option ℕ) (P : Type 0) → ((x : ℕ) → r ≡ Some x → ⊥) → IfNone r P → P
@@ -51,7 +60,8 @@ pub returns-in_default : goal.returns-in_default
 returns-in_default c =
     let arena = c.self.inside.arena in let nodes = nodes_in arena in let path = c.args.path.now in let kept = c.self.invariant.store.kept in
     let none = not_some c.find_path.result _ c.in_default.not-Some c.find_path.ensures.none in
-    let tree = found_tree nodes kept.tree path [] (none_under nodes kept.tree path c.find_path.ensures.some none) [] (IsPermutation-refl []) (λ k d low within. absurd (omega (arith, within)))
+    let tree = found_tree nodes kept.tree path [] (none_under nodes kept.tree path c.find_path.ensures.some none) [] (IsPermutation-refl [])
+    (λ k d low within. absurd (omega (arith, within)))
     arena c.args.self.now.filestore (shows _ _ _ c.self.invariant.store _ c.self.view_is) in
     c.new.ensures.items ∙ ap (map standing_of) tree
 
@@ -62,8 +72,12 @@ only_standing-requires c =
 
 pub returns-then-is_empty : goal.returns-then-is_empty
 returns-then-is_empty c =
-    let arena = c.self.inside.arena in let nodes = nodes_in arena in let orders = c.self.inside.orders in let b = c.in-Some.node in let path = c.args.path.now in let F = c.args.self.now.filestore in
-    let none : in_order orders (Some b) ≡ [] = no_nodes orders.links.items (order_at orders (Some b)) (sym (ap (λ (o : Order). o.height) c.of.ensures) ∙ c.is_empty.ensures.0 c.if-is_empty.true) in
-    let tree = alone_tree nodes c.self.invariant.store.kept.tree orders c.self.invariant.ordered b path c.in-Some.ensures.node c.in-Some.ensures.path none arena F (shows _ _ _ c.self.invariant.store _ c.self.view_is) in
-    items_are (λ (v : Vec Standing Global). v.items) c.only_standing.result (standing_of (shown arena nodes (path, b)) ∷ []) (standings_of F path) c.only_standing.ensures
+    let arena = c.self.inside.arena in let nodes = nodes_in arena in let orders = c.self.inside.orders in let b = c.in-Some.node in let path =
+    c.args.path.now in let F = c.args.self.now.filestore in
+    let none : in_order orders (Some b) ≡ [] = no_nodes orders.links.items (order_at orders (Some b)) (sym (ap (λ (o : Order). o.height) c.of.ensures)
+    ∙ c.is_empty.ensures.0 c.if-is_empty.true) in
+    let tree = alone_tree nodes c.self.invariant.store.kept.tree orders c.self.invariant.ordered b path c.in-Some.ensures.node c.in-Some.ensures.path none arena
+    F (shows _ _ _ c.self.invariant.store _ c.self.view_is) in
+    items_are (λ (v : Vec Standing Global). v.items) c.only_standing.result (standing_of (shown arena nodes (path, b)) ∷ [])
+    (standings_of F path) c.only_standing.ensures
     (ap (map standing_of) tree)

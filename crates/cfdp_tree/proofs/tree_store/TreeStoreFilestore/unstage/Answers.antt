@@ -31,7 +31,8 @@ record IsEmptied (arena : Blocks) (after : Slot) : Type 0 where
   sum : after.contents.sum ≡ 0
   placed : IsPlaced arena after
 
-emptied : (none : Contents) (after : Slot) → none.run.count ≡ 0 → none.size ≡ 0 → none.sum ≡ 0 → after.contents ≡ none → after.place.block ≡ none.run.first → after.place.index ≡ 0 → after.blank_from ≡ none.size → after.gap ≡ no_gap
+emptied : (none : Contents) (after : Slot) → none.run.count ≡ 0 → none.size ≡ 0 → none.sum ≡ 0 → after.contents ≡ none → after.place.block ≡ none.run.first →
+    after.place.index ≡ 0 → after.blank_from ≡ none.size → after.gap ≡ no_gap
     → (arena : Blocks) → IsEmptied arena after
 emptied none after blocks size sum holds block index blank gap arena = record {
   blocks = ap (λ (x : Contents). x.run.count) holds ∙ blocks;
@@ -42,16 +43,21 @@ emptied none after blocks size sum holds block index blank gap arena = record {
 
 pub release-requires : goal.release-requires
 release-requires c = record {
-  filled = slot_filled _ _ _ c.self.invariant.store _ c.self.view_is c.from-index.result (omega (arith, c.from-index.ensures, c.requires)) c.index.result.now c.index.ensures;
+  filled = slot_filled _ _ _ c.self.invariant.store _ c.self.view_is c.from-index.result
+      (omega (arith, c.from-index.ensures, c.requires)) c.index.result.now c.index.ensures;
 }
 
 pub invariant_of-self : goal.invariant_of-self
 invariant_of-self c =
-    let arena = c.self.inside.arena in let later = c.release.new.arena in let slot = c.index.result.now in let after = c.hold.new.self in let gone = c.release.ensures in
-    let none = emptied c.empty.result after c.empty.ensures.blocks c.empty.ensures.size c.empty.ensures.sum c.hold.ensures.contents c.hold.ensures.block c.hold.ensures.index c.hold.ensures.blank c.hold.ensures.gap later in
-    let had = slot_ways _ _ _ c.self.invariant.store _ c.self.view_is c.from-index.result (omega (arith, c.from-index.ensures, c.requires)) slot c.index.ensures in
+    let arena = c.self.inside.arena in let later = c.release.new.arena in let slot = c.index.result.now in let after = c.hold.new.self in let gone =
+    c.release.ensures in
+    let none = emptied c.empty.result after c.empty.ensures.blocks c.empty.ensures.size c.empty.ensures.sum c.hold.ensures.contents c.hold.ensures.block
+    c.hold.ensures.index c.hold.ensures.blank c.hold.ensures.gap later in
+    let had = slot_ways _ _ _ c.self.invariant.store _ c.self.view_is c.from-index.result
+    (omega (arith, c.from-index.ensures, c.requires)) slot c.index.ensures in
     record {
-      store = slot_store arena later c.self.inside.heads.items c.self.inside.slots.items c.self.invariant.store c.from-index.result (omega (arith, c.from-index.ensures, c.requires)) slot c.index.ensures after
+      store = slot_store arena later c.self.inside.heads.items c.self.inside.slots.items c.self.invariant.store c.from-index.result
+          (omega (arith, c.from-index.ensures, c.requires)) slot c.index.ensures after
           gone.nodes gone.capacity (spares_none arena later slot.contents.run slot.contents.run after.contents.run none.blocks gone.spares)
           (none_filled later after.contents none.blocks none.size none.sum) none.placed (no_room arena later slot after none.blocks none.size _ _ gone.freed)
           c.self.inside.ways.items (ways_none later c.self.inside.ways.items after.contents.run (had.long ∙ sym gone.capacity) none.blocks)
@@ -67,9 +73,12 @@ returns-clause-ticks c =
 
 pub returns-clause-dropped : goal.returns-clause-dropped
 returns-clause-dropped c =
-    let arena = c.self.inside.arena in let later = c.release.new.arena in let slot = c.index.result.now in let after = c.hold.new.self in let gone = c.release.ensures in
-    let none = emptied c.empty.result after c.empty.ensures.blocks c.empty.ensures.size c.empty.ensures.sum c.hold.ensures.contents c.hold.ensures.block c.hold.ensures.index c.hold.ensures.blank c.hold.ensures.gap later in
-    slot_changes arena later c.self.inside.heads.items c.self.inside.slots.items c.self.invariant.store c.from-index.result (omega (arith, c.from-index.ensures, c.requires)) slot c.index.ensures after
+    let arena = c.self.inside.arena in let later = c.release.new.arena in let slot = c.index.result.now in let after = c.hold.new.self in let gone =
+    c.release.ensures in
+    let none = emptied c.empty.result after c.empty.ensures.blocks c.empty.ensures.size c.empty.ensures.sum c.hold.ensures.contents c.hold.ensures.block
+    c.hold.ensures.index c.hold.ensures.blank c.hold.ensures.gap later in
+    slot_changes arena later c.self.inside.heads.items c.self.inside.slots.items c.self.invariant.store c.from-index.result
+    (omega (arith, c.from-index.ensures, c.requires)) slot c.index.ensures after
     gone.nodes gone.capacity (spares_none arena later slot.contents.run slot.contents.run after.contents.run none.blocks gone.spares)
     (none_filled later after.contents none.blocks none.size none.sum) none.placed (no_room arena later slot after none.blocks none.size _ _ gone.freed)
     c.args.self.now c.self.view_is c.args.slot c.from-index.ensures [] (none_contents later after.contents none.blocks none.size)

@@ -1,6 +1,6 @@
 -- Prefixes of paths.
 --     below_itself, below_append, append_below     p is at or below p, p/r is at or below p, and what is at or below p is p/r
---     parent_below                                 the parent of what stands below q is at or below q
+--     parent_below                                 the parent of what is below q is at or below q
 --     rebased-below, rebased_back, same_rebased    p/r to q/r and back
 --     length-parent
 use Rattle.std.proofs.Common.{◌≡◌, ◌≢◌, refl, sym, ◌∙◌, ap, Bool, true, false, ◌&&◌, suc, [], ◌∷◌, ◌++◌, length, drop, true≢false}
@@ -10,7 +10,7 @@ use Rattle.std.specs.Cmp.{eq_by_cmp_equiv}
 use Rattle.std.specs.Cmp.Lexicographic.{nat_list_cmp_total}
 use Rattle.std.specs.FinMap.{slice_cmp-IsAntisymmetric, nat_cmp-IsAntisymmetric}
 use Rattle.std.specs.Cmp.{Equal-is}
-use Rattle.cfdp_states.proofs.Order.{same_path-true, same_path-is}
+use Rattle.cfdp_actions.proofs.Order.{same_path-true, same_path-is}
 
 pub same_name-refl : (n : Name) → same_name n n ≡ true
 same_name-refl n = (eq_by_cmp_equiv nat_list_cmp_total).refl n

@@ -5,7 +5,7 @@ use Rattle.cfdp_paths.specs.Paths.{Path}
 use Rattle.cfdp_status.specs.declared.action.Action.{Action}
 use Rattle.cfdp_actions.specs.Filestore.{Node, Directory, File, Filestore, node_at, staged_in, blocks_of, weight, blocks, Becomes, Stages, changed, after}
 use Rattle.cfdp_actions.specs.Actions.{Outcome, create, delete_file, append, replace, remove_directory, deny_file, deny_directory, install}
-use Rattle.cfdp_states.proofs.Weights.{blocks-becomes, blocks-stages}
+use Rattle.cfdp_actions.proofs.Weights.{blocks-becomes, blocks-stages}
 
 abbrev pub Grows : Filestore → Outcome → Type 0
 Grows F o = blocks (after F o.changes) + o.given ≡ blocks F + o.taken
@@ -21,7 +21,8 @@ pub blocks_of-le : (m n : ℕ) → m ≤ n → blocks_of m ≤ blocks_of n
 unfolding blocks_of
 blocks_of-le m n h = omega arith
 
-pub create-grows : (F : Filestore) (action : Action) (node : Node) (p : Path) (a : Option Node) (good : Bool) → node_at F p ≡ a → weight (Some node) ≡ 1 → Grows F (create action node p a good)
+pub create-grows : (F : Filestore) (action : Action) (node : Node) (p : Path) (a : Option Node) (good : Bool) → node_at F p ≡ a → weight (Some node) ≡ 1 →
+    Grows F (create action node p a good)
 unfolding create
 create-grows F action node p (Some _) good e w = refl
 create-grows F action node p None false e w = refl
@@ -65,7 +66,8 @@ append-grows F p (Some a) None e = refl
 append-grows F p (Some Directory) (Some b) e = refl
 append-grows F p (Some (File xs)) (Some Directory) e = refl
 append-grows F p (Some (File xs)) (Some (File ys)) e =
-    let g : blocks (changed F (Becomes p (Some (File (xs ++ ys))))) + (1 + blocks_of (length xs)) ≡ blocks F + (1 + blocks_of (length (xs ++ ys))) = grows_one F p (Some (File (xs ++ ys))) (Some (File xs)) e in
+    let g : blocks (changed F (Becomes p (Some (File (xs ++ ys))))) + (1 + blocks_of (length xs)) ≡ blocks F + (1 + blocks_of (length (xs ++ ys))) =
+    grows_one F p (Some (File (xs ++ ys))) (Some (File xs)) e in
     let l : blocks_of (length (xs ++ ys)) ≡ blocks_of (length xs + length ys) = ap blocks_of (length-append xs ys) in
     let more : blocks_of (length xs) ≤ blocks_of (length xs + length ys) = blocks_of-le _ _ (omega arith) in
     omega arith
@@ -78,7 +80,8 @@ replace-grows F p same (Some Directory) (Some b) e = refl
 replace-grows F p same (Some (File xs)) (Some Directory) e = refl
 replace-grows F p true (Some (File xs)) (Some (File ys)) e = refl
 replace-grows F p false (Some (File xs)) (Some (File ys)) e =
-    let g : blocks (changed F (Becomes p (Some (File ys)))) + (1 + blocks_of (length xs)) ≡ blocks F + (1 + blocks_of (length ys)) = grows_one F p (Some (File ys)) (Some (File xs)) e in
+    let g : blocks (changed F (Becomes p (Some (File ys)))) + (1 + blocks_of (length xs)) ≡ blocks F + (1 + blocks_of (length ys)) =
+    grows_one F p (Some (File ys)) (Some (File xs)) e in
     omega arith
 
 emptied : (F : Filestore) (slot : ℕ) → slot < length F.staged → blocks (changed F (Stages slot [])) + blocks_of (length (staged_in F slot)) ≡ blocks F
@@ -87,7 +90,8 @@ emptied F slot h =
     let z : blocks_of 0 ≡ 0 = blocks_of-zero in
     omega arith
 
-pub install-grows : (F : Filestore) (slot : ℕ) (p : Path) (a : Option Node) (good : Bool) → slot < length F.staged → node_at F p ≡ a → Grows F (install slot p (staged_in F slot) a good)
+pub install-grows : (F : Filestore) (slot : ℕ) (p : Path) (a : Option Node) (good : Bool) → slot < length F.staged → node_at F p ≡ a →
+    Grows F (install slot p (staged_in F slot) a good)
 unfolding install
 install-grows F slot p None false h e = refl
 install-grows F slot p (Some node) false h e = refl
@@ -95,10 +99,12 @@ install-grows F slot p (Some Directory) true h e = refl
 install-grows F slot p None true h e =
     let octets = staged_in F slot in
     let free : blocks (changed F (Stages slot [])) + blocks_of (length octets) ≡ blocks F = emptied F slot h in
-    let g : blocks (changed (changed F (Stages slot [])) (Becomes p (Some (File octets)))) + 0 ≡ blocks (changed F (Stages slot [])) + (1 + blocks_of (length octets)) = grows_one (changed F (Stages slot [])) p (Some (File octets)) None e in
+    let g : blocks (changed (changed F (Stages slot [])) (Becomes p (Some (File octets)))) + 0 ≡ blocks (changed F (Stages slot []))
+    + (1 + blocks_of (length octets)) = grows_one (changed F (Stages slot [])) p (Some (File octets)) None e in
     omega arith
 install-grows F slot p (Some (File old)) true h e =
     let octets = staged_in F slot in
     let free : blocks (changed F (Stages slot [])) + blocks_of (length octets) ≡ blocks F = emptied F slot h in
-    let g : blocks (changed (changed F (Stages slot [])) (Becomes p (Some (File octets)))) + (1 + blocks_of (length old)) ≡ blocks (changed F (Stages slot [])) + (1 + blocks_of (length octets)) = grows_one (changed F (Stages slot [])) p (Some (File octets)) (Some (File old)) e in
+    let g : blocks (changed (changed F (Stages slot [])) (Becomes p (Some (File octets)))) + (1 + blocks_of (length old)) ≡ blocks (changed F (Stages slot []))
+    + (1 + blocks_of (length octets)) = grows_one (changed F (Stages slot [])) p (Some (File octets)) (Some (File old)) e in
     omega arith

@@ -11,7 +11,7 @@ use Rattle.std.specs.FinMap.{FinMap, IsAntisymmetric, entries, entries_sorted, g
 use Rattle.std.specs.FinMap.Entries.{by_order, below_all, is_sorted, is_sorted-where_key, find, find-where_key, put, where_key, same_entries}
 use Rattle.cfdp_paths.specs.Paths.{Path, path_cmp, same_path}
 use Rattle.cfdp_actions.specs.Filestore.{Node, Filestore, node_at, staged_in, blocks_of, weight, weights, blocks, Becomes, Stages, changed}
-use Rattle.cfdp_states.proofs.Order.{paths_total, paths_exact, same_path-symm, same_path-true}
+use Rattle.cfdp_actions.proofs.Order.{paths_total, paths_exact, same_path-symm, same_path-true}
 
 first : (a b : Bool) → T (a && b) → T a
 first true b p = tt
@@ -68,15 +68,18 @@ module _ {X : Type 0} where
   nothing_left : (k : Path) (es : List (Path × X)) → T (below_all path_cmp k es) → where_key path_cmp (λ x. not (eq_by_cmp path_cmp k x)) es ≡ es
   nothing_left k [] h = refl
   nothing_left k (e ∷ es) h =
-      ap (λ r. cond (not (is_eq r)) (e ∷ where_key path_cmp (λ x. not (eq_by_cmp path_cmp k x)) es) (where_key path_cmp (λ x. not (eq_by_cmp path_cmp k x)) es)) (lesser _ (first _ _ h))
+      ap (λ r. cond (not (is_eq r)) (e ∷ where_key path_cmp (λ x. not (eq_by_cmp path_cmp k x)) es) (where_key path_cmp (λ x. not (eq_by_cmp path_cmp k x)) es))
+      (lesser _ (first _ _ h))
       ∙ ap (λ es. e ∷ es) (nothing_left k es (second _ _ h))
 
   -- in a map
   pub entries-remove : (m : FinMap path_cmp X) (k : Path) → entries (remove m k) ≡ where_key path_cmp (λ x. not (eq_by_cmp path_cmp k x)) (entries m)
-  entries-remove m k = same_entries path_cmp paths_total paths_exact _ _ (entries_sorted (remove m k)) (is_sorted-where_key path_cmp _ (entries m) (entries_sorted m)) (λ q.
+  entries-remove m k = same_entries path_cmp paths_total paths_exact _ _ (entries_sorted (remove m k))
+      (is_sorted-where_key path_cmp _ (entries m) (entries_sorted m)) (λ q.
       sym (get-entries (remove m k) q) ∙ get-remove paths_total m k q ∙ turned (eq_by_cmp path_cmp q k) (eq_by_cmp path_cmp k q) (same_path-symm q k) (get m q)
       ∙ ap (λ v. cond (not (eq_by_cmp path_cmp k q)) v None) (get-entries m q)
-      ∙ sym (find-where_key path_cmp (λ x. not (eq_by_cmp path_cmp k x)) q (λ x e. ap (λ x. not (eq_by_cmp path_cmp k x)) (sym (paths_exact q x e))) (entries m)))
+      ∙ sym (find-where_key path_cmp (λ x. not (eq_by_cmp path_cmp k x)) q (λ x e. ap (λ x. not (eq_by_cmp path_cmp k x)) (sym (paths_exact q x e)))
+      (entries m)))
     where
       turned : (a b : Bool) → a ≡ b → (v : Option X) → cond a None v ≡ cond (not b) v None
       turned true true e v = refl
@@ -96,20 +99,25 @@ module _ {X : Type 0} (weigh : X → ℕ) where
   weighed (Some x) = weigh x
 
   -- at the place of k
-  pub totals-put : (k : Path) (v : X) (es : List (Path × X)) → T (is_sorted path_cmp es) → totals (put path_cmp k v es) + weighed (find path_cmp k es) ≡ totals es + weigh v
+  pub totals-put : (k : Path) (v : X) (es : List (Path × X)) → T (is_sorted path_cmp es) → totals (put path_cmp k v es) + weighed (find path_cmp k es)
+      ≡ totals es + weigh v
   totals-put k v [] h = omega arith
   totals-put k v (e ∷ es) h =
-      elim (path_cmp k e.0) as (λ r. path_cmp k e.0 ≡ r → totals (by_order r ((k, v) ∷ e ∷ es) ((e.0, v) ∷ es) (e ∷ put path_cmp k v es)) + weighed (cond (is_eq r) (Some e.1) (find path_cmp k es)) ≡ totals (e ∷ es) + weigh v) [
+      elim (path_cmp k e.0) as (λ r. path_cmp k e.0 ≡ r → totals (by_order r ((k, v) ∷ e ∷ es) ((e.0, v) ∷ es) (e ∷ put path_cmp k v es))
+      + weighed (cond (is_eq r) (Some e.1) (find path_cmp k es)) ≡ totals (e ∷ es) + weigh v) [
         | Less ↦ λ p. let none : weighed (find path_cmp k es) ≡ 0 = ap weighed (find_below k es (below_less k e.0 es p (below_rest e es h))) in omega arith
         | Equal ↦ λ p. omega arith
-        | Greater ↦ λ p. let rest : totals (put path_cmp k v es) + weighed (find path_cmp k es) ≡ totals es + weigh v = totals-put k v es (sorted_rest e es h) in omega arith
+        | Greater ↦ λ p. let rest : totals (put path_cmp k v es) + weighed (find path_cmp k es) ≡ totals es + weigh v =
+            totals-put k v es (sorted_rest e es h) in omega arith
       ] refl
 
-  pub totals-without : (k : Path) (es : List (Path × X)) → T (is_sorted path_cmp es) → totals (where_key path_cmp (λ x. not (eq_by_cmp path_cmp k x)) es) + weighed (find path_cmp k es) ≡ totals es
+  pub totals-without : (k : Path) (es : List (Path × X)) → T (is_sorted path_cmp es) → totals (where_key path_cmp (λ x. not (eq_by_cmp path_cmp k x)) es)
+      + weighed (find path_cmp k es) ≡ totals es
   totals-without k [] h = omega arith
   totals-without k (e ∷ es) h =
       let left = where_key path_cmp (λ x. not (eq_by_cmp path_cmp k x)) es in
-      elim (path_cmp k e.0) as (λ r. path_cmp k e.0 ≡ r → totals (cond (not (is_eq r)) (e ∷ left) left) + weighed (cond (is_eq r) (Some e.1) (find path_cmp k es)) ≡ totals (e ∷ es)) [
+      elim (path_cmp k e.0) as (λ r. path_cmp k e.0 ≡ r → totals (cond (not (is_eq r)) (e ∷ left) left)
+      + weighed (cond (is_eq r) (Some e.1) (find path_cmp k es)) ≡ totals (e ∷ es)) [
         | Less ↦ λ p. let rest : totals left + weighed (find path_cmp k es) ≡ totals es = totals-without k es (sorted_rest e es h) in omega arith
         | Equal ↦ λ p. let rest : totals left ≡ totals es = ap totals (nothing_left k es (below_tied k e.0 es p (below_rest e es h))) in omega arith
         | Greater ↦ λ p. let rest : totals left + weighed (find path_cmp k es) ≡ totals es = totals-without k es (sorted_rest e es h) in omega arith
@@ -128,7 +136,8 @@ weight-weighed : (a : Option Node) → weight a ≡ weighed block_count a
 weight-weighed None = refl
 weight-weighed (Some node) = refl
 
-pub weights-becomes : (F : Filestore) (p : Path) (node : Option Node) → weights (entries (changed F (Becomes p node)).nodes) + weight (node_at F p) ≡ weights (entries F.nodes) + weight node
+pub weights-becomes : (F : Filestore) (p : Path) (node : Option Node) → weights (entries (changed F (Becomes p node)).nodes) + weight (node_at F p)
+    ≡ weights (entries F.nodes) + weight node
 weights-becomes F p node = by_node node
   where
     old : weighed block_count (find path_cmp p (entries F.nodes)) ≡ weight (node_at F p)
@@ -136,11 +145,13 @@ weights-becomes F p node = by_node node
 
     by_node : (node : Option Node) → weights (entries (changed F (Becomes p node)).nodes) + weight (node_at F p) ≡ weights (entries F.nodes) + weight node
     by_node None =
-        let e : weights (entries (remove F.nodes p)) ≡ totals block_count (where_key path_cmp (λ x. not (eq_by_cmp path_cmp p x)) (entries F.nodes)) = weights-totals _ ∙ ap (totals block_count) (entries-remove F.nodes p) in
+        let e : weights (entries (remove F.nodes p)) ≡ totals block_count (where_key path_cmp (λ x. not (eq_by_cmp path_cmp p x)) (entries F.nodes)) =
+        weights-totals _ ∙ ap (totals block_count) (entries-remove F.nodes p) in
         let f = totals-without block_count p (entries F.nodes) (entries_sorted F.nodes) in
         omega (arith, e, f, old, weights-totals (entries F.nodes))
     by_node (Some n) =
-        let e : weights (entries (insert F.nodes p n)) ≡ totals block_count (put path_cmp p n (entries F.nodes)) = weights-totals _ ∙ ap (totals block_count) (entries-insert paths_total F.nodes p n) in
+        let e : weights (entries (insert F.nodes p n)) ≡ totals block_count (put path_cmp p n (entries F.nodes)) = weights-totals _
+        ∙ ap (totals block_count) (entries-insert paths_total F.nodes p n) in
         let f = totals-put block_count p n (entries F.nodes) (entries_sorted F.nodes) in
         omega (arith, e, f, old, weights-totals (entries F.nodes))
 
@@ -153,7 +164,8 @@ blocks-becomes F p node =
     omega arith
 
 -- and of a slot
-pub blocks-stages : (F : Filestore) (slot : ℕ) (octets : List ℕ) → slot < length F.staged → blocks (changed F (Stages slot octets)) + blocks_of (length (staged_in F slot)) ≡ blocks F + blocks_of (length octets)
+pub blocks-stages : (F : Filestore) (slot : ℕ) (octets : List ℕ) → slot < length F.staged → blocks (changed F (Stages slot octets))
+    + blocks_of (length (staged_in F slot)) ≡ blocks F + blocks_of (length octets)
 unfolding blocks
 blocks-stages F slot octets h =
     let w = sum_by-set (λ (octets : List ℕ). blocks_of (length octets)) F.staged slot octets [] h in

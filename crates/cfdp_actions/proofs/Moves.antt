@@ -1,5 +1,5 @@
--- Moving a directory: each p/r stands at q/r.
---     below_absent                    nothing stands at or below a path where nothing stands
+-- Moving a directory: each p/r is at q/r.
+--     below_absent                    nothing is at or below a path where nothing is
 --     after-append                    changes in turn
 --     tree_at-all, find-tree_at       the entries of a tree are at or below its path, and those of the filestore
 --     node_at-vacated, node_at-settled
@@ -15,16 +15,16 @@ use Rattle.cfdp_actions.specs.Filestore.{Node, Filestore, node_at, weight, weigh
 use Rattle.cfdp_status.specs.declared.action.Action.TheVariants as action
 use Rattle.cfdp_status.specs.declared.status.Status.TheVariants.{NotAllowed}
 use Rattle.cfdp_actions.specs.Actions.{refused, succeeds, vacated, settled, is_too_deep, rename}
-use Rattle.cfdp_states.proofs.Order.{paths_exact, same_path-true, same_path-refl, node_at-becomes, node_at-becomes_apart}
-use Rattle.cfdp_states.proofs.Weights.{entries-retain_keys, sorted_rest, find_later}
-use Rattle.cfdp_states.proofs.Prefixes.{rebased-below, rebased_back, same_rebased, length-parent, parent_below}
-use Rattle.cfdp_states.proofs.Growth.{Grows, grows_one}
-use Rattle.cfdp_states.proofs.Order.{paths_total}
+use Rattle.cfdp_actions.proofs.Order.{paths_exact, same_path-true, same_path-refl, node_at-becomes, node_at-becomes_apart}
+use Rattle.cfdp_actions.proofs.Weights.{entries-retain_keys, sorted_rest, find_later}
+use Rattle.cfdp_actions.proofs.Prefixes.{rebased-below, rebased_back, same_rebased, length-parent, parent_below}
+use Rattle.cfdp_actions.proofs.Growth.{Grows, grows_one}
+use Rattle.cfdp_actions.proofs.Order.{paths_total}
 
 not_none : {A : Type 0} (x : A) → Some x ≢ None
 not_none x e = true≢false (ap is_some e)
 
--- ---- nothing stands below a path where nothing stands
+-- ---- nothing is below a path where nothing exists
 
 directory_there : (a : Option Node) → is_directory a ≡ true → a ≢ None
 directory_there None e none = true≢false (sym e)
@@ -38,7 +38,8 @@ only_root : (q : Path) → is_at_or_below [] q ≡ true → q ≡ []
 only_root [] e = refl
 only_root (n ∷ q) e = absurd (true≢false (sym e))
 
-pub below_absent : (F : Filestore) (q : Path) → IsRooted F → q ≢ [] → node_at F q ≡ None → (k : ℕ) (x : Path) → length x ≤ k → is_at_or_below x q ≡ true → node_at F x ≡ None
+pub below_absent : (F : Filestore) (q : Path) → IsRooted F → q ≢ [] → node_at F q ≡ None → (k : ℕ) (x : Path) → length x ≤ k → is_at_or_below x q ≡ true →
+    node_at F x ≡ None
 below_absent F q rooted named none k [] le below = absurd (named (only_root q below))
 below_absent F q rooted named none zero (n ∷ x) le below = absurd (omega arith)
 below_absent F q rooted named none (suc k) (n ∷ x) le below =
@@ -69,7 +70,8 @@ unfolding AllBelow
 kept_pass p [] = tt
 kept_pass p (e ∷ es) =
     let rest = kept_pass p es in
-    elim (is_at_or_below e.0 p) as (λ b. is_at_or_below e.0 p ≡ b → AllByRecursion (λ e. is_at_or_below e.0 p ≡ true) (cond b (e ∷ where_key path_cmp (λ q. is_at_or_below q p) es) (where_key path_cmp (λ q. is_at_or_below q p) es))) [
+    elim (is_at_or_below e.0 p) as (λ b. is_at_or_below e.0 p ≡ b → AllByRecursion (λ e. is_at_or_below e.0 p ≡ true)
+    (cond b (e ∷ where_key path_cmp (λ q. is_at_or_below q p) es) (where_key path_cmp (λ q. is_at_or_below q p) es))) [
       | true ↦ λ is. (is, rest)
       | false ↦ λ is. rest
     ] refl
@@ -81,16 +83,19 @@ pub tree_at-sorted : (F : Filestore) (p : Path) → T (is_sorted path_cmp (tree_
 tree_at-sorted F p = entries_sorted (retain_keys F.nodes (λ q. is_at_or_below q p))
 
 pub find-tree_at : (F : Filestore) (p x : Path) → find path_cmp x (tree_at F p) ≡ cond (is_at_or_below x p) (node_at F x) None
-find-tree_at F p x = sym (get-entries (retain_keys F.nodes (λ q. is_at_or_below q p)) x) ∙ get-retain_keys F.nodes (λ q. is_at_or_below q p) x (λ y e. ap (λ z. is_at_or_below z p) (sym (paths_exact x y e)))
+find-tree_at F p x = sym (get-entries (retain_keys F.nodes (λ q. is_at_or_below q p)) x)
+    ∙ get-retain_keys F.nodes (λ q. is_at_or_below q p) x (λ y e. ap (λ z. is_at_or_below z p) (sym (paths_exact x y e)))
 
 -- ---- vacated
 
-pub node_at-vacated : (F : Filestore) (es : List (Path × Node)) (x : Path) → node_at (after F (vacated es)) x ≡ cond (is_some (find path_cmp x es)) None (node_at F x)
+pub node_at-vacated : (F : Filestore) (es : List (Path × Node)) (x : Path) → node_at (after F (vacated es)) x
+    ≡ cond (is_some (find path_cmp x es)) None (node_at F x)
 node_at-vacated F [] x = refl
 node_at-vacated F (e ∷ es) x =
     node_at-vacated (changed F (Becomes e.0 None)) es x
     ∙ ap (λ v. cond (is_some (find path_cmp x es)) None v) (node_at-becomes F e.0 None x)
-    ∙ elim (same_path x e.0) as (λ b. cond (is_some (find path_cmp x es)) None (cond b None (node_at F x)) ≡ cond (is_some (cond b (Some e.1) (find path_cmp x es))) None (node_at F x)) [
+    ∙ elim (same_path x e.0) as (λ b. cond (is_some (find path_cmp x es)) None (cond b None (node_at F x))
+    ≡ cond (is_some (cond b (Some e.1) (find path_cmp x es))) None (node_at F x)) [
       | true ↦ elim (is_some (find path_cmp x es)) as (λ b. cond b None (cond true None (node_at F x)) ≡ None) [ true ↦ refl | false ↦ refl ]
       | false ↦ refl
     ]
@@ -99,7 +104,8 @@ node_at-vacated F (e ∷ es) x =
 abbrev pub Holds : Filestore → List (Path × Node) → Type 0
 Holds F es = (x : Path) → IsSome (find path_cmp x es) → node_at F x ≡ find path_cmp x es
 
-holds_rest : (F : Filestore) (e : Path × Node) (es : List (Path × Node)) → T (is_sorted path_cmp (e ∷ es)) → Holds F (e ∷ es) → Holds (changed F (Becomes e.0 None)) es
+holds_rest : (F : Filestore) (e : Path × Node) (es : List (Path × Node)) → T (is_sorted path_cmp (e ∷ es)) → Holds F (e ∷ es) →
+    Holds (changed F (Becomes e.0 None)) es
 holds_rest F e es h holds x there =
     elim (same_path x e.0) as (λ b. same_path x e.0 ≡ b → node_at (changed F (Becomes e.0 None)) x ≡ find path_cmp x es) [
       | true ↦ λ t. absurd (true≢false (sym there ∙ ap is_some (find_later e es h x t)))
@@ -123,7 +129,7 @@ blocks-vacated F (e ∷ es) h holds =
 
 -- ---- settled
 
--- nothing stands where they are to stand
+-- nothing is where they are to be
 abbrev pub Vacant : Path → Path → Filestore → List (Path × Node) → Type 0
 Vacant p q G es = (x : Path) → IsTrue (is_at_or_below x q) → IsSome (find path_cmp (rebased q p x) es) → node_at G x ≡ None
 
@@ -135,7 +141,8 @@ pub tail_below : (p : Path) (e : Path × Node) (es : List (Path × Node)) → Al
 unfolding AllBelow
 tail_below p e es h = h.1
 
-vacant_rest : (p q : Path) (G : Filestore) (e : Path × Node) (es : List (Path × Node)) → T (is_sorted path_cmp (e ∷ es)) → AllBelow p (e ∷ es) → Vacant p q G (e ∷ es) → Vacant p q (changed G (Becomes (rebased p q e.0) (Some e.1))) es
+vacant_rest : (p q : Path) (G : Filestore) (e : Path × Node) (es : List (Path × Node)) → T (is_sorted path_cmp (e ∷ es)) → AllBelow p (e ∷ es) →
+    Vacant p q G (e ∷ es) → Vacant p q (changed G (Becomes (rebased p q e.0) (Some e.1))) es
 vacant_rest p q G e es h all vacant x below there =
     let y = rebased q p x in
     let moved : same_path x (rebased p q e.0) ≡ same_path y e.0 = same_rebased p q x e.0 below (head_below p e es all) in
@@ -146,37 +153,44 @@ vacant_rest p q G e es h all vacant x below there =
           node_at-becomes_apart G (rebased p q e.0) (Some e.1) x (moved ∙ t) ∙ vacant x below (ap is_some same ∙ there)
     ] refl
 
-vacant_first : (p q : Path) (G : Filestore) (e : Path × Node) (es : List (Path × Node)) → AllBelow p (e ∷ es) → Vacant p q G (e ∷ es) → node_at G (rebased p q e.0) ≡ None
+vacant_first : (p q : Path) (G : Filestore) (e : Path × Node) (es : List (Path × Node)) → AllBelow p (e ∷ es) → Vacant p q G (e ∷ es) →
+    node_at G (rebased p q e.0) ≡ None
 vacant_first p q G e es all vacant =
     let back : rebased q p (rebased p q e.0) ≡ e.0 = rebased_back p q e.0 (head_below p e es all) in
     let here : find path_cmp e.0 (e ∷ es) ≡ Some e.1 = ap (λ b. cond b (Some e.1) (find path_cmp e.0 es)) (same_path-refl e.0) in
     vacant (rebased p q e.0) (rebased-below p q e.0) (ap (λ y. is_some (find path_cmp y (e ∷ es))) back ∙ ap is_some here)
 
-pub blocks-settled : (p q : Path) (G : Filestore) (es : List (Path × Node)) → T (is_sorted path_cmp es) → AllBelow p es → Vacant p q G es → blocks (after G (settled p q es)) ≡ blocks G + weights es
+pub blocks-settled : (p q : Path) (G : Filestore) (es : List (Path × Node)) → T (is_sorted path_cmp es) → AllBelow p es → Vacant p q G es →
+    blocks (after G (settled p q es)) ≡ blocks G + weights es
 blocks-settled p q G [] h all vacant = omega arith
 blocks-settled p q G (e ∷ es) h all vacant =
     let H = changed G (Becomes (rebased p q e.0) (Some e.1)) in
-    let rest : blocks (after H (settled p q es)) ≡ blocks H + weights es = blocks-settled p q H es (sorted_rest e es h) (tail_below p e es all) (vacant_rest p q G e es h all vacant) in
+    let rest : blocks (after H (settled p q es)) ≡ blocks H + weights es =
+    blocks-settled p q H es (sorted_rest e es h) (tail_below p e es all) (vacant_rest p q G e es h all vacant) in
     let one : blocks H + 0 ≡ blocks G + weight (Some e.1) = grows_one G (rebased p q e.0) (Some e.1) None (vacant_first p q G e es all vacant) in
     omega arith
 
 -- at what is at or below q
-pub node_at-settled : (p q : Path) (G : Filestore) (es : List (Path × Node)) → T (is_sorted path_cmp es) → AllBelow p es → (x : Path) → is_at_or_below x q ≡ true →
+pub node_at-settled : (p q : Path) (G : Filestore) (es : List (Path × Node)) → T (is_sorted path_cmp es) → AllBelow p es → (x : Path) → is_at_or_below x q
+    ≡ true →
     node_at (after G (settled p q es)) x ≡ cond (is_some (find path_cmp (rebased q p x) es)) (find path_cmp (rebased q p x) es) (node_at G x)
 node_at-settled p q G [] h all x below = refl
 node_at-settled p q G (e ∷ es) h all x below =
     let y = rebased q p x in
     let H = changed G (Becomes (rebased p q e.0) (Some e.1)) in
     node_at-settled p q H es (sorted_rest e es h) (tail_below p e es all) x below
-    ∙ ap (λ v. cond (is_some (find path_cmp y es)) (find path_cmp y es) v) (node_at-becomes G (rebased p q e.0) (Some e.1) x ∙ ap (λ b. cond b (Some e.1) (node_at G x)) (same_rebased p q x e.0 below (head_below p e es all)))
+    ∙ ap (λ v. cond (is_some (find path_cmp y es)) (find path_cmp y es) v) (node_at-becomes G (rebased p q e.0) (Some e.1) x
+    ∙ ap (λ b. cond b (Some e.1) (node_at G x)) (same_rebased p q x e.0 below (head_below p e es all)))
     ∙ elim (same_path y e.0) as (λ b. same_path y e.0 ≡ b →
-    cond (is_some (find path_cmp y es)) (find path_cmp y es) (cond b (Some e.1) (node_at G x)) ≡ cond (is_some (cond b (Some e.1) (find path_cmp y es))) (cond b (Some e.1) (find path_cmp y es)) (node_at G x)) [
+    cond (is_some (find path_cmp y es)) (find path_cmp y es) (cond b (Some e.1) (node_at G x))
+    ≡ cond (is_some (cond b (Some e.1) (find path_cmp y es))) (cond b (Some e.1) (find path_cmp y es)) (node_at G x)) [
       | true ↦ λ t. ap (λ v. cond (is_some v) v (Some e.1)) (find_later e es h y t)
       | false ↦ λ t. refl
     ] refl
 
 -- and at all others
-pub node_at-settled_apart : (p q : Path) (G : Filestore) (es : List (Path × Node)) (x : Path) → is_at_or_below x q ≡ false → node_at (after G (settled p q es)) x ≡ node_at G x
+pub node_at-settled_apart : (p q : Path) (G : Filestore) (es : List (Path × Node)) (x : Path) → is_at_or_below x q ≡ false →
+    node_at (after G (settled p q es)) x ≡ node_at G x
 node_at-settled_apart p q G [] x apart = refl
 node_at-settled_apart p q G (e ∷ es) x apart =
     node_at-settled_apart p q (changed G (Becomes (rebased p q e.0) (Some e.1))) es x apart
@@ -211,14 +225,15 @@ module _ (F : Filestore) (p q : Path) (empty : (x : Path) → is_at_or_below x q
   blocks-moved_free =
       let es = tree_at F p in
       let out : blocks (after F (vacated es)) + weights es ≡ blocks F = blocks-vacated F es (tree_at-sorted F p) (holds_tree F p) in
-      let back : blocks (after (after F (vacated es)) (settled p q es)) ≡ blocks (after F (vacated es)) + weights es = blocks-settled p q (after F (vacated es)) es (tree_at-sorted F p) (tree_at-all F p) (λ x below there. nothing_vacated x below) in
+      let back : blocks (after (after F (vacated es)) (settled p q es)) ≡ blocks (after F (vacated es)) + weights es =
+      blocks-settled p q (after F (vacated es)) es (tree_at-sorted F p) (tree_at-all F p) (λ x below there. nothing_vacated x below) in
       ap blocks (after-append F (vacated es) (settled p q es)) ∙ back ∙ out
 
 module _ (F : Filestore) (p q : Path) (rooted : IsRooted F) (named : q ≢ []) (none : node_at F q ≡ None) where
   pub nothing_there : (x : Path) → is_at_or_below x q ≡ true → node_at F x ≡ None
   nothing_there x below = below_absent F q rooted named none (length x) x (le_refl _) below
 
-  -- at or below q stands what stood at or below p
+  -- at or below q is what was at or below p
   pub moved_there : (x : Path) → is_at_or_below x q ≡ true → node_at (moved F p q) x ≡ node_at F (rebased q p x)
   moved_there x below =
       let y = rebased q p x in
@@ -233,7 +248,7 @@ module _ (F : Filestore) (p q : Path) (rooted : IsRooted F) (named : q ≢ []) (
       itself None = refl
       itself (Some n) = refl
 
-  -- at or below p nothing stands any more, and at all others what stood there
+  -- at or below p nothing exists any more, and at all others what was there
   pub moved_apart : (x : Path) → is_at_or_below x q ≡ false → node_at (moved F p q) x ≡ cond (is_at_or_below x p) None (node_at F x)
   moved_apart x apart =
       let es = tree_at F p in
@@ -254,14 +269,16 @@ module _ (F : Filestore) (p q : Path) (rooted : IsRooted F) (named : q ≢ []) (
   pub blocks-moved : blocks (moved F p q) ≡ blocks F
   blocks-moved = blocks-moved_free F p q nothing_there
 
-pub rename-grows : (F : Filestore) (p q : Path) (a b : Option Node) (good below : Bool) → IsRooted F → node_at F q ≡ b → parent_is_good F q ≡ good → Grows F (rename p q a b good below (tree_at F p))
+pub rename-grows : (F : Filestore) (p q : Path) (a b : Option Node) (good below : Bool) → IsRooted F → node_at F q ≡ b → parent_is_good F q ≡ good →
+    Grows F (rename p q a b good below (tree_at F p))
 unfolding rename
 rename-grows F p q None b good below rooted e g = refl
 rename-grows F p q (Some node) (Some other) good below rooted e g = refl
 rename-grows F p q (Some node) None false below rooted e g = refl
 rename-grows F p q (Some node) None true true rooted e g = refl
 rename-grows F p q (Some node) None true false rooted e g =
-    elim (is_too_deep p q (tree_at F p)) as (λ deep. Grows F (if deep then refused (NotAllowed action.RenameFile) else succeeds action.RenameFile (vacated (tree_at F p) ++ settled p q (tree_at F p)) 0 0 0)) [
+    elim (is_too_deep p q (tree_at F p)) as (λ deep. Grows F (if deep then refused (NotAllowed action.RenameFile)
+    else succeeds action.RenameFile (vacated (tree_at F p) ++ settled p q (tree_at F p)) 0 0 0)) [
       | true ↦ refl
       | false ↦ ap (λ n. n + 0) (blocks-moved F p q rooted (has_name q g) e)
     ]

@@ -1,5 +1,5 @@
--- The order of paths, and what stands at a path after one change.
---     paths_total, paths_exact                  the order is total, and tells all paths apart
+-- The order of paths, and what is at a path after one change.
+--     paths_total, paths_exact                  the order is total, and distinguishes all paths
 --     same_path-refl, same_path-true, ..        the test of two paths
 --     node_at-becomes                           after one change of a path
 use Rattle.std.proofs.Common.{◌≡◌, refl, sym, ◌∙◌, ap, subst, true, false, cond, Option, Some, None, Ordering, Less, Equal, Greater, is_eq, true≢false}
@@ -33,12 +33,14 @@ pub same_path-is : (p q : Path) → p ≡ q → same_path p q ≡ true
 same_path-is p q e = subst (λ x. same_path p x ≡ true) e (same_path-refl p)
 
 -- after one change of p, at q
-pub node_at-becomes : (F : Filestore) (p : Path) (node : Option Node) (q : Path) → node_at (changed F (Becomes p node)) q ≡ cond (same_path q p) node (node_at F q)
+pub node_at-becomes : (F : Filestore) (p : Path) (node : Option Node) (q : Path) → node_at (changed F (Becomes p node)) q
+    ≡ cond (same_path q p) node (node_at F q)
 node_at-becomes F p None q = get-remove paths_total F.nodes p q
 node_at-becomes F p (Some n) q = get-insert paths_total F.nodes p n q
 
 pub node_at-becomes_here : (F : Filestore) (p : Path) (node : Option Node) → node_at (changed F (Becomes p node)) p ≡ node
 node_at-becomes_here F p node = node_at-becomes F p node p ∙ ap (λ b. cond b node (node_at F p)) (same_path-refl p)
 
-pub node_at-becomes_apart : (F : Filestore) (p : Path) (node : Option Node) (q : Path) → same_path q p ≡ false → node_at (changed F (Becomes p node)) q ≡ node_at F q
+pub node_at-becomes_apart : (F : Filestore) (p : Path) (node : Option Node) (q : Path) → same_path q p ≡ false → node_at (changed F (Becomes p node)) q
+    ≡ node_at F q
 node_at-becomes_apart F p node q e = node_at-becomes F p node q ∙ ap (λ b. cond b node (node_at F q)) e
