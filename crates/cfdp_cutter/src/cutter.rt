@@ -2,8 +2,8 @@
 
 ghost use Rattle.std.specs.Prelude.{◌≡◌, ◌≢◌, ◌++◌, ◌≤◌, ◌⊎◌, [], length, false, true, None, Ok, IfErr, IfOk, IfSome, OnErr, OnOk};
 ghost use Rattle.cfdp_crc.specs.Seal.{header_len};
-ghost use Rattle.cfdp_live.specs.Cutting.{IsNotCut, Lost, Open, Whole, first_pdu, pdu_len};
-ghost use Rattle.cfdp_live.specs.declared.cutter.CutFault.TheVariants.{Version};
+ghost use Rattle.cfdp_cutter.specs.Cutting.{IsNotCut, Lost, Open, Whole, first_pdu, pdu_len};
+ghost use Rattle.cfdp_cutter.specs.declared.cutter.CutFault.TheVariants.{Version};
 
 use std::alloc::{AllocError, Global};
 use std::marker::Model;
@@ -23,7 +23,7 @@ pub enum CutFault {
 
 impl From<AllocError> for CutFault {
     ghost use Rattle.std.specs.Prelude.{◌≡◌};
-    ghost use Rattle.cfdp_live.specs.declared.cutter.CutFault.TheVariants.{Memory};
+    ghost use Rattle.cfdp_cutter.specs.declared.cutter.CutFault.TheVariants.{Memory};
 
     ghost from_gives = { λ _ why. why ≡ Memory };
 
@@ -102,7 +102,7 @@ pub struct Cutter {
 
 impl Model for Cutter {
     ghost use Rattle.std.specs.Prelude.{◌≡◌, List, ℕ};
-    ghost use Rattle.cfdp_live.specs.Cutting.{Open, first_pdu};
+    ghost use Rattle.cfdp_cutter.specs.Cutting.{Open, first_pdu};
 
     ghost Value = { List ℕ };
 

@@ -9,8 +9,8 @@
 --     IsNotCut stream why   why a stream is cut no further
 use Rattle.std.specs.Prelude.{◌≡◌, ℕ, zero, suc, ◌+◌, ◌*◌, ◌/◌, ◌==◌, nat_lt, Bool, true, if◌then◌else◌, List, [], ◌∷◌, ◌++◌, length, take, drop, Option, Some, None}
 use Rattle.cfdp_crc.specs.Seal.{header_len}
-use Rattle.cfdp_live.specs.declared.cutter.CutFault.{CutFault}
-use Rattle.cfdp_live.specs.declared.cutter.CutFault.TheVariants.{Version, Memory}
+use Rattle.cfdp_cutter.specs.declared.cutter.CutFault.{CutFault}
+use Rattle.cfdp_cutter.specs.declared.cutter.CutFault.TheVariants.{Version, Memory}
 
 abbrev pub pdu_len : List ℕ → Option ℕ
 pdu_len (first ∷ high ∷ low ∷ fourth ∷ rest) = Some (header_len fourth + (256 * high + low))

@@ -1,6 +1,6 @@
 //! What is true of each stream that is cut into PDUs. These functions do nothing: their contracts are the laws.
 
-ghost use Rattle.cfdp_live.specs.Laws.{EachIsWhole, LittleIsKept, NoneIsLost, PiecesDoNotMatter};
+ghost use Rattle.cfdp_cutter.specs.Laws.{EachIsWhole, LittleIsKept, NoneIsLost, PiecesDoNotMatter};
 
 /// How a stream is split into pieces does not matter.
 pub fn pieces_do_not_matter()

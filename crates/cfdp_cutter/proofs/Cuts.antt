@@ -9,8 +9,8 @@ use Rattle.std.proofs.lemmas.Bool.{ltb-false, le-ltb}
 use Rattle.std.proofs.lemmas.List.{drop-append-le, length-take-le, take-append-drop, take-append-le}
 use Rattle.std.proofs.Math.Seq.{take-length, drop-length}
 use Rattle.cfdp_crc.specs.Seal.{header_len}
-use Rattle.cfdp_live.specs.Cutting.{First, Whole, Open, Lost, first_by, first_pdu, pdu_len, Cut, cut, cut_next, cut_some, followed, uncut}
-use Rattle.cfdp_live.specs.Laws.{PiecesDoNotMatter, NoneIsLost, EachIsWhole}
+use Rattle.cfdp_cutter.specs.Cutting.{First, Whole, Open, Lost, first_by, first_pdu, pdu_len, Cut, cut, cut_next, cut_some, followed, uncut}
+use Rattle.cfdp_cutter.specs.Laws.{PiecesDoNotMatter, NoneIsLost, EachIsWhole}
 
 -- ---- the front
 

@@ -1,8 +1,8 @@
 use Rattle.std.proofs.Common.{◌≡◌, ◌⊎◌, [], ◌++◌, refl, ◌∙◌, ap, length, rules, arith, Some, None}
 use Rattle.std.proofs.lemmas.Bool.{eqb-true, eqb-false}
-use Rattle.cfdp_live.specs.Cutting.{first_pdu, pdu_len, Open}
-use Rattle.cfdp_live.proofs.Filling.{Fixed, none_whole, fixed_short, fixed_open, whole_by, open_by}
-use Rattle.cfdp_live.proofs.cutter.fill.Goals as goal
+use Rattle.cfdp_cutter.specs.Cutting.{first_pdu, pdu_len, Open}
+use Rattle.cfdp_cutter.proofs.Filling.{Fixed, none_whole, fixed_short, fixed_open, whole_by, open_by}
+use Rattle.cfdp_cutter.proofs.cutter.fill.Goals as goal
 
 pub returns-in_default-clause-open : goal.returns-in_default-clause-open
 returns-in_default-clause-open c =

@@ -7,7 +7,7 @@
 use Rattle.std.specs.Prelude.{◌≡◌, ◌<◌, ℕ, List, [], ◌++◌, length}
 use Rattle.std.specs.List.{AllByRecursion, flat_map}
 use Rattle.cfdp_crc.specs.Laws.{AreOctets}
-use Rattle.cfdp_live.specs.Cutting.{Open, Whole, cut, first_pdu, followed, longest_pdu}
+use Rattle.cfdp_cutter.specs.Cutting.{Open, Whole, cut, first_pdu, followed, longest_pdu}
 
 abbrev pub PiecesDoNotMatter : Type 0
 PiecesDoNotMatter = (piece more : List ℕ) → cut (piece ++ more) ≡ followed (cut piece) (cut ((cut piece).rest ++ more))

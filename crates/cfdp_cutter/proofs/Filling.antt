@@ -8,8 +8,8 @@ use Rattle.std.proofs.lemmas.Bool.{ltb-true, lt-ltb, le-ltb}
 use Rattle.std.proofs.lemmas.List.{append-nil}
 use Rattle.std.proofs.Math.Seq.{take-append_seam, drop-append_seam}
 use Rattle.cfdp_crc.specs.Seal.{header_len}
-use Rattle.cfdp_live.specs.Laws.{LittleIsKept}
-use Rattle.cfdp_live.specs.Cutting.{First, Whole, Open, Lost, begins, first_by, first_pdu, pdu_len}
+use Rattle.cfdp_cutter.specs.Laws.{LittleIsKept}
+use Rattle.cfdp_cutter.specs.Cutting.{First, Whole, Open, Lost, begins, first_by, first_pdu, pdu_len}
 
 -- ---- the version
 

@@ -1,10 +1,10 @@
 use Rattle.std.proofs.Common.{◌≡◌, ◌/◌, ◌==◌, ◌∙◌, ap, length, rules, Some, None, false}
 use Rattle.std.specs.Prelude.{slice_get}
 use Rattle.std.proofs.lemmas.Bool.{ne_eqb, eqb-true, eqb-false}
-use Rattle.cfdp_live.specs.Cutting.{first_pdu}
-use Rattle.cfdp_live.proofs.Filling.{nothing_open, lost_here, going_on, going_empty, going_next, got, no_octet, nothing_at}
-use Rattle.cfdp_live.proofs.cutter.Cutter.next.Goals as goal
-use Rattle.cfdp_live.proofs.cutter.Cutter.next.Goals.{else-is_empty-via-else-is_empty, else-is_empty-via-then-is_empty+in-None-1, else-is_empty-via-then-is_empty+in-Some+else-first-ne1}
+use Rattle.cfdp_cutter.specs.Cutting.{first_pdu}
+use Rattle.cfdp_cutter.proofs.Filling.{nothing_open, lost_here, going_on, going_empty, going_next, got, no_octet, nothing_at}
+use Rattle.cfdp_cutter.proofs.cutter.Cutter.next.Goals as goal
+use Rattle.cfdp_cutter.proofs.cutter.Cutter.next.Goals.{else-is_empty-via-else-is_empty, else-is_empty-via-then-is_empty+in-None-1, else-is_empty-via-then-is_empty+in-Some+else-first-ne1}
 
 pub returns-clause-err : goal.returns-clause-err
 returns-clause-err c =

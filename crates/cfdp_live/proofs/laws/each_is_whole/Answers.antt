@@ -1,5 +1,0 @@
-use Rattle.cfdp_live.proofs.Cuts.{each_is_whole}
-use Rattle.cfdp_live.proofs.laws.each_is_whole.Goals as goal
-
-pub returns : goal.returns
-returns c = each_is_whole

@@ -1,5 +1,0 @@
-use Rattle.cfdp_live.proofs.Cuts.{none_is_lost}
-use Rattle.cfdp_live.proofs.laws.none_is_lost.Goals as goal
-
-pub returns : goal.returns
-returns c = none_is_lost

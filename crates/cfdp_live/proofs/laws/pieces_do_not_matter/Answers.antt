@@ -1,5 +1,0 @@
-use Rattle.cfdp_live.proofs.Cuts.{pieces_do_not_matter}
-use Rattle.cfdp_live.proofs.laws.pieces_do_not_matter.Goals as goal
-
-pub returns : goal.returns
-returns c = pieces_do_not_matter
