@@ -6,7 +6,5 @@
 
 mod cutter;
 pub mod laws;
-#[cfg(test)]
-mod tests;
 
 pub use cutter::{CutFault, Cutter, pdu_len};

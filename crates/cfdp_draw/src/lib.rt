@@ -18,8 +18,6 @@ mod marks;
 mod notes;
 mod picture;
 mod shapes;
-#[cfg(test)]
-mod tests;
 mod times;
 mod words;
 

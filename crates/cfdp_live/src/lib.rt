@@ -7,8 +7,6 @@
 
 mod live;
 mod output;
-#[cfg(test)]
-mod tests;
 
 pub use live::Live;
 pub use output::Output;

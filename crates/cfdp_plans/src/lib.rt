@@ -10,8 +10,6 @@ pub mod laws;
 mod lines;
 mod names;
 mod requests;
-#[cfg(test)]
-mod tests;
 
 pub use fault::{RequestFault, ScriptFault};
 pub use lines::{push_config, push_list, push_protect, write_upload};

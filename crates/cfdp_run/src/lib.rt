@@ -20,8 +20,6 @@ mod reading;
 mod remaking;
 mod settings;
 mod stop;
-#[cfg(test)]
-mod tests;
 mod words;
 mod wrong;
 

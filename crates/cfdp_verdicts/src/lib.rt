@@ -11,8 +11,6 @@ mod costing;
 mod names;
 mod requests;
 mod table;
-#[cfg(test)]
-mod tests;
 mod verdicts;
 
 pub use costing::{Cost, costs};

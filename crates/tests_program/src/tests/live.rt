@@ -1,9 +1,9 @@
 //! What no clause says: worked exchanges with what is sent and reported, and refused memory. The expected PDUs are
 //! those of the worked rows of acknowledged mode, by hand.
 
-use crate::{Live, Output};
 use cfdp_actions::Protected;
 use cfdp_entity::Entity;
+use cfdp_live::{Live, Output};
 use cfdp_receiver::Receiver;
 use cfdp_run::default_mib;
 use cfdp_transactions::Config;

@@ -1,7 +1,7 @@
 //! What no clause says: streams in pieces of each size, and refused memory. The expected PDUs are those of the worked
 //! rows of acknowledged mode, by hand.
 
-use crate::{CutFault, Cutter, laws, pdu_len};
+use cfdp_cutter::{CutFault, Cutter, laws, pdu_len};
 use std::alloc::Global;
 use std::test::Fail;
 

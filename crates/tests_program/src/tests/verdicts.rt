@@ -1,11 +1,11 @@
 //! The texts of all refusals and all statuses, and a table. The expected texts are written by hand, from the
 //! definitions.
 
-use crate::{costs, push_admitted, push_refused, push_table};
 use cfdp_actions::{ListStore, Protected, Request};
 use cfdp_paths::Path;
 use cfdp_status::{Action, Status, TransactionId};
 use cfdp_tlv::FilestoreRequest;
+use cfdp_verdicts::{costs, push_admitted, push_refused, push_table};
 use cfdp_verifier::{Place, Proposal, Refusal};
 use std::alloc::Global;
 use std::test::Fail;

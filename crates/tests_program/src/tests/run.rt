@@ -3,12 +3,12 @@
 
 mod rows;
 
-use crate::{
+use cfdp_paths::Path;
+use cfdp_receiver::{Handler, Mib, NakMode, Retries, Watch};
+use cfdp_run::{
     Command, CommandFault, Content, Key, Progress, Word, Wrong, default_mib, push_wrong,
     read_command,
 };
-use cfdp_paths::Path;
-use cfdp_receiver::{Handler, Mib, NakMode, Retries, Watch};
 use cfdp_status::TransactionId;
 use cfdp_texts::{encode, push_labelled};
 use cfdp_transactions::Config;

@@ -1,6 +1,6 @@
 //! A small run, drawn. The expected elements are written by hand.
 
-use crate::{Blocks, Chart, Full, Kind, MOST_LANES, Phase, Received, Seen, Way};
+use cfdp_draw::{Blocks, Chart, Full, Kind, MOST_LANES, Phase, Received, Seen, Way};
 use cfdp_status::TransactionId;
 use std::alloc::Global;
 use std::test::Fail;

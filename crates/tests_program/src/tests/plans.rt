@@ -1,10 +1,10 @@
 //! The public calls succeed with ample memory, on an upload whose script an independent model wrote (`.ci/compose`).
 
-use crate::{
+use cfdp_pdus::{Header, Metadata};
+use cfdp_plans::{
     parse_path, push_config, push_list, push_protect, read_name, read_path, read_request,
     write_upload,
 };
-use cfdp_pdus::{Header, Metadata};
 use cfdp_status::Action;
 use cfdp_streams::ToWrite;
 use cfdp_uploads::{Upload, UploadFault, in_order, piece_count, reversed, swapped};
