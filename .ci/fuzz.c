@@ -1,9 +1,10 @@
-/* Calls made at random, of an engine and of a receiver, with PDUs that are those of a corpus with octets changed, cut or put in, and with
- * memory that is refused now and then. Each buffer is as long as the call says, so that the address sanitizer sees an octet too many.
+/* Calls made at random, of an engine and of a receiver, with PDUs that are those of a corpus with octets changed, cut
+ * or put in, and with memory that is refused now and then. Each buffer is as long as the call says, so that the address
+ * sanitizer sees an octet too many.
  *   fuzz SECONDS SEED FILE..
- * The corpus is the lines `pdu HEX` of the files. A round is a few hundred calls of one engine, or one receiver; its calls are the same for
- * the same seed and number of the round. It ends after SECONDS, or at the first call that does not keep its word: with 1, after a
- * line that names the round. */
+ * The corpus is the lines `pdu HEX` of the files. A round is a few hundred calls of one engine, or one receiver; its
+ * calls are the same for the same seed and number of the round. It ends after SECONDS, or at the first call that does
+ * not keep its word: with 1, after a line that names the round. */
 #define _POSIX_C_SOURCE 200809L
 #include "../include/cfdp_receiver.h"
 #include <inttypes.h>
@@ -147,24 +148,28 @@ static struct cfdp_path some_path(void) {
 }
 
 static struct cfdp_config some_config(void) {
-    return (struct cfdp_config){2, below(8) ? 2400 : below(8000000), below(8) ? 64 : below(70000), below(8) ? 2 : below(1100)};
+    return (struct cfdp_config){
+        2, below(8) ? 2400 : below(8000000), below(8) ? 64 : below(70000), below(8) ? 2 : below(1100)};
 }
 
-/* A call that writes a text or octets into `out` keeps to its room, and returns a length that fits, with a 0 after a text. */
+/* A call that writes a text or octets into `out` keeps to its room, and returns a length that fits, with a 0 after a
+ * text. */
 static void check_written(enum cfdp_answer answer, const uint8_t *out, size_t room, size_t count, bool is_text) {
     if (answer == CFDP_ANSWER_DONE) {
         expect(count <= room, "more is written than there is room for");
-        expect(is_filled(out, is_text && count < room ? count + 1 : count, room, 0xa5), "octets after what is written changed");
+        expect(is_filled(out, is_text && count < room ? count + 1 : count, room, 0xa5),
+            "octets after what is written changed");
         expect(!is_text || count >= room || out[count] == 0, "a text has no 0 after it");
     } else {
         expect(is_filled(out, 0, room, 0xa5), "a refused call wrote into the buffer");
     }
 }
 
-static void check_answer(enum cfdp_answer answer, enum cfdp_answer first, enum cfdp_answer second, enum cfdp_answer third,
-    enum cfdp_answer fourth) {
+static void check_answer(enum cfdp_answer answer, enum cfdp_answer first, enum cfdp_answer second,
+    enum cfdp_answer third, enum cfdp_answer fourth) {
     calls++;
-    expect(answer == first || answer == second || answer == third || answer == fourth, "an answer that the call does not give");
+    expect(answer == first || answer == second || answer == third || answer == fourth,
+        "an answer that the call does not give");
 }
 #define ANSWERS(answer, ...) check_answer(answer, __VA_ARGS__)
 #define DONE CFDP_ANSWER_DONE
@@ -172,7 +177,9 @@ static void check_answer(enum cfdp_answer answer, enum cfdp_answer first, enum c
 #define NO_MEMORY CFDP_ANSWER_NO_MEMORY
 #define BAD_PATH CFDP_ANSWER_BAD_PATH
 
-static bool is_fault(enum cfdp_answer answer) { return answer >= CFDP_ANSWER_TRUNCATED && answer <= CFDP_ANSWER_REQUEST_TOO_LONG; }
+static bool is_fault(enum cfdp_answer answer) {
+    return answer >= CFDP_ANSWER_TRUNCATED && answer <= CFDP_ANSWER_REQUEST_TOO_LONG;
+}
 
 /* Opens an engine with some files; it may have none where memory is refused or a number is out of range. */
 static enum cfdp_answer open_engine(struct cfdp_engine *engine) {
@@ -244,7 +251,8 @@ static void take_outcome(struct cfdp_engine *engine, struct cfdp_transaction id,
     uint8_t *out = buffer(room, 0xa5);
     enum cfdp_answer answer = cfdp_take(engine, id.source, id.number, out, room, &count, reply);
     ANSWERS(answer, DONE, CFDP_ANSWER_TOO_SHORT, NO_MEMORY, DONE);
-    expect(answer != CFDP_ANSWER_TOO_SHORT || (count > room && count <= 16488), "a length is returned that does not fit");
+    expect(
+        answer != CFDP_ANSWER_TOO_SHORT || (count > room && count <= 16488), "a length is returned that does not fit");
     check_written(answer, out, room, count, false);
     free(out);
 }
@@ -286,11 +294,20 @@ static void call_engine(struct cfdp_engine *engine, uint8_t *pdu, struct cfdp_re
 /* ---- the receiver */
 
 static struct cfdp_mib some_mib(void) {
-    struct cfdp_mib mib = {.ack_interval = 5, .ack_limit = 3, .ack_handler = (enum cfdp_handler)(1 + below(3)),
-        .nak_interval = 4, .nak_limit = 3,
-        .nak_handler = (enum cfdp_handler)(1 + below(3)), .check_interval = 5, .check_handler = (enum cfdp_handler)(1 + below(3)),
-        .inactivity_interval = 60, .inactivity_handler = (enum cfdp_handler)(1 + below(3)), .keep_alive_interval = below(2) * 7,
-        .nak_mode = (enum cfdp_nak_mode)(1 + below(2)), .has_crc = below(2), .longest_nak = 72 + below(300)};
+    struct cfdp_mib mib = {.ack_interval = 5,
+        .ack_limit = 3,
+        .ack_handler = (enum cfdp_handler)(1 + below(3)),
+        .nak_interval = 4,
+        .nak_limit = 3,
+        .nak_handler = (enum cfdp_handler)(1 + below(3)),
+        .check_interval = 5,
+        .check_handler = (enum cfdp_handler)(1 + below(3)),
+        .inactivity_interval = 60,
+        .inactivity_handler = (enum cfdp_handler)(1 + below(3)),
+        .keep_alive_interval = below(2) * 7,
+        .nak_mode = (enum cfdp_nak_mode)(1 + below(2)),
+        .has_crc = below(2),
+        .longest_nak = 72 + below(300)};
     uint32_t *numbers = (uint32_t *)(void *)&mib;
     if (below(12) == 0) numbers[below(sizeof mib / sizeof *numbers)] = below(70000);
     return mib;
@@ -304,7 +321,8 @@ static void write_pdus(struct cfdp_receiver *receiver, const struct cfdp_report 
         enum cfdp_answer answer = cfdp_receiver_write(receiver, number, out, room, &count);
         calls++;
         if (number < report->pdus)
-            expect(answer == DONE || (answer == CFDP_ANSWER_TOO_SHORT && room < 16490), "a PDU of the answer is not written");
+            expect(answer == DONE || (answer == CFDP_ANSWER_TOO_SHORT && room < 16490),
+                "a PDU of the answer is not written");
         else
             expect(answer == NOTHING, "an answer has one PDU more than it says");
         check_written(answer, out, room, count, false);
@@ -320,8 +338,9 @@ static void read_receiver(struct cfdp_receiver *receiver) {
     size_t room = below(4) ? below(300) : 0, count = 0;
     uint8_t *out = buffer(room, 0xa5);
     bool is_text = below(2);
-    enum cfdp_answer answer = is_text ? cfdp_receiver_destination_name(receiver, id.source, id.number, out, room, &count)
-                                      : cfdp_receiver_read(receiver, &path, below(600), out, room, &count);
+    enum cfdp_answer answer = is_text
+        ? cfdp_receiver_destination_name(receiver, id.source, id.number, out, room, &count)
+        : cfdp_receiver_read(receiver, &path, below(600), out, room, &count);
     ANSWERS(answer, DONE, NOTHING, is_text ? CFDP_ANSWER_TOO_SHORT : BAD_PATH, DONE);
     check_written(answer, out, room, count, is_text);
     free(out);
@@ -367,11 +386,14 @@ static void play_receiver(struct cfdp_engine *engine, uint8_t *pdu) {
     struct cfdp_report report = {0};
     const struct cfdp_mib mib = some_mib();
     uint64_t now = 0;
-    expect(cfdp_receiver_work(&receiver, now, &report) == CFDP_ANSWER_NO_ENGINE, "there is a receiver before it was made");
+    expect(
+        cfdp_receiver_work(&receiver, now, &report) == CFDP_ANSWER_NO_ENGINE, "there is a receiver before it was made");
     enum cfdp_answer answer = cfdp_receiver_new(&receiver, engine, &mib);
-    expect(answer == DONE || answer == NO_MEMORY || (answer >= CFDP_ANSWER_BAD_HANDLER && answer <= CFDP_ANSWER_BAD_LONGEST_NAK),
+    expect(answer == DONE || answer == NO_MEMORY ||
+            (answer >= CFDP_ANSWER_BAD_HANDLER && answer <= CFDP_ANSWER_BAD_LONGEST_NAK),
         "an answer that new does not give");
-    if (answer == NO_MEMORY || answer == DONE) expect(cfdp_free(engine) == CFDP_ANSWER_NO_ENGINE, "the engine was not moved");
+    if (answer == NO_MEMORY || answer == DONE)
+        expect(cfdp_free(engine) == CFDP_ANSWER_NO_ENGINE, "the engine was not moved");
     if (answer != DONE) return;
     for (uint32_t count = below(CALLS); count > 0; count--) call_receiver(&receiver, pdu, &now, &report);
     expect(cfdp_receiver_free(&receiver) == DONE, "the receiver is not freed");

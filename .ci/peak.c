@@ -1,6 +1,6 @@
-/* An allocator that counts the memory in use. At the end of the program it writes the most that there was, in octets, as a line
-   `peak N` on standard error. It is loaded before the C library (LD_PRELOAD) into a program that allocates in one thread. If the
-   program starts a process, the most of that one counts too. */
+/* An allocator that counts the memory in use. At the end of the program it writes the most that there was, in octets,
+   as a line `peak N` on standard error. It is loaded before the C library (LD_PRELOAD) into a program that allocates
+   in one thread. If the program starts a process, the most of that one counts too. */
 #include <malloc.h>
 #include <stdio.h>
 #include <stdlib.h>

@@ -1,5 +1,5 @@
-/* An allocator that refuses one call: the one whose number the environment's REFUSED says, counted from 1. It writes a line on standard
-   error where it does. It is loaded before the C library (LD_PRELOAD) into a program of one thread. */
+/* An allocator that refuses one call: the one whose number the environment's REFUSED says, counted from 1. It writes a
+   line on standard error where it does. It is loaded before the C library (LD_PRELOAD) into a program of one thread. */
 #include <stdlib.h>
 #include <unistd.h>
 

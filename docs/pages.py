@@ -1,11 +1,12 @@
 #!/usr/bin/env python3
-"""Makes docs/CALLS.md and docs/PROVED.md from the sources: each public function with its contract's clauses, and each law.
+"""Makes docs/CALLS.md and docs/PROVED.md from the sources: each public function with its contract's clauses, and each
+law.
 
     docs/pages.py            writes both pages
     docs/pages.py --check    compares them with the sources; the last line says how many agree
 
-What comes before the line MARK of a page is written by hand and stays. All after it is made: from the docstrings, from the names of the
-clauses, and from crates.txt, which gives the order.
+What comes before the line MARK of a page is written by hand and stays. All after it is made: from the docstrings,
+from the names of the clauses, and from crates.txt, which gives the order.
 """
 
 import pathlib
@@ -22,7 +23,8 @@ CLAUSE = re.compile(r"^\s*(requires|ensures)(?: (\w+))? \{(?: ([A-Z]\w+) )?")
 
 
 class Function:
-    """A public function: its owner (a type, a trait, or nothing), its name, its docstring, and the names of its clauses."""
+    """A public function: its owner (a type, a trait, or nothing), its name, its docstring, and the names of its
+    clauses."""
 
     def __init__(self, owner, name, doc):
         self.owner, self.name, self.doc = owner, name, doc

@@ -1,6 +1,6 @@
 #!/usr/bin/env python3
-"""Tests of the Python package: `python3 bindings/python/test_cezhutal.py`, after bindings/python/link. The PDUs and what is answered to them
-are those of the C examples and of examples/update.replay. `.ci/clients` runs it."""
+"""Tests of the Python package: `python3 bindings/python/test_cezhutal.py`, after bindings/python/link. The PDUs and
+what is answered to them are those of the C examples and of examples/update.replay. `.ci/clients` runs it."""
 
 from __future__ import annotations
 
@@ -12,12 +12,24 @@ HERE = pathlib.Path(__file__).resolve().parent
 sys.dont_write_bytecode = True
 sys.path.insert(0, str(HERE))
 import cezhutal  # noqa: E402
-from cezhutal import Became, Config, Engine, EntryKind, Handler, IndicationKind, Mib, NakMode, Receiver, ReplyKind  # noqa: E402
+from cezhutal import (
+    Became,
+    Config,
+    Engine,
+    EntryKind,
+    Handler,
+    IndicationKind,
+    Mib,
+    NakMode,
+    Receiver,
+    ReplyKind,
+)  # noqa: E402
 from cezhutal import Retries, Transaction  # noqa: E402
 
 EXAMPLES = HERE.parent.parent / "examples"
 
-#: Transaction 1/5: a file of 15 octets, its Metadata, its octets, its EOF PDU, and the acknowledgement of its Finished PDU.
+#: Transaction 1/5: a file of 15 octets, its Metadata, its octets, its EOF PDU, and the acknowledgement of its Finished
+#: PDU.
 METADATA = bytes.fromhex("20000a0001050207400000000f01730166")
 DATA = bytes.fromhex("3000130001050200000000000102030405060708090a0b0c0d0e")
 EOF = bytes.fromhex("20000a000105020400181c20150000000f")

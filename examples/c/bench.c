@@ -3,15 +3,15 @@
  *   ./bench                          each workload, of its usual size
  *   ./bench least                    each workload, of its least size
  *   ./bench NAME SIZE [scattered]    one workload
- * A line for each: its name and size, how many calls were timed, a digest of the answers, and the processor time. The digest is the
- * same for every correct engine. The answers are also compared with those that the standard asks for: if one differs, the program ends
- * with status 1.
+ * A line for each: its name and size, how many calls were timed, a digest of the answers, and the processor time. The
+ * digest is the same for every correct engine. The answers are also compared with those that the standard asks for: if
+ * one differs, the program ends with status 1.
  *
  * Only the function `measured` is timed, and callgrind can count its instructions alone:
  *   valgrind --tool=callgrind --collect-atstart=no --toggle-collect=measured ./bench NAME SIZE
  *
- * `scattered`: before the workload 60 files arrive that take their blocks in turn, and are cancelled. Blocks that are taken one after
- * the other are then 60 blocks apart in memory. */
+ * `scattered`: before the workload 60 files arrive that take their blocks in turn, and are cancelled. Blocks that are
+ * taken one after the other are then 60 blocks apart in memory. */
 #define _POSIX_C_SOURCE 199309L
 #include "../../include/cfdp.h"
 #include <inttypes.h>
@@ -42,7 +42,15 @@ enum {
 /* The sequence numbers of transactions: of the file, of a list, and of the first of the others. */
 enum { FILE_NUMBER = 1, LIST_NUMBER = 2, FIRST_OTHER = 3 };
 
-enum action { CREATE_FILE = 0x00, DELETE_FILE = 0x10, RENAME = 0x20, APPEND = 0x30, REPLACE = 0x40, CREATE_DIRECTORY = 0x50, DENY_FILE = 0x70 };
+enum action {
+    CREATE_FILE = 0x00,
+    DELETE_FILE = 0x10,
+    RENAME = 0x20,
+    APPEND = 0x30,
+    REPLACE = 0x40,
+    CREATE_DIRECTORY = 0x50,
+    DENY_FILE = 0x70
+};
 
 /* In which order pieces are sent or read, and entries are made. */
 enum arrangement { RISING, FALLING, SWAPPED, RANDOM };
@@ -181,7 +189,8 @@ static void make_eof(uint32_t number, uint32_t checksum, uint32_t size) {
 
 static void receive_octets(const uint8_t *octets, size_t count, uint32_t wanted) {
     struct cfdp_reply reply = {0};
-    if (cfdp_receive(&engine, octets, count, &reply) != CFDP_DONE || reply.kind != wanted) fail("another reply to a PDU");
+    if (cfdp_receive(&engine, octets, count, &reply) != CFDP_DONE || reply.kind != wanted)
+        fail("another reply to a PDU");
     note_reply(&reply);
 }
 
@@ -203,7 +212,8 @@ static void take(uint32_t number, uint32_t condition) {
     static uint8_t out[16488];
     struct cfdp_reply reply = {0};
     size_t count = 0;
-    if (cfdp_take(&engine, 1, number, out, sizeof out, &count, &reply) != CFDP_DONE || reply.kind != CFDP_TAKEN) fail("no outcome");
+    if (cfdp_take(&engine, 1, number, out, sizeof out, &count, &reply) != CFDP_DONE || reply.kind != CFDP_TAKEN)
+        fail("no outcome");
     if (reply.condition != condition) fail("another condition");
     note_reply(&reply);
     note(count);
@@ -268,7 +278,9 @@ static void announce(uint32_t count) {
     receive(CFDP_ADMITTED);
 }
 
-static void send_piece(uint32_t index) { receive_octets(pieces[index].octets, sizeof pieces[index].octets, CFDP_STORED); }
+static void send_piece(uint32_t index) {
+    receive_octets(pieces[index].octets, sizeof pieces[index].octets, CFDP_STORED);
+}
 
 static void make_file_eof(uint32_t octets) { make_eof(FILE_NUMBER, checksum_of(octets), octets); }
 
@@ -426,7 +438,8 @@ static void check_gap(uint32_t count) {
 /* Fails unless `used` blocks are in use. */
 static void check_blocks(uint32_t used) {
     struct cfdp_blocks blocks;
-    if (cfdp_blocks(&engine, &blocks) != CFDP_DONE || blocks.free != BLOCKS - used) fail("another number of free blocks");
+    if (cfdp_blocks(&engine, &blocks) != CFDP_DONE || blocks.free != BLOCKS - used)
+        fail("another number of free blocks");
     note(used);
 }
 
@@ -467,7 +480,8 @@ static void check_pairs(uint32_t pairs) {
 
 /* ---- a directory, whose size is in entries: files of no octets */
 
-/* The path of an entry: a directory of one letter, and a number of six digits. So the order of paths is that of the numbers. */
+/* The path of an entry: a directory of one letter, and a number of six digits. So the order of paths is that of the
+ * numbers. */
 static void spell(char path[9], char directory, uint32_t number) {
     path[0] = directory;
     path[1] = '/';
@@ -475,7 +489,8 @@ static void spell(char path[9], char directory, uint32_t number) {
     path[8] = 0;
 }
 
-/* The Metadata PDU of a list with one request for each of the numbers in `order` from `start` up to, and without, `stop`. */
+/* The Metadata PDU of a list with one request for each of the numbers in `order` from `start` up to, and without,
+ * `stop`. */
 static void make_list(enum action action, char directory, uint32_t start, uint32_t stop) {
     make_metadata(LIST_NUMBER, 0, "");
     for (uint32_t i = start; i < stop; i++) {
@@ -601,7 +616,8 @@ static void check_entries(char directory, uint32_t start, uint32_t stop, uint32_
         char spelled[9];
         spell(spelled, directory, order[i]);
         memcpy(path.octets, spelled, path.length);
-        if (cfdp_look_up(&engine, &path, &entry) != wanted || entry.kind != CFDP_FILE || entry.size != 0) fail("another entry");
+        if (cfdp_look_up(&engine, &path, &entry) != wanted || entry.kind != CFDP_FILE || entry.size != 0)
+            fail("another entry");
         note(order[i]);
     }
 }
@@ -654,12 +670,14 @@ static void check_moves(uint32_t count) {
 
 /* The directory was seen first, and then its entries in the order of their numbers. */
 static void check_seen(uint32_t count) {
-    if (seen[0].entry.kind != CFDP_DIRECTORY || seen[0].length != 1 || seen[0].octets[0] != 'd') fail("another directory");
+    if (seen[0].entry.kind != CFDP_DIRECTORY || seen[0].length != 1 || seen[0].octets[0] != 'd')
+        fail("another directory");
     for (uint32_t number = 0; number < count; number++) {
         const struct seen *next = &seen[number + 1];
         char path[9];
         spell(path, 'd', number);
-        if (next->entry.kind != CFDP_FILE || next->length != 8 || memcmp(next->octets, path, 8) != 0) fail("another entry");
+        if (next->entry.kind != CFDP_FILE || next->length != 8 || memcmp(next->octets, path, 8) != 0)
+            fail("another entry");
         note(number);
     }
     check_blocks(count + 1);
@@ -777,7 +795,8 @@ static void check_copy(uint32_t count, uint32_t before) {
     struct cfdp_entry entry = {0};
     take(LIST_NUMBER, 0);
     check_image(count);
-    if (cfdp_look_up(&engine, &note_path, &entry) != CFDP_DONE || entry.size != (uint64_t)count * PIECE + before) fail("another size");
+    if (cfdp_look_up(&engine, &note_path, &entry) != CFDP_DONE || entry.size != (uint64_t)count * PIECE + before)
+        fail("another size");
     note(entry.checksum);
 }
 

@@ -1,5 +1,5 @@
-/* Each allocation fails in turn. A call answers that there is no memory, and the same call made again goes on; at the end nothing is
- * lost. This file has the three allocation functions of its own, over malloc. */
+/* Each allocation fails in turn. A call answers that there is no memory, and the same call made again goes on; at the
+ * end nothing is lost. This file has the three allocation functions of its own, over malloc. */
 #include "../../include/cfdp_receiver.h"
 #include <stdbool.h>
 #include <stdio.h>
@@ -27,12 +27,14 @@ void rattle_dealloc(void *block) {
 }
 
 /* Transaction 1/1: create directory 'app', create file 'app/prog'; and its EOF PDU. */
-static const uint8_t metadata[] = {0x24, 0x00, 0x1b, 0x00, 0x01, 0x01, 0x02, 0x07, 0x40, 0x00, 0x00, 0x00, 0x00, 0x00, 0x00, 0x00, 0x05, 0x50, 0x03,
-    'a', 'p', 'p', 0x00, 0x0a, 0x00, 0x08, 'a', 'p', 'p', '/', 'p', 'r', 'o', 'g'};
-static const uint8_t eof[] = {0x24, 0x00, 0x0a, 0x00, 0x01, 0x01, 0x02, 0x04, 0x00, 0x00, 0x00, 0x00, 0x00, 0x00, 0x00, 0x00, 0x00};
+static const uint8_t metadata[] = {0x24, 0x00, 0x1b, 0x00, 0x01, 0x01, 0x02, 0x07, 0x40, 0x00, 0x00, 0x00, 0x00, 0x00,
+    0x00, 0x00, 0x05, 0x50, 0x03, 'a', 'p', 'p', 0x00, 0x0a, 0x00, 0x08, 'a', 'p', 'p', '/', 'p', 'r', 'o', 'g'};
+static const uint8_t eof[] = {
+    0x24, 0x00, 0x0a, 0x00, 0x01, 0x01, 0x02, 0x04, 0x00, 0x00, 0x00, 0x00, 0x00, 0x00, 0x00, 0x00, 0x00};
 
 /* Transaction 1/2: create file 'b'. It has not ended when the engine is freed. */
-static const uint8_t live[] = {0x24, 0x00, 0x0d, 0x00, 0x01, 0x02, 0x02, 0x07, 0x40, 0x00, 0x00, 0x00, 0x00, 0x00, 0x00, 0x00, 0x03, 0x00, 0x01, 'b'};
+static const uint8_t live[] = {0x24, 0x00, 0x0d, 0x00, 0x01, 0x02, 0x02, 0x07, 0x40, 0x00, 0x00, 0x00, 0x00, 0x00, 0x00,
+    0x00, 0x03, 0x00, 0x01, 'b'};
 
 static unsigned refused;
 
@@ -60,7 +62,8 @@ static int run(void) {
     wrong |= cfdp_receive(&engine, eof, sizeof eof, &reply) != CFDP_DONE || reply.kind != CFDP_COMPLETE;
     wrong |= cfdp_step(&engine, 1, 1, &reply) != CFDP_DONE || reply.kind != CFDP_PERFORMED;
     wrong |= cfdp_step(&engine, 1, 1, &reply) != CFDP_DONE || reply.kind != CFDP_PERFORMED;
-    wrong |= cfdp_take(&engine, 1, 1, pdu, sizeof pdu, &count, &reply) != CFDP_DONE || reply.kind != CFDP_TAKEN || count != 30;
+    wrong |= cfdp_take(&engine, 1, 1, pdu, sizeof pdu, &count, &reply) != CFDP_DONE || reply.kind != CFDP_TAKEN ||
+        count != 30;
     wrong |= calls != before; /* no memory was asked for */
     while (again(cfdp_receive(&engine, live, sizeof live, &reply))) {}
     wrong |= reply.kind != CFDP_ADMITTED;
@@ -75,9 +78,18 @@ static uint8_t ack_pdu[] = {0x20, 0x00, 0x03, 0x00, 0x01, 0x01, 0x02, 0x06, 0x51
 /* A receiver over a new engine. Where its memory is refused the engine is freed, and both are made again. */
 static void open_receiver(struct cfdp_receiver *receiver) {
     static const struct cfdp_config config = {.entity = 2, .cap = 2400, .blocks = 64, .checks = 2};
-    static const struct cfdp_mib mib = {.ack_interval = 50, .ack_limit = 2, .ack_handler = CFDP_HANDLER_CANCEL, .nak_interval = 40,
-        .nak_limit = 3, .nak_handler = CFDP_HANDLER_CANCEL, .check_interval = 30, .check_handler = CFDP_HANDLER_CANCEL,
-        .inactivity_interval = 600, .inactivity_handler = CFDP_HANDLER_CANCEL, .nak_mode = CFDP_NAK_DEFERRED, .longest_nak = 100};
+    static const struct cfdp_mib mib = {.ack_interval = 50,
+        .ack_limit = 2,
+        .ack_handler = CFDP_HANDLER_CANCEL,
+        .nak_interval = 40,
+        .nak_limit = 3,
+        .nak_handler = CFDP_HANDLER_CANCEL,
+        .check_interval = 30,
+        .check_handler = CFDP_HANDLER_CANCEL,
+        .inactivity_interval = 600,
+        .inactivity_handler = CFDP_HANDLER_CANCEL,
+        .nak_mode = CFDP_NAK_DEFERRED,
+        .longest_nak = 100};
     struct cfdp_engine engine = CFDP_ENGINE_EMPTY;
     do {
         while (again(cfdp_new(&engine, &config, NULL, 0))) {}
@@ -96,7 +108,8 @@ static int run_receiver(void) {
     while (again(cfdp_receiver_receive(&receiver, 0, list_pdu, sizeof list_pdu, &report))) {}
     int wrong = report.reply.kind != CFDP_REPLY_ADMITTED;
     unsigned before = calls;
-    wrong |= cfdp_receiver_receive(&receiver, 1, eof_pdu, sizeof eof_pdu, &report) != CFDP_ANSWER_DONE || report.pdus != 1;
+    wrong |=
+        cfdp_receiver_receive(&receiver, 1, eof_pdu, sizeof eof_pdu, &report) != CFDP_ANSWER_DONE || report.pdus != 1;
     wrong |= cfdp_receiver_work(&receiver, 2, &report) != CFDP_ANSWER_DONE || report.reply.kind != CFDP_REPLY_PERFORMED;
     wrong |= cfdp_receiver_work(&receiver, 2, &report) != CFDP_ANSWER_DONE || report.reply.kind != CFDP_REPLY_PERFORMED;
     wrong |= calls != before; /* no memory was asked for */

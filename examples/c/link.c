@@ -1,5 +1,6 @@
-/* Measures a receiver of cfdp_receiver.h: File Data PDUs a second, MB a second, the longest call of each kind, the stack that calls use, and
- * the memory that they ask for. It makes the PDUs of FILES files of OCTETS octets with a list of two requests each, one file after the other.
+/* Measures a receiver of cfdp_receiver.h: File Data PDUs a second, MB a second, the longest call of each kind, the
+ * stack that calls use, and the memory that they ask for. It makes the PDUs of FILES files of OCTETS octets with a list
+ * of two requests each, one file after the other.
  *   link [FILES [OCTETS]]
  * Build it with pool.c: cc -std=c99 -O2 link.c pool.c libcfdp_c.a */
 #define _POSIX_C_SOURCE 200809L
@@ -13,7 +14,19 @@
 
 enum { PIECE = 1000, STACK = 1024 * 1024 };
 
-enum call { RECEIVE_METADATA, RECEIVE_DATA, RECEIVE_EOF, RECEIVE_ACK, WORK, FINISH, DEADLINE, EXPIRE, WRITE, READ, CALLS };
+enum call {
+    RECEIVE_METADATA,
+    RECEIVE_DATA,
+    RECEIVE_EOF,
+    RECEIVE_ACK,
+    WORK,
+    FINISH,
+    DEADLINE,
+    EXPIRE,
+    WRITE,
+    READ,
+    CALLS
+};
 static const char *const names[CALLS] = {"receive Metadata", "receive File Data", "receive EOF", "receive ACK", "work",
     "finish", "deadline", "expire", "write", "read"};
 
@@ -115,7 +128,8 @@ static void play(uint32_t number, uint32_t octets, uint64_t now) {
         }
     } while (report.became != CFDP_BECAME_NOTHING);
     double begun = seconds();
-    if (cfdp_receiver_finish(&receiver, now, &report) != CFDP_ANSWER_DONE || report.indication.condition != 0) fail("finish");
+    if (cfdp_receiver_finish(&receiver, now, &report) != CFDP_ANSWER_DONE || report.indication.condition != 0)
+        fail("finish");
     take_time(FINISH, begun);
     send_all();
     begun = seconds();
@@ -131,12 +145,23 @@ static uint32_t files = 20, octets_each = 2000000;
 
 static void *run(void *nothing) {
     const struct cfdp_config config = {.entity = 2, .cap = 7864320, .blocks = 65536, .checks = 10};
-    const struct cfdp_mib mib = {.ack_interval = 100, .ack_limit = 100, .ack_handler = CFDP_HANDLER_CANCEL, .nak_interval = 100, .nak_limit = 100,
-        .nak_handler = CFDP_HANDLER_CANCEL, .check_interval = 500, .check_handler = CFDP_HANDLER_CANCEL, .inactivity_interval = 20000,
-        .inactivity_handler = CFDP_HANDLER_CANCEL, .nak_mode = CFDP_NAK_IMMEDIATE, .longest_nak = 1400};
+    const struct cfdp_mib mib = {.ack_interval = 100,
+        .ack_limit = 100,
+        .ack_handler = CFDP_HANDLER_CANCEL,
+        .nak_interval = 100,
+        .nak_limit = 100,
+        .nak_handler = CFDP_HANDLER_CANCEL,
+        .check_interval = 500,
+        .check_handler = CFDP_HANDLER_CANCEL,
+        .inactivity_interval = 20000,
+        .inactivity_handler = CFDP_HANDLER_CANCEL,
+        .nak_mode = CFDP_NAK_IMMEDIATE,
+        .longest_nak = 1400};
     struct cfdp_engine engine = CFDP_ENGINE_EMPTY;
     (void)nothing;
-    if (cfdp_new(&engine, &config, NULL, 0) != CFDP_ANSWER_DONE || cfdp_receiver_new(&receiver, &engine, &mib) != CFDP_ANSWER_DONE) fail("new");
+    if (cfdp_new(&engine, &config, NULL, 0) != CFDP_ANSWER_DONE ||
+        cfdp_receiver_new(&receiver, &engine, &mib) != CFDP_ANSWER_DONE)
+        fail("new");
     for (uint32_t number = 1; number <= files; number++) play(number, octets_each, number * 10u);
     return NULL;
 }
@@ -156,7 +181,8 @@ int main(int count, char **words) {
     double total = 0;
     for (int call = 0; call < CALLS; call++) total += times[call].total;
     printf("%" PRIu32 " files of %" PRIu32 " octets in File Data PDUs of %d\n", files, octets_each, PIECE);
-    printf("receive File Data: %.0f a second, %.0f MB a second\n", (double)times[RECEIVE_DATA].count / times[RECEIVE_DATA].total,
+    printf("receive File Data: %.0f a second, %.0f MB a second\n",
+        (double)times[RECEIVE_DATA].count / times[RECEIVE_DATA].total,
         (double)files * octets_each / times[RECEIVE_DATA].total / 1e6);
     for (int call = 0; call < CALLS; call++)
         printf("%-18s %8" PRIu64 " calls, mean %8.2f us, longest %8.2f us\n", names[call], times[call].count,

@@ -1,8 +1,9 @@
-/* How much memory an engine takes: of cfdp_new, of one Metadata PDU, and of 64 of them, in lists that take much. It has the three allocation
- * functions of its own, over malloc, and counts the octets that are asked for; what malloc adds for itself is not counted.
+/* How much memory an engine takes: of cfdp_new, of one Metadata PDU, and of 64 of them, in lists that take much. It has
+ * the three allocation functions of its own, over malloc, and counts the octets that are asked for; what malloc adds
+ * for itself is not counted.
  *
- * It fails if cfdp_new takes another number of octets than CFDP_NEW_OCTETS says, if a Metadata PDU takes more than docs/C.md says, or if
- * anything is kept after the last outcome was taken. */
+ * It fails if cfdp_new takes another number of octets than CFDP_NEW_OCTETS says, if a Metadata PDU takes more than
+ * docs/C.md says, or if anything is kept after the last outcome was taken. */
 #include "../../include/cfdp.h"
 #include <inttypes.h>
 #include <stdbool.h>
@@ -50,8 +51,8 @@ void rattle_dealloc(void *block) {
 
 enum { LIST = 64, TRANSACTIONS = 64, DEEPEST = 8 };
 
-/* What a list of 64 requests asks for. No path of a request is at, above or below a path of another one, here or in another list: the first
- * name says whose it is. */
+/* What a list of 64 requests asks for. No path of a request is at, above or below a path of another one, here or in
+ * another list: the first name says whose it is. */
 struct shape {
     const char *name;
     uint8_t action;          /* the action code, 4 bits */
@@ -78,7 +79,8 @@ static void put(const void *octets, size_t more) {
 }
 
 /* The first `depth` names of a path of a request. */
-static struct cfdp_path path_of(const struct shape *shape, unsigned transaction, unsigned request, char which, unsigned depth) {
+static struct cfdp_path path_of(
+    const struct shape *shape, unsigned transaction, unsigned request, char which, unsigned depth) {
     struct cfdp_path path = {0};
     char *octets = (char *)path.octets;
     for (unsigned level = 0; level < depth; level++) {
@@ -116,7 +118,8 @@ static void compose(const struct shape *shape, unsigned transaction) {
 }
 
 /* The directories above a path exist, and a file at it where it is the first one of a rename. */
-static bool prepare(struct cfdp_engine *engine, const struct shape *shape, unsigned transaction, unsigned request, char which) {
+static bool prepare(
+    struct cfdp_engine *engine, const struct shape *shape, unsigned transaction, unsigned request, char which) {
     bool right = true;
     for (unsigned depth = 1; depth < shape->depth; depth++) {
         struct cfdp_path path = path_of(shape, transaction, request, which, depth);
@@ -133,7 +136,8 @@ static bool end(struct cfdp_engine *engine, unsigned transaction) {
     struct cfdp_reply reply = {0};
     size_t octets;
     cfdp_cancel(engine, 1, transaction, &reply);
-    return cfdp_take(engine, 1, transaction, out, sizeof out, &octets, &reply) == CFDP_ANSWER_DONE && reply.kind == CFDP_REPLY_TAKEN;
+    return cfdp_take(engine, 1, transaction, out, sizeof out, &octets, &reply) == CFDP_ANSWER_DONE &&
+        reply.kind == CFDP_REPLY_TAKEN;
 }
 
 static struct cfdp_engine engine = CFDP_ENGINE_EMPTY;
@@ -144,8 +148,8 @@ static bool make_engine(uint32_t blocks, size_t prefixes) {
     return cfdp_new(&engine, &config, protected, prefixes) == CFDP_ANSWER_DONE;
 }
 
-/* The most that a Metadata PDU of this shape takes beside no others, as docs/C.md says: by its requests, by the paths that they name and the directories
- * above these, and by the octets of both. */
+/* The most that a Metadata PDU of this shape takes beside no others, as docs/C.md says: by its requests, by the paths
+ * that they name and the directories above these, and by the octets of both. */
 static size_t most_of(const struct shape *shape) {
     size_t requests = LIST, paths = LIST * shape->paths, above = 0, path = 0;
     for (unsigned level = 0; level < shape->depth; level++) {
@@ -161,7 +165,8 @@ static bool run(const struct shape *shape) {
     bool right = make_engine(65536, 0);
     for (unsigned transaction = 0; transaction < TRANSACTIONS && shape->paths == 2; transaction++)
         for (unsigned request = 0; request < LIST; request++)
-            right &= prepare(&engine, shape, transaction, request, 'a') && prepare(&engine, shape, transaction, request, 'b');
+            right &= prepare(&engine, shape, transaction, request, 'a') &&
+                prepare(&engine, shape, transaction, request, 'b');
     size_t before = in_use, blocks_before = blocks_in_use, one = 0, all = 0;
     for (unsigned transaction = 0; transaction < TRANSACTIONS; transaction++) {
         compose(shape, transaction);
@@ -171,7 +176,8 @@ static bool run(const struct shape *shape) {
         if (transaction == 0) one = most - before;
         if (most - before > all) all = most - before;
     }
-    printf("64 %s, in a PDU of %zu octets: it takes %zu octets (at most %zu), and 64 take %zu\n", shape->name, length, one, most_of(shape), all);
+    printf("64 %s, in a PDU of %zu octets: it takes %zu octets (at most %zu), and 64 take %zu\n", shape->name, length,
+        one, most_of(shape), all);
     for (unsigned transaction = 0; transaction < TRANSACTIONS; transaction++) right &= end(&engine, transaction);
     right &= in_use == before && blocks_in_use == blocks_before; /* after the last take nothing is kept */
     return cfdp_free(&engine) == CFDP_ANSWER_DONE && in_use == 0 && blocks_in_use == 0 && right;

@@ -1,27 +1,31 @@
-/* An allocator for the library over one static region, in which freed memory is used again. It is for a program that must not run out of
- * memory after months: its worst case is a sum, below. Link this file in place of the kit's liblibc_c.a.
+/* An allocator for the library over one static region, in which freed memory is used again. It is for a program that
+ * must not run out of memory after months: its worst case is a sum, below. Link this file in place of the kit's
+ * liblibc_c.a.
  *
- * A block is one of few sizes: 64, 288, 1104, 4368 and 17424 octets, which fit the library's blocks (a name and a request's value have at
- * most 255 octets, the octets of a Finished PDU at most 16490), or, above these, its own size, rounded up to 16. The first 16 octets of it
- * say which. A freed block goes to the list of its size, and the next block of that size is taken from there. Only where the list is
- * empty is the block cut from the region.
+ * A block is one of few sizes: 64, 288, 1104, 4368 and 17424 octets, which fit the library's blocks (a name and a
+ * request's value have at most 255 octets, the octets of a Finished PDU at most 16490), or, above these, its own size,
+ * rounded up to 16. The first 16 octets of it say which. A freed block goes to the list of its size, and the next block
+ * of that size is taken from there. Only where the list is empty is the block cut from the region.
  *
  * THE WORST CASE. So for each size there are exactly as many blocks in the region as were in use at once:
  *
  *     pool_used() = sum over the sizes of (most blocks of the size in use at once) * (octets of the size)
  *
- * whatever the order of the calls: blocks of one size cannot lie so that another of it has no room. A program's own worst case is this sum
- * for the most transactions, requests and names that it lets in; soak.c has it. Blocks above 17424 octets are those that cfdp_new makes,
- * each once, so a new engine of the same configuration finds all of them again after cfdp_free.
+ * whatever the order of the calls: blocks of one size cannot lie so that another of it has no room. A program's own
+ * worst case is this sum for the most transactions, requests and names that it lets in; soak.c has it. Blocks above
+ * 17424 octets are those that cfdp_new makes, each once, so a new engine of the same configuration finds all of them
+ * again after cfdp_free.
  *
- * One call takes a few steps, and for a large block one for each large size that the program has used (at most 32 of them). */
+ * One call takes a few steps, and for a large block one for each large size that the program has used (at most 32 of
+ * them). */
 #include "pool.h"
 #include "../../include/cfdp.h"
 #include <stdint.h>
 
 enum { HEADER = 16, SMALL = 5, SIZES = SMALL + 32 };
 
-/* What is at the start of a block: the index of its size, and the next free block of it, or what was asked for while it is in use. */
+/* What is at the start of a block: the index of its size, and the next free block of it, or what was asked for while it
+ * is in use. */
 struct block {
     union {
         struct block *next;

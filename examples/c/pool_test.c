@@ -1,5 +1,5 @@
-/* pool.c by itself: blocks are made, grown and freed in an order made at random. No two overlap, each keeps its octets, and the region is
- * used as the sum in pool.c says. It ends with 1 where that is not so. */
+/* pool.c by itself: blocks are made, grown and freed in an order made at random. No two overlap, each keeps its octets,
+ * and the region is used as the sum in pool.c says. It ends with 1 where that is not so. */
 #include "../../include/cfdp.h"
 #include "pool.h"
 #include <stdio.h>
@@ -64,7 +64,8 @@ static void grow(struct held *it, size_t more) {
 
 static size_t sum_of_sizes(void) {
     size_t sum = 0;
-    for (size_t index = 0; pool_size_at(index).octets != 0; index++) sum += pool_size_at(index).most * pool_size_at(index).octets;
+    for (size_t index = 0; pool_size_at(index).octets != 0; index++)
+        sum += pool_size_at(index).most * pool_size_at(index).octets;
     return sum;
 }
 

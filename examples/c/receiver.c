@@ -1,20 +1,24 @@
-/* A receiver in acknowledged mode, from octets in this source: the Metadata PDU and the file are lost at first and asked for, and the Finished
- * PDU is sent again. Each PDU that is sent is printed, what the user is notified of, and what became of the input. */
+/* A receiver in acknowledged mode, from octets in this source: the Metadata PDU and the file are lost at first and
+ * asked for, and the Finished PDU is sent again. Each PDU that is sent is printed, what the user is notified of, and
+ * what became of the input. */
 #include "../../include/cfdp_receiver.h"
 #include <inttypes.h>
 #include <stdio.h>
 
 #define PDU(name, ...) static uint8_t name[] = {__VA_ARGS__}
 
-/* Transaction 1/5: a file of 15 octets, 's' there and 'f' here; its octets; its EOF PDU; the acknowledgement of its Finished PDU. */
+/* Transaction 1/5: a file of 15 octets, 's' there and 'f' here; its octets; its EOF PDU; the acknowledgement of its
+ * Finished PDU. */
 PDU(metadata, 0x20, 0x00, 0x0a, 0x00, 0x01, 0x05, 0x02, 0x07, 0x40, 0x00, 0x00, 0x00, 0x0f, 0x01, 's', 0x01, 'f');
-PDU(data, 0x30, 0x00, 0x13, 0x00, 0x01, 0x05, 0x02, 0x00, 0x00, 0x00, 0x00, 0, 1, 2, 3, 4, 5, 6, 7, 8, 9, 10, 11, 12, 13, 14);
+PDU(data, 0x30, 0x00, 0x13, 0x00, 0x01, 0x05, 0x02, 0x00, 0x00, 0x00, 0x00, 0, 1, 2, 3, 4, 5, 6, 7, 8, 9, 10, 11, 12,
+    13, 14);
 PDU(eof, 0x20, 0x00, 0x0a, 0x00, 0x01, 0x05, 0x02, 0x04, 0x00, 0x18, 0x1c, 0x20, 0x15, 0x00, 0x00, 0x00, 0x0f);
 PDU(ack, 0x20, 0x00, 0x03, 0x00, 0x01, 0x05, 0x02, 0x06, 0x51, 0x02);
 /* Transaction 1/6 brings no file; it is cancelled. */
 PDU(other, 0x20, 0x00, 0x08, 0x00, 0x01, 0x06, 0x02, 0x07, 0x40, 0x00, 0x00, 0x00, 0x00, 0x00, 0x00);
 /* The EOF PDU of 1/5 with a CRC, which is wrong. */
-PDU(bad_crc, 0x22, 0x00, 0x0c, 0x00, 0x01, 0x05, 0x02, 0x04, 0x00, 0x18, 0x1c, 0x20, 0x15, 0x00, 0x00, 0x00, 0x0f, 0x12, 0x34);
+PDU(bad_crc, 0x22, 0x00, 0x0c, 0x00, 0x01, 0x05, 0x02, 0x04, 0x00, 0x18, 0x1c, 0x20, 0x15, 0x00, 0x00, 0x00, 0x0f, 0x12,
+    0x34);
 
 static struct cfdp_receiver receiver = CFDP_RECEIVER_EMPTY;
 static int failed;
@@ -52,10 +56,10 @@ static const char *word_of(enum cfdp_became became) {
 
 static void tell(const struct cfdp_indication *it) {
     if (it->kind == CFDP_INDICATION_NONE) return;
-    printf("tell %d of %" PRIu64 "/%" PRIu64 ": condition %" PRIu32, (int)it->kind, it->transaction.source, it->transaction.number,
-        it->condition);
-    printf(" incomplete %" PRIu32 " file status %" PRIu32 " offset %" PRIu64 " length %" PRIu64 "\n", it->incomplete, it->file_status,
-        it->offset, it->length);
+    printf("tell %d of %" PRIu64 "/%" PRIu64 ": condition %" PRIu32, (int)it->kind, it->transaction.source,
+        it->transaction.number, it->condition);
+    printf(" incomplete %" PRIu32 " file status %" PRIu32 " offset %" PRIu64 " length %" PRIu64 "\n", it->incomplete,
+        it->file_status, it->offset, it->length);
 }
 
 /* Prints the PDUs of the last answer in hexadecimal, and its report. */
@@ -72,7 +76,8 @@ static void show(const struct cfdp_report *report) {
     }
     expect(cfdp_receiver_write(&receiver, report->pdus, pdu, sizeof pdu, &count), CFDP_ANSWER_NOTHING);
     tell(&report->indication);
-    printf("%" PRIu64 "/%" PRIu64 " %s\n", report->transaction.source, report->transaction.number, word_of(report->became));
+    printf("%" PRIu64 "/%" PRIu64 " %s\n", report->transaction.source, report->transaction.number,
+        word_of(report->became));
     if (report->reply.kind == CFDP_REPLY_NONE) return;
     expect(cfdp_reply_text(&report->reply, NULL, 0, (uint8_t *)line, sizeof line, &count), CFDP_ANSWER_DONE);
     printf("%s", line); /* it ends with a 0 */
@@ -88,8 +93,10 @@ static void receive(uint64_t now, uint8_t *octets, size_t length) {
 /* Performs all items, and takes all outcomes. */
 static void work_off(uint64_t now) {
     struct cfdp_report report = {0};
-    while (cfdp_receiver_work(&receiver, now, &report) == CFDP_ANSWER_DONE && report.became != CFDP_BECAME_NOTHING) show(&report);
-    while (cfdp_receiver_finish(&receiver, now, &report) == CFDP_ANSWER_DONE && report.became != CFDP_BECAME_NOTHING) show(&report);
+    while (cfdp_receiver_work(&receiver, now, &report) == CFDP_ANSWER_DONE && report.became != CFDP_BECAME_NOTHING)
+        show(&report);
+    while (cfdp_receiver_finish(&receiver, now, &report) == CFDP_ANSWER_DONE && report.became != CFDP_BECAME_NOTHING)
+        show(&report);
 }
 
 /* Serves what is due at the next deadline, which is printed. */
@@ -128,7 +135,8 @@ static void show_filestore(void) {
     uint8_t octets[32];
     size_t count = 0;
     while (cfdp_receiver_next(&receiver, &path, &entry) == CFDP_ANSWER_DONE)
-        printf("%s %.*s %" PRIu64 "\n", entry.kind == CFDP_ENTRY_FILE ? "file" : "dir", (int)path.length, (const char *)path.octets, entry.size);
+        printf("%s %.*s %" PRIu64 "\n", entry.kind == CFDP_ENTRY_FILE ? "file" : "dir", (int)path.length,
+            (const char *)path.octets, entry.size);
     expect(cfdp_path_of(&path, "f"), CFDP_ANSWER_DONE);
     expect(cfdp_receiver_look_up(&receiver, &path, &entry), CFDP_ANSWER_DONE);
     expect(entry.checksum, 0x181c2015);
@@ -141,9 +149,18 @@ static void show_filestore(void) {
 
 int main(void) {
     const struct cfdp_config config = {.entity = 2, .cap = 2400, .blocks = 64, .checks = 2};
-    const struct cfdp_mib mib = {.ack_interval = 50, .ack_limit = 2, .ack_handler = CFDP_HANDLER_ABANDON, .nak_interval = 40, .nak_limit = 3,
-        .nak_handler = CFDP_HANDLER_CANCEL, .check_interval = 30, .check_handler = CFDP_HANDLER_CANCEL, .inactivity_interval = 600,
-        .inactivity_handler = CFDP_HANDLER_CANCEL, .nak_mode = CFDP_NAK_DEFERRED, .longest_nak = 100};
+    const struct cfdp_mib mib = {.ack_interval = 50,
+        .ack_limit = 2,
+        .ack_handler = CFDP_HANDLER_ABANDON,
+        .nak_interval = 40,
+        .nak_limit = 3,
+        .nak_handler = CFDP_HANDLER_CANCEL,
+        .check_interval = 30,
+        .check_handler = CFDP_HANDLER_CANCEL,
+        .inactivity_interval = 600,
+        .inactivity_handler = CFDP_HANDLER_CANCEL,
+        .nak_mode = CFDP_NAK_DEFERRED,
+        .longest_nak = 100};
     struct cfdp_engine engine = CFDP_ENGINE_EMPTY;
     struct cfdp_report report = {0};
     uint64_t moment = 7;

@@ -1,7 +1,7 @@
 /* The engine over one static region: there is no malloc in the program.
  *
- * A block has 16 octets before it for its size, lies at a multiple of 16, and the blocks fill the region from its start. The last
- * block is given back and grown in place; any other stays until all are given back. */
+ * A block has 16 octets before it for its size, lies at a multiple of 16, and the blocks fill the region from its
+ * start. The last block is given back and grown in place; any other stays until all are given back. */
 #include "../../include/cfdp.h"
 #include <stdbool.h>
 #include <stdio.h>
@@ -46,13 +46,14 @@ struct cfdp_block rattle_realloc(void *block, size_t kept, size_t octets, size_t
 }
 
 /* Transaction 1/2: a file of 24 octets for 'image'; its three pieces, and its EOF PDU. */
-static const uint8_t metadata[] = {0x24, 0x00, 0x12, 0x00, 0x01, 0x02, 0x02, 0x07, 0x40, 0x00, 0x00, 0x00, 0x18, 0x05, 'i', 'm', 'a', 'g', 'e', 0x05,
-    'i', 'm', 'a', 'g', 'e'};
+static const uint8_t metadata[] = {0x24, 0x00, 0x12, 0x00, 0x01, 0x02, 0x02, 0x07, 0x40, 0x00, 0x00, 0x00, 0x18, 0x05,
+    'i', 'm', 'a', 'g', 'e', 0x05, 'i', 'm', 'a', 'g', 'e'};
 static const uint8_t pieces[3][19] = {
     {0x34, 0x00, 0x0c, 0x00, 0x01, 0x02, 0x02, 0x00, 0x00, 0x00, 0x00, 'C', 'e', 'z', 'h', 'u', 't', 'a', 'l'},
     {0x34, 0x00, 0x0c, 0x00, 0x01, 0x02, 0x02, 0x00, 0x00, 0x00, 0x08, ' ', 'f', 'l', 'i', 'e', 's', ' ', 't'},
     {0x34, 0x00, 0x0c, 0x00, 0x01, 0x02, 0x02, 0x00, 0x00, 0x00, 0x10, 'o', 'd', 'a', 'y', ',', ' ', 'v', '2'}};
-static const uint8_t eof[] = {0x24, 0x00, 0x0a, 0x00, 0x01, 0x02, 0x02, 0x04, 0x00, 0xda, 0x38, 0x40, 0x5c, 0x00, 0x00, 0x00, 0x18};
+static const uint8_t eof[] = {
+    0x24, 0x00, 0x0a, 0x00, 0x01, 0x02, 0x02, 0x04, 0x00, 0xda, 0x38, 0x40, 0x5c, 0x00, 0x00, 0x00, 0x18};
 
 int main(void) {
     static const struct cfdp_config config = {.entity = 2, .cap = 2400, .blocks = 64, .checks = 2};
@@ -65,7 +66,8 @@ int main(void) {
     wrong |= cfdp_new(&engine, &config, &none, 0) != CFDP_DONE;
     wrong |= cfdp_receive(&engine, metadata, sizeof metadata, &reply) != CFDP_DONE || reply.kind != CFDP_ADMITTED;
     size_t before = calls;
-    for (int i = 0; i < 3; i++) wrong |= cfdp_receive(&engine, pieces[i], sizeof pieces[i], &reply) != CFDP_DONE || reply.kind != CFDP_STORED;
+    for (int i = 0; i < 3; i++)
+        wrong |= cfdp_receive(&engine, pieces[i], sizeof pieces[i], &reply) != CFDP_DONE || reply.kind != CFDP_STORED;
     wrong |= cfdp_receive(&engine, eof, sizeof eof, &reply) != CFDP_DONE || reply.kind != CFDP_COMPLETE;
     wrong |= cfdp_step(&engine, 1, 2, &reply) != CFDP_DONE || reply.kind != CFDP_INSTALLED;
     printf("while the file arrived and was installed memory was asked for %zu times\n", calls - before);

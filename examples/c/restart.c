@@ -1,5 +1,5 @@
-/* A filestore that is kept over a restart: it is read out of one engine, as for memory that survives, and put into a new one. Then the new
- * engine goes on: a list of requests changes a file that was put. */
+/* A filestore that is kept over a restart: it is read out of one engine, as for memory that survives, and put into a
+ * new one. Then the new engine goes on: a list of requests changes a file that was put. */
 #include "../../include/cfdp.h"
 #include <inttypes.h>
 #include <stdio.h>
@@ -8,8 +8,8 @@
 #define PDU(name, ...) static const uint8_t name[] = {__VA_ARGS__}
 
 /* Transaction 1/1: rename file 'app/prog' to 'app/old'. It brings no file. */
-PDU(metadata, 0x24, 0x00, 0x1c, 0x00, 0x01, 0x01, 0x02, 0x07, 0x40, 0x00, 0x00, 0x00, 0x00, 0x00, 0x00, 0x00, 0x12, 0x20, 0x08, 'a', 'p', 'p', '/', 'p',
-    'r', 'o', 'g', 0x07, 'a', 'p', 'p', '/', 'o', 'l', 'd');
+PDU(metadata, 0x24, 0x00, 0x1c, 0x00, 0x01, 0x01, 0x02, 0x07, 0x40, 0x00, 0x00, 0x00, 0x00, 0x00, 0x00, 0x00, 0x12,
+    0x20, 0x08, 'a', 'p', 'p', '/', 'p', 'r', 'o', 'g', 0x07, 'a', 'p', 'p', '/', 'o', 'l', 'd');
 PDU(eof, 0x24, 0x00, 0x0a, 0x00, 0x01, 0x01, 0x02, 0x04, 0x00, 0x00, 0x00, 0x00, 0x00, 0x00, 0x00, 0x00, 0x00);
 
 /* What survives the restart: a line for each directory and file, in path order. */
@@ -49,8 +49,8 @@ static void show_all(struct cfdp_engine *engine) {
     struct cfdp_entry entry;
     struct cfdp_blocks blocks;
     while (cfdp_next(engine, &path, &entry) == CFDP_DONE)
-        printf("%s %.*s %" PRIu64 " %08" PRIx32 "\n", entry.kind == CFDP_FILE ? "file" : "dir", (int)path.length, (const char *)path.octets, entry.size,
-            entry.checksum);
+        printf("%s %.*s %" PRIu64 " %08" PRIx32 "\n", entry.kind == CFDP_FILE ? "file" : "dir", (int)path.length,
+            (const char *)path.octets, entry.size, entry.checksum);
     expect(cfdp_blocks(engine, &blocks), CFDP_DONE);
     printf("free %" PRIu32 " spare %" PRIu32 "\n", blocks.free, blocks.spare);
 }
@@ -64,7 +64,8 @@ static void keep(struct cfdp_engine *engine) {
         line->path = path;
         line->kind = entry.kind;
         line->length = 0;
-        if (entry.kind == CFDP_FILE) expect(cfdp_read(engine, &path, 0, line->octets, sizeof line->octets, &line->length), CFDP_DONE);
+        if (entry.kind == CFDP_FILE)
+            expect(cfdp_read(engine, &path, 0, line->octets, sizeof line->octets, &line->length), CFDP_DONE);
     }
 }
 

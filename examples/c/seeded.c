@@ -1,5 +1,5 @@
-/* Events made at random, with many transactions at once: each goes to the library, and is written as a line of a script of
- * `cfdpsim replay`. What this program prints is what that script's run prints.
+/* Events made at random, with many transactions at once: each goes to the library, and is written as a line of a script
+ * of `cfdpsim replay`. What this program prints is what that script's run prints.
  *   seeded SCRIPT SEED EVENTS > text
  * The file SCRIPT is written; SEED begins the random numbers. */
 #include "../../include/cfdp.h"
@@ -81,7 +81,8 @@ static void end(void) {
 }
 
 static const char *some_path(void) {
-    static const char *const paths[] = {"a", "b", "c", "d", "d/a", "d/b", "d/e", "d/e/f", "g", "g/h", "i", "j", "k", "l", "m", "n", "keep", "keep/o"};
+    static const char *const paths[] = {
+        "a", "b", "c", "d", "d/a", "d/b", "d/e", "d/e/f", "g", "g/h", "i", "j", "k", "l", "m", "n", "keep", "keep/o"};
     static const char *const bad[] = {"..", "a//b", "/", "d/./a"};
     return below(30) ? paths[below(sizeof paths / sizeof *paths)] : bad[below(sizeof bad / sizeof *bad)];
 }
@@ -102,7 +103,8 @@ static void put_request(void) {
 static void make_metadata(uint32_t source, uint32_t number) {
     struct announced *file = &announced[source][number];
     bool has_file = in_ten(6);
-    *file = (struct announced){.size = has_file && below(8) ? below(in_ten(9) ? 900 : 12000) : 0, .first = (uint8_t)below(256)};
+    *file = (struct announced){
+        .size = has_file && below(8) ? below(in_ten(9) ? 900 : 12000) : 0, .first = (uint8_t)below(256)};
     begin(false, source, number);
     put_octet(0x07);
     put_octet((in_ten(7) ? 0x40 : 0x00) | (below(25) ? 0 : 15)); /* closure; seldom the null checksum */

@@ -1,18 +1,20 @@
-/* Many transactions of a receiver over pool.c, as in months of service: each brings a file and a list of filestore requests with names of
- * any length, some PDUs are lost and asked for, and some come twice.
+/* Many transactions of a receiver over pool.c, as in months of service: each brings a file and a list of filestore
+ * requests with names of any length, some PDUs are lost and asked for, and some come twice.
  *   soak TRANSACTIONS SEED [LIVE [REQUESTS]]
- * At most LIVE of them are under way at once, and a list has 2 to REQUESTS requests (8 and 6; at most 64 each). In the end it writes how
- * much of the region was used, and the worst case that it may be; it ends with 1 if it was more.
+ * At most LIVE of them are under way at once, and a list has 2 to REQUESTS requests (8 and 6; at most 64 each). In the
+ * end it writes how much of the region was used, and the worst case that it may be; it ends with 1 if it was more.
  *
- * THE WORST CASE of a receiver with t transactions at once, whose lists have at most r requests, is what cfdp_new and cfdp_receiver_new take,
- * and for the transactions these blocks of pool.c:
+ * THE WORST CASE of a receiver with t transactions at once, whose lists have at most r requests, is what cfdp_new and
+ * cfdp_receiver_new take, and for the transactions these blocks of pool.c:
  *
- *     64 octets: t * (10 + 6 r) + 2     288 octets: t * (8 + 6 r) + 2     1104 octets: 4 t + 2     4368 octets: 3 t + 2     17424 octets: t + 2
+ *     64 octets: t * (10 + 6 r) + 2     288 octets: t * (8 + 6 r) + 2     1104 octets: 4 t + 2
+ *     4368 octets: 3 t + 2              17424 octets: t + 2
  *
- * A request has two names at most, and each of them is kept three times at most while its list is judged: each time in a block of 64 or 288
- * octets, by its length. The lists of a transaction are in one block each, by the number of their items, and the octets of its Finished PDU
- * are kept until it is acknowledged. What is beside t is for the call that is going on. With t above 32 the table of transactions may grow
- * once: one block of twice its size more. These numbers were counted, and this program holds them against each run. */
+ * A request has two names at most, and each of them is kept three times at most while its list is judged: each time in
+ * a block of 64 or 288 octets, by its length. The lists of a transaction are in one block each, by the number of their
+ * items, and the octets of its Finished PDU are kept until it is acknowledged. What is beside t is for the call that is
+ * going on. With t above 32 the table of transactions may grow once: one block of twice its size more. These numbers
+ * were counted, and this program holds them against each run. */
 #include "../../include/cfdp_receiver.h"
 #include "pool.h"
 #include <inttypes.h>
@@ -97,7 +99,8 @@ static void put_request(uint32_t action, const char *first, const char *second) 
     if (second) put_name(second);
 }
 
-/* The Metadata PDU: the list moves the file, makes and removes others, and deletes the file, so that the filestore is as before. */
+/* The Metadata PDU: the list moves the file, makes and removes others, and deletes the file, so that the filestore is
+ * as before. */
 static void write_metadata(struct upload *it) {
     char file[128], moved[128], other[128], last[128];
     size_t more = below((uint32_t)requests - 1);
@@ -172,7 +175,8 @@ static uint32_t number_at(const uint8_t *octets) {
     return (uint32_t)octets[0] << 24 | (uint32_t)octets[1] << 16 | (uint32_t)octets[2] << 8 | octets[3];
 }
 
-/* What the sender does with a PDU of the receiver: it sends again what is asked for, and acknowledges the Finished PDU. */
+/* What the sender does with a PDU of the receiver: it sends again what is asked for, and acknowledges the Finished
+ * PDU. */
 static void answer(const uint8_t *sent, size_t count) {
     struct upload *it = upload_of(number_at(sent + 5));
     if (sent[10] == 8) {
@@ -208,7 +212,8 @@ static size_t queued, answered;
 static void follow(const struct cfdp_report *report) {
     for (size_t number = 0; number < report->pdus; number++) {
         size_t slot = queued++ % 256;
-        if (cfdp_receiver_write(&receiver, number, queue[slot].octets, LONGEST_PDU, &queue[slot].length) != CFDP_ANSWER_DONE)
+        if (cfdp_receiver_write(&receiver, number, queue[slot].octets, LONGEST_PDU, &queue[slot].length) !=
+            CFDP_ANSWER_DONE)
             fail("a PDU is not written");
     }
     if (report->reply.kind == CFDP_REPLY_PERFORMED) performed++;
@@ -278,10 +283,12 @@ static void send_next(struct upload *it) {
     }
 }
 
-/* The worst case of a size, beside what was used at first. The only size that is new then is that of a table that grew. */
+/* The worst case of a size, beside what was used at first. The only size that is new then is that of a table that
+ * grew. */
 static size_t most_of(size_t index, bool is_new) {
     if (is_new) return live > 32;
-    const size_t most[] = {live * (10 + 6 * requests) + 2, live * (8 + 6 * requests) + 2, 4 * live + 2, 3 * live + 2, live + 2};
+    const size_t most[] = {
+        live * (10 + 6 * requests) + 2, live * (8 + 6 * requests) + 2, 4 * live + 2, 3 * live + 2, live + 2};
     return index < sizeof most / sizeof *most ? most[index] : 0;
 }
 
@@ -291,7 +298,8 @@ static void compare(const struct pool_size *first) {
     for (size_t index = 0; pool_size_at(index).octets != 0; index++) {
         const struct pool_size size = pool_size_at(index);
         const size_t most = first[index].most + most_of(index, first[index].octets == 0);
-        printf("blocks of %6zu octets: at most %5zu at once, and %5zu in the worst case\n", size.octets, size.most, most);
+        printf(
+            "blocks of %6zu octets: at most %5zu at once, and %5zu in the worst case\n", size.octets, size.most, most);
         if (size.most > most) fail("more blocks than in the worst case");
         worst += most * size.octets;
     }
@@ -310,9 +318,18 @@ int main(int count, char **words) {
     if (count > 4) requests = strtoul(words[4], NULL, 10);
     if (live < 1 || live > MOST_LIVE || requests < 2 || requests > MOST_REQUESTS) return 2;
     const struct cfdp_config config = {.entity = 2, .cap = 100000, .blocks = 4096, .checks = 2};
-    const struct cfdp_mib mib = {.ack_interval = 3, .ack_limit = 1000, .ack_handler = CFDP_HANDLER_CANCEL, .nak_interval = 3, .nak_limit = 1000,
-        .nak_handler = CFDP_HANDLER_CANCEL, .check_interval = 5, .check_handler = CFDP_HANDLER_CANCEL, .inactivity_interval = 100000,
-        .inactivity_handler = CFDP_HANDLER_CANCEL, .nak_mode = CFDP_NAK_DEFERRED, .longest_nak = 1000};
+    const struct cfdp_mib mib = {.ack_interval = 3,
+        .ack_limit = 1000,
+        .ack_handler = CFDP_HANDLER_CANCEL,
+        .nak_interval = 3,
+        .nak_limit = 1000,
+        .nak_handler = CFDP_HANDLER_CANCEL,
+        .check_interval = 5,
+        .check_handler = CFDP_HANDLER_CANCEL,
+        .inactivity_interval = 100000,
+        .inactivity_handler = CFDP_HANDLER_CANCEL,
+        .nak_mode = CFDP_NAK_DEFERRED,
+        .longest_nak = 1000};
     struct cfdp_engine engine = CFDP_ENGINE_EMPTY;
     if (cfdp_new(&engine, &config, NULL, 0) != CFDP_ANSWER_DONE) fail("new");
     if (cfdp_receiver_new(&receiver, &engine, &mib) != CFDP_ANSWER_DONE) fail("receiver");
@@ -328,7 +345,8 @@ int main(int count, char **words) {
     struct cfdp_path path = {0};
     struct cfdp_entry entry;
     if (cfdp_receiver_next(&receiver, &path, &entry) != CFDP_ANSWER_NOTHING) fail("the filestore is not as before");
-    printf("%" PRIu64 " transactions, %" PRIu64 " requests performed, %" PRIu64 " segments asked for again\n", finished, performed, asked_again);
+    printf("%" PRIu64 " transactions, %" PRIu64 " requests performed, %" PRIu64 " segments asked for again\n", finished,
+        performed, asked_again);
     compare(first);
     if (cfdp_receiver_free(&receiver) != CFDP_ANSWER_DONE || pool_in_use() != 0) fail("memory is not given back");
     return 0;

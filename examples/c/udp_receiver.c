@@ -1,7 +1,9 @@
-/* A whole CFDP receiver on UDP, one PDU in each datagram. Each file that is delivered is written to a folder under its destination name.
+/* A whole CFDP receiver on UDP, one PDU in each datagram. Each file that is delivered is written to a folder under its
+ * destination name.
  *   udp_receiver PORT PEER_PORT FOLDER [CLOSED [CRC]]
- * It hears on 127.0.0.1:PORT and sends to 127.0.0.1:PEER_PORT. Its entity ID is 2. It ends after CLOSED transactions are closed, or, where
- * none is named, never. With CRC (1) its PDUs have a CRC. It writes a line for each indication. */
+ * It hears on 127.0.0.1:PORT and sends to 127.0.0.1:PEER_PORT. Its entity ID is 2. It ends after CLOSED transactions
+ * are closed, or, where none is named, never. With CRC (1) its PDUs have a CRC. It writes a line for each
+ * indication. */
 #define _POSIX_C_SOURCE 200809L
 #include "../../include/cfdp_receiver.h"
 #include <arpa/inet.h>
@@ -44,7 +46,8 @@ static void make_folders(char *path) {
 static void write_out(struct cfdp_transaction id) {
     uint8_t name[256];
     size_t length = 0;
-    if (cfdp_receiver_destination_name(&receiver, id.source, id.number, name, sizeof name, &length) != CFDP_ANSWER_DONE) return;
+    if (cfdp_receiver_destination_name(&receiver, id.source, id.number, name, sizeof name, &length) != CFDP_ANSWER_DONE)
+        return;
     struct cfdp_path path;
     char to[1024];
     cfdp_path_of(&path, (const char *)name);
@@ -55,7 +58,8 @@ static void write_out(struct cfdp_transaction id) {
     static uint8_t octets[65536];
     size_t count = 0;
     for (uint64_t at = 0;; at += count) {
-        if (cfdp_receiver_read(&receiver, &path, at, octets, sizeof octets, &count) != CFDP_ANSWER_DONE || count == 0) break;
+        if (cfdp_receiver_read(&receiver, &path, at, octets, sizeof octets, &count) != CFDP_ANSWER_DONE || count == 0)
+            break;
         if (fwrite(octets, 1, count, file) != count) give_up(to);
     }
     if (fclose(file) != 0) give_up(to);
@@ -69,7 +73,8 @@ static void tell(const struct cfdp_indication *it) {
     case CFDP_INDICATION_METADATA_RECV: printf("metadata %" PRIu64 "\n", it->length); break;
     case CFDP_INDICATION_EOF_RECV: printf("eof\n"); break;
     case CFDP_INDICATION_TRANSACTION_FINISHED:
-        printf("finished %" PRIu32 " %s %" PRIu32 "\n", it->condition, it->incomplete ? "incomplete" : "complete", it->file_status);
+        printf("finished %" PRIu32 " %s %" PRIu32 "\n", it->condition, it->incomplete ? "incomplete" : "complete",
+            it->file_status);
         break;
     case CFDP_INDICATION_FAULT: printf("fault %" PRIu32 "\n", it->condition); break;
     case CFDP_INDICATION_ABANDONED: printf("abandoned %" PRIu32 "\n", it->condition); break;
@@ -82,7 +87,8 @@ static void tell(const struct cfdp_indication *it) {
 static void follow(const struct cfdp_report *report) {
     static uint8_t out[65536];
     size_t count = 0;
-    for (size_t number = 0; cfdp_receiver_write(&receiver, number, out, sizeof out, &count) == CFDP_ANSWER_DONE; number++)
+    for (size_t number = 0; cfdp_receiver_write(&receiver, number, out, sizeof out, &count) == CFDP_ANSWER_DONE;
+         number++)
         if (sendto(link_fd, out, count, 0, (const struct sockaddr *)&peer, sizeof peer) < 0) perror("sendto");
     tell(&report->indication);
     if (report->became == CFDP_BECAME_REPLIED) {
@@ -104,7 +110,8 @@ static void work_off(uint64_t now) {
         follow(&report);
     } while (report.became != CFDP_BECAME_NOTHING);
     do {
-        if (cfdp_receiver_finish(&receiver, now, &report) != CFDP_ANSWER_DONE) return; /* no memory: again in the next round */
+        if (cfdp_receiver_finish(&receiver, now, &report) != CFDP_ANSWER_DONE)
+            return; /* no memory: again in the next round */
         follow(&report);
     } while (report.became != CFDP_BECAME_NOTHING);
 }
@@ -115,7 +122,8 @@ static void go_round(void) {
     struct cfdp_report report = {0};
     uint64_t due = 0, now = milliseconds();
     int wait = -1;
-    if (cfdp_receiver_deadline(&receiver, &due) == CFDP_ANSWER_DONE) wait = due <= now ? 0 : due - now > 60000 ? 60000 : (int)(due - now);
+    if (cfdp_receiver_deadline(&receiver, &due) == CFDP_ANSWER_DONE)
+        wait = due <= now ? 0 : due - now > 60000 ? 60000 : (int)(due - now);
     struct pollfd heard = {.fd = link_fd, .events = POLLIN};
     if (poll(&heard, 1, wait) < 0) give_up("poll");
     now = milliseconds();
@@ -159,10 +167,19 @@ int main(int count, char **words) {
 
     /* A file whose Metadata PDU says 0 octets is unbounded, and is granted the cap. */
     const struct cfdp_config config = {.entity = 2, .cap = 1000000, .blocks = 65536, .checks = 10};
-    const struct cfdp_mib mib = {.ack_interval = 100, .ack_limit = 100, .ack_handler = CFDP_HANDLER_CANCEL,
-        .nak_interval = 100, .nak_limit = 100, .nak_handler = CFDP_HANDLER_CANCEL, .check_interval = 500, .check_handler = CFDP_HANDLER_CANCEL,
-        .inactivity_interval = 20000, .inactivity_handler = CFDP_HANDLER_CANCEL, .nak_mode = CFDP_NAK_IMMEDIATE,
-        .has_crc = count > 5 && atoi(words[5]) != 0, .longest_nak = 1400};
+    const struct cfdp_mib mib = {.ack_interval = 100,
+        .ack_limit = 100,
+        .ack_handler = CFDP_HANDLER_CANCEL,
+        .nak_interval = 100,
+        .nak_limit = 100,
+        .nak_handler = CFDP_HANDLER_CANCEL,
+        .check_interval = 500,
+        .check_handler = CFDP_HANDLER_CANCEL,
+        .inactivity_interval = 20000,
+        .inactivity_handler = CFDP_HANDLER_CANCEL,
+        .nak_mode = CFDP_NAK_IMMEDIATE,
+        .has_crc = count > 5 && atoi(words[5]) != 0,
+        .longest_nak = 1400};
     struct cfdp_engine engine = CFDP_ENGINE_EMPTY;
     if (cfdp_new(&engine, &config, NULL, 0) != CFDP_ANSWER_DONE) return 1;
     if (cfdp_receiver_new(&receiver, &engine, &mib) != CFDP_ANSWER_DONE) return 1;

@@ -1,5 +1,5 @@
-/* The update of a file on the spacecraft, from octets in this source: each reply is printed, and then the file as it was delivered.
- * The events are those of examples/update.replay. */
+/* The update of a file on the spacecraft, from octets in this source: each reply is printed, and then the file as it
+ * was delivered. The events are those of examples/update.replay. */
 #include "../../include/cfdp.h"
 #include <inttypes.h>
 #include <stdio.h>
@@ -7,20 +7,23 @@
 #define PDU(name, ...) static const uint8_t name[] = {__VA_ARGS__}
 
 /* Transaction 1/1: create directory 'app', create file 'app/prog' (the old image). It brings no file. */
-PDU(list_metadata, 0x24, 0x00, 0x1b, 0x00, 0x01, 0x01, 0x02, 0x07, 0x40, 0x00, 0x00, 0x00, 0x00, 0x00, 0x00, 0x00, 0x05, 0x50, 0x03, 'a', 'p', 'p',
-    0x00, 0x0a, 0x00, 0x08, 'a', 'p', 'p', '/', 'p', 'r', 'o', 'g');
+PDU(list_metadata, 0x24, 0x00, 0x1b, 0x00, 0x01, 0x01, 0x02, 0x07, 0x40, 0x00, 0x00, 0x00, 0x00, 0x00, 0x00, 0x00, 0x05,
+    0x50, 0x03, 'a', 'p', 'p', 0x00, 0x0a, 0x00, 0x08, 'a', 'p', 'p', '/', 'p', 'r', 'o', 'g');
 PDU(list_eof, 0x24, 0x00, 0x0a, 0x00, 0x01, 0x01, 0x02, 0x04, 0x00, 0x00, 0x00, 0x00, 0x00, 0x00, 0x00, 0x00, 0x00);
 /* Transaction 1/2: a file of 24 octets for 'app/new'; delete file 'app/prog', rename 'app/new' to 'app/prog'. */
-PDU(file_metadata, 0x24, 0x00, 0x34, 0x00, 0x01, 0x02, 0x02, 0x07, 0x40, 0x00, 0x00, 0x00, 0x18, 0x05, 'i', 'm', 'a', 'g', 'e', 0x07, 'a', 'p', 'p',
-    '/', 'n', 'e', 'w', 0x00, 0x0a, 0x10, 0x08, 'a', 'p', 'p', '/', 'p', 'r', 'o', 'g', 0x00, 0x12, 0x20, 0x07, 'a', 'p', 'p', '/', 'n', 'e', 'w',
-    0x08, 'a', 'p', 'p', '/', 'p', 'r', 'o', 'g');
+PDU(file_metadata, 0x24, 0x00, 0x34, 0x00, 0x01, 0x02, 0x02, 0x07, 0x40, 0x00, 0x00, 0x00, 0x18, 0x05, 'i', 'm', 'a',
+    'g', 'e', 0x07, 'a', 'p', 'p', '/', 'n', 'e', 'w', 0x00, 0x0a, 0x10, 0x08, 'a', 'p', 'p', '/', 'p', 'r', 'o', 'g',
+    0x00, 0x12, 0x20, 0x07, 'a', 'p', 'p', '/', 'n', 'e', 'w', 0x08, 'a', 'p', 'p', '/', 'p', 'r', 'o', 'g');
 /* Transaction 1/3 wants to create 'app/prog', which is leased to 1/2. */
-PDU(other_metadata, 0x24, 0x00, 0x14, 0x00, 0x01, 0x03, 0x02, 0x07, 0x40, 0x00, 0x00, 0x00, 0x00, 0x00, 0x00, 0x00, 0x0a, 0x10, 0x08, 'a', 'p', 'p',
-    '/', 'p', 'r', 'o', 'g');
+PDU(other_metadata, 0x24, 0x00, 0x14, 0x00, 0x01, 0x03, 0x02, 0x07, 0x40, 0x00, 0x00, 0x00, 0x00, 0x00, 0x00, 0x00,
+    0x0a, 0x10, 0x08, 'a', 'p', 'p', '/', 'p', 'r', 'o', 'g');
 /* The file in pieces of 8 octets. */
-PDU(third_piece, 0x34, 0x00, 0x0c, 0x00, 0x01, 0x02, 0x02, 0x00, 0x00, 0x00, 0x10, 'o', 'd', 'a', 'y', ',', ' ', 'v', '2');
-PDU(first_piece, 0x34, 0x00, 0x0c, 0x00, 0x01, 0x02, 0x02, 0x00, 0x00, 0x00, 0x00, 'C', 'e', 'z', 'h', 'u', 't', 'a', 'l');
-PDU(second_piece, 0x34, 0x00, 0x0c, 0x00, 0x01, 0x02, 0x02, 0x00, 0x00, 0x00, 0x08, ' ', 'f', 'l', 'i', 'e', 's', ' ', 't');
+PDU(third_piece, 0x34, 0x00, 0x0c, 0x00, 0x01, 0x02, 0x02, 0x00, 0x00, 0x00, 0x10, 'o', 'd', 'a', 'y', ',', ' ', 'v',
+    '2');
+PDU(first_piece, 0x34, 0x00, 0x0c, 0x00, 0x01, 0x02, 0x02, 0x00, 0x00, 0x00, 0x00, 'C', 'e', 'z', 'h', 'u', 't', 'a',
+    'l');
+PDU(second_piece, 0x34, 0x00, 0x0c, 0x00, 0x01, 0x02, 0x02, 0x00, 0x00, 0x00, 0x08, ' ', 'f', 'l', 'i', 'e', 's', ' ',
+    't');
 PDU(file_eof, 0x24, 0x00, 0x0a, 0x00, 0x01, 0x02, 0x02, 0x04, 0x00, 0xda, 0x38, 0x40, 0x5c, 0x00, 0x00, 0x00, 0x18);
 
 static struct cfdp_engine engine = CFDP_ENGINE_EMPTY;
@@ -91,8 +94,9 @@ static void show_metadata(uint64_t source, uint64_t number) {
     expect(cfdp_metadata(&engine, source, number, &metadata), CFDP_DONE);
     expect(cfdp_source_name(&engine, source, number, from, sizeof from, &from_count), CFDP_DONE);
     expect(cfdp_destination_name(&engine, source, number, to, sizeof to, &to_count), CFDP_DONE);
-    printf("metadata: %" PRIu64 " octets, closure %" PRIu32 ", checksum type %" PRIu32 ", '%.*s' to '%.*s'\n", metadata.size, metadata.closure,
-        metadata.checksum_type, (int)from_count, (const char *)from, (int)to_count, (const char *)to);
+    printf("metadata: %" PRIu64 " octets, closure %" PRIu32 ", checksum type %" PRIu32 ", '%.*s' to '%.*s'\n",
+        metadata.size, metadata.closure, metadata.checksum_type, (int)from_count, (const char *)from, (int)to_count,
+        (const char *)to);
     /* A buffer that is too short: the length that is needed. */
     if (to_count == 0) return;
     expect(cfdp_destination_name(&engine, source, number, from, to_count - 1, &from_count), CFDP_TOO_SHORT);
@@ -121,10 +125,12 @@ static void show_order(void) {
 static void show_file(const struct cfdp_path *path) {
     struct cfdp_entry entry;
     expect(cfdp_look_up(&engine, path, &entry), CFDP_DONE);
-    printf("file %.*s %" PRIu64 " %08" PRIx32 ": ", (int)path->length, (const char *)path->octets, entry.size, entry.checksum);
+    printf("file %.*s %" PRIu64 " %08" PRIx32 ": ", (int)path->length, (const char *)path->octets, entry.size,
+        entry.checksum);
     uint8_t piece[10];
     size_t count = 0;
-    for (uint64_t at = 0; cfdp_read(&engine, path, at, piece, sizeof piece, &count) == CFDP_DONE && count > 0; at += count)
+    for (uint64_t at = 0; cfdp_read(&engine, path, at, piece, sizeof piece, &count) == CFDP_DONE && count > 0;
+         at += count)
         printf("%.*s", (int)count, (const char *)piece);
     printf("\n");
 }
@@ -134,7 +140,8 @@ static void show_all(void) {
     struct cfdp_path path = {0};
     struct cfdp_entry entry;
     while (cfdp_next(&engine, &path, &entry) == CFDP_DONE)
-        printf("%s %.*s %" PRIu64 "\n", entry.kind == CFDP_FILE ? "file" : "dir", (int)path.length, (const char *)path.octets, entry.size);
+        printf("%s %.*s %" PRIu64 "\n", entry.kind == CFDP_FILE ? "file" : "dir", (int)path.length,
+            (const char *)path.octets, entry.size);
     /* After the last one the struct is as before; what spells no path is reported. */
     expect(cfdp_next(&engine, &path, &entry), CFDP_NOTHING);
     expect(path.length, 8);
@@ -150,9 +157,12 @@ int main(void) {
     /* Misuse that the handle can see is an answer. */
     expect(cfdp_receive(&engine, list_eof, sizeof list_eof, &reply), CFDP_NO_ENGINE);
     expect(cfdp_free(&engine), CFDP_NO_ENGINE);
-    expect(cfdp_new(&engine, &(struct cfdp_config){.entity = 2, .cap = 2400, .blocks = 15, .checks = 2}, &boot, 1), CFDP_BAD_BLOCKS);
-    expect(cfdp_new(&engine, &(struct cfdp_config){.entity = 2, .cap = 7864321, .blocks = 16, .checks = 2}, &boot, 1), CFDP_BAD_CAP);
-    expect(cfdp_new(&engine, &(struct cfdp_config){.entity = 2, .cap = 7864320, .blocks = 16, .checks = 0}, &boot, 1), CFDP_BAD_CHECKS);
+    expect(cfdp_new(&engine, &(struct cfdp_config){.entity = 2, .cap = 2400, .blocks = 15, .checks = 2}, &boot, 1),
+        CFDP_BAD_BLOCKS);
+    expect(cfdp_new(&engine, &(struct cfdp_config){.entity = 2, .cap = 7864321, .blocks = 16, .checks = 2}, &boot, 1),
+        CFDP_BAD_CAP);
+    expect(cfdp_new(&engine, &(struct cfdp_config){.entity = 2, .cap = 7864320, .blocks = 16, .checks = 0}, &boot, 1),
+        CFDP_BAD_CHECKS);
     expect(cfdp_new(&engine, &config, &(struct cfdp_path){.length = 2, .octets = ".."}, 1), CFDP_BAD_PATH);
     expect(cfdp_new(&engine, &config, &boot, 1), CFDP_DONE);
     expect(cfdp_new(&engine, &config, &boot, 1), CFDP_HAS_ENGINE);
@@ -197,7 +207,8 @@ int main(void) {
     expect(cfdp_gap(&engine, 1, 2, 0, &gap), CFDP_NOTHING);
     expect(cfdp_phase(&engine, 1, 2, &phase), CFDP_DONE);
     expect(cfdp_grant(&engine, 1, 2, &grant), CFDP_DONE);
-    printf("phase %" PRIu32 " item %" PRIu32 ", granted blocks %" PRIu32 " steps %" PRIu32 "\n", phase.phase, phase.detail, grant.blocks, grant.steps);
+    printf("phase %" PRIu32 " item %" PRIu32 ", granted blocks %" PRIu32 " steps %" PRIu32 "\n", phase.phase,
+        phase.detail, grant.blocks, grant.steps);
     run();
     int64_t blocks_spent = 0;
     uint32_t steps_spent = 0;

@@ -3,10 +3,11 @@
 
     relay.py A_PORT A_PEER B_PORT B_PEER [--lose P] [--repeat P] [--hold P] [--seed N] [--idle SECONDS] [--capture FILE]
 
-What comes to 127.0.0.1:A_PORT goes to 127.0.0.1:B_PEER from B_PORT, and what comes to B_PORT goes to A_PEER from A_PORT. P are shares
-from 0 to 1. What becomes of the nth datagram of a direction is the same for the same seed. A datagram that is held back is sent after one
-to four later ones, or when none comes. The relay ends by itself where nothing comes for SECONDS. It writes what it did, and with
---capture each datagram that it sent to a pcap file, as a CFDP PDU in UDP. It needs Python 3.9 or later and its standard library.
+What comes to 127.0.0.1:A_PORT goes to 127.0.0.1:B_PEER from B_PORT, and what comes to B_PORT goes to A_PEER from
+A_PORT. P are shares from 0 to 1. What becomes of the nth datagram of a direction is the same for the same seed. A
+datagram that is held back is sent after one to four later ones, or when none comes. The relay ends by itself where
+nothing comes for SECONDS. It writes what it did, and with --capture each datagram that it sent to a pcap file, as a
+CFDP PDU in UDP. It needs Python 3.9 or later and its standard library.
 """
 
 from __future__ import annotations

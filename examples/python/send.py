@@ -3,10 +3,11 @@
 
     send.py PORT PEER_PORT FILE:DESTINATION [FILE:DESTINATION ..] [--class 1|2] [--segment OCTETS] [--crc] [--seconds N]
 
-It hears on 127.0.0.1:PORT and sends to 127.0.0.1:PEER_PORT. It is written from CCSDS 727.0-B-5 alone and has nothing of this repository's
-library in it, so that each can be held against the other. In acknowledged mode (class 2) it sends the Metadata PDU, the file and the EOF PDU,
-answers NAK PDUs, sends the EOF PDU again until it is acknowledged, and acknowledges the Finished PDU. In unacknowledged mode (class 1) it
-sends each PDU once, and with closure it waits for the Finished PDU. It needs Python 3.9 or later and its standard library.
+It hears on 127.0.0.1:PORT and sends to 127.0.0.1:PEER_PORT. It is written from CCSDS 727.0-B-5 alone and has nothing
+of this repository's library in it, so that each can be held against the other. In acknowledged mode (class 2) it
+sends the Metadata PDU, the file and the EOF PDU, answers NAK PDUs, sends the EOF PDU again until it is acknowledged,
+and acknowledges the Finished PDU. In unacknowledged mode (class 1) it sends each PDU once, and with closure it waits
+for the Finished PDU. It needs Python 3.9 or later and its standard library.
 """
 
 from __future__ import annotations
@@ -107,7 +108,7 @@ def crc16(octets: bytes) -> int:
 
 @dataclasses.dataclass(frozen=True)
 class Header:
-    """The fixed header of a PDU (section 5.1), with IDs and numbers of one octet each way and files below 2^32 octets."""
+    """The fixed header of a PDU (section 5.1): IDs and numbers of one octet, and files below 2^32 octets."""
 
     is_file_data: bool
     toward_sender: bool
@@ -219,13 +220,20 @@ class Upload:
 
 
 class Sender:
-    """The sending entity: octets and the present time in seconds go in, PDUs come out. It has no socket and no clock."""
+    """The sending entity: octets and the time in seconds go in, PDUs come out. It has no socket and no clock."""
 
     def __init__(
-        self, entity: int = 1, peer: int = 2, *, has_crc: bool = False, interval: float = 0.1, limit: int = 200, window: int = 8
+        self,
+        entity: int = 1,
+        peer: int = 2,
+        *,
+        has_crc: bool = False,
+        interval: float = 0.1,
+        limit: int = 200,
+        window: int = 8,
     ) -> None:
-        """Sends as this entity to that one. `interval` seconds after an EOF PDU without its acknowledgement it is sent again, at most `limit`
-        times. At most `window` transactions are under way at once."""
+        """Sends as this entity to that one. `interval` seconds after an EOF PDU without its acknowledgement it is sent
+        again, at most `limit` times. At most `window` transactions are under way at once."""
         self.entity = entity
         self.peer = peer
         self.has_crc = has_crc
@@ -246,7 +254,8 @@ class Sender:
         closure: bool = True,
         segment: int = 1000,
     ) -> int:
-        """Begins a transaction (a Put request, section 3.4.1) and returns its sequence number. Without a destination it brings no file."""
+        """Begins a transaction (a Put request, section 3.4.1) and returns its sequence number. Without a destination it
+        brings no file."""
         number = len(self.uploads) + 1
         source_name = f"upload-{number}" if destination else ""
         checksum = modular_checksum(octets)
@@ -256,7 +265,8 @@ class Sender:
         return number
 
     def next_pdu(self, now: float) -> Optional[bytes]:
-        """The PDU that is to be sent next, if there is one: acknowledgements, then what was asked for again, then what is new."""
+        """The PDU that is to be sent next, if there is one: acknowledgements, then what was asked for again, then what
+        is new."""
         if self._acks:
             return self._acks.popleft()
         under_way = [upload for upload in self.uploads.values() if not upload.is_over][: self.window]
@@ -337,7 +347,8 @@ class Sender:
         return self._eof(upload, now)
 
     def _asked(self, upload: Upload, requests: list[tuple[int, int]]) -> None:
-        """Answers a NAK PDU (lost segment procedures): each segment that is asked for once, also where it is asked for twice."""
+        """Answers a NAK PDU (lost segment procedures): each segment that is asked for once, also where it is asked for
+        twice."""
         waiting = set(upload.again)
         for what in self._pieces(upload, requests):
             if what not in waiting:
@@ -353,9 +364,11 @@ class Sender:
                 yield at, min(at + upload.segment, end, len(upload.octets))
 
 
-def run(sender: Sender, link: socket.socket, peer: tuple[str, int], seconds: float, linger: float, pace: float = 0.0) -> None:
-    """Sends over a UDP socket until all transactions are over and no PDU came for `linger` seconds, or for `seconds` seconds at most. `pace`
-    is the least time between two PDUs, in seconds."""
+def run(
+    sender: Sender, link: socket.socket, peer: tuple[str, int], seconds: float, linger: float, pace: float = 0.0
+) -> None:
+    """Sends over a UDP socket until all transactions are over and no PDU came for `linger` seconds, or for `seconds`
+    seconds at most. `pace` is the least time between two PDUs, in seconds."""
     link.setblocking(False)
     begun = heard = time.monotonic()
     sent = 0.0

@@ -1,4 +1,5 @@
-"""A CFDP receiving entity (CCSDS 727.0-B-5) for Python: the proved library of `include/cfdp.h` and `include/cfdp_receiver.h`, by ctypes.
+"""A CFDP receiving entity (CCSDS 727.0-B-5) for Python: the proved library of `include/cfdp.h` and
+`include/cfdp_receiver.h`, by ctypes.
 
     from cezhutal import Config, Engine, Mib, Receiver
 
@@ -9,9 +10,10 @@
             for octets in report.pdus:
                 link.sendto(octets, peer)
 
-`bindings/python/link` makes the shared library beside this file; CEZHUTAL_LIBRARY names another one. Every answer of the library but
-'done' raises an exception of its own, a subclass of `Refused`; after it nothing has changed, unless the call says otherwise. One thread at a
-time uses an engine or a receiver. The package has nothing but the standard library of Python 3.9 or later.
+`bindings/python/link` makes the shared library beside this file; CEZHUTAL_LIBRARY names another one. Every answer of
+the library but 'done' raises an exception of its own, a subclass of `Refused`; after it nothing has changed, unless
+the call says otherwise. One thread at a time uses an engine or a receiver. The package has nothing but the standard
+library of Python 3.9 or later.
 """
 
 from ._answers import (

@@ -33,9 +33,9 @@ _LONGEST_FINISHED = 16488
 class Config:
     """What the management information base (section 8) says of the entity.
 
-    entity: its entity ID. blocks: of 128 octets, in the filestore, 16 to 65536. cap: how many octets a file of unbounded size may have,
-    at most 7864320. checks: how often a check timer may expire, 1 to 1000. protected: at most 8 paths; what exists at or below one of them
-    is neither changed nor removed by a request.
+    entity: its entity ID. blocks: of 128 octets, in the filestore, 16 to 65536. cap: how many octets a file of
+    unbounded size may have, at most 7864320. checks: how often a check timer may expire, 1 to 1000. protected: at
+    most 8 paths; what exists at or below one of them is neither changed nor removed by a request.
     """
 
     entity: int
@@ -50,7 +50,9 @@ class Filestore:
 
     def __init__(self, handle: HandleStruct, prefix: str) -> None:
         self._handle = handle
-        self._calls = {name: getattr(LIBRARY, prefix + name) for name in ("look_up", "read", "next", "destination_name")}
+        self._calls = {
+            name: getattr(LIBRARY, prefix + name) for name in ("look_up", "read", "next", "destination_name")
+        }
 
     def look_up(self, path: str) -> Optional[Entry]:
         """What exists at a path, if anything. Raises BadPath."""
@@ -78,7 +80,8 @@ class Filestore:
             yield Entry(path_text(path), EntryKind(entry.kind), entry.checksum, entry.size)
 
     def destination_name(self, transaction: Transaction) -> str:
-        """The destination file name of a transaction's Metadata PDU, empty if it brings no file. Raises Nothing if it is not known."""
+        """The destination file name of a transaction's Metadata PDU, empty if it brings no file. Raises Nothing if it
+        is not known."""
         out = (c_uint8 * 256)()
         count = c_size_t()
         name = self._calls["destination_name"]
@@ -90,7 +93,8 @@ class Engine:
     """A receiving entity without timers. Its memory is given back by `free`, or at the end of a `with` block."""
 
     def __init__(self, config: Config) -> None:
-        """Raises BadPath or TooManyPrefixes for the protected paths, and then BadBlocks, BadCap or BadChecks; or NoMemory."""
+        """Raises BadPath or TooManyPrefixes for the protected paths, and then BadBlocks, BadCap or BadChecks; or
+        NoMemory."""
         self.handle = HandleStruct()
         paths = (PathStruct * max(len(config.protected), 1))(*map(path_struct, config.protected))
         struct = ConfigStruct(config.entity, config.cap, config.blocks, config.checks)
@@ -110,7 +114,8 @@ class Engine:
         check(LIBRARY.cfdp_free(byref(self.handle)))
 
     def put_directory(self, path: str) -> None:
-        """Puts a directory at a path before the first PDU. Raises BadPath, HasTransactions, Exists, NoParent, FilestoreFull or NoMemory."""
+        """Puts a directory at a path before the first PDU. Raises BadPath, HasTransactions, Exists, NoParent,
+        FilestoreFull or NoMemory."""
         self._put(path, EntryKind.DIRECTORY, b"")
 
     def put_file(self, path: str, octets: bytes) -> None:
@@ -121,7 +126,8 @@ class Engine:
         check(LIBRARY.cfdp_put(byref(self.handle), byref(path_struct(path)), kind, buffer_of(octets), len(octets)))
 
     def receive(self, octets: bytes) -> Reply:
-        """Takes the octets of one whole PDU. Raises NotOurs, the first fault of the octets, or NoMemory for a Metadata PDU."""
+        """Takes the octets of one whole PDU. Raises NotOurs, the first fault of the octets, or NoMemory for a Metadata
+        PDU."""
         struct = ReplyStruct()
         check(LIBRARY.cfdp_receive(byref(self.handle), buffer_of(octets), len(octets), byref(struct)))
         return reply_of(struct)
@@ -131,7 +137,7 @@ class Engine:
         return self._event(LIBRARY.cfdp_step, transaction)
 
     def cancel(self, transaction: Transaction) -> Reply:
-        """A transaction is cancelled (section 4.11)."""
+        """A transaction is cancelled (transaction cancellation procedures)."""
         return self._event(LIBRARY.cfdp_cancel, transaction)
 
     def check(self, transaction: Transaction) -> Reply:
@@ -144,8 +150,8 @@ class Engine:
         return reply_of(struct)
 
     def take(self, transaction: Transaction) -> Reply:
-        """The outcome of a transaction that is over is taken: `finished` of the reply has the octets of the Finished PDU, if one is to be
-        sent. Raises NoMemory."""
+        """The outcome of a transaction that is over is taken: `finished` of the reply has the octets of the Finished
+        PDU, if one is to be sent."""
         struct, count = ReplyStruct(), c_size_t()
         out = (c_uint8 * _LONGEST_FINISHED)()
         name = (transaction.source, transaction.number)

@@ -135,7 +135,8 @@ class MibStruct(ctypes.Structure):
     _fields_ = [
         (name, c_uint32)
         for name in (
-            "ack_interval ack_limit ack_handler nak_interval nak_limit nak_handler check_interval check_handler inactivity_interval "
+            "ack_interval ack_limit ack_handler nak_interval nak_limit nak_handler "
+            "check_interval check_handler inactivity_interval "
             "inactivity_handler keep_alive_interval nak_mode has_crc longest_nak"
         ).split()
     ]

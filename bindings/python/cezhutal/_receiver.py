@@ -65,7 +65,8 @@ class IndicationKind(IntEnum):
 
 @dataclasses.dataclass(frozen=True)
 class Retries:
-    """A timer after which a PDU is sent again: its interval in ticks, the expiry that is a fault (1 to 1000), and what is done then."""
+    """A timer after which a PDU is sent again: its interval in ticks, the expiry that is a fault (1 to 1000), and what
+    is done then."""
 
     interval: int
     limit: int
@@ -84,8 +85,8 @@ class Watch:
 class Mib:
     """What the management information base (section 8) says of the receiver. Times are in ticks of the caller's clock.
 
-    keep_alive: the time between Keep Alive PDUs; 0: none is sent. has_crc: PDUs that are sent have a CRC. longest_nak: how many octets a NAK
-    PDU has at most, 72 to 65535.
+    keep_alive: the time between Keep Alive PDUs; 0: none is sent. has_crc: PDUs that are sent have a CRC.
+    longest_nak: how many octets a NAK PDU has at most, 72 to 65535.
     """
 
     ack: Retries = Retries(1000, 10)
@@ -137,7 +138,8 @@ class Indication:
 
 @dataclasses.dataclass(frozen=True)
 class Report:
-    """What became of an input: the PDUs that are to be sent now, what the user is notified of, and the reply of the entity where it was asked."""
+    """What became of an input: the PDUs that are to be sent now, what the user is notified of, and the reply of the
+    entity where it was asked."""
 
     became: Became
     transaction: Transaction
@@ -147,15 +149,16 @@ class Report:
 
 
 class Receiver:
-    """A receiver over an engine, which is the receiver's from then on. Its memory is given back by `free`, or at the end of a `with` block.
+    """A receiver over an engine, which is the receiver's from then on. Its memory is given back by `free`, or at the
+    end of a `with` block.
 
-    A driver calls `receive` with what comes, or `expire` when the `deadline` has passed, and then goes through `work_off`. It sends the PDUs of
-    each report.
+    A driver calls `receive` with what comes, or `expire` when the `deadline` has passed, and then goes through
+    `work_off`. It sends the PDUs of each report.
     """
 
     def __init__(self, engine: Engine, mib: Mib) -> None:
-        """Raises NoEngine; BadHandler, BadNakMode, BadInterval, BadLimit or BadLongestNak; HasTransactions; or NoMemory, after which the engine
-        is freed."""
+        """Raises NoEngine; BadHandler, BadNakMode, BadInterval, BadLimit or BadLongestNak; HasTransactions; or
+        NoMemory, after which the engine is freed."""
         self.handle = HandleStruct()
         struct = mib.struct()
         check(LIBRARY.cfdp_receiver_new(byref(self.handle), byref(engine.handle), byref(struct)))
@@ -175,7 +178,8 @@ class Receiver:
         check(LIBRARY.cfdp_receiver_free(byref(self.handle)))
 
     def receive(self, now: int, octets: bytes) -> Report:
-        """The octets of one whole PDU came. Raises BadCrc or the first other fault of the octets; or NoMemory for a Metadata PDU."""
+        """The octets of one whole PDU came. Raises BadCrc or the first other fault of the octets; or NoMemory for a
+        Metadata PDU."""
         return self._call(LIBRARY.cfdp_receiver_receive, now, buffer_of(octets), len(octets))
 
     def expire(self, now: int) -> Report:

@@ -14,7 +14,8 @@ from ._library import LIBRARY, Refusal, ReplyKind, ReplyStruct, Transaction, buf
 class Reply:
     """A reply of the entity, and the numbers that it brings. A number that its kind has no use for is 0.
 
-    `text` is the line that `cfdpsim replay` writes of it, and `finished` the octets of the Finished PDU where it is of the kind TAKEN.
+    `text` is the line that `cfdpsim replay` writes of it, and `finished` the octets of the Finished PDU where it is
+    of the kind TAKEN.
     """
 
     kind: ReplyKind
