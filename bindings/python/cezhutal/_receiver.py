@@ -15,7 +15,7 @@ from ._replies import Reply, reply_of
 
 
 class Handler(IntEnum):
-    """What is done at a fault (section 4.8)."""
+    """What is done at a fault (fault handling procedures)."""
 
     CANCEL = 1
     IGNORE = 2
