@@ -1,5 +1,5 @@
-//! Worked scripts over the receiving entity of `cfdp_receiver`: what it sends, indicates and reports for each input,
-//! at each stage and moment. This crate has tests alone.
+//! The receiving entity of `cfdp_receiver`, tried: what it sends, indicates and reports for each input, at each stage
+//! and moment, and where memory is refused. This crate has tests alone.
 #![tactic(auto)]
 
 #[cfg(test)]

@@ -2,16 +2,41 @@
 //! Where memory is refused to an input nothing has changed, and the input is handed in again. Nothing but the
 //! receiver asks for memory once it is made.
 
-use super::head::{Head, MIB};
+use cfdp_actions::Protected;
 use cfdp_directives::{Range, TransactionStatus};
 use cfdp_entity::Entity;
 use cfdp_pdus::PduFault;
-use cfdp_receiver::{Answer, Dropped, NotMade, Receiver};
+use cfdp_receiver::{Answer, Dropped, Handler, Mib, NakMode, NotMade, Receiver, Retries, Watch};
 use cfdp_reports::{NotReported, dropped_line, push_answer};
 use cfdp_sessions::Stage;
 use cfdp_status::TransactionId;
 use cfdp_transactions::{Config, Phase};
 use std::alloc::{AllocError, Global};
+
+/// Three expiries of 10 ticks each, and then the transaction is cancelled.
+const RETRIES: Retries = Retries {
+    interval: 10,
+    limit: 3,
+    at_limit: Handler::Cancel,
+};
+
+/// What is set where a script sets nothing else.
+const MIB: Mib = Mib {
+    ack: RETRIES,
+    nak: RETRIES,
+    check: Watch {
+        interval: 10,
+        at_limit: Handler::Cancel,
+    },
+    inactivity: Watch {
+        interval: 100,
+        at_limit: Handler::Cancel,
+    },
+    keep_alive: None,
+    nak_mode: NakMode::Deferred,
+    has_crc: false,
+    longest_nak: 65_535,
+};
 
 /// The longest PDU that comes.
 const LONGEST: usize = 512;
@@ -148,7 +173,7 @@ fn made(alloc: Global, config: Config) -> Result<Result<Receiver, NotMade>, Allo
 /// The same, made once more where it was refused memory. `None` of a configuration that is out of range.
 fn made_at_last(alloc: Global) -> Result<Option<Receiver>, AllocError> {
     for _ in 0..2 {
-        let Ok(config) = Head::new().config() else {
+        let Ok(config) = Config::new(2, 64, 2_400, 2, 1_000, Protected::new()) else {
             return Ok(None);
         };
         match made(alloc, config)? {
