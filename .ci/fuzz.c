@@ -1,10 +1,11 @@
 /* Calls made at random, of an engine and of a receiver, with PDUs that are those of a corpus with octets changed, cut
- * or put in, and with memory that is refused now and then. Each buffer is as long as the call says, so that the address
- * sanitizer sees an octet too many.
+ * or put in, and with memory that is refused now and then. Each buffer is as long as the call says. The sanitizers see
+ * all that this file does, and of the library, which is compiled without them, its calls of memcpy, memmove, memset and
+ * the functions for memory. That no octet after what a call writes changes is tested here (is_filled).
  *   fuzz SECONDS SEED FILE..
- * The corpus is the lines `pdu HEX` of the files. A round is a few hundred calls of one engine, or one receiver; its
- * calls are the same for the same seed and number of the round. It ends after SECONDS, or at the first call that does
- * not keep its word: with 1, after a line that names the round. */
+ * The corpus is the lines `pdu HEX` and `at T pdu HEX` of the files. A round is a few hundred calls of one engine, or
+ * one receiver; its calls are the same for the same seed and number of the round. It ends after SECONDS, or at the
+ * first call that does not keep its word: with 1, after a line that names the round. */
 #define _POSIX_C_SOURCE 200809L
 #include "../include/cfdp_receiver.h"
 #include <inttypes.h>
@@ -418,16 +419,24 @@ static void play(uint8_t *pdu) {
 
 static int digit(char it) { return it >= '0' && it <= '9' ? it - '0' : it >= 'a' && it <= 'f' ? it - 'a' + 10 : -1; }
 
+/* The hexadecimal digits of a line `pdu HEX` or `at T pdu HEX`; NULL of another line. */
+static const char *digits_of(const char *line) {
+    if (strncmp(line, "pdu ", 4) == 0) return line + 4;
+    const char *word = strncmp(line, "at ", 3) == 0 ? strstr(line, " pdu ") : NULL;
+    return word != NULL ? word + 5 : NULL;
+}
+
 static void read_corpus(const char *name) {
     static char line[2 * LONGEST];
     FILE *file = fopen(name, "r");
     if (file == NULL) perror(name), exit(2);
     while (corpus_count < CORPUS && fgets(line, sizeof line, file) != NULL) {
-        if (strncmp(line, "pdu ", 4) != 0) continue;
+        const char *digits = digits_of(line);
+        if (digits == NULL) continue;
         uint8_t *octets = malloc(strlen(line));
         size_t length = 0;
         if (octets == NULL) abort();
-        for (const char *at = line + 4; digit(at[0]) >= 0 && digit(at[1]) >= 0; at += 2)
+        for (const char *at = digits; digit(at[0]) >= 0 && digit(at[1]) >= 0; at += 2)
             octets[length++] = (uint8_t)(digit(at[0]) << 4 | digit(at[1]));
         if (length > 0 && length < 5000) corpus[corpus_count++] = (struct pdu){octets, length};
         else free(octets);
