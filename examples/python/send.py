@@ -2,12 +2,14 @@
 """A CFDP sender on UDP, for both classes: one PDU in each datagram.
 
     send.py PORT PEER_PORT FILE:DESTINATION [FILE:DESTINATION ..] [--class 1|2] [--segment OCTETS] [--crc] [--seconds N]
+        [--number N]
 
 It hears on 127.0.0.1:PORT and sends to 127.0.0.1:PEER_PORT. It is written from CCSDS 727.0-B-5 alone and has nothing
 of this repository's library in it, so that each can be held against the other. In acknowledged mode (class 2) it
 sends the Metadata PDU, the file and the EOF PDU, answers NAK PDUs, sends the EOF PDU again until it is acknowledged,
 and acknowledges the Finished PDU. In unacknowledged mode (class 1) it sends each PDU once, and with closure it waits
-for the Finished PDU. It needs Python 3.9 or later and its standard library.
+for the Finished PDU. The transactions are numbered from N. Without it N comes from the clock: a receiver that runs on
+does not take a number again. It needs Python 3.9 or later and its standard library.
 """
 
 from __future__ import annotations
@@ -231,15 +233,18 @@ class Sender:
         interval: float = 0.1,
         limit: int = 200,
         window: int = 8,
+        first: int = 1,
     ) -> None:
         """Sends as this entity to that one. `interval` seconds after an EOF PDU without its acknowledgement it is sent
-        again, at most `limit` times. At most `window` transactions are under way at once."""
+        again, at most `limit` times. At most `window` transactions are under way at once. The first one has the
+        sequence number `first`, and each next one has one more: 65,535 at most."""
         self.entity = entity
         self.peer = peer
         self.has_crc = has_crc
         self.interval = interval
         self.limit = limit
         self.window = window
+        self.first = first
         self.uploads: dict[int, Upload] = {}
         self._acks: deque[bytes] = deque()
         self._turn = 0
@@ -256,7 +261,7 @@ class Sender:
     ) -> int:
         """Begins a transaction (a Put request, section 3.4.1) and returns its sequence number. Without a destination it
         brings no file."""
-        number = len(self.uploads) + 1
+        number = self.first + len(self.uploads)
         source_name = f"upload-{number}" if destination else ""
         checksum = modular_checksum(octets)
         self.uploads[number] = Upload(
@@ -402,8 +407,10 @@ def main() -> int:
     words.add_argument("--segment", type=int, default=1000, help="octets of the file in each PDU")
     words.add_argument("--crc", action="store_true", help="PDUs have a CRC")
     words.add_argument("--seconds", type=float, default=60.0, help="how long it tries")
+    words.add_argument("--number", type=int, help="the first sequence number, 0 to 65535; else one of the clock")
     given = words.parse_args()
-    sender = Sender(has_crc=given.crc)
+    first = int(time.time()) % 60_000 + 1 if given.number is None else given.number
+    sender = Sender(has_crc=given.crc, first=first)
     for pair in given.files:
         name, _, destination = pair.partition(":")
         with open(name, "rb") as file:
