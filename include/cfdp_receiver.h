@@ -4,9 +4,10 @@
  *
  * A program makes an engine with cfdp_new, puts into it the files that are there (cfdp_put), and makes a receiver of
  * it. Then it goes round: it waits for a PDU until the moment that cfdp_receiver_deadline says, and calls
- * cfdp_receiver_receive with what came, or cfdp_receiver_expire where nothing did. Then it calls cfdp_receiver_work
- * until there is nothing to do, and cfdp_receiver_finish likewise. After each of these calls it sends the PDUs of
- * the answer: cfdp_receiver_write for the numbers 0 to report.pdus - 1. examples/c/udp_receiver.c is such a program.
+ * cfdp_receiver_receive with what came. As long as that moment has passed it calls cfdp_receiver_expire, also where a
+ * PDU came, so that a busy link stops no timer. Then it calls cfdp_receiver_work until there is nothing to do, and
+ * cfdp_receiver_finish likewise. After each of these calls it sends the PDUs of the answer: cfdp_receiver_write for
+ * the numbers 0 to report.pdus - 1. examples/c/udp_receiver.c is such a program.
  *
  * Everything that `cfdp.h` says of what the caller promises, of NULL, memory and names holds here too, for a
  * receiver as for an engine. A moment is a number of ticks of a clock of the caller's, such as milliseconds, that
