@@ -212,7 +212,10 @@ _CALLS = {
 
 def _load() -> ctypes.CDLL:
     where = os.environ.get("CEZHUTAL_LIBRARY") or str(pathlib.Path(__file__).with_name("libcezhutal.so"))
-    library = ctypes.CDLL(where)
+    try:
+        library = ctypes.CDLL(where)
+    except OSError as why:
+        raise ImportError(f"{why}: bindings/python/link makes the library, or CEZHUTAL_LIBRARY names it") from why
     for name, parameters in _CALLS.items():
         call = getattr(library, name)
         call.argtypes = parameters
