@@ -1,10 +1,11 @@
 -- A list of the index without one of its nodes.
 --     without_first, without_other     the list's first node is the one, or is another one
---     without_has        the other nodes are there still
+--     without_all, without_has     without a node that is not in it;  the other nodes are there still
+--     length_without     it is shorter by one
 --     links_after        the node that a list's node names as the next one is in it too, one place later
 --     in_list, in_nodes  a node that is not the last one of a list is in it
 --     cut_chain          where the node before it names the node after it, the list is without it
-use Rattle.std.proofs.Common.{◌≡◌, ◌≢◌, ℕ, suc, zero, ◌-◌, List, [], ◌∷◌, cond, refl, sym, ap, ◌∙◌, subst, inl, inr, arith}
+use Rattle.std.proofs.Common.{◌≡◌, ◌≢◌, ℕ, suc, zero, ◌+◌, ◌-◌, List, [], ◌∷◌, cond, length, refl, sym, ap, ◌∙◌, subst, inl, inr, arith}
 use Rattle.std.proofs.lemmas.Bool.{cases_eq, eq-eqb, ne_eqb}
 use Rattle.std.proofs.lemmas.List.Elements.{All-contains}
 use Rattle.std.specs.Prelude.{All, AllPairs, Contains, not}
@@ -18,14 +19,14 @@ module _ (b : ℕ) where
   pub without_other : (x : ℕ) (xs : List ℕ) → x ≢ b → without b (x ∷ xs) ≡ x ∷ without b xs
   without_other x xs other = ap (λ is. cond (not is) (x ∷ without b xs) (without b xs)) (ne_eqb x b other)
 
-  without_none : (xs : List ℕ) → All (λ c. b ≢ c) xs → without b xs ≡ xs
-  without_none [] apart = refl
-  without_none (x ∷ xs) apart =
+  pub without_all : (xs : List ℕ) → All (λ c. b ≢ c) xs → without b xs ≡ xs
+  without_all [] apart = refl
+  without_all (x ∷ xs) apart =
       let P : ℕ → Type 0 = λ c. b ≢ c in
-      without_other x xs (λ e. own_first P x xs apart (sym e)) ∙ ap (λ rest. x ∷ rest) (without_none xs (own_rest P x xs apart))
+      without_other x xs (λ e. own_first P x xs apart (sym e)) ∙ ap (λ rest. x ∷ rest) (without_all xs (own_rest P x xs apart))
 
   pub without_first : (xs : List ℕ) → All (λ c. b ≢ c) xs → without b (b ∷ xs) ≡ xs
-  without_first xs apart = ap (λ is. cond (not is) (b ∷ without b xs) (without b xs)) (eq-eqb b b refl) ∙ without_none xs apart
+  without_first xs apart = ap (λ is. cond (not is) (b ∷ without b xs) (without b xs)) (eq-eqb b b refl) ∙ without_all xs apart
 
   pub without_has : (xs : List ℕ) (c : ℕ) → c ≢ b → Contains xs c → Contains (without b xs) c
   without_has [] c other has = absurd (omega (arith, has.1))
@@ -36,6 +37,19 @@ module _ (b : ℕ) where
       | inl e ↦ subst (Contains (x ∷ without b xs)) e (has_first x (without b xs))
       | inr apart ↦ has_later x (without b xs) c (without_has xs c other (rest_has x xs c has apart))
     ])
+  ]
+
+  pub length_without : (xs : List ℕ) → AllPairs (λ x y. x ≢ y) xs → Contains xs b → length (without b xs) + 1 ≡ length xs
+  length_without [] once has = absurd (omega (arith, has.1))
+  length_without (x ∷ xs) once has = elim (cases_eq x b) [
+    | inl e ↦ (
+        let apart : All (λ c. b ≢ c) xs = subst (λ y. All (λ c. y ≢ c) xs) e (once_first x xs once) in
+        omega (arith, ap (λ (ys : List ℕ). length ys) (ap (λ y. without b (y ∷ xs)) e ∙ without_first xs apart)))
+    | inr other ↦ omega (
+      arith,
+      ap (λ (ys : List ℕ). length ys) (without_other x xs other),
+      length_without xs (once_rest x xs once) (rest_has x xs b has other),
+    )
   ]
 
 -- p names b as the next one
@@ -87,12 +101,12 @@ module _ (old : Blocks) (p b : ℕ) (before : (row_at old p).same_head ≡ b) wh
     ]
 
 -- a node that is not the last one of a list is in it
-module _ (nodes : Blocks) (head : Head) (p : ℕ) (there : Contains (chain nodes (head.count - 1) head.first) p) where
+module _ (nodes : Blocks) (head : Head) (p : ℕ) (there : Contains (chain nodes (head.listed - 1) head.first) p) where
   pub in_list : Contains (list_of nodes head) p
   in_list =
-      let some = chain_some nodes (head.count - 1) head.first p there in
-      let all : suc (head.count - 1) ≡ head.count = omega arith in
-      subst (λ n. Contains (chain nodes n head.first) p) all (has_longer nodes (head.count - 1) head.first p there)
+      let some = chain_some nodes (head.listed - 1) head.first p there in
+      let all : suc (head.listed - 1) ≡ head.listed = omega arith in
+      subst (λ n. Contains (chain nodes n head.first) p) all (has_longer nodes (head.listed - 1) head.first p there)
 
   pub in_nodes : All (IsNode nodes) (list_of nodes head) → IsNode nodes p
   in_nodes all = All-contains (IsNode nodes) (list_of nodes head) p all in_list

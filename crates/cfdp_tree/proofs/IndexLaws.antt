@@ -1,27 +1,19 @@
 -- The lists of the index.
---     place_within     the head of a directory and a name is one of the heads
 --     chain_more       a list's first node, and those after it
 --     no_entry         what was denied
 --     own_first, own_rest, rest_has      of all of its nodes, of the first one, and of those after it
 --     has_later, has_first, has_longer, chain_some     a node that is in it
+--     chain_one                a list of one node
 --     once_first, once_rest    no node is in it twice
 --     kept_links               a list of nodes whose links have stayed
 --     kept_chain               a list without the node whose link has changed
-use Rattle.std.proofs.Common.{◌≡◌, ◌≢◌, ℕ, suc, zero, ◌*◌, ◌%◌, ◌^◌, ◌<◌, List, ◌∷◌, length, get_or, refl, ap, ◌∙◌, subst, inl, inr, arith, lit<, Bool, false}
-use Rattle.std.proofs.Math.Nat.{div-lt_iff_lt-mul, mul-lt-mul_of_pos_left}
+use Rattle.std.proofs.Common.{◌≡◌, ◌≢◌, ℕ, suc, zero, ◌<◌, List, [], ◌∷◌, length, get_or, refl, ap, ◌∙◌, subst, inl, inr, arith, Bool, false}
 use Rattle.std.proofs.lemmas.Bool.{cases_eq}
-use Rattle.std.specs.Prelude.{All, AllPairs, Contains, IsTrue, Option}
+use Rattle.std.specs.Prelude.{All, AllPairs, Contains, IsTrue}
 use Rattle.cfdp_arena.specs.Arena.{Blocks}
 use Rattle.cfdp_tree.specs.Tree.{row_at}
-use Rattle.cfdp_paths.specs.Paths.{Name}
-use Rattle.cfdp_tree.specs.Index.{hash_of, place_of, chain}
+use Rattle.cfdp_tree.specs.Index.{chain}
 use Rattle.cfdp_tree.specs.Lists as lists
-
-pub place_within : (directory : Option ℕ) (name : Name) (n : ℕ) → 0 < n → place_of directory name n < n
-place_within directory name n some =
-    let hash = hash_of directory name % 2 ^ 64 in
-    let small : hash < 2 ^ 64 = omega arith in
-    (div-lt_iff_lt-mul {k = 2 ^ 64} {x = n * hash} {y = n} (lit< tt)).1 (mul-lt-mul_of_pos_left {m = hash} {n = 2 ^ 64} {k = n} small some)
 
 pub chain_more : (nodes : Blocks) (n m b : ℕ) → n ≡ suc m → chain nodes n b ≡ b ∷ chain nodes m (row_at nodes b).same_head
 chain_more nodes n m b e = ap (λ k. chain nodes k b) e
@@ -51,6 +43,12 @@ has_first b rest = (0, omega arith, refl)
 pub chain_some : (nodes : Blocks) (n b c : ℕ) → Contains (chain nodes n b) c → 0 < n
 chain_some nodes zero b c has = omega (arith, has.1)
 chain_some nodes (suc n) b c has = omega arith
+
+pub chain_one : (nodes : Blocks) (b c : ℕ) → Contains (chain nodes 1 b) c → b ≡ c
+chain_one nodes b c has = elim (cases_eq b c) [
+  | inl e ↦ e
+  | inr other ↦ absurd (omega (arith, (rest_has b [] c has other).1))
+]
 
 pub has_longer : (nodes : Blocks) (n b c : ℕ) → Contains (chain nodes n b) c → Contains (chain nodes (suc n) b) c
 has_longer nodes zero b c has = absurd (omega (arith, has.1))

@@ -16,6 +16,7 @@ pub mod ContentsLaws
 pub mod RowLaws
 pub mod TreeLaws
 pub mod IndexLaws
+pub mod HeadLaws
 pub mod ShowLaws
 pub mod PlaceLaws
 pub mod WriteLaws

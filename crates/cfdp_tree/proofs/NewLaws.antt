@@ -5,6 +5,7 @@
 use Rattle.std.proofs.Common.{◌≡◌, ℕ, zero, suc, ◌-◌, ◌*◌, ◌<◌, ◌≤◌, true, List, [], ◌∷◌, ◌++◌, length, map, take, get_or, replicate, sum_by, Option, Some, None, refl, sym, ap, ◌∙◌, subst, inl, inr, arith}
 use Rattle.std.proofs.lemmas.List.{length-replicate, get_or-replicate, get_or_past, get_or-append_right, get_or_append_left}
 use Rattle.std.proofs.lemmas.List.Folds.{sum_by-replicate}
+use Rattle.std.proofs.lemmas.List.Elements.{All-nil}
 use Rattle.std.proofs.lemmas.Bool.{cases_lt}
 use Rattle.std.specs.FinMap as finite
 use Rattle.std.specs.FinMap.{get-empty, len-empty, len-entries}
@@ -21,7 +22,7 @@ use Rattle.cfdp_tree.specs.declared.slots.Slot.{Slot}
 use Rattle.cfdp_tree.specs.Contents.{IsFilled, contents_in}
 use Rattle.cfdp_tree.specs.Nodes.{only_node, nodes_in}
 use Rattle.cfdp_tree.specs.Tree.{IsNode, IsTree}
-use Rattle.cfdp_tree.specs.Index.{no_head, list_of, list_at, IsIndex}
+use Rattle.cfdp_tree.specs.Index.{no_head, count_of, HasHead, IsHead, IsIndex}
 use Rattle.cfdp_tree.specs.Kept.{no_contents, file_in, holdings, Shows, filestore_of, store_of, IsStored}
 use Rattle.cfdp_tree.specs.Slots.{staged_in, IsPlaced, IsFresh, IsStore}
 use Rattle.cfdp_tree.specs.declared.orders.Orders.{Orders}
@@ -32,8 +33,8 @@ use Rattle.cfdp_tree.proofs.SlotPlaces.{slot_starts}
 use Rattle.cfdp_tree.proofs.WayLaws.{ways_none}
 use Rattle.cfdp_tree.proofs.ShowLaws.{tree_shows, shown_same}
 
-pub head_none : (head : Head) → head.first ≡ 0 → head.count ≡ 0 → head ≡ no_head
-head_none head first count = (λ k. record { first = first k; count = count k })
+pub head_none : (head : Head) → head.first ≡ 0 → head.listed ≡ 0 → head.unlisted ≡ 0 → head ≡ no_head
+head_none head first listed unlisted = (λ k. record { first = first k; listed = listed k; unlisted = unlisted k })
 
 pub contents_none : (contents : Contents) → contents.run.first ≡ 0 → contents.run.last ≡ 0 → contents.run.count ≡ 0 → contents.size ≡ 0 → contents.sum ≡ 0 →
     contents ≡ no_contents
@@ -110,21 +111,26 @@ module _ (n : ℕ) (some : 1 ≤ n) (few : n ≤ 65536) (heads : List Head) (hea
   head_at : (k : ℕ) → get_or heads k no_head ≡ no_head
   head_at k = ap (λ hs. get_or hs k no_head) heads_are ∙ one_each n head no_head head_is k
 
-  list_none : (k : ℕ) → list_at nodes heads k ≡ []
-  list_none k = ap (list_of nodes) (head_at k)
+  head_empty : (k : ℕ) → IsHead nodes None (length heads) k no_head
+  head_empty k = record {
+    small = omega arith;
+    few = omega arith;
+    rest = [];
+    count = refl;
+    own = All-nil (HasHead nodes None (length heads) k);
+    once = (λ i j d before less. absurd (omega (arith, less)));
+    all = (λ b has. absurd (no_node b has.node));
+  }
 
   index : IsIndex nodes heads None
   index = record {
     some = omega (arith, long, some);
-    small = (λ k within. omega (arith, ap (λ (h : Head). h.first) (head_at k)));
-    own = (λ k within i d less. absurd (omega (arith, less, ap (λ (xs : List ℕ). length xs) (list_none k))));
-    once = (λ k within i j d before less. absurd (omega (arith, less, ap (λ (xs : List ℕ). length xs) (list_none k))));
-    all = (λ b node inside. absurd (no_node b node));
+    each = (λ k within. subst (IsHead nodes None (length heads) k) (sym (head_at k)) (head_empty k));
     counted = omega (
       arith,
-      ap (λ hs. sum_by (λ (h : Head). h.count) hs) heads_are,
-      sum_by-replicate (λ (h : Head). h.count) n head,
-      ap (λ (h : Head). n * h.count) head_is,
+      ap (λ hs. sum_by (λ (h : Head). count_of h) hs) heads_are,
+      sum_by-replicate (λ (h : Head). count_of h) n head,
+      ap (λ (h : Head). n * count_of h) head_is,
       ap live_count nodes_are,
       none_live n,
     );

@@ -1,18 +1,20 @@
--- The index where a node changes that is in none of its lists, and where links change that are not its own.
+-- The index where a node changes that is out of it, and where links change that are not its own.
 --     index_created, index_moved, index_deleted     a node is made, is put elsewhere, goes
 --     index_kept                                    neither nodes nor links of the index change
 --     nodes_long                                    there are as many blocks
 use Rattle.std.proofs.Common.{◌≡◌, ◌≢◌, ℕ, suc, zero, ◌+◌, ◌<◌, List, [], ◌∷◌, length, get_or, Option, Some, None, refl, sym, ap, ◌∙◌, subst, arith}
 use Rattle.std.proofs.lemmas.List.{get_or-set_same, get_or-set_other, length-map}
-use Rattle.std.specs.Prelude.{All, AllPairs, Contains, IsSome, unwrap_or}
+use Rattle.std.specs.Prelude.{IsSome, unwrap_or}
 use Rattle.cfdp_arena.specs.Arena.{Blocks, octets_at, octets_of, with_block, without_block, live_count}
 use Rattle.cfdp_arena.proofs.Chains.{live_within}
+use Rattle.cfdp_tree.specs.declared.index.Head.{Head}
 use Rattle.cfdp_tree.specs.Row.{row_of, name_of}
 use Rattle.cfdp_tree.specs.Nodes.{only_node, nodes_in}
 use Rattle.cfdp_tree.specs.Tree.{IsNode, row_at, name_at, home_in, home, SamePlaces}
-use Rattle.cfdp_tree.specs.Index.{Heads, place_of, chain, no_head, list_at, count_out, IsListed, IsIndex}
+use Rattle.cfdp_tree.specs.Index.{Heads, place_of, chain, no_head, list_of, count_out, HasHead, IsHead, IsIndex}
 use Rattle.cfdp_tree.proofs.Counts.{live_count-taken, live_count-written, live_count-given, live_count-same}
-use Rattle.cfdp_tree.proofs.IndexLaws.{place_within, kept_chain}
+use Rattle.cfdp_tree.proofs.IndexLaws.{kept_chain}
+use Rattle.cfdp_tree.proofs.HeadLaws.{all_left, head_kept}
 
 module _ (old new : Blocks) (b : ℕ) (heads : Heads) (was now : Option ℕ) (others : (c : ℕ) → c ≢ b → octets_at new c ≡ octets_at old c)
     (was_out : IsNode old b → was ≡ Some b) (now_out : IsNode new b → now ≡ Some b) (was_no_other : (c : ℕ) → c ≢ b → was ≢ Some c) (no_other : (c : ℕ) → c
@@ -27,36 +29,30 @@ module _ (old new : Blocks) (b : ℕ) (heads : Heads) (was now : Option ℕ) (ot
   links_other : (c : ℕ) → b ≢ c → (row_at new c).same_head ≡ (row_at old c).same_head
   links_other c other = ap (λ block. (row_of block).same_head) (octets_other c (λ e. other (sym e)))
 
-  listed_other : (k c : ℕ) → IsListed old was (length heads) k c → c ≢ b
-  listed_other k c listed e = listed.listed (was_out (subst (IsNode old) e listed.node) ∙ ap Some (sym e))
+  head_other : (k c : ℕ) → HasHead old was (length heads) k c → c ≢ b
+  head_other k c has e = has.inside (was_out (subst (IsNode old) e has.node) ∙ ap Some (sym e))
 
-  list_same : (k : ℕ) → k < length heads → list_at new heads k ≡ list_at old heads k
-  list_same k within =
-      let head = get_or heads k no_head in
-      kept_chain old new b links_other head.count head.first (λ i d less. (let own = index.own k within i d less in
-      λ e. listed_other k (get_or (list_at old heads k) i d) own (sym e)))
+  list_same : (k : ℕ) (head : Head) → IsHead old was (length heads) k head → list_of new head ≡ list_of old head
+  list_same k head is =
+      let listed = all_left (HasHead old was (length heads) k) (list_of old head) is.rest is.own in
+      kept_chain old new b links_other head.listed head.first
+      (λ i d less e. head_other k (get_or (list_of old head) i d) (listed i d less) (sym e))
 
-  listed_still : (k c : ℕ) → IsListed old was (length heads) k c → IsListed new now (length heads) k c
-  listed_still k c listed =
-      let other = listed_other k c listed in
-      record { node = subst IsSome (sym (others c other)) listed.node; place = same_place c other ∙ listed.place; listed = no_other c other }
+  stays : (k c : ℕ) → HasHead old was (length heads) k c → HasHead new now (length heads) k c
+  stays k c has =
+      let other = head_other k c has in
+      record { node = subst IsSome (sym (others c other)) has.node; place = same_place c other ∙ has.place; inside = no_other c other }
 
-  all_still : (c : ℕ) → IsNode new c → now ≢ Some c → Contains (list_at new heads (place_of (home new c) (name_at new c) (length heads))) c
-  all_still c node inside =
-      let other : c ≢ b = λ e. inside (now_out (subst (IsNode new) e node) ∙ ap Some (sym e)) in
-      let k = place_of (home old c) (name_at old c) (length heads) in
-      subst (λ j. Contains (list_at new heads j) c) (sym (same_place c other))
-      (subst (λ xs. Contains xs c) (sym (list_same k (place_within (home old c) (name_at old c) (length heads) index.some)))
-      (index.all c (subst IsSome (others c other) node) (was_no_other c other)))
+  stood : (k c : ℕ) → HasHead new now (length heads) k c → HasHead old was (length heads) k c
+  stood k c has =
+      let other : c ≢ b = λ e. has.inside (now_out (subst (IsNode new) e has.node) ∙ ap Some (sym e)) in
+      record { node = subst IsSome (others c other) has.node; place = sym (same_place c other) ∙ has.place; inside = was_no_other c other }
 
   index_out : IsIndex new heads now
   index_out = record {
     some = index.some;
-    small = index.small;
-    own = (λ k within. subst (All (IsListed new now (length heads) k)) (sym (list_same k within))
-        (λ i d less. listed_still k (get_or (list_at old heads k) i d) (index.own k within i d less)));
-    once = (λ k within. subst (AllPairs (λ x y. x ≢ y)) (sym (list_same k within)) (index.once k within));
-    all = all_still;
+    each = (λ k within. (let head = get_or heads k no_head in let is = index.each k within in
+        head_kept old new was now (length heads) k head (list_same k head is) (stays k) (stood k) is));
     counted = omega (arith, index.counted, counts);
   }
 
@@ -103,23 +99,19 @@ module _ (old new : Blocks) (heads : Heads) (out : Option ℕ) (places : SamePla
   chain_same zero x = refl
   chain_same (suc n) x = ap (λ y. x ∷ chain new n y) (same_heads x) ∙ ap (λ rest. x ∷ rest) (chain_same n (row_at old x).same_head)
 
-  list_kept : (k : ℕ) → list_at new heads k ≡ list_at old heads k
-  list_kept k = chain_same (get_or heads k no_head).count (get_or heads k no_head).first
-
   place_kept : (c : ℕ) → place_of (home new c) (name_at new c) (length heads) ≡ place_of (home old c) (name_at old c) (length heads)
   place_kept c = (λ i. place_of (places.homes c i) (places.names c i) (length heads))
 
-  listed_kept : (k c : ℕ) → IsListed old out (length heads) k c → IsListed new out (length heads) k c
-  listed_kept k c listed = record { node = places.nodes c ∙ listed.node; place = place_kept c ∙ listed.place; listed = listed.listed }
+  still : (k c : ℕ) → HasHead old out (length heads) k c → HasHead new out (length heads) k c
+  still k c has = record { node = places.nodes c ∙ has.node; place = place_kept c ∙ has.place; inside = has.inside }
+
+  already : (k c : ℕ) → HasHead new out (length heads) k c → HasHead old out (length heads) k c
+  already k c has = record { node = sym (places.nodes c) ∙ has.node; place = sym (place_kept c) ∙ has.place; inside = has.inside }
 
   pub index_kept : IsIndex new heads out
   index_kept = record {
     some = index.some;
-    small = index.small;
-    own = (λ k within. subst (All (IsListed new out (length heads) k)) (sym (list_kept k))
-        (λ i d less. listed_kept k (get_or (list_at old heads k) i d) (index.own k within i d less)));
-    once = (λ k within. subst (AllPairs (λ x y. x ≢ y)) (sym (list_kept k)) (index.once k within));
-    all = (λ c node inside. subst (λ xs. Contains xs c) (sym (list_kept (place_of (home new c) (name_at new c) (length heads))))
-        (subst (λ k. Contains (list_at old heads k) c) (sym (place_kept c)) (index.all c (sym (places.nodes c) ∙ node) inside)));
+    each = (λ k within. (let head = get_or heads k no_head in
+        head_kept old new out out (length heads) k head (chain_same head.listed head.first) (still k) (already k) (index.each k within)));
     counted = omega (arith, index.counted, live);
   }

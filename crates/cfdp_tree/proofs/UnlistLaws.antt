@@ -1,45 +1,50 @@
--- A node goes out of its list of the index.
+-- A node goes out of the index.
 --     removed      the index then
-use Rattle.std.proofs.Common.{◌≡◌, ◌≢◌, ℕ, ◌+◌, ◌<◌, length, length-set, set, get_or, Some, None, true, false, sym, ap, ◌∙◌, subst, inl, inr, arith}
-use Rattle.std.proofs.lemmas.List.{get_or-set_same, get_or-set_other}
-use Rattle.std.proofs.lemmas.List.Elements.{All-filter, filter_passes}
+use Rattle.std.proofs.Common.{◌≡◌, ◌≢◌, ℕ, ◌+◌, ◌<◌, ◌≤◌, List, ◌++◌, length, set, get_or, Some, None, true, false, sym, ap, ◌∙◌, subst, arith}
+use Rattle.std.proofs.lemmas.List.{length-append}
+use Rattle.std.proofs.lemmas.List.Elements.{All-filter, filter_passes, filter-append}
 use Rattle.std.proofs.lemmas.List.Kept.{AllPairs-filter}
-use Rattle.std.proofs.lemmas.List.Sums.{sum_by-set}
-use Rattle.std.proofs.lemmas.Bool.{cases_eq, eq-eqb}
+use Rattle.std.proofs.lemmas.Bool.{eq-eqb}
 use Rattle.std.specs.Prelude.{◌==◌, not, All, AllPairs, Contains}
 use Rattle.cfdp_arena.specs.Arena.{Blocks, live_count}
 use Rattle.cfdp_tree.specs.declared.index.Head.{Head}
 use Rattle.cfdp_tree.specs.Tree.{IsNode, name_at, home, SamePlaces}
-use Rattle.cfdp_tree.specs.Index.{Heads, place_of, no_head, list_of, list_at, without, IsListed, IsIndex}
-use Rattle.cfdp_tree.proofs.CutLaws.{without_has}
-use Rattle.cfdp_tree.proofs.IndexLaws.{place_within}
+use Rattle.cfdp_tree.specs.Index.{Heads, place_of, no_head, list_of, without, count_of, HasHead, IsHead, IsIndex}
+use Rattle.cfdp_tree.proofs.CutLaws.{without_has, length_without}
+use Rattle.cfdp_tree.proofs.HeadLaws.{length_chain, head_kept, index_set}
 
-module _ (nodes new : Blocks) (heads : Heads) (b k : ℕ) (within : k < length heads) (index : IsIndex nodes heads None) (head : Head)
+none_some : {x : ℕ} → None ≡ Some x → ⊥
+none_some e = cc
+
+some_same : {x y : ℕ} → Some x ≡ Some y → x ≡ y
+some_same e = cc
+
+module _ (nodes new : Blocks) (heads : Heads) (b k : ℕ) (within : k < length heads) (index : IsIndex nodes heads None) (node : IsNode nodes b) (head : Head)
     (place : place_of (home nodes b) (name_at nodes b) (length heads) ≡ k) (same : SamePlaces nodes new) (small : head.first < 65536)
-    (here : list_of new head ≡ without b (list_at nodes heads k))
-    (others : (j : ℕ) → j < length heads → j ≢ k → list_of new (get_or heads j no_head) ≡ list_at nodes heads j)
-    (count : head.count + 1 ≡ (get_or heads k no_head).count) (live : live_count new ≡ live_count nodes) where
-  abbrev after : Heads
-  after = set heads k head
+    (here : list_of new head ≡ without b (list_of nodes (get_or heads k no_head)))
+    (others : (j : ℕ) → j < length heads → j ≢ k → list_of new (get_or heads j no_head) ≡ list_of nodes (get_or heads j no_head))
+    (fewer : head.listed ≤ (get_or heads k no_head).listed) (count : count_of head + 1 ≡ count_of (get_or heads k no_head))
+    (live : live_count new ≡ live_count nodes) where
+  abbrev was : Head
+  was = get_or heads k no_head
 
-  long : length after ≡ length heads
-  long = length-set heads k head
+  is_head : IsHead nodes None (length heads) k was
+  is_head = index.each k within
 
-  list_here : list_at new after k ≡ without b (list_at nodes heads k)
-  list_here = ap (list_of new) (get_or-set_same heads k head no_head within) ∙ here
+  abbrev before : List ℕ
+  before = list_of nodes was ++ is_head.rest
 
-  list_other : (j : ℕ) → j < length heads → j ≢ k → list_at new after j ≡ list_at nodes heads j
-  list_other j inside other = ap (list_of new) (get_or-set_other heads k j head no_head other) ∙ others j inside other
+  nodes_here : list_of new head ++ without b is_head.rest ≡ without b before
+  nodes_here = ap (λ xs. xs ++ without b is_head.rest) here ∙ sym (filter-append (λ c. not (c == b)) (list_of nodes was) is_head.rest)
 
-  some_same : {x y : ℕ} → Some x ≡ Some y → x ≡ y
-  some_same e = cc
+  places : (c : ℕ) → place_of (home new c) (name_at new c) (length heads) ≡ place_of (home nodes c) (name_at nodes c) (length heads)
+  places c = (λ i. place_of (same.homes c i) (same.names c i) (length heads))
 
-  listed : (j c : ℕ) → b ≢ c → IsListed nodes None (length heads) j c → IsListed new (Some b) (length heads) j c
-  listed j c other was = record {
-    node = same.nodes c ∙ was.node;
-    place = (λ i. place_of (same.homes c i) (same.names c i) (length heads)) ∙ was.place;
-    listed = (λ e. other (some_same e));
-  }
+  stays : (j c : ℕ) → b ≢ c → HasHead nodes None (length heads) j c → HasHead new (Some b) (length heads) j c
+  stays j c other has = record { node = same.nodes c ∙ has.node; place = places c ∙ has.place; inside = (λ e. other (some_same e)) }
+
+  stood : (j c : ℕ) → HasHead new (Some b) (length heads) j c → HasHead nodes None (length heads) j c
+  stood j c has = record { node = sym (same.nodes c) ∙ has.node; place = sym (places c) ∙ has.place; inside = none_some }
 
   -- the test that a node passes which stays
   passes : (c : ℕ) → not (c == b) ≡ true → b ≢ c
@@ -48,64 +53,48 @@ module _ (nodes new : Blocks) (heads : Heads) (b k : ℕ) (within : k < length h
       differ : false ≡ true → ⊥
       differ f = cc
 
-  own_here : All (IsListed new (Some b) (length heads) k) (without b (list_at nodes heads k))
+  own_here : All (HasHead new (Some b) (length heads) k) (without b before)
   own_here i d less =
-      let list = list_at nodes heads k in
-      listed k (get_or (without b list) i d) (passes (get_or (without b list) i d) (filter_passes (λ c. not (c == b)) list i d less))
-      (All-filter (λ c. not (c == b)) (IsListed nodes None (length heads) k) list (index.own k within) i d less)
+      stays k (get_or (without b before) i d) (passes (get_or (without b before) i d) (filter_passes (λ c. not (c == b)) before i d less))
+      (All-filter (λ c. not (c == b)) (HasHead nodes None (length heads) k) before is_head.own i d less)
 
-  own_other : (j : ℕ) → j < length heads → j ≢ k → All (IsListed new (Some b) (length heads) j) (list_at nodes heads j)
-  own_other j inside other i d less =
-      let c = get_or (list_at nodes heads j) i d in
-      let was = index.own j inside i d less in
-      listed j c (λ e. other (sym was.place ∙ ap (λ x. place_of (home nodes x) (name_at nodes x) (length heads)) (sym e) ∙ place)) was
+  has_here : (c : ℕ) → HasHead new (Some b) (length heads) k c → Contains (without b before) c
+  has_here c has = without_has b before c (λ e. has.inside (ap Some (sym e))) (is_head.all c (stood k c has))
 
-  own_at : (j : ℕ) → j < length heads → All (IsListed new (Some b) (length heads) j) (list_at new after j)
-  own_at j inside = elim (cases_eq j k) [
-    | inl e ↦ subst (λ i. All (IsListed new (Some b) (length heads) i) (list_at new after i)) (sym e)
-        (subst (All (IsListed new (Some b) (length heads) k)) (sym list_here) own_here)
-    | inr other ↦ subst (All (IsListed new (Some b) (length heads) j)) (sym (list_other j inside other)) (own_other j inside other)
-  ]
+  -- one less
+  rest_count : length (without b is_head.rest) ≡ head.unlisted
+  rest_count =
+      let there = is_head.all b record { node = node; place = place; inside = none_some } in
+      omega (
+        arith,
+        length_without b before is_head.once there,
+        ap (λ (xs : List ℕ). length xs) nodes_here,
+        length-append (list_of new head) (without b is_head.rest),
+        length-append (list_of nodes was) is_head.rest,
+        length_chain new head.listed head.first,
+        length_chain nodes was.listed was.first,
+        is_head.count,
+        count,
+      )
 
-  once_at : (j : ℕ) → j < length heads → AllPairs (λ x y. x ≢ y) (list_at new after j)
-  once_at j inside = elim (cases_eq j k) [
-    | inl e ↦ subst (λ i. AllPairs (λ x y. x ≢ y) (list_at new after i)) (sym e)
-        (subst (AllPairs (λ x y. x ≢ y)) (sym list_here) (AllPairs-filter (λ x y. x ≢ y) (λ c. not (c == b)) (list_at nodes heads k) (index.once k within)))
-    | inr other ↦ subst (AllPairs (λ x y. x ≢ y)) (sym (list_other j inside other)) (index.once j inside)
-  ]
+  head_here : IsHead new (Some b) (length heads) k head
+  head_here = record {
+    small = small;
+    few = omega (arith, fewer, is_head.few);
+    rest = without b is_head.rest;
+    count = rest_count;
+    own = subst (All (HasHead new (Some b) (length heads) k)) (sym nodes_here) own_here;
+    once = subst (AllPairs (λ x y. x ≢ y)) (sym nodes_here) (AllPairs-filter (λ x y. x ≢ y) (λ c. not (c == b)) before is_head.once);
+    all = (λ c has. subst (λ xs. Contains xs c) (sym nodes_here) (has_here c has));
+  }
 
-  has_at : (c j : ℕ) → j < length heads → c ≢ b → Contains (list_at nodes heads j) c → Contains (list_at new after j) c
-  has_at c j inside stays has = elim (cases_eq j k) [
-    | inl e ↦ subst (λ i. Contains (list_at new after i) c) (sym e)
-        (subst (λ xs. Contains xs c) (sym list_here) (without_has b (list_at nodes heads k) c stays (subst (λ i. Contains (list_at nodes heads i) c) e has)))
-    | inr other ↦ subst (λ xs. Contains xs c) (sym (list_other j inside other)) has
-  ]
+  other_node : (j c : ℕ) → j ≢ k → HasHead nodes None (length heads) j c → b ≢ c
+  other_node j c other has e =
+      other (sym has.place ∙ ap (λ x. place_of (home nodes x) (name_at nodes x) (length heads)) (sym e) ∙ place)
 
-  none_some : {x : ℕ} → None ≡ Some x → ⊥
-  none_some e = cc
-
-  all_at : (c : ℕ) → IsNode new c → Some b ≢ Some c → Contains (list_at new after (place_of (home nodes c) (name_at nodes c) (length heads))) c
-  all_at c node stays =
-      has_at c (place_of (home nodes c) (name_at nodes c) (length heads)) (place_within (home nodes c) (name_at nodes c) (length heads) index.some)
-      (λ e. stays (ap Some (sym e)))
-      (index.all c (sym (same.nodes c) ∙ node) none_some)
-
-  small_at : (j : ℕ) → j < length heads → (get_or after j no_head).first < 65536
-  small_at j inside = elim (cases_eq j k) [
-    | inl e ↦ subst (λ i. (get_or after i no_head).first < 65536) (sym e) (subst (λ (h : Head). h.first < 65536)
-        (sym (get_or-set_same heads k head no_head within)) small)
-    | inr other ↦ subst (λ (h : Head). h.first < 65536) (sym (get_or-set_other heads k j head no_head other)) (index.small j inside)
-  ]
-
-  pub removed : IsIndex new after (Some b)
+  pub removed : IsIndex new (set heads k head) (Some b)
   removed =
-      let filled = index.some in
-      record {
-        some = omega (arith, long);
-        small = (λ j inside. small_at j (omega (arith, long)));
-        own = (λ j inside. subst (λ n. All (IsListed new (Some b) n j) (list_at new after j)) (sym long) (own_at j (omega (arith, long))));
-        once = (λ j inside. once_at j (omega (arith, long)));
-        all = (λ c node stays. subst (λ j. Contains (list_at new after j) c) (λ i. place_of (sym (same.homes c) i) (sym (same.names c) i) (sym long i))
-            (all_at c node stays));
-        counted = omega (arith, sum_by-set (λ (h : Head). h.count) heads k head no_head within, live, index.counted, count);
-      }
+      index_set nodes new None (Some b) heads k within head index head_here
+      (λ j inside other. head_kept nodes new None (Some b) (length heads) j (get_or heads j no_head) (others j inside other)
+      (λ c has. stays j c (other_node j c other has) has) (λ c has. stood j c has) (index.each j inside))
+      (omega (arith, live, count))

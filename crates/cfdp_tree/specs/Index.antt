@@ -1,18 +1,20 @@
--- The index: for each directory and name a head, from which a list of nodes begins, each of which names the next one.
--- A node is in the list of its own directory and name, once. How many nodes a list has is in its head.
+-- The index: for each directory and name a head, which has the nodes of this directory and name, and of others. At most
+-- 8 of them are in its list, which begins at the head, and in which each node names the next one. Of the others, which
+-- are in no list, the head knows how many there are. A node is one of its own head alone.
 --     Heads                      the heads
 --     hash_of                    a number for a directory and a name: what the hasher of std's maps makes of the two
 --     place_of directory name n  the head of the two among n of them: the high 64 bits of the product of n and the
 --                                number
 --     chain nodes n b            n nodes from b on
 --     list_of nodes head         the list of a head
---     list_at nodes heads k      the list of the head at a place
 --     without b list             a list but for one node
---     IsListed nodes out n k b   the node b is in the list k of n lists, and is not the one that is in none
---     count_out out              how many nodes are in no list
---     IsIndex nodes heads out    each node is in its list, but for the one that is out, and each list has just its
+--     count_of head              how many nodes a head has
+--     HasHead nodes out n k b    the node b is one of the head k of n heads, and is not the one that is out of the index
+--     IsHead nodes out n k head  the nodes of the head k: those in its list, at most 8, and the rest, each once
+--     count_out out              how many nodes are out of the index
+--     IsIndex nodes heads out    each node is one of its head, but for the one that is out, and each head has just its
 --                                nodes
-use Rattle.std.specs.Prelude.{◌≡◌, ◌≢◌, ℕ, ◌+◌, ◌*◌, ◌/◌, ◌%◌, ◌^◌, ◌<◌, ◌==◌, not, List, Option, Some, None, All, AllPairs, Contains, filter, fold, length, slice_index_or, sum_by}
+use Rattle.std.specs.Prelude.{◌≡◌, ◌≢◌, ℕ, ◌+◌, ◌*◌, ◌/◌, ◌%◌, ◌^◌, ◌<◌, ◌≤◌, ◌==◌, not, List, ◌++◌, Option, Some, None, All, AllPairs, Contains, filter, fold, length, slice_index_or, sum_by}
 use Rattle.std.specs.Hash as fed
 use Rattle.std.specs.Hash.FoldHasher as hasher
 use Rattle.cfdp_arena.specs.Arena.{Blocks, live_count}
@@ -36,22 +38,34 @@ abbrev pub chain : Blocks → ℕ → ℕ → List ℕ
 chain nodes n b = lists.chain (λ c. (row_at nodes c).same_head) n b
 
 abbrev pub no_head : Head
-no_head = record { first = 0; count = 0 }
+no_head = record { first = 0; listed = 0; unlisted = 0 }
 
 abbrev pub list_of : Blocks → Head → List ℕ
-list_of nodes head = chain nodes head.count head.first
-
-abbrev pub list_at : Blocks → Heads → ℕ → List ℕ
-list_at nodes heads k = list_of nodes (slice_index_or heads k no_head)
+list_of nodes head = chain nodes head.listed head.first
 
 abbrev pub without : ℕ → List ℕ → List ℕ
 without b list = filter (λ c. not (c == b)) list
 
--- a node may be out of all lists
-pub record IsListed (nodes : Blocks) (out : Option ℕ) (n k b : ℕ) : Type 0 where
+abbrev pub count_of : Head → ℕ
+count_of head = head.listed + head.unlisted
+
+-- a node may be out of the index
+pub record HasHead (nodes : Blocks) (out : Option ℕ) (n k b : ℕ) : Type 0 where
   pub node : IsNode nodes b
   pub place : place_of (home nodes b) (name_at nodes b) n ≡ k
-  pub listed : out ≢ Some b
+  pub inside : out ≢ Some b
+
+pub record IsHead (nodes : Blocks) (out : Option ℕ) (n k : ℕ) (head : Head) : Type 0 where
+  pub small : head.first < 65536
+  pub few : head.listed ≤ 8
+  -- its nodes that are in no list
+  pub rest : List ℕ
+  pub count : length rest ≡ head.unlisted
+  -- the two are its own nodes, each once
+  pub own : All (HasHead nodes out n k) (list_of nodes head ++ rest)
+  pub once : AllPairs (λ b c. b ≢ c) (list_of nodes head ++ rest)
+  -- and all of them
+  pub all : (b : ℕ) → HasHead nodes out n k b → Contains (list_of nodes head ++ rest) b
 
 abbrev pub count_out : Option ℕ → ℕ
 count_out None = 0
@@ -59,11 +73,5 @@ count_out (Some b) = 1
 
 pub record IsIndex (nodes : Blocks) (heads : Heads) (out : Option ℕ) : Type 0 where
   pub some : 0 < length heads
-  pub small : (k : ℕ) → k < length heads → (slice_index_or heads k no_head).first < 65536
-  -- of its own nodes
-  pub own : (k : ℕ) → k < length heads → All (IsListed nodes out (length heads) k) (list_at nodes heads k)
-  pub once : (k : ℕ) → k < length heads → AllPairs (λ b c. b ≢ c) (list_at nodes heads k)
-  -- and of all of them
-  pub all : (b : ℕ) → IsNode nodes b → out ≢ Some b → Contains
-      (list_at nodes heads (place_of (home nodes b) (name_at nodes b) (length heads))) b
-  pub counted : sum_by (λ (head : Head). head.count) heads + count_out out ≡ live_count nodes
+  pub each : (k : ℕ) → k < length heads → IsHead nodes out (length heads) k (slice_index_or heads k no_head)
+  pub counted : sum_by count_of heads + count_out out ≡ live_count nodes

@@ -10,12 +10,14 @@ ghost use Rattle.cfdp_tree.specs.Ways.{HasWays, KeepsWays};
 ghost use Rattle.cfdp_tree.specs.Contents.{IsFilled, contents_in};
 ghost use Rattle.cfdp_tree.specs.Tree.{IsNode, IsTree, row_at, name_at, path_of};
 ghost use Rattle.cfdp_tree.specs.Index.{IsIndex};
+ghost use Rattle.cfdp_tree.specs.Orders.{IsOrdered};
 ghost use Rattle.cfdp_tree.specs.Kept.{contents_told};
 ghost use Rattle.cfdp_tree.specs.Files.{with_contents, with_run};
 
 use crate::contents::{Contents, contents_of};
 use crate::index::Head;
 use crate::lookup::find_path;
+use crate::orders::Orders;
 use crate::rows::{set_first, set_last, set_size, set_sum};
 use crate::runs::Run;
 use cfdp_actions::Kind;
@@ -31,9 +33,10 @@ pub(crate) struct FoundFile {
 }
 
 /// The file at a path. In expected time linear in the octets of the path.
-pub(crate) fn find_file(arena: &Arena, heads: &[Head], path: &Path) -> FoundFile
+pub(crate) fn find_file(arena: &Arena, heads: &[Head], orders: &Orders, path: &Path) -> FoundFile
     requires tree { IsTree (nodes_in arena.now) }
     requires index { IsIndex (nodes_in arena.now) heads.now None }
+    requires ordered { IsOrdered (nodes_in arena.now) orders.now None }
     requires there { (b : ℕ) × IsNode (nodes_in arena.now) b × (path_of (nodes_in arena.now) b ≡ path.now) }
     requires most { (b : ℕ) → IsNode (nodes_in arena.now) b → path_of (nodes_in arena.now) b ≡ path.now →
         (row_at (nodes_in arena.now) b).size ≤ 7864320 }
@@ -41,7 +44,7 @@ pub(crate) fn find_file(arena: &Arena, heads: &[Head], path: &Path) -> FoundFile
     ensures path { path_of (nodes_in arena.now) result.node ≡ path.now }
     ensures contents { result.contents ≡ contents_told Kind.File (row_at (nodes_in arena.now) result.node) }
 {
-    let node = find_path(arena, heads, path).unwrap();
+    let node = find_path(arena, heads, orders, path).unwrap();
     FoundFile {
         node,
         contents: contents_of(arena.bytes(node)),

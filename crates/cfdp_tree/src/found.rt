@@ -20,7 +20,7 @@ impl TreeStore {
         requires { All IsName names }
         ensures { result ≡ option_map found_of (node_at self.now.filestore names.entry) }
     {
-        let node = find_names(&self.arena, &self.heads, names)?;
+        let node = find_names(&self.arena, &self.heads, &self.orders, names)?;
         Some(tell(&self.arena, &node))
     }
 
@@ -32,7 +32,7 @@ impl TreeStore {
         ensures count { result ≡ octets_read (node_at self.now.filestore names.entry) at buffer.old }
         ensures octets { buffer.new ≡ with_octets (octets_at self.now.filestore names.entry) at buffer.old }
     {
-        let node = find_names(&self.arena, &self.heads, names)?;
+        let node = find_names(&self.arena, &self.heads, &self.orders, names)?;
         let block = self.arena.bytes(node);
         match kind_of(block) {
             Kind::Directory => None,

@@ -4,28 +4,37 @@ ghost use Rattle.cfdp_arena.specs.Arena.{free_count};
 ghost use Rattle.cfdp_tree.specs.Nodes.{nodes_in};
 ghost use Rattle.cfdp_tree.specs.Runs.{RunsStay};
 ghost use Rattle.cfdp_tree.specs.Tree.{IsTree, IsNode, IsEntry, Relinked, row_at};
-ghost use Rattle.cfdp_tree.specs.Index.{hash_of, place_of, chain, list_of, without, IsIndex};
+ghost use Rattle.cfdp_tree.specs.Index.{hash_of, place_of, chain, list_of, without, count_of, IsIndex};
+ghost use Rattle.cfdp_tree.specs.Orders.{IsOrdered};
 
+use crate::orders::Orders;
 use crate::rows::{home_is, name_is, same_head_of, set_same_head};
 use cfdp_arena::{Arena, BlockId};
 use std::hash::{FoldHasher, Hasher};
 
-/// Where a list of nodes begins, and how many there are. Where there are none, the node means nothing.
+/// The nodes of a directory and a name, and of others whose hash leads here too: where the list of some of them begins,
+/// how many are in it, and how many are not. Where the list is empty, its first node means nothing.
 #[derive(Clone, Copy)]
 pub(crate) struct Head {
     pub(crate) first: BlockId,
-    pub(crate) count: u32,
+    pub(crate) listed: u16,
+    pub(crate) unlisted: u16,
 }
 
+/// The most nodes of a list. In a full store about one head in a million has more nodes by chance.
+const MOST_LISTED: u16 = 8;
+
 impl Head {
-    /// The head of a list of no nodes.
+    /// The head of no nodes.
     pub(crate) fn empty() -> Head
         ensures first { result.first ≡ 0 }
-        ensures count { result.count ≡ 0 }
+        ensures listed { result.listed ≡ 0 }
+        ensures unlisted { result.unlisted ≡ 0 }
     {
         Head {
             first: BlockId::of_number(0),
-            count: 0,
+            listed: 0,
+            unlisted: 0,
         }
     }
 }
@@ -55,7 +64,8 @@ pub(crate) fn place_of(heads: &[Head], directory: Option<BlockId>, name: &[u8]) 
     (product >> 64) as usize
 }
 
-/// Puts a node that is in no list into the list of its directory and name. In constant time.
+/// Puts a node into the index: into the list of the head of its directory and name, unless that is full. In constant
+/// time.
 pub(crate) fn insert(
     arena: &mut Arena,
     heads: &mut [Head],
@@ -75,14 +85,22 @@ pub(crate) fn insert(
     let _free = arena.free();
     let place = place_of(heads, directory, name);
     let head = heads[place];
+    if head.listed == MOST_LISTED {
+        heads[place] = Head {
+            unlisted: head.unlisted + 1,
+            ..head
+        };
+        return;
+    }
     set_same_head(arena.bytes_mut(*node), head.first);
     heads[place] = Head {
         first: *node,
-        count: head.count + 1,
+        listed: head.listed + 1,
+        ..head
     };
 }
 
-/// Takes a node out of the list of its directory and name. In expected constant time.
+/// Takes a node out of the index. In constant time: it goes through at most 8 nodes.
 pub(crate) fn remove(
     arena: &mut Arena,
     heads: &mut [Head],
@@ -104,18 +122,21 @@ pub(crate) fn remove(
     heads[place] = take_out(arena, &head, node);
 }
 
-/// The list of a head without one of its nodes. In time linear in the nodes before it.
+/// A head without one of its nodes, which goes out of its list if it is in it. In constant time: the list has at most
+/// 8 nodes.
 fn take_out(arena: &mut Arena, head: &Head, node: &BlockId) -> Head
     requires tree { IsTree (nodes_in arena.old) }
+    requires node { IsNode (nodes_in arena.old) node.now }
     requires nodes { All (IsNode (nodes_in arena.old)) (list_of (nodes_in arena.old) head.now) }
     requires once { AllPairs (λ b c. b ≢ c) (list_of (nodes_in arena.old) head.now) }
-    requires there { Contains (list_of (nodes_in arena.old) head.now) node.now }
+    requires there { (Contains (list_of (nodes_in arena.old) head.now) node.now → ⊥) → 0 < head.now.unlisted }
     requires small { head.now.first < 65536 }
     ensures list { list_of (nodes_in arena.new) result ≡ without node.now (list_of (nodes_in arena.old) head.now) }
     ensures others { (other : Head)
         → All (λ b. Contains (list_of (nodes_in arena.old) head.now) b → ⊥) (list_of (nodes_in arena.old) other)
         → list_of (nodes_in arena.new) other ≡ list_of (nodes_in arena.old) other }
-    ensures count { result.count + 1 ≡ head.now.count }
+    ensures count { count_of result + 1 ≡ count_of head.now }
+    ensures few { result.listed ≤ head.now.listed }
     ensures small { result.first < 65536 }
     ensures links { Relinked (nodes_in arena.old) (nodes_in arena.new) }
     ensures runs { RunsStay arena.old arena.new }
@@ -123,60 +144,79 @@ fn take_out(arena: &mut Arena, head: &Head, node: &BlockId) -> Head
     ensures size { length arena.new ≡ length arena.old }
 {
     let next = same_head_of(arena.bytes(*node));
-    let count = head.count - 1;
-    if head.first == *node {
-        return Head { first: next, count };
+    if head.listed > 0 && head.first == *node {
+        return Head {
+            first: next,
+            listed: head.listed - 1,
+            ..*head
+        };
     }
-    let before = node_before(arena, head, node);
+    let Some(before) = node_before(arena, head, node) else {
+        return Head {
+            unlisted: head.unlisted - 1,
+            ..*head
+        };
+    };
     set_same_head(arena.bytes_mut(before), next);
     Head {
-        first: head.first,
-        count,
+        listed: head.listed - 1,
+        ..*head
     }
 }
 
-/// The node of a list that names this one, which is not the first, as the next one.
-fn node_before(arena: &Arena, head: &Head, node: &BlockId) -> BlockId
+/// The node of a list that names this one as the next one. This one is not the list's first; `None` if it is not in the
+/// list.
+fn node_before(arena: &Arena, head: &Head, node: &BlockId) -> Option<BlockId>
     requires nodes { All (IsNode (nodes_in arena.now)) (list_of (nodes_in arena.now) head.now) }
-    requires there { Contains (list_of (nodes_in arena.now) head.now) node.now }
-    requires later { head.now.first ≢ node.now }
-    ensures before { (row_at (nodes_in arena.now) result).same_head ≡ node.now }
-    ensures there { Contains (chain (nodes_in arena.now) (head.now.count - 1) head.now.first) result }
+    requires later { 0 < head.now.listed → head.now.first ≢ node.now }
+    ensures before { IfSome result (λ b. (row_at (nodes_in arena.now) b).same_head ≡ node.now) }
+    ensures there { IfSome result (λ b. Contains (chain (nodes_in arena.now)
+        (head.now.listed - 1) head.now.first) b) }
+    ensures none { IfNone result (Contains (list_of (nodes_in arena.now) head.now) node.now → ⊥) }
 {
     let mut before = head.first;
-    for _step in 1..head.count {
+    for _step in 1..head.listed {
         let next = same_head_of(arena.bytes(before));
         if next == *node {
-            return before;
+            return Some(before);
         }
         before = next;
     }
-    unreachable!();
+    None
 }
 
-/// The node that is in this directory under this name. In expected constant time.
+/// The node that is in this directory under this name. In expected constant time. Where strangers chose many names of
+/// one hash, in time logarithmic in the entries of the directory, whatever their names: at most 8 names of the list are
+/// compared, and then at most 23.
 #[inline(always)]
 pub(crate) fn find(
     arena: &Arena,
     heads: &[Head],
+    orders: &Orders,
     directory: Option<BlockId>,
     name: &[u8],
 ) -> Option<BlockId>
     requires tree { IsTree (nodes_in arena.now) }
     requires index { IsIndex (nodes_in arena.now) heads.now None }
+    requires ordered { IsOrdered (nodes_in arena.now) orders.now None }
+    requires place { (d : ℕ) → directory ≡ Some d → IsNode (nodes_in arena.now) d }
     requires short { length name.now ≤ 96 }
     ensures found { IfSome result (λ b. IsEntry (nodes_in arena.now) directory name.now b) }
     ensures none { IfNone result ((b : ℕ) → IsEntry (nodes_in arena.now) directory name.now b → ⊥) }
 {
     let place = place_of(heads, directory, name);
-    let mut node = heads[place].first;
-    for _step in 0..heads[place].count {
+    let head = heads[place];
+    let mut node = head.first;
+    for _step in 0..head.listed {
         if is_entry(arena, &node, &directory, name) {
             return Some(node);
         }
         node = same_head_of(arena.bytes(node));
     }
-    None
+    if head.unlisted == 0 {
+        return None;
+    }
+    orders.find(arena, &directory, name)
 }
 
 /// Whether the node is in this directory under this name.

@@ -33,7 +33,7 @@ impl TreeStore {
         ensures slots { length self.old.filestore.staged ≡ 64 }
     {
         let index = usize::from(slot);
-        let file = find_file(&self.arena, &self.heads, path);
+        let file = find_file(&self.arena, &self.heads, &self.orders, path);
         let staged = self.slots[index].contents;
         set_contents(&mut self.arena, &file.node, &staged);
         self.slots[index].hold(file.contents);

@@ -4,15 +4,24 @@ ghost use Rattle.cfdp_paths.specs.Paths.{IsName};
 ghost use Rattle.cfdp_tree.specs.Nodes.{nodes_in};
 ghost use Rattle.cfdp_tree.specs.Tree.{IsTree, IsNode, path_of};
 ghost use Rattle.cfdp_tree.specs.Index.{IsIndex};
+ghost use Rattle.cfdp_tree.specs.Orders.{IsOrdered};
 
 use crate::index::{Head, find};
+use crate::orders::Orders;
 use cfdp_arena::{Arena, BlockId};
 use cfdp_paths::{Names, Path};
 
-/// The node of the path of these names; none for no name. In expected time linear in their octets.
-pub(crate) fn find_names(arena: &Arena, heads: &[Head], names: Names<'_>) -> Option<BlockId>
+/// The node of the path of these names; none for no name. In expected time linear in their octets; at most 31 names are
+/// compared with each, whatever the names are.
+pub(crate) fn find_names(
+    arena: &Arena,
+    heads: &[Head],
+    orders: &Orders,
+    names: Names<'_>,
+) -> Option<BlockId>
     requires tree { IsTree (nodes_in arena.now) }
     requires index { IsIndex (nodes_in arena.now) heads.now None }
+    requires ordered { IsOrdered (nodes_in arena.now) orders.now None }
     requires names { All IsName names }
     ensures node { IfSome result (λ b. IsNode (nodes_in arena.now) b) }
     ensures path { IfSome result (λ b. path_of (nodes_in arena.now) b ≡ names.entry) }
@@ -21,34 +30,47 @@ pub(crate) fn find_names(arena: &Arena, heads: &[Head], names: Names<'_>) -> Opt
 {
     let mut place = None;
     for name in names {
-        let node = find(arena, heads, place, name)?;
+        let node = find(arena, heads, orders, place, name)?;
         place = Some(node);
     }
     place
 }
 
 /// The node of the path of the first `depth` names; none for no name. In expected time linear in their octets.
-pub(crate) fn lookup(arena: &Arena, heads: &[Head], path: &Path, depth: usize) -> Option<BlockId>
+pub(crate) fn lookup(
+    arena: &Arena,
+    heads: &[Head],
+    orders: &Orders,
+    path: &Path,
+    depth: usize,
+) -> Option<BlockId>
     requires tree { IsTree (nodes_in arena.now) }
     requires index { IsIndex (nodes_in arena.now) heads.now None }
+    requires ordered { IsOrdered (nodes_in arena.now) orders.now None }
     requires within { depth ≤ length path.now }
     ensures node { IfSome result (λ b. IsNode (nodes_in arena.now) b) }
     ensures path { IfSome result (λ b. path_of (nodes_in arena.now) b ≡ take depth path.now) }
     ensures none { IfNone result ((b : ℕ) → IsNode (nodes_in arena.now) b →
         path_of (nodes_in arena.now) b ≡ take depth path.now → ⊥) }
 {
-    find_names(arena, heads, path.first_names(depth))
+    find_names(arena, heads, orders, path.first_names(depth))
 }
 
 /// The node of a path. In expected time linear in its octets.
-pub(crate) fn find_path(arena: &Arena, heads: &[Head], path: &Path) -> Option<BlockId>
+pub(crate) fn find_path(
+    arena: &Arena,
+    heads: &[Head],
+    orders: &Orders,
+    path: &Path,
+) -> Option<BlockId>
     requires tree { IsTree (nodes_in arena.now) }
     requires index { IsIndex (nodes_in arena.now) heads.now None }
+    requires ordered { IsOrdered (nodes_in arena.now) orders.now None }
     ensures node { IfSome result (λ b. IsNode (nodes_in arena.now) b) }
     ensures path { IfSome result (λ b. path_of (nodes_in arena.now) b ≡ path.now) }
     ensures none { IfNone result ((b : ℕ) → IsNode (nodes_in arena.now) b →
         path_of (nodes_in arena.now) b ≡ path.now → ⊥) }
     ensures some { 1 ≤ length path.now }
 {
-    find_names(arena, heads, path.names())
+    find_names(arena, heads, orders, path.names())
 }

@@ -35,20 +35,21 @@ use std::marker::Model;
 /// it. `listing` and `standing` take memory for what they return, and no other call takes any.
 ///
 /// Cost: a call looks each name of its paths up by the directory and the name, in expected constant time whatever else
-/// the directory has. `kind`, `parent_is_good`, `has_entries`, `size` and `checksum` take no more than that; `free`,
-/// `staged_size` and `staged_checksum` take constant time. `make_file`, `make_dir`, `install` of a new file, `remove`
-/// and `rename`, also of a directory, also change the order of each directory that they touch: for that they compare at
-/// most 22 names, whatever the names are. `remove`, `unstage` and `install` over a file give back the blocks that are
-/// dropped as one, in constant time; `stage_extend` fills those that it takes with zeros. `read`, `read_staged`,
-/// `stage_put`, `append` and `replace` copy the octets that they are asked for by slices of a block; `append` and
-/// `replace` from block to block with no buffer. `stage_put` sums what it writes. It sums what it overwrites too,
-/// unless that comes after all that was written, or in the gap that the slot keeps: the longest one that was left out
-/// before later octets. So octets that come in order, in reverse or with neighbours swapped are summed once. `append`
-/// sums the second file unless the first one's size is a multiple of 4. `read`, `read_staged` and `stage_put` find the
-/// offset in at most 3 steps for each binary digit of the number of blocks, so 48 in a file of 65,536 blocks, in
-/// whatever order its octets came and are read. `deepest` and `standing` go through what is at and below the path, and
-/// `listing` through everything but the octets, in time linear in it; they sort nothing. `next_entry` compares at most
-/// 45 names in each directory on the way, and looks its names up in the orders, not in the index.
+/// the directory has. Where strangers chose many names of one hash, a look-up compares at most 31 names. `kind`,
+/// `parent_is_good`, `has_entries`, `size` and `checksum` take no more than that; `free`, `staged_size` and
+/// `staged_checksum` take constant time. `make_file`, `make_dir`, `install` of a new file, `remove` and `rename`, also
+/// of a directory, also change the order of each directory that they touch: for that they compare at most 22 names,
+/// whatever the names are. `remove`, `unstage` and `install` over a file give back the blocks that are dropped as one,
+/// in constant time; `stage_extend` fills those that it takes with zeros. `read`, `read_staged`, `stage_put`, `append`
+/// and `replace` copy the octets that they are asked for by slices of a block; `append` and `replace` from block to
+/// block with no buffer. `stage_put` sums what it writes. It sums what it overwrites too, unless that comes after all
+/// that was written, or in the gap that the slot keeps: the longest one that was left out before later octets. So
+/// octets that come in order, in reverse or with neighbours swapped are summed once. `append` sums the second file
+/// unless the first one's size is a multiple of 4. `read`, `read_staged` and `stage_put` find the offset in at most 3
+/// steps for each binary digit of the number of blocks, so 48 in a file of 65,536 blocks, in whatever order its octets
+/// came and are read. `deepest` and `standing` go through what is at and below the path, and `listing` through
+/// everything but the octets, in time linear in it; they sort nothing. `next_entry` compares at most 45 names in each
+/// directory on the way, and looks its names up in the orders, not in the index.
 #[derive(Drop)]
 pub struct TreeStore {
     pub(crate) arena: Arena,
@@ -118,7 +119,7 @@ impl TreeStore {
         ensures { self.new ≡ with_changes self.old (Becomes path.now (Some (empty_node kind)) ∷ []) }
     {
         let depth = path.depth() - 1;
-        let directory = &lookup(&self.arena, &self.heads, path, depth);
+        let directory = &lookup(&self.arena, &self.heads, &self.orders, path, depth);
         let name = path.name(depth);
         let node = create_node(&mut self.arena, *directory, kind, name);
         self.orders.enter(&self.arena, &node, *directory, name);
@@ -130,7 +131,7 @@ impl Filestore for TreeStore {
     ghost state = { λ s. s };
 
     fn kind(&self, path: &Path) -> Option<Kind> {
-        let node = find_path(&self.arena, &self.heads, path)?;
+        let node = find_path(&self.arena, &self.heads, &self.orders, path)?;
         Some(kind_of(self.arena.bytes(node)))
     }
 
@@ -139,37 +140,37 @@ impl Filestore for TreeStore {
         if depth == 0 {
             return true;
         }
-        match lookup(&self.arena, &self.heads, path, depth) {
+        match lookup(&self.arena, &self.heads, &self.orders, path, depth) {
             Some(node) => !kind_of(self.arena.bytes(node)).is_file(),
             None => false,
         }
     }
 
     fn has_entries(&self, path: &Path) -> bool {
-        match find_path(&self.arena, &self.heads, path) {
+        match find_path(&self.arena, &self.heads, &self.orders, path) {
             Some(node) => !self.orders.of(&Some(node)).is_empty(),
             None => false,
         }
     }
 
     fn size(&self, path: &Path) -> u64 {
-        let node = find_path(&self.arena, &self.heads, path).unwrap();
+        let node = find_path(&self.arena, &self.heads, &self.orders, path).unwrap();
         u64::from(size_of(self.arena.bytes(node)))
     }
 
     fn read(&self, path: &Path, at: u64, buffer: &mut [u8]) {
-        let node = find_path(&self.arena, &self.heads, path).unwrap();
+        let node = find_path(&self.arena, &self.heads, &self.orders, path).unwrap();
         let file = contents_of(self.arena.bytes(node));
         file.get(&self.arena, &self.ways, file.run.start(), at as u32, buffer);
     }
 
     fn checksum(&self, path: &Path) -> u32 {
-        let node = find_path(&self.arena, &self.heads, path).unwrap();
+        let node = find_path(&self.arena, &self.heads, &self.orders, path).unwrap();
         sum_of(self.arena.bytes(node))
     }
 
     fn deepest(&self, path: &Path) -> u8 {
-        let node = find_path(&self.arena, &self.heads, path).unwrap();
+        let node = find_path(&self.arena, &self.heads, &self.orders, path).unwrap();
         let depth = path.depth();
         let entries = self.orders.of(&Some(node));
         let below = deepest_in(&self.arena, &self.orders, entries, depth + 1);
@@ -204,7 +205,7 @@ impl Filestore for TreeStore {
     }
 
     fn standing(&self, alloc: Global, path: &Path) -> Result<Vec<Standing>, Memory> {
-        let Some(node) = find_path(&self.arena, &self.heads, path) else {
+        let Some(node) = find_path(&self.arena, &self.heads, &self.orders, path) else {
             return Ok(Vec::new(alloc));
         };
         let place = &Some(node);
@@ -226,7 +227,7 @@ impl Filestore for TreeStore {
     }
 
     fn remove(&mut self, path: &Path) -> Result<u32, Memory> {
-        let node = find_path(&self.arena, &self.heads, path).unwrap();
+        let node = find_path(&self.arena, &self.heads, &self.orders, path).unwrap();
         let block = self.arena.bytes(node);
         let held = held_by(block);
         let directory = &home_of(block, &node);
@@ -240,11 +241,11 @@ impl Filestore for TreeStore {
     }
 
     fn rename(&mut self, from: &Path, to: &Path) -> Result<u32, Memory> {
-        let node = find_path(&self.arena, &self.heads, from).unwrap();
+        let node = find_path(&self.arena, &self.heads, &self.orders, from).unwrap();
         let old = &home_of(self.arena.bytes(node), &node);
         let old_name = from.name(from.depth() - 1);
         let depth = to.depth() - 1;
-        let new = &lookup(&self.arena, &self.heads, to, depth);
+        let new = &lookup(&self.arena, &self.heads, &self.orders, to, depth);
         let new_name = to.name(depth);
         self.orders.leave(&self.arena, &node, *old, old_name);
         index::remove(&mut self.arena, &mut self.heads, &node, *old, old_name);
@@ -255,16 +256,16 @@ impl Filestore for TreeStore {
     }
 
     fn append(&mut self, first: &Path, second: &Path) -> Result<u32, Memory> {
-        let file = find_file(&self.arena, &self.heads, first);
-        let source = find_file(&self.arena, &self.heads, second);
+        let file = find_file(&self.arena, &self.heads, &self.orders, first);
+        let source = find_file(&self.arena, &self.heads, &self.orders, second);
         let contents = file.append(&mut self.arena, &mut self.ways, &source);
         set_contents(&mut self.arena, &file.node, &contents);
         Ok(contents.run.count - file.contents.run.count + source.contents.run.count)
     }
 
     fn replace(&mut self, first: &Path, second: &Path) -> Result<u32, Memory> {
-        let file = find_file(&self.arena, &self.heads, first);
-        let source = find_file(&self.arena, &self.heads, second);
+        let file = find_file(&self.arena, &self.heads, &self.orders, first);
+        let source = find_file(&self.arena, &self.heads, &self.orders, second);
         if file.node == source.node {
             return Ok(0);
         }

@@ -10,6 +10,7 @@ mod limits;
 mod many;
 mod next;
 mod octets;
+mod one_hash;
 mod random;
 mod refused;
 mod sizes;

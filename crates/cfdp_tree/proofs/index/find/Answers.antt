@@ -1,77 +1,78 @@
-use Rattle.std.proofs.Common.{◌≡◌, ◌+◌, ◌-◌, suc, ℕ, None, length, sym, ap, ◌∙◌, subst, arith}
-use Rattle.std.proofs.lemmas.List.{get_or_default}
-use Rattle.std.specs.Prelude.{All, Contains, slice_index_or}
-use Rattle.cfdp_tree.specs.declared.index.Head.{Head}
+use Rattle.std.proofs.Common.{◌≡◌, ◌+◌, ◌-◌, suc, None, length, sym, ap, ◌∙◌, subst, arith, inl, inr}
+use Rattle.std.proofs.lemmas.List.Elements.{Contains-append_cases}
+use Rattle.std.specs.Prelude.{All, Contains}
 use Rattle.cfdp_tree.specs.Row.{row_of}
 use Rattle.cfdp_tree.specs.Nodes.{nodes_in}
-use Rattle.cfdp_tree.specs.Tree.{IsEntry, row_at}
-use Rattle.cfdp_tree.specs.Index.{no_head, chain, list_at, place_of, IsListed}
+use Rattle.cfdp_tree.specs.Tree.{IsNode, IsEntry, row_at}
+use Rattle.cfdp_tree.specs.Index.{chain, list_of, place_of, HasHead, IsHead}
 use Rattle.cfdp_tree.proofs.TreeLaws.{node_live, node_octets}
 use Rattle.cfdp_tree.proofs.IndexLaws.{chain_more, chain_some, own_first, own_rest, rest_has, no_entry}
+use Rattle.cfdp_tree.proofs.HeadLaws.{all_left, head_here}
 use Rattle.cfdp_tree.proofs.index.find.Goals as goal
 
 pub loop-step-init : goal.loop-step-init
 loop-step-init c =
-    let nodes = nodes_in c.args.arena.now in let heads = c.args.heads.now in let place = c.place_of-place.result in let index = c.requires.index in
-    let within = c.place_of-place.ensures.within in
-    let first = ap (λ (h : Head). h.first) (get_or_default heads place no_head c.index-heads-place.result within) in
-    let count : (slice_index_or heads place no_head).count ≡ (slice_index_or heads place c.index-heads-place-2.result).count - 0 =
-    omega (arith, ap (λ (h : Head). h.count) (get_or_default heads place no_head c.index-heads-place-2.result within)) in
-    let list : list_at nodes heads place ≡ chain nodes ((slice_index_or heads place c.index-heads-place-2.result).count - 0)
-    (slice_index_or heads place c.index-heads-place.result).first = (λ k. chain nodes (count k) (first k)) in
+    let nodes = nodes_in c.args.arena.now in let heads = c.args.heads.now in let place = c.place_of-place.result in
+    let within = c.place_of-place.ensures.within in let head = c.index-heads-place.result in
+    let is = subst (IsHead nodes None (length heads) place) (head_here heads place head within c.index-heads-place.is) (c.requires.index.each place within) in
+    let listed = all_left (HasHead nodes None (length heads) place) (list_of nodes head) is.rest is.own in
+    let all : head.listed ≡ head.listed - 0 = omega arith in
     record {
-      own = subst (All (IsListed nodes None (length heads) place)) list (index.own place within);
-      left = (λ b entry. subst (λ xs. Contains xs b) list
-          (subst (λ k. Contains (list_at nodes heads k) b) ((λ k. place_of (entry.there k) (entry.named k) (length heads)) ∙ sym c.place_of-place.ensures.place)
-          (index.all b entry.node (λ e. cc))));
+      own = subst (λ n. All (IsNode nodes) (chain nodes n head.first)) all (λ i d less. (listed i d less).node);
+      left = (λ b entry has. subst (λ n. Contains (chain nodes n head.first) b) all has);
     }
 
 pub is_entry-requires-clause-node : goal.is_entry-requires-clause-node
 is_entry-requires-clause-node c =
-    let l = c.loop-step in let nodes = nodes_in c.args.arena.now in let heads = c.args.heads.now in let place = c.place_of-place.result in
-    let count = (slice_index_or heads place c.index-heads-place-2.result).count in
-    let more : count - l._step ≡ suc (count - (l._step + 1)) = omega arith in
-    let listed = subst (All (IsListed nodes None (length heads) place)) (chain_more nodes (count - l._step) (count - (l._step + 1)) l.node more)
-    l.invariant.own in
-    (own_first (IsListed nodes None (length heads) place) l.node (chain nodes (count - (l._step + 1)) (row_at nodes l.node).same_head) listed).node
+    let l = c.loop-step in let nodes = nodes_in c.args.arena.now in let count = c.index-heads-place.result.listed in
+    let m = count - (l._step + 1) in
+    let more : count - l._step ≡ suc m = omega arith in
+    own_first (IsNode nodes) l.node (chain nodes m (row_at nodes l.node).same_head)
+    (subst (All (IsNode nodes)) (chain_more nodes (count - l._step) m l.node more) l.invariant.own)
 
 pub bytes-requires : goal.bytes-requires
 bytes-requires c =
-    let l = c.loop-step in let nodes = nodes_in c.args.arena.now in let heads = c.args.heads.now in let place = c.place_of-place.result in
-    let count = (slice_index_or heads place c.index-heads-place-2.result).count in
-    let more : count - l._step ≡ suc (count - (l._step + 1)) = omega arith in
-    let listed = subst (All (IsListed nodes None (length heads) place)) (chain_more nodes (count - l._step) (count - (l._step + 1)) l.node more)
-    l.invariant.own in
+    let l = c.loop-step in let nodes = nodes_in c.args.arena.now in let count = c.index-heads-place.result.listed in
+    let m = count - (l._step + 1) in
+    let more : count - l._step ≡ suc m = omega arith in
     record {
-      live = node_live c.args.arena.now l.node (own_first (IsListed nodes None (length heads) place) l.node
-          (chain nodes (count - (l._step + 1)) (row_at nodes l.node).same_head) listed).node;
+      live = node_live c.args.arena.now l.node (own_first (IsNode nodes) l.node (chain nodes m (row_at nodes l.node).same_head)
+          (subst (All (IsNode nodes)) (chain_more nodes (count - l._step) m l.node more) l.invariant.own));
     }
 
 pub loop-step-preserved : goal.loop-step-preserved
 loop-step-preserved c =
-    let l = c.loop-step in let nodes = nodes_in c.args.arena.now in let heads = c.args.heads.now in let place = c.place_of-place.result in
-    let count = (slice_index_or heads place c.index-heads-place-2.result).count in
+    let l = c.loop-step in let nodes = nodes_in c.args.arena.now in let count = c.index-heads-place.result.listed in
     let m = count - (l._step + 1) in
-    let P : ℕ → Type 0 = IsListed nodes None (length heads) place in
     let next = (row_at nodes l.node).same_head in
     let more : count - l._step ≡ suc m = omega arith in
     let list = chain_more nodes (count - l._step) m l.node more in
-    let listed = subst (All P) list l.invariant.own in
-    let node = (own_first P l.node (chain nodes m next) listed).node in
+    let listed = subst (All (IsNode nodes)) list l.invariant.own in
+    let node = own_first (IsNode nodes) l.node (chain nodes m next) listed in
     let next_is : next ≡ c.same_head_of-node.result =
     ap (λ o. (row_of o).same_head) (sym (node_octets c.args.arena.now l.node node c.bytes.result.now c.bytes.ensures.octets))
     ∙ sym c.same_head_of-node.ensures.value in
     record {
-      own = subst (λ b. All P (chain nodes m b)) next_is (own_rest P l.node (chain nodes m next) listed);
-      left = (λ b entry. subst (λ n. Contains (chain nodes m n) b) next_is
-          (rest_has l.node (chain nodes m next) b (subst (λ xs. Contains xs b) list (l.invariant.left b entry))
+      own = subst (λ b. All (IsNode nodes) (chain nodes m b)) next_is (own_rest (IsNode nodes) l.node (chain nodes m next) listed);
+      left = (λ b entry has. subst (λ n. Contains (chain nodes m n) b) next_is
+          (rest_has l.node (chain nodes m next) b (subst (λ xs. Contains xs b) list (l.invariant.left b entry has))
           (λ e. no_entry (c.is_entry.ensures.1 (subst (IsEntry nodes c.args.directory c.args.name.now) (sym e) entry)) c.if-is_entry.false)));
     }
 
-pub returns-clause-none : goal.returns-clause-none
-returns-clause-none c b entry =
+pub returns-then-head-eq0-clause-none : goal.returns-then-head-eq0-clause-none
+returns-then-head-eq0-clause-none c b entry =
     let l = c.loop-step in let nodes = nodes_in c.args.arena.now in let heads = c.args.heads.now in let place = c.place_of-place.result in
-    let count = (slice_index_or heads place c.index-heads-place-2.result).count in
-    let some = chain_some nodes (count - l._step) l.node b (l.invariant.left b entry) in
-    let over = c.loop-step-test.false in
-    omega arith
+    let within = c.place_of-place.ensures.within in let head = c.index-heads-place.result in
+    let is = subst (IsHead nodes None (length heads) place) (head_here heads place head within c.index-heads-place.is) (c.requires.index.each place within) in
+    let has = is.all b record {
+      node = entry.node;
+      place = (λ k. place_of (entry.there k) (entry.named k) (length heads)) ∙ sym c.place_of-place.ensures.place;
+      inside = (λ e. cc);
+    } in
+    elim (Contains-append_cases (list_of nodes head) is.rest b has) [
+      | inl listed ↦ (
+          let some = chain_some nodes (head.listed - l._step) l.node b (l.invariant.left b entry listed) in
+          let over = c.loop-step-test.false in
+          omega arith)
+      | inr beside ↦ omega (arith, beside.1, is.count, c.if-head-eq0.true)
+    ]

@@ -1,41 +1,57 @@
-use Rattle.std.proofs.Common.{◌≡◌, ◌+◌, ◌<◌, Some, None, length, sym, ap, ◌∙◌, subst, arith}
-use Rattle.std.proofs.lemmas.List.{get_or_default, length-map}
+use Rattle.std.proofs.Common.{◌+◌, ◌<◌, Some, None, length, sym, ap, ◌∙◌, subst, arith}
+use Rattle.std.proofs.lemmas.List.{length-map}
 use Rattle.std.proofs.lemmas.List.Sums.{get_or-le-sum_by}
-use Rattle.std.specs.Prelude.{◌==◌, if◌then◌else◌, slice_index_or, slice_set}
+use Rattle.std.specs.Prelude.{◌==◌, if◌then◌else◌, slice_set}
 use Rattle.cfdp_arena.proofs.Chains.{live_within}
 use Rattle.cfdp_tree.specs.declared.index.Head.{Head}
 use Rattle.cfdp_tree.specs.Row.{Row}
 use Rattle.cfdp_tree.specs.Nodes.{only_node, nodes_in}
 use Rattle.cfdp_tree.specs.Tree.{Relinked}
-use Rattle.cfdp_tree.specs.Index.{no_head, place_of, IsIndex}
+use Rattle.cfdp_tree.specs.Index.{no_head, place_of, count_of, IsIndex}
 use Rattle.cfdp_tree.proofs.Counts.{live_count-within, free_count-written}
 use Rattle.cfdp_tree.proofs.TreeLaws.{node_live}
 use Rattle.cfdp_tree.proofs.LinkLaws.{link_noted, link_row, link_name, link_links}
 use Rattle.cfdp_tree.proofs.SpareLaws.{runs_stay}
-use Rattle.cfdp_tree.proofs.InsertLaws.{inserted}
+use Rattle.cfdp_tree.proofs.HeadLaws.{head_here}
+use Rattle.cfdp_tree.proofs.InsertLaws.{inserted_beside, inserted}
 use Rattle.cfdp_tree.proofs.index.insert.Goals as goal
 
 pub set_same_head-requires : goal.set_same_head-requires
 set_same_head-requires c =
     let heads = c.args.heads.now in let place = c.place_of-place.result in let within = c.place_of-place.ensures.within in
-    let same = get_or_default heads place no_head c.index-heads-place.result within in
-    record { small = subst (λ (h : Head). h.first < 65536) (same ∙ sym c.index-heads-place.is) (c.requires.index.small place within) }
+    let same = head_here heads place c.index-heads-place.result within c.index-heads-place.is in
+    record { small = subst (λ (h : Head). h.first < 65536) same (c.requires.index.each place within).small }
 
+-- a head has no more nodes than there are blocks, and one less while one node is out
 pub overflow_add-heads : goal.overflow_add-heads
 overflow_add-heads c =
     let heads = c.args.heads.now in let place = c.place_of-place.result in let within = c.place_of-place.ensures.within in
-    let same = get_or_default heads place no_head c.index-heads-place.result within in
-    let is : c.index-heads-place.result.count ≡ (slice_index_or heads place no_head).count = ap (λ (h : Head). h.count) (c.index-heads-place.is ∙ sym same) in
-    let most = get_or-le-sum_by (λ (h : Head). h.count) heads place no_head within in
+    let same = head_here heads place c.index-heads-place.result within c.index-heads-place.is in
+    let full = c.if-head-eq-MOST_LISTED.true in
     omega (
       arith,
-      is,
-      most,
+      full,
+      ap (λ (h : Head). count_of h) same,
+      get_or-le-sum_by (λ (h : Head). count_of h) heads place no_head within,
       c.requires.index.counted,
       live_count-within (nodes_in c.args.arena.now),
       length-map c.args.arena.now only_node,
       c.free-free.ensures.capacity,
     )
+
+pub overflow_add-heads-2 : goal.overflow_add-heads-2
+overflow_add-heads-2 c =
+    let heads = c.args.heads.now in let place = c.place_of-place.result in let within = c.place_of-place.ensures.within in
+    let same = head_here heads place c.index-heads-place.result within c.index-heads-place.is in
+    omega (arith, (c.requires.index.each place within).few, ap (λ (h : Head). h.listed) same)
+
+pub returns-then-head-eq-MOST_LISTED-clause-index : goal.returns-then-head-eq-MOST_LISTED-clause-index
+returns-then-head-eq-MOST_LISTED-clause-index c =
+    let heads = c.args.heads.now in let entry = c.requires.entry in let place = c.place_of-place.result in let within = c.place_of-place.ensures.within in
+    let head = c.index-heads-place.result in
+    inserted_beside (nodes_in c.args.arena.now) heads c.args.node.now place within c.requires.index entry.node
+    ((λ i. place_of (entry.there i) (entry.named i) (length heads)) ∙ sym c.place_of-place.ensures.place)
+    head (sym (head_here heads place head within c.index-heads-place.is))
 
 pub returns-clause-index : goal.returns-clause-index
 returns-clause-index c =
@@ -43,14 +59,16 @@ returns-clause-index c =
     let new = c.set_same_head.new.block in let e = c.set_same_head.ensures in let shown = c.bytes_mut.result.now in let is = c.bytes_mut.ensures.octets in
     let place = c.place_of-place.result in let within = c.place_of-place.ensures.within in
     let head = c.index-heads-place.result in
-    let head_is : head ≡ slice_index_or heads place no_head = c.index-heads-place.is ∙ sym (get_or_default heads place no_head head within) in
+    let same = head_here heads place head within c.index-heads-place.is in
+    let not_full = c.if-head-eq-MOST_LISTED.false in
+    let room : head.listed < 8 = omega (arith, not_full, (c.requires.index.each place within).few, ap (λ (h : Head). h.listed) same) in
     let row = link_row arena b shown new head.first entry.node is e.row e.header e.name in
     let noted = link_noted arena b shown new head.first entry.node is e.row e.header e.name in
     let name = link_name arena b shown new head.first entry.node is e.row e.header e.name in
-    subst (λ after. IsIndex after (slice_set heads place record { first = b; count = head.count + 1 }) None) (sym noted)
-    (inserted nodes heads b new place within c.requires.index entry.node
+    subst (λ after. IsIndex after (slice_set heads place record { first = b; listed = head.listed + 1; unlisted = head.unlisted }) None) (sym noted)
+    (inserted nodes heads b place within c.requires.index entry.node
     ((λ i. place_of (entry.there i) (entry.named i) (length heads)) ∙ sym c.place_of-place.ensures.place)
-    head head_is
+    head (sym same) new room
     (ap (λ (r : Row). r.same_head) row)
     (ap (λ (r : Row). if r.parent == b then None else Some r.parent) row)
     name

@@ -6,60 +6,79 @@ use Rattle.cfdp_tree.specs.Nodes.{nodes_in}
 use Rattle.cfdp_tree.specs.Tree.{IsNode, row_at}
 use Rattle.cfdp_tree.specs.Index.{chain}
 use Rattle.cfdp_tree.proofs.TreeLaws.{node_live, node_octets}
-use Rattle.cfdp_tree.proofs.IndexLaws.{chain_some, own_first, own_rest, rest_has, has_later, has_first}
+use Rattle.cfdp_tree.proofs.IndexLaws.{chain_more, chain_some, own_first, own_rest, rest_has, has_later, has_first, chain_one}
 use Rattle.cfdp_tree.proofs.index.node_before.Goals as goal
 
 pub loop-step-init : goal.loop-step-init
 loop-step-init c =
     let nodes = nodes_in c.args.arena.now in let head = c.args.head.now in
-    let some = chain_some nodes head.count head.first c.args.node.now c.requires.there in
-    let all : head.count ≡ suc (head.count - 1) = omega arith in
+    let all : head.listed ≡ head.listed + 1 - 1 = omega arith in
     record {
       nodes = subst (λ n. All (IsNode nodes) (chain nodes n head.first)) all c.requires.nodes;
-      there = subst (λ n. Contains (chain nodes n head.first) c.args.node.now) all c.requires.there;
-      later = c.requires.later;
+      later = (λ some. c.requires.later (omega (arith, some)));
+      left = (λ has. subst (λ n. Contains (chain nodes n head.first) c.args.node.now) all has);
       behind = (λ b has. has);
     }
 
 pub bytes-requires : goal.bytes-requires
 bytes-requires c =
-    let l = c.loop-step in let nodes = nodes_in c.args.arena.now in
-    let rest = chain nodes (c.args.head.now.count - l._step) (row_at nodes l.before).same_head in
-    record { live = node_live c.args.arena.now l.before (own_first (IsNode nodes) l.before rest l.invariant.nodes) }
+    let l = c.loop-step in let nodes = nodes_in c.args.arena.now in let count = c.args.head.now.listed in
+    let m = count - l._step in
+    let more : count + 1 - l._step ≡ suc m = omega arith in
+    let list = chain_more nodes (count + 1 - l._step) m l.before more in
+    record {
+      live = node_live c.args.arena.now l.before (own_first (IsNode nodes) l.before (chain nodes m (row_at nodes l.before).same_head)
+          (subst (All (IsNode nodes)) list l.invariant.nodes));
+    }
 
 pub loop-step-preserved : goal.loop-step-preserved
 loop-step-preserved c =
-    let l = c.loop-step in let nodes = nodes_in c.args.arena.now in let b = c.args.node.now in let count = c.args.head.now.count in
-    let m = count - (l._step + 1) in
+    let l = c.loop-step in let nodes = nodes_in c.args.arena.now in let b = c.args.node.now in let count = c.args.head.now.listed in
+    let m = count - l._step in
     let next = (row_at nodes l.before).same_head in
-    let more : count - l._step ≡ suc m = omega arith in
-    let list = chain nodes (count - l._step) next in
-    let node = own_first (IsNode nodes) l.before list l.invariant.nodes in
+    let more : count + 1 - l._step ≡ suc m = omega arith in
+    let same : m ≡ count + 1 - (l._step + 1) = omega arith in
+    let fewer : m ≡ suc (count - (l._step + 1)) = omega arith in
+    let list = chain_more nodes (count + 1 - l._step) m l.before more in
+    let owned = subst (All (IsNode nodes)) list l.invariant.nodes in
+    let node = own_first (IsNode nodes) l.before (chain nodes m next) owned in
     let next_is : next ≡ c.same_head_of-next.result =
     ap (λ o. (row_of o).same_head) (sym (node_octets c.args.arena.now l.before node c.bytes.result.now c.bytes.ensures.octets))
     ∙ sym c.same_head_of-next.ensures.value in
-    let list_is : list ≡ chain nodes (suc m) c.same_head_of-next.result = (λ k. chain nodes (more k) (next_is k)) in
+    let rest_is : chain nodes m next ≡ chain nodes (count + 1 - (l._step + 1)) c.same_head_of-next.result = (λ k. chain nodes (same k) (next_is k)) in
     record {
-      nodes = subst (All (IsNode nodes)) list_is (own_rest (IsNode nodes) l.before list l.invariant.nodes);
-      there = subst (λ xs. Contains xs b) list_is (rest_has l.before list b l.invariant.there l.invariant.later);
-      later = eqb-false c.same_head_of-next.result b (sym c.eq.ensures ∙ c.if-eq.false);
-      behind = (λ x has. l.invariant.behind x (subst (λ n. Contains (chain nodes n l.before) x) (sym more)
-          (has_later l.before (chain nodes m next) x (subst (λ y. Contains (chain nodes m y) x) (sym next_is) has))));
+      nodes = subst (All (IsNode nodes)) rest_is (own_rest (IsNode nodes) l.before (chain nodes m next) owned);
+      later = (λ some. eqb-false c.same_head_of-next.result b (sym c.eq.ensures ∙ c.if-eq.false));
+      left = (λ has. subst (λ xs. Contains xs b) rest_is
+          (rest_has l.before (chain nodes m next) b (subst (λ xs. Contains xs b) list (l.invariant.left has)) (l.invariant.later (omega arith))));
+      behind = (λ x has. l.invariant.behind x (subst (λ n. Contains (chain nodes n l.before) x) (sym fewer)
+          (has_later l.before (chain nodes (count - (l._step + 1)) next) x (subst (λ y. Contains (chain nodes (count - (l._step + 1)) y) x) (sym next_is) has))));
     }
 
 pub returns-then-eq-clause-before : goal.returns-then-eq-clause-before
 returns-then-eq-clause-before c =
-    let l = c.loop-step in let nodes = nodes_in c.args.arena.now in
-    let rest = chain nodes (c.args.head.now.count - l._step) (row_at nodes l.before).same_head in
-    let node = own_first (IsNode nodes) l.before rest l.invariant.nodes in
+    let l = c.loop-step in let nodes = nodes_in c.args.arena.now in let count = c.args.head.now.listed in
+    let m = count - l._step in
+    let more : count + 1 - l._step ≡ suc m = omega arith in
+    let node = own_first (IsNode nodes) l.before (chain nodes m (row_at nodes l.before).same_head)
+    (subst (All (IsNode nodes)) (chain_more nodes (count + 1 - l._step) m l.before more) l.invariant.nodes) in
     ap (λ o. (row_of o).same_head) (sym (node_octets c.args.arena.now l.before node c.bytes.result.now c.bytes.ensures.octets))
     ∙ sym c.same_head_of-next.ensures.value
     ∙ eqb-true c.same_head_of-next.result c.args.node.now (sym c.eq.ensures ∙ c.if-eq.true)
 
 pub returns-then-eq-clause-there : goal.returns-then-eq-clause-there
 returns-then-eq-clause-there c =
-    let l = c.loop-step in let nodes = nodes_in c.args.arena.now in let count = c.args.head.now.count in
+    let l = c.loop-step in let nodes = nodes_in c.args.arena.now in let count = c.args.head.now.listed in
     let m = count - (l._step + 1) in
     let more : count - l._step ≡ suc m = omega arith in
     l.invariant.behind l.before (subst (λ n. Contains (chain nodes n l.before) l.before) (sym more)
     (has_first l.before (chain nodes m (row_at nodes l.before).same_head)))
+
+pub returns-clause-none : goal.returns-clause-none
+returns-clause-none c has =
+    let l = c.loop-step in let nodes = nodes_in c.args.arena.now in let count = c.args.head.now.listed in
+    let there = l.invariant.left has in
+    let some = chain_some nodes (count + 1 - l._step) l.before c.args.node.now there in
+    let over = c.loop-step-test.false in
+    let one : count + 1 - l._step ≡ 1 = omega arith in
+    l.invariant.later some (chain_one nodes l.before c.args.node.now (subst (λ n. Contains (chain nodes n l.before) c.args.node.now) one there))

@@ -1,72 +1,75 @@
 use Rattle.std.proofs.Common.{◌≡◌, ◌-◌, ◌∷◌, suc, AllPairs, Contains, sym, ap, ◌∙◌, subst, arith}
 use Rattle.std.proofs.lemmas.Bool.{eqb-true}
-use Rattle.std.proofs.lemmas.List.Elements.{All-contains}
+use Rattle.std.proofs.lemmas.List.Elements.{Contains-get_or}
 use Rattle.std.specs.Prelude.{◌≢◌}
 use Rattle.cfdp_arena.specs.Arena.{with_block}
 use Rattle.cfdp_tree.specs.Row.{Row, row_of}
 use Rattle.cfdp_tree.specs.Nodes.{nodes_in}
-use Rattle.cfdp_tree.specs.Tree.{IsNode, row_at, Relinked}
+use Rattle.cfdp_tree.specs.Tree.{row_at, Relinked}
 use Rattle.cfdp_tree.specs.Index.{chain, list_of, without}
 use Rattle.cfdp_tree.proofs.Counts.{free_count-written}
 use Rattle.cfdp_tree.proofs.TreeLaws.{node_live, node_octets}
 use Rattle.cfdp_tree.proofs.IndexLaws.{chain_some, once_first, kept_chain}
 use Rattle.cfdp_tree.proofs.LinkLaws.{link_noted, link_row, link_links, next_here, next_other}
-use Rattle.cfdp_tree.proofs.CutLaws.{without_first, cut_chain, in_list, in_nodes}
+use Rattle.cfdp_tree.proofs.CutLaws.{without_first, without_all, cut_chain, in_list, in_nodes}
 use Rattle.cfdp_tree.proofs.SpareLaws.{runs_stay}
 use Rattle.cfdp_tree.proofs.index.take_out.Goals as goal
 
 pub returns-then-eq-clause-list : goal.returns-then-eq-clause-list
 returns-then-eq-clause-list c =
     let arena = c.args.arena.now in let nodes = nodes_in arena in let head = c.args.head.now in let b = c.args.node.now in
-    let some = chain_some nodes head.count head.first b c.requires.there in
-    let all : head.count ≡ suc (head.count - 1) = omega arith in
+    let some = c.if-head-gt0.true in
+    let all : head.listed ≡ suc (head.listed - 1) = omega arith in
     let first : head.first ≡ b = eqb-true head.first b (sym c.eq.ensures ∙ c.if-eq.true) in
-    let node = All-contains (IsNode nodes) (list_of nodes head) b c.requires.nodes c.requires.there in
     let next_is : c.same_head_of-next.result ≡ (row_at nodes b).same_head =
-    c.same_head_of-next.ensures.value ∙ ap (λ o. (row_of o).same_head) (node_octets arena b node c.bytes.result.now c.bytes.ensures.octets) in
-    let rest = chain nodes (head.count - 1) (row_at nodes b).same_head in
+    c.same_head_of-next.ensures.value ∙ ap (λ o. (row_of o).same_head) (node_octets arena b c.requires.node c.bytes.result.now c.bytes.ensures.octets) in
+    let rest = chain nodes (head.listed - 1) (row_at nodes b).same_head in
     let list_is : list_of nodes head ≡ b ∷ rest = (λ k. chain nodes (all k) (first k)) in
-    ap (chain nodes (head.count - 1)) next_is
+    ap (chain nodes (head.listed - 1)) next_is
     ∙ sym (without_first b rest (once_first b rest (subst (AllPairs (λ x y. x ≢ y)) list_is c.requires.once)))
     ∙ ap (without b) (sym list_is)
 
+pub returns-in_default-clause-list : goal.returns-in_default-clause-list
+returns-in_default-clause-list c =
+    let list = list_of (nodes_in c.args.arena.now) c.args.head.now in
+    sym (without_all c.args.node.now list (λ i d less same. c.in_default.ensures.none (subst (Contains list) (sym same) (Contains-get_or list i d less))))
+
 pub bytes_mut-requires : goal.bytes_mut-requires
 bytes_mut-requires c =
-    let arena = c.args.arena.now in let before = c.node_before-before in
-    record { live = node_live arena before.result (in_nodes (nodes_in arena) c.args.head.now before.result before.ensures.there c.requires.nodes) }
+    let arena = c.args.arena.now in let before = c.in-Some.before in
+    record { live = node_live arena before (in_nodes (nodes_in arena) c.args.head.now before c.in-Some.ensures.there c.requires.nodes) }
 
 pub returns-clause-list : goal.returns-clause-list
 returns-clause-list c =
     let arena = c.args.arena.now in let nodes = nodes_in arena in let head = c.args.head.now in let b = c.args.node.now in
-    let p = c.node_before-before.result in let before = c.node_before-before.ensures in
+    let p = c.in-Some.before in let before = c.in-Some.ensures in
     let new = c.set_same_head.new.block in let e = c.set_same_head.ensures in let shown = c.bytes_mut.result.now in let is = c.bytes_mut.ensures.octets in
     let link = c.same_head_of-next.result in
     let node = in_nodes nodes head p before.there c.requires.nodes in
-    let own = All-contains (IsNode nodes) (list_of nodes head) b c.requires.nodes c.requires.there in
     let next_is : link ≡ (row_at nodes b).same_head =
-    c.same_head_of-next.ensures.value ∙ ap (λ o. (row_of o).same_head) (node_octets arena b own c.bytes.result.now c.bytes.ensures.octets) in
-    let some = chain_some nodes head.count head.first b c.requires.there in
-    let all : head.count ≡ suc (head.count - 1) = omega arith in
+    c.same_head_of-next.ensures.value ∙ ap (λ o. (row_of o).same_head) (node_octets arena b c.requires.node c.bytes.result.now c.bytes.ensures.octets) in
+    let some = chain_some nodes (head.listed - 1) head.first p before.there in
+    let all : head.listed ≡ suc (head.listed - 1) = omega arith in
     let linked = next_here nodes p new node ∙ ap (λ (r : Row). r.same_head) (link_row arena p shown new link node is e.row e.header e.name) ∙ next_is in
     let once = subst (λ n. AllPairs (λ x y. x ≢ y) (chain nodes n head.first)) all c.requires.once in
-    ap (λ xs. chain xs (head.count - 1) head.first) (link_noted arena p shown new link node is e.row e.header e.name)
-    ∙ cut_chain nodes p b before.before (with_block nodes p new) (next_other nodes p new node) linked (head.count - 1) head.first once before.there
+    ap (λ xs. chain xs (head.listed - 1) head.first) (link_noted arena p shown new link node is e.row e.header e.name)
+    ∙ cut_chain nodes p b before.before (with_block nodes p new) (next_other nodes p new node) linked (head.listed - 1) head.first once before.there
     ∙ ap (λ n. without b (chain nodes n head.first)) (sym all)
 
 pub returns-clause-others : goal.returns-clause-others
 returns-clause-others c =
     let arena = c.args.arena.now in let nodes = nodes_in arena in let head = c.args.head.now in
-    let p = c.node_before-before.result in let before = c.node_before-before.ensures in
+    let p = c.in-Some.before in let before = c.in-Some.ensures in
     let new = c.set_same_head.new.block in let e = c.set_same_head.ensures in let shown = c.bytes_mut.result.now in let is = c.bytes_mut.ensures.octets in
     let link = c.same_head_of-next.result in
     let node = in_nodes nodes head p before.there c.requires.nodes in
-    (λ other apart. ap (λ xs. chain xs other.count other.first) (link_noted arena p shown new link node is e.row e.header e.name)
-    ∙ kept_chain nodes (with_block nodes p new) p (next_other nodes p new node) other.count other.first
+    (λ other apart. ap (λ xs. chain xs other.listed other.first) (link_noted arena p shown new link node is e.row e.header e.name)
+    ∙ kept_chain nodes (with_block nodes p new) p (next_other nodes p new node) other.listed other.first
     (λ k d within same. apart k d within (subst (Contains (list_of nodes head)) same (in_list nodes head p before.there))))
 
 pub returns-clause-links : goal.returns-clause-links
 returns-clause-links c =
-    let arena = c.args.arena.now in let p = c.node_before-before.result in let before = c.node_before-before.ensures in
+    let arena = c.args.arena.now in let p = c.in-Some.before in let before = c.in-Some.ensures in
     let new = c.set_same_head.new.block in let e = c.set_same_head.ensures in let shown = c.bytes_mut.result.now in let is = c.bytes_mut.ensures.octets in
     let link = c.same_head_of-next.result in
     let node = in_nodes (nodes_in arena) c.args.head.now p before.there c.requires.nodes in
@@ -75,11 +78,11 @@ returns-clause-links c =
 
 pub returns-clause-runs : goal.returns-clause-runs
 returns-clause-runs c =
-    let arena = c.args.arena.now in let before = c.node_before-before in
-    runs_stay arena before.result c.set_same_head.new.block (in_nodes (nodes_in arena) c.args.head.now before.result before.ensures.there c.requires.nodes)
+    let arena = c.args.arena.now in let before = c.in-Some.before in
+    runs_stay arena before c.set_same_head.new.block (in_nodes (nodes_in arena) c.args.head.now before c.in-Some.ensures.there c.requires.nodes)
 
 pub returns-clause-free : goal.returns-clause-free
 returns-clause-free c =
-    let arena = c.args.arena.now in let before = c.node_before-before in
-    free_count-written arena before.result c.set_same_head.new.block
-    (node_live arena before.result (in_nodes (nodes_in arena) c.args.head.now before.result before.ensures.there c.requires.nodes))
+    let arena = c.args.arena.now in let before = c.in-Some.before in
+    free_count-written arena before c.set_same_head.new.block
+    (node_live arena before (in_nodes (nodes_in arena) c.args.head.now before c.in-Some.ensures.there c.requires.nodes))

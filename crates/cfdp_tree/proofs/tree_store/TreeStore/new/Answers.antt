@@ -11,7 +11,7 @@ use Rattle.cfdp_tree.proofs.tree_store.TreeStore.new.Goals as goal
 pub invariant_of-result : goal.invariant_of-result
 invariant_of-result c =
     let slots = c.loop-slot.slots in let made = c.loop-slot.invariant in
-    let head = head_none c.empty.result c.empty.ensures.first c.empty.ensures.count in
+    let head = head_none c.empty.result c.empty.ensures.first c.empty.ensures.listed c.empty.ensures.unlisted in
     let heads = filled_up c.args.blocks (vec_len c.new-heads.result) c.empty.result c.new-heads.result.items c.resize-2.new.self.items
     c.in_ok-resize-2.ensures.items c.new-heads.ensures.items c.new-heads.ensures.len in
     let many : length slots.items ≡ 64 = omega (arith, slots.ok.0, made.many, c.loop-slot-test.false, c.loop-slot.auto._slot-end) in
@@ -32,7 +32,7 @@ invariant_of-result c =
 pub returns : goal.returns
 returns c =
     let slots = c.loop-slot.slots in let made = c.loop-slot.invariant in
-    let head = head_none c.empty.result c.empty.ensures.first c.empty.ensures.count in
+    let head = head_none c.empty.result c.empty.ensures.first c.empty.ensures.listed c.empty.ensures.unlisted in
     let heads = filled_up c.args.blocks (vec_len c.new-heads.result) c.empty.result c.new-heads.result.items c.resize-2.new.self.items
     c.in_ok-resize-2.ensures.items c.new-heads.ensures.items c.new-heads.ensures.len in
     let many : length slots.items ≡ 64 = omega (arith, slots.ok.0, made.many, c.loop-slot-test.false, c.loop-slot.auto._slot-end) in
