@@ -39,8 +39,6 @@ mod slots;
 mod spelling;
 mod summing;
 mod survey;
-#[cfg(test)]
-mod tests;
 mod transfer;
 mod tree_store;
 mod walk;
