@@ -62,9 +62,9 @@ fn take_up_to(begun: &mut Vec<u8>, len: usize, octets: &mut &[u8]) -> Result<(),
     ensures all { OnOk result ((length begun.new.items ≡ len) ⊎ (octets.new.now ≡ [])) }
 {
     let missing = len - begun.len();
-    let (front, behind) = octets.split_at(missing.min(octets.len()));
+    let (front, rest) = octets.split_at(missing.min(octets.len()));
     begun.extend_from_slice(front)?;
-    *octets = behind;
+    *octets = rest;
     Ok(())
 }
 
