@@ -1,15 +1,18 @@
 -- What a live receiving entity makes of its inputs. Which inputs there are, `cfdp_run` says: after a PDU, and after
 -- each timer that is served, all work is done and each outcome is taken.
---     Out                       the PDUs that are sent, in order; the lines of the indications, one after the other;
---                               whether a transaction ended, so that the filestore may have changed
+--     Out                       the PDUs that are sent, in order; the lines of indications and refusals, one after the
+--                               other; whether a transaction ended, so that the filestore may have changed
 --     nothing, with_more        neither PDU nor line;  two of them, one after the other
 --     with_sent                 more PDUs after those that there are
 --     is_end indication         a transaction finished or was abandoned
+--     refusal_line became       the line of a refusal of a transaction, and nothing if there was none
 --     answered mib a            what an answer makes: its PDUs have a CRC where `mib` says so
 --     made R inputs             what inputs make, one after the other
 --     Makes R inputs N before after     the inputs lead from R to N, and what they make comes after what there was
 use Rattle.std.specs.Prelude.{◌≡◌, ℕ, Bool, true, false, ◌||◌, List, [], ◌∷◌, ◌++◌, map}
 use Rattle.std.specs.List.{list_any}
+use Rattle.cfdp_receiver.specs.declared.answer.Became.{Became}
+use Rattle.cfdp_receiver.specs.declared.answer.Became.TheVariants.{Replied}
 use Rattle.cfdp_receiver.specs.declared.answer.Indication.{Indication}
 use Rattle.cfdp_receiver.specs.declared.answer.Indication.TheVariants.{TransactionFinished, Abandoned}
 use Rattle.cfdp_receiver.specs.declared.mib.Mib.{Mib}
@@ -17,6 +20,8 @@ use Rattle.cfdp_receiver.specs.State.{AnswerFields, Input, State}
 use Rattle.cfdp_receiver.specs.Sent.{as_sent}
 use Rattle.cfdp_receiver.specs.Turning.{after, after_all, parts}
 use Rattle.cfdp_reports.specs.Reports.{pdus_in, told_lines}
+use Rattle.cfdp_texts.specs.Replies.{reply_line}
+use Rattle.cfdp_transactions.specs.declared.reply.Reply.TheVariants.{Refused}
 
 pub record Out : Type 0 where
   pub sent : List (List ℕ)
@@ -37,10 +42,14 @@ is_end (TransactionFinished id end) = true
 is_end (Abandoned id condition) = true
 is_end indication = false
 
+abbrev pub refusal_line : Became → List ℕ
+refusal_line (Replied id (Refused refusal)) = reply_line id (Refused refusal)
+refusal_line became = []
+
 abbrev pub answered : Mib → AnswerFields → Out
 answered mib a = record {
   sent = map (as_sent mib) (pdus_in a);
-  told = told_lines a.indications;
+  told = told_lines a.indications ++ refusal_line a.became;
   ended = list_any is_end a.indications;
 }
 

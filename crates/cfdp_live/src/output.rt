@@ -3,13 +3,17 @@
 ghost use Rattle.std.specs.Prelude.{◌≡◌, ◌++◌, ◌∷◌, ◌||◌, ◌≤◌, [], false, length, map, max, OnOk};
 ghost use Rattle.std.specs.List.{list_any};
 ghost use Rattle.cfdp_actions.specs.Listed.{octets_of};
+ghost use Rattle.cfdp_receiver.specs.declared.answer.Became.TheVariants.{Replied};
 ghost use Rattle.cfdp_receiver.specs.Machine.{answer_in};
 ghost use Rattle.cfdp_receiver.specs.Sent.{as_sent, longest_sealed, pdus_of};
 ghost use Rattle.cfdp_reports.specs.Reports.{told_lines};
-ghost use Rattle.cfdp_live.specs.Living.{Out, answered, is_end, nothing, with_more, with_sent};
+ghost use Rattle.cfdp_live.specs.Living.{Out, answered, is_end, nothing, refusal_line, with_more, with_sent};
 
-use cfdp_receiver::{Answer, Indication, Receiver};
+use cfdp_receiver::{Answer, Became, Indication, Receiver};
 use cfdp_reports::push_told;
+use cfdp_status::TransactionId;
+use cfdp_texts::write_reply;
+use cfdp_transactions::Reply;
 use std::alloc::{AllocError, Global};
 use std::marker::Model;
 
@@ -36,8 +40,33 @@ fn has_end(answer: &Answer) -> bool
     }
 }
 
-/// The PDUs that are to be sent, the lines of the indications, and whether a transaction ended: what a live receiving
-/// entity has made since this was cleared.
+/// Appends the line of a reply that refuses a transaction, and nothing for another one.
+fn push_if_refused(
+    alloc: Global,
+    id: TransactionId,
+    reply: &Reply,
+    text: &mut Vec<u8>,
+) -> Result<(), AllocError>
+    ensures { OnOk result (text.new.items ≡ text.old.items ++ refusal_line (Replied id reply.now)) }
+{
+    match reply {
+        Reply::Refused(_) => write_reply(alloc, id, reply, text),
+        _ => Ok(()),
+    }
+}
+
+/// Appends the line of a refusal, if what became of an input is one.
+fn push_refusal(alloc: Global, became: &Became, text: &mut Vec<u8>) -> Result<(), AllocError>
+    ensures { OnOk result (text.new.items ≡ text.old.items ++ refusal_line became.now) }
+{
+    match became {
+        Became::Replied(id, reply) => push_if_refused(alloc, *id, reply, text),
+        Became::Nothing | Became::NotOurs | Became::Said(_, _) => Ok(()),
+    }
+}
+
+/// The PDUs that are to be sent, the lines of indications and refusals, and whether a transaction ended: what a live
+/// receiving entity has made since this was cleared.
 #[derive(Drop)]
 pub struct Output {
     pdus: Vec<Vec<u8>>,
@@ -73,7 +102,7 @@ impl Output {
         &self.pdus
     }
 
-    /// The lines of the indications, in order, as `cfdp run` writes them.
+    /// The lines of indications and of refusals of transactions, in order, as `cfdp run` writes them.
     pub fn lines(&self) -> &[u8]
         ensures { result.now ≡ self.now.told }
     {
@@ -139,6 +168,7 @@ impl Output {
     {
         self.push_pdus(alloc, receiver, answer, room)?;
         push_told(answer, &mut self.lines)?;
+        push_refusal(alloc, answer.became(), &mut self.lines)?;
         self.has_ended = self.has_ended || has_end(answer);
         Ok(())
     }

@@ -122,6 +122,24 @@ const OTHERS: [Row; 6] = [
     },
 ];
 
+/// A list of requests that is refused, and an EOF PDU of its transaction.
+const REFUSED: [Row; 2] = [
+    Row {
+        at: 0,
+        input: Input::Pdu("200013000105020740000000000000000910076e6f7468696e67"),
+        sent: "280011000105020547010a1f076e6f7468696e6700060102 ",
+        told: "tell metadata 1/5\n1/5 refused would-fail 0 11\ntell finished 1/5 4 incomplete 3\n",
+        ended: true,
+    },
+    Row {
+        at: 1,
+        input: Input::Pdu("20000a0001050204000000000000000000"),
+        sent: "28000300010502064001 ",
+        told: "",
+        ended: false,
+    },
+];
+
 /// The octets that hexadecimal digits spell.
 fn octets_of(alloc: Global, text: &str) -> Result<Vec<u8>, Fail> {
     Ok(hex::decode(alloc, text)?)
@@ -168,6 +186,11 @@ fn plays<R: Abort + AllocGlobal>(rt: &R, rows: &[Row]) -> Result<(), Fail> {
 #[test]
 fn a_lost_file_is_asked_for(rt: HostRuntime) -> Result<(), Fail> {
     plays(&rt, &LOST)
+}
+
+#[test]
+fn a_refusal_is_reported(rt: HostRuntime) -> Result<(), Fail> {
+    plays(&rt, &REFUSED)
 }
 
 #[test]
