@@ -52,8 +52,8 @@ enum action {
     DENY_FILE = 0x70
 };
 
-/* In which order pieces are sent or read, and entries are made. */
-enum arrangement { RISING, FALLING, SWAPPED, RANDOM };
+/* In which order pieces are sent or read, and entries are made. ONE_HASH is RISING, with names of one hash. */
+enum arrangement { RISING, FALLING, SWAPPED, RANDOM, ONE_HASH };
 
 /* A File Data PDU. */
 struct piece {
@@ -480,13 +480,20 @@ static void check_pairs(uint32_t pairs) {
 
 /* ---- a directory, whose size is in entries: files of no octets */
 
-/* The path of an entry: a directory of one letter, and a number of six digits. So the order of paths is that of the
- * numbers. */
-static void spell(char path[9], char directory, uint32_t number) {
+/* The last octets of names of one hash. The engine's hash of 16 octets is a product; these make one of its factors 0. */
+#define ONE_HASH_TAIL "\x15\x7c\x4a\x7f\xb9\x79\x37\x9e"
+
+enum { LONGEST_PATH = 2 + 8 + 8 };
+
+/* The path of an entry: a directory of one letter, and a number of six digits, or of eight and a tail. So the order of
+ * paths is that of the numbers. */
+static void spell(char path[LONGEST_PATH + 1], char directory, uint32_t number) {
+    int digits = arrangement == ONE_HASH ? 8 : 6;
     path[0] = directory;
     path[1] = '/';
-    for (int i = 0; i < 6; i++) path[2 + i] = "0123456789abcdef"[number >> (20 - 4 * i) & 15];
-    path[8] = 0;
+    for (int i = 0; i < digits; i++) path[2 + i] = "0123456789abcdef"[number >> (4 * (digits - 1 - i)) & 15];
+    path[2 + digits] = 0;
+    if (arrangement == ONE_HASH) strcat(path, ONE_HASH_TAIL);
 }
 
 /* The Metadata PDU of a list with one request for each of the numbers in `order` from `start` up to, and without,
@@ -494,7 +501,7 @@ static void spell(char path[9], char directory, uint32_t number) {
 static void make_list(enum action action, char directory, uint32_t start, uint32_t stop) {
     make_metadata(LIST_NUMBER, 0, "");
     for (uint32_t i = start; i < stop; i++) {
-        char path[9];
+        char path[LONGEST_PATH + 1];
         spell(path, directory, order[i]);
         add_request(action, path, NULL);
     }
@@ -544,7 +551,7 @@ static void prepare_rename(uint32_t count) {
     fill('e', count, count + LIST);
     make_metadata(LIST_NUMBER, 0, "");
     for (uint32_t i = count; i < count + LIST; i++) {
-        char from[9], to[9];
+        char from[LONGEST_PATH + 1], to[LONGEST_PATH + 1];
         spell(from, 'e', order[i]);
         spell(to, 'd', order[i]);
         add_request(RENAME, from, to);
@@ -610,10 +617,10 @@ static uint32_t step_list(uint32_t size) {
 
 /* These numbers are entries of a directory, or none is. */
 static void check_entries(char directory, uint32_t start, uint32_t stop, uint32_t wanted) {
-    struct cfdp_path path = {.length = 8};
+    struct cfdp_path path = {.length = arrangement == ONE_HASH ? LONGEST_PATH : 8};
     struct cfdp_entry entry = {.kind = CFDP_FILE};
     for (uint32_t i = start; i < stop; i++) {
-        char spelled[9];
+        char spelled[LONGEST_PATH + 1];
         spell(spelled, directory, order[i]);
         memcpy(path.octets, spelled, path.length);
         if (cfdp_look_up(&engine, &path, &entry) != wanted || entry.kind != CFDP_FILE || entry.size != 0)
@@ -674,7 +681,7 @@ static void check_seen(uint32_t count) {
         fail("another directory");
     for (uint32_t number = 0; number < count; number++) {
         const struct seen *next = &seen[number + 1];
-        char path[9];
+        char path[LONGEST_PATH + 1];
         spell(path, 'd', number);
         if (next->entry.kind != CFDP_FILE || next->length != 8 || memcmp(next->octets, path, 8) != 0)
             fail("another entry");
@@ -709,7 +716,7 @@ static void prepare_beside(uint32_t requests) {
         bool is_last = i == LIVE;
         make_metadata(is_last ? LIST_NUMBER : FIRST_OTHER + i, 0, "");
         for (uint32_t request = 0; request < (is_last ? BESIDE : requests / LIVE); request++) {
-            char path[9];
+            char path[LONGEST_PATH + 1];
             spell(path, 'd', LIST * i + request);
             add_request(CREATE_FILE, path, NULL);
         }
@@ -890,12 +897,15 @@ static const struct workload workloads[] = {
     {"create-rising", 70, 30000, 65000, RISING, prepare_create, run_list, check_created},
     {"create-falling", 70, 30000, 65000, FALLING, prepare_create, run_list, check_created},
     {"create-random", 70, 30000, 65000, RANDOM, prepare_create, run_list, check_created},
+    {"create-one-hash", 70, 30000, 65000, ONE_HASH, prepare_create, run_list, check_created},
     {"delete-rising", 70, 30000, 65000, RISING, prepare_delete, run_list, check_deleted},
     {"delete-falling", 70, 30000, 65000, FALLING, prepare_delete, run_list, check_deleted},
     {"delete-random", 70, 30000, 65000, RANDOM, prepare_delete, run_list, check_deleted},
+    {"delete-one-hash", 70, 30000, 65000, ONE_HASH, prepare_delete, run_list, check_deleted},
     {"rename-rising", 70, 30000, 65000, RISING, prepare_rename, run_list, check_renamed},
     {"rename-falling", 70, 30000, 65000, FALLING, prepare_rename, run_list, check_renamed},
     {"rename-random", 70, 30000, 65000, RANDOM, prepare_rename, run_list, check_renamed},
+    {"rename-one-hash", 70, 30000, 65000, ONE_HASH, prepare_rename, run_list, check_renamed},
     {"move-admitted", 70, 30000, 65000, RANDOM, prepare_move, admit, check_move},
     {"moves-admitted", 70, 30000, 65000, RANDOM, prepare_moves, admit, check_moves},
     {"move-step", 70, 30000, 65000, RANDOM, prepare_move_step, step_list, check_moved},

@@ -20,6 +20,7 @@ static struct sockaddr_in peer;
 static int link_fd;
 static const char *folder;
 static long closed, closed_at_most;
+static int lacks_memory; /* for an outcome, which is taken later */
 
 static void give_up(const char *why) {
     perror(why);
@@ -110,8 +111,8 @@ static void work_off(uint64_t now) {
         follow(&report);
     } while (report.became != CFDP_BECAME_NOTHING);
     do {
-        if (cfdp_receiver_finish(&receiver, now, &report) != CFDP_ANSWER_DONE)
-            return; /* no memory: again in the next round */
+        lacks_memory = cfdp_receiver_finish(&receiver, now, &report) != CFDP_ANSWER_DONE;
+        if (lacks_memory) return;
         follow(&report);
     } while (report.became != CFDP_BECAME_NOTHING);
 }
@@ -124,6 +125,7 @@ static void go_round(void) {
     int wait = -1;
     if (cfdp_receiver_deadline(&receiver, &due) == CFDP_ANSWER_DONE)
         wait = due <= now ? 0 : due - now > 60000 ? 60000 : (int)(due - now);
+    if (lacks_memory && (wait < 0 || wait > 100)) wait = 100;
     struct pollfd heard = {.fd = link_fd, .events = POLLIN};
     if (poll(&heard, 1, wait) < 0) give_up("poll");
     now = milliseconds();
