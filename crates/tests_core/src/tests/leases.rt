@@ -69,20 +69,6 @@ fn grant_one(
     assert!(rt; leases.holds(id(number)));
 }
 
-/// Grants the footprints one after another.
-fn grant_each(
-    rt: &impl Abort,
-    leases: &mut Leases,
-    footprints: Vec<Footprint>,
-    again: Vec<Footprint>,
-    probes: &[Footprint; 2],
-) {
-    let wanted = footprints.into_iter().zip(again);
-    for (number, (footprint, again)) in (1..=5u64).zip(wanted) {
-        grant_one(rt, leases, number, footprint, again, probes);
-    }
-}
-
 /// Five grants one after another. All else that takes memory comes before them, so that only a grant can be refused
 /// from then on. It shows its point where `rt try --test --fail-alloc N` refuses each growth in turn.
 #[test]
@@ -95,7 +81,10 @@ fn a_refused_grant_changes_nothing(rt: HostRuntime) -> Result<(), Memory> {
     let footprints = five(alloc)?;
     let again = five(alloc)?;
     let mut leases = Leases::new(alloc);
-    grant_each(&rt, &mut leases, footprints, again, &probes);
+    let wanted = footprints.into_iter().zip(again);
+    for (number, (footprint, again)) in (1..=5u64).zip(wanted) {
+        grant_one(&rt, &mut leases, number, footprint, again, &probes);
+    }
     assert!(rt; leases.conflict(&probes[0]) == Some(id(1)));
     assert!(rt; leases.conflict(&probes[1]) == Some(id(5)));
     Ok(())

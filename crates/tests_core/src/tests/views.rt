@@ -54,24 +54,7 @@ fn view_of<'a, S: Filestore>(
     View::of(alloc, store, protected, &leased)
 }
 
-/// The view of what a list leases, in which its file is installed.
-fn view_with_file<'a, S: Filestore>(
-    alloc: Global,
-    store: &S,
-    protected: &'a Protected,
-    requests: &[Request],
-    (name, bound): (&[u8], u64),
-) -> Result<Option<View<'a>>, Memory> {
-    let path = path_of(alloc, name)?;
-    let mut view = view_of(alloc, store, protected, requests, Some(&path))?;
-    if view.install(&path, bound)? && view.bound(&path) == Some(bound) {
-        Ok(Some(view))
-    } else {
-        Ok(None)
-    }
-}
-
-/// The view on which a row is run: `None` where its file may not be installed.
+/// The view on which a row is run, in which its file is installed: `None` where that may not be.
 fn begun<'a, S: Filestore>(
     alloc: Global,
     store: &S,
@@ -79,9 +62,15 @@ fn begun<'a, S: Filestore>(
     requests: &[Request],
     file: Option<(&[u8], u64)>,
 ) -> Result<Option<View<'a>>, Memory> {
-    match file {
-        None => Ok(Some(view_of(alloc, store, protected, requests, None)?)),
-        Some(file) => view_with_file(alloc, store, protected, requests, file),
+    let Some((name, bound)) = file else {
+        return Ok(Some(view_of(alloc, store, protected, requests, None)?));
+    };
+    let path = path_of(alloc, name)?;
+    let mut view = view_of(alloc, store, protected, requests, Some(&path))?;
+    if view.install(&path, bound)? && view.bound(&path) == Some(bound) {
+        Ok(Some(view))
+    } else {
+        Ok(None)
     }
 }
 
