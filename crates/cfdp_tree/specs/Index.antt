@@ -9,7 +9,8 @@
 --     list_of nodes head         the list of a head
 --     without b list             a list but for one node
 --     count_of head              how many nodes a head has
---     HasHead nodes out n k b    the node b is one of the head k of n heads, and is not the one that is out of the index
+--     HasHead nodes out n k b    the node b is one of the head k of n heads, and not the one that is out of the
+--                                index
 --     IsHead nodes out n k head  the nodes of the head k: those in its list, at most 8, and the rest, each once
 --     count_out out              how many nodes are out of the index
 --     IsIndex nodes heads out    each node is one of its head, but for the one that is out, and each head has just its
