@@ -53,7 +53,7 @@ loop-step-preserved c =
           (rest_has l.before (chain nodes m next) b (subst (λ xs. Contains xs b) list (l.invariant.left has)) (l.invariant.later (omega arith))));
       behind = (λ x has. l.invariant.behind x (subst (λ n. Contains (chain nodes n l.before) x) (sym fewer)
           (has_later l.before (chain nodes (count - (l._step + 1)) next) x
-            (subst (λ y. Contains (chain nodes (count - (l._step + 1)) y) x) (sym next_is) has))));
+          (subst (λ y. Contains (chain nodes (count - (l._step + 1)) y) x) (sym next_is) has))));
     }
 
 pub returns-then-eq-clause-before : goal.returns-then-eq-clause-before
