@@ -177,7 +177,7 @@ enum cfdp_entry_kind {
 /* Makes an engine in an empty `struct cfdp_engine`: an entity of this configuration over an empty filestore
  * (cfdp_put fills it), in which what exists at or below one of the prefixes is neither changed nor removed by a
  * request. `count` is at most 8. Returns CFDP_ANSWER_DONE, CFDP_ANSWER_HAS_ENGINE, CFDP_ANSWER_NO_MEMORY, or the
- * first fault: a prefix in its order, and then blocks, cap, checks. */
+ * first fault: a prefix in its order, and then blocks, cap, checks. Cost: 24 octets are set for each block. */
 enum cfdp_answer cfdp_new(struct cfdp_engine *engine, const struct cfdp_config *config,
                           const struct cfdp_path *prefixes, size_t count);
 
@@ -192,26 +192,32 @@ enum cfdp_answer cfdp_new(struct cfdp_engine *engine, const struct cfdp_config *
 enum cfdp_answer cfdp_put(struct cfdp_engine *engine, const struct cfdp_path *path, enum cfdp_entry_kind kind,
     const uint8_t *octets, size_t length);
 
-/* Frees the engine and all its memory; the struct is empty again. Returns CFDP_ANSWER_DONE or CFDP_ANSWER_NO_ENGINE. */
+/* Frees the engine and all its memory; the struct is empty again. Returns CFDP_ANSWER_DONE or CFDP_ANSWER_NO_ENGINE.
+ * Cost: constant, and a call of rattle_dealloc for each name and path that a known transaction holds. */
 enum cfdp_answer cfdp_free(struct cfdp_engine *engine);
 
 /* Takes the octets of one whole PDU (5.1 to 5.3). Returns CFDP_ANSWER_DONE with the reply, CFDP_ANSWER_NO_ENGINE,
  * CFDP_ANSWER_NOT_OURS, or the first fault that the octets have (CFDP_ANSWER_TRUNCATED to
  * CFDP_ANSWER_REQUEST_TOO_LONG); CFDP_ANSWER_NO_MEMORY for a Metadata PDU alone. The octets are not kept. Cost: one
- * pass over them, and that of the event. */
+ * pass over them, and that of the event: of File Data and of an EOF PDU as docs/CONFORMANCE.md says; of a Metadata
+ * PDU the paths of its requests, a few searches among the leased paths for each, and a walk over what is in a
+ * directory that it names (see THE LONGEST CALLS). */
 enum cfdp_answer cfdp_receive(struct cfdp_engine *engine, const uint8_t *octets, size_t length,
                               struct cfdp_reply *reply);
 
 /* The next item of a transaction is performed (filestore procedures): its file is installed, or a request is
  * performed. To be called while cfdp_next_runnable names a transaction. Returns CFDP_ANSWER_DONE with the reply, or
- * CFDP_ANSWER_NO_ENGINE. */
+ * CFDP_ANSWER_NO_ENGINE. Cost: a look-up of each name of its paths, and at most 22 comparisons of names in each
+ * directory that changes; for an append and a replacement the blocks that are copied; for the last item the leases of
+ * the transaction, which are given back. */
 enum cfdp_answer cfdp_step(struct cfdp_engine *engine, uint64_t source, uint64_t number, struct cfdp_reply *reply);
 
-/* A transaction is cancelled (cancel procedures). Returns CFDP_ANSWER_DONE with the reply, or CFDP_ANSWER_NO_ENGINE. */
+/* A transaction is cancelled (cancel procedures). Returns CFDP_ANSWER_DONE with the reply, or CFDP_ANSWER_NO_ENGINE.
+ * Cost: two searches among the leased paths for each path of its list; its blocks go back at once. */
 enum cfdp_answer cfdp_cancel(struct cfdp_engine *engine, uint64_t source, uint64_t number, struct cfdp_reply *reply);
 
 /* A transaction's check timer expired (timer procedures). Returns CFDP_ANSWER_DONE with the reply, or
- * CFDP_ANSWER_NO_ENGINE. */
+ * CFDP_ANSWER_NO_ENGINE. Cost: a look-up of the transaction; at the check limit that of a cancel. */
 enum cfdp_answer cfdp_check(struct cfdp_engine *engine, uint64_t source, uint64_t number, struct cfdp_reply *reply);
 
 /* The outcome of a transaction that is over is taken, and the transaction forgotten. Where a Finished PDU (5.2.3) is
@@ -219,7 +225,8 @@ enum cfdp_answer cfdp_check(struct cfdp_engine *engine, uint64_t source, uint64_
  * many they are; it is 0 where none is to be sent. Returns CFDP_ANSWER_DONE with the reply (CFDP_REPLY_TAKEN,
  * CFDP_REPLY_UNKNOWN, or CFDP_REPLY_IDLE while the transaction is live); CFDP_ANSWER_TOO_SHORT with the length
  * needed in `*count`, and all else as before, only where the transaction is over; or CFDP_ANSWER_NO_ENGINE. It takes
- * no memory. A Finished PDU has at most 16488 octets. */
+ * no memory. A Finished PDU has at most 16488 octets. Cost: a pass over the requests, the octets of the Finished PDU,
+ * and a call of rattle_dealloc for each name. */
 enum cfdp_answer cfdp_take(struct cfdp_engine *engine, uint64_t source, uint64_t number, uint8_t *out, size_t room,
     size_t *count, struct cfdp_reply *reply);
 
@@ -280,7 +287,8 @@ struct cfdp_entry {
  * that are refused, done or ended count until their outcome is taken); how far a transaction is; what was granted to
  * it; the blocks that it took less those that it gave back; the steps that it spent; the blocks. They answer
  * CFDP_ANSWER_DONE, with what is asked for; CFDP_ANSWER_NOTHING where there is no such transaction; or
- * CFDP_ANSWER_NO_ENGINE. */
+ * CFDP_ANSWER_NO_ENGINE. Cost: of the first two at most a pass over the 64 transactions, of the others a look-up of
+ * the transaction. */
 enum cfdp_answer cfdp_next_runnable(struct cfdp_engine *engine, struct cfdp_transaction *transaction);
 enum cfdp_answer cfdp_next_outcome(struct cfdp_engine *engine, struct cfdp_transaction *transaction);
 enum cfdp_answer cfdp_transaction_at(struct cfdp_engine *engine, size_t index, struct cfdp_transaction *transaction);
@@ -292,19 +300,20 @@ enum cfdp_answer cfdp_blocks(struct cfdp_engine *engine, struct cfdp_blocks *blo
 
 /* What is missing of a transaction's file (lost segment procedures): the gap with this index, from 0, in order;
  * there are at most 33. Returns CFDP_ANSWER_DONE, CFDP_ANSWER_NOTHING where there is no such gap or no such
- * transaction, or CFDP_ANSWER_NO_ENGINE. */
+ * transaction, or CFDP_ANSWER_NO_ENGINE. Cost: the pieces that came, at most 32. */
 enum cfdp_answer cfdp_gap(struct cfdp_engine *engine, uint64_t source, uint64_t number, size_t index,
                           struct cfdp_gap *gap);
 
 /* How far a transaction's file has come. cfdp_progress: the end of the last octet that is kept, 0 if none is.
  * cfdp_reach: the offset up to which cfdp_gap says what is missing, which is the same until the EOF PDU comes, and
  * then the size that it gave; 0 if no file data is taken. Returns CFDP_ANSWER_DONE, CFDP_ANSWER_NOTHING if there is
- * no such transaction, or CFDP_ANSWER_NO_ENGINE. */
+ * no such transaction, or CFDP_ANSWER_NO_ENGINE. Cost: a look-up of the transaction. */
 enum cfdp_answer cfdp_progress(struct cfdp_engine *engine, uint64_t source, uint64_t number, uint64_t *offset);
 enum cfdp_answer cfdp_reach(struct cfdp_engine *engine, uint64_t source, uint64_t number, uint64_t *offset);
 
 /* What the Metadata PDU of a transaction said, as long as its outcome was not taken. Returns CFDP_ANSWER_DONE,
- * CFDP_ANSWER_NOTHING if there is no such transaction, or CFDP_ANSWER_NO_ENGINE. */
+ * CFDP_ANSWER_NOTHING if there is no such transaction, or CFDP_ANSWER_NO_ENGINE. Cost: a look-up of the
+ * transaction. */
 enum cfdp_answer cfdp_metadata(struct cfdp_engine *engine, uint64_t source, uint64_t number,
                                struct cfdp_metadata *metadata);
 

@@ -129,12 +129,13 @@ struct cfdp_report {
  * `longest_nak` above 65535 (CFDP_ANSWER_BAD_LONGEST_NAK), the intervals (CFDP_ANSWER_BAD_INTERVAL), the limits
  * (CFDP_ANSWER_BAD_LIMIT), and a `longest_nak` below 72; CFDP_ANSWER_HAS_TRANSACTIONS if the engine knows a
  * transaction; or CFDP_ANSWER_NO_MEMORY. At CFDP_ANSWER_NO_MEMORY the engine is freed with what was put into it:
- * begin again with cfdp_new. At any other answer than these two nothing has changed. */
+ * begin again with cfdp_new. At any other answer than these two nothing has changed. Cost: the memory of 64 sessions
+ * and 256 names is set. */
 enum cfdp_answer cfdp_receiver_new(struct cfdp_receiver *receiver, struct cfdp_engine *engine,
                                    const struct cfdp_mib *mib);
 
 /* Frees the receiver with its engine and all its memory; the struct is empty again. Returns CFDP_ANSWER_DONE or
- * CFDP_ANSWER_NO_ENGINE. */
+ * CFDP_ANSWER_NO_ENGINE. Cost: that of cfdp_free. */
 enum cfdp_answer cfdp_receiver_free(struct cfdp_receiver *receiver);
 
 /* The octets of one whole PDU came (5.1 to 5.3), with a CRC or without. The buffer is scratch afterwards: a CRC is
@@ -152,17 +153,18 @@ enum cfdp_answer cfdp_receiver_expire(struct cfdp_receiver *receiver, uint64_t n
 
 /* The next item of the first transaction that has one is performed (filestore procedures): its file is installed, or
  * a request is performed. Returns CFDP_ANSWER_DONE with the report, whose `became` is CFDP_BECAME_NOTHING if no
- * transaction has one; or CFDP_ANSWER_NO_ENGINE. */
+ * transaction has one; or CFDP_ANSWER_NO_ENGINE. Cost: a pass over the 64 transactions, and that of cfdp_step. */
 enum cfdp_answer cfdp_receiver_work(struct cfdp_receiver *receiver, uint64_t now, struct cfdp_report *report);
 
 /* The outcome of the first transaction that is over is taken: the user is notified by
  * CFDP_INDICATION_TRANSACTION_FINISHED, and the Finished PDU is to be sent where it is asked for. Returns
  * CFDP_ANSWER_DONE with the report, whose `became` is CFDP_BECAME_NOTHING if none is over; CFDP_ANSWER_NO_MEMORY
- * where one is; or CFDP_ANSWER_NO_ENGINE. */
+ * where one is; or CFDP_ANSWER_NO_ENGINE. Cost: a pass over the 64 transactions, one copy of the names of the
+ * requests, and the octets of the Finished PDU twice. */
 enum cfdp_answer cfdp_receiver_finish(struct cfdp_receiver *receiver, uint64_t now, struct cfdp_report *report);
 
 /* The user cancels a transaction (cancel procedures), with condition code 15. Returns CFDP_ANSWER_DONE with the
- * report, or CFDP_ANSWER_NO_ENGINE. */
+ * report, or CFDP_ANSWER_NO_ENGINE. Cost: a pass over the 64 transactions, and that of cfdp_cancel. */
 enum cfdp_answer cfdp_receiver_cancel(struct cfdp_receiver *receiver, uint64_t now, uint64_t source, uint64_t number,
     struct cfdp_report *report);
 
@@ -179,7 +181,7 @@ enum cfdp_answer cfdp_receiver_deadline(struct cfdp_receiver *receiver, uint64_t
  * octets, and its length to `*count`. The octets after it are as before. The last report is that of the last call
  * from above that answered CFDP_ANSWER_DONE. Returns CFDP_ANSWER_DONE; CFDP_ANSWER_NOTHING where there is no such
  * PDU; CFDP_ANSWER_TOO_SHORT, which says no length; or CFDP_ANSWER_NO_ENGINE. A buffer of 16490 octets, or of
- * `longest_nak` if that is more, is never too short. */
+ * `longest_nak` if that is more, is never too short. Cost: the octets of the PDU, and a pass over them for a CRC. */
 enum cfdp_answer cfdp_receiver_write(struct cfdp_receiver *receiver, size_t number, uint8_t *out, size_t room,
                                      size_t *count);
 
