@@ -632,6 +632,12 @@ static void prepare_live(uint32_t others) {
     receive(CFDP_ADMITTED);
 }
 
+/* The engine is gone, and another one can be made. */
+static void check_gone(uint32_t others) {
+    (void)others;
+    make_engine(BLOCKS);
+}
+
 static uint32_t cancel_list(uint32_t others) {
     (void)others;
     cancel(LIST_NUMBER);
@@ -724,7 +730,7 @@ static const struct workload workloads[] = {
     /* the size: other transactions with a list as long as the one that is admitted */
     {"long-list", 1, LIVE, LIVE, RISING, prepare_long, admit, check_nothing},
     {"cancel-list", 1, LIVE, LIVE, RISING, prepare_live, cancel_list, check_nothing},
-    {"free-live", 1, LIVE, LIVE, RISING, prepare_live, free_engine, check_freed},
+    {"free-live", 1, LIVE, LIVE, RISING, prepare_live, free_engine, check_gone},
     /* the size: lists */
     {"lists", 20, 2000, 100000, RISING, prepare_lists, run_lists, check_nothing},
 };
