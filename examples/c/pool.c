@@ -14,7 +14,9 @@
  * whatever the order of the calls: blocks of one size cannot lie so that another of it has no room. A program's own
  * worst case is this sum for the most transactions, requests and names that it lets in; soak.c has it. Blocks above
  * 17424 octets are those that cfdp_new makes, each once, so a new engine of the same configuration finds all of them
- * again after cfdp_free.
+ * again after cfdp_free; and those in which a Metadata PDU is judged that names a directory of more than some 140
+ * entries, or has more than 400 requests. A sender chooses the sizes of the latter: a program that is to be safe from
+ * him refuses such PDUs.
  *
  * One call takes a few steps, and for a large block one for each large size that the program has used (at most 32 of
  * them). */
