@@ -2,9 +2,8 @@
 
 from __future__ import annotations
 
-import ctypes
 import dataclasses
-from ctypes import c_size_t, c_uint8
+from ctypes import byref, c_size_t, c_uint8
 
 from ._answers import check
 from ._library import LIBRARY, Refusal, ReplyKind, ReplyStruct, Transaction, buffer_of
@@ -14,8 +13,7 @@ from ._library import LIBRARY, Refusal, ReplyKind, ReplyStruct, Transaction, buf
 class Reply:
     """A reply of the entity, and the numbers that it brings. A number that its kind has no use for is 0.
 
-    `text` is the line that `cfdpsim replay` writes of it, and `finished` the octets of the Finished PDU where it is
-    of the kind TAKEN.
+    `finished` has the octets of the Finished PDU where the reply is of the kind TAKEN and one is to be sent.
     """
 
     kind: ReplyKind
@@ -28,12 +26,36 @@ class Reply:
     status: int
     condition: int
     other: Transaction
-    text: str
     finished: bytes
+
+    @property
+    def text(self) -> str:
+        """The line that `cfdpsim replay` writes of the reply. It takes memory, and is made when it is asked for.
+        Raises NoMemory, after which it can be asked for again."""
+        struct = ReplyStruct(
+            self.kind,
+            self.refusal,
+            self.blocks,
+            self.steps,
+            self.spare,
+            self.request,
+            self.status,
+            self.condition,
+            self.transaction.source,
+            self.transaction.number,
+            self.other.source,
+            self.other.number,
+        )
+        out = (c_uint8 * max(128, 64 + 2 * len(self.finished)))()
+        count = c_size_t()
+        octets = buffer_of(self.finished)
+        text = LIBRARY.cfdp_reply_text
+        check(text(byref(struct), octets, len(self.finished), out, len(out), byref(count)))
+        return bytes(out[: count.value]).decode()
 
 
 def reply_of(struct: ReplyStruct, finished: bytes = b"") -> Reply:
-    """A reply as a value. One of the kind NONE has no text."""
+    """A reply as a value. It takes none of the library's memory."""
     return Reply(
         ReplyKind(struct.kind),
         Transaction(struct.source, struct.number),
@@ -45,17 +67,5 @@ def reply_of(struct: ReplyStruct, finished: bytes = b"") -> Reply:
         struct.status,
         struct.condition,
         Transaction(struct.other_source, struct.other_number),
-        _text(struct, finished) if struct.kind else "",
         finished,
     )
-
-
-def _text(struct: ReplyStruct, finished: bytes) -> str:
-    out = (c_uint8 * max(128, 64 + 2 * len(finished)))()
-    count = c_size_t()
-    check(
-        LIBRARY.cfdp_reply_text(
-            ctypes.byref(struct), buffer_of(finished), len(finished), out, len(out), ctypes.byref(count)
-        )
-    )
-    return bytes(out[: count.value]).decode()
