@@ -92,6 +92,18 @@ class EngineTest(unittest.TestCase):
                 engine.put_directory("late")
             self.assertEqual(engine.filestore.destination_name(Transaction(1, 5)), "f")
 
+    def test_a_name_that_is_no_utf_8(self) -> None:
+        """What the filestore and a Metadata PDU say of it is a path again."""
+        with Engine(Config(entity=2, blocks=64, protected=["\udcfe"])) as engine:
+            for octets in (METADATA[:-1] + b"\xff", DATA, EOF):
+                engine.receive(octets)
+            self.assertEqual(engine.filestore.destination_name(Transaction(1, 5)), "\udcff")
+            engine.step(Transaction(1, 5))
+            (entry,) = engine.filestore.entries()
+            self.assertEqual((entry.path, entry.size), ("\udcff", 15))
+            self.assertEqual(engine.filestore.look_up(entry.path), entry)
+            self.assertEqual(engine.filestore.read(entry.path), bytes(range(15)))
+
     def test_bad_configurations_are_refused(self) -> None:
         """Each has its exception."""
         for config, wanted in (

@@ -239,8 +239,9 @@ def buffer_of(octets: Union[bytes, bytearray, memoryview]) -> ctypes.Array:
 
 
 def path_struct(path: str) -> PathStruct:
-    """A path as a struct. One that is too long gets the length that the library refuses."""
-    octets = path.encode()
+    """A path as a struct, with octets that are no UTF-8 as `path_text` gives them. One that is too long gets the length
+    that the library refuses."""
+    octets = path.encode(errors="surrogateescape")
     struct = PathStruct(length=min(len(octets), 777))
     ctypes.memmove(struct.octets, octets, min(len(octets), 776))
     return struct
