@@ -24,7 +24,7 @@ from cezhutal import (
     Receiver,
     ReplyKind,
 )  # noqa: E402
-from cezhutal import Retries, Transaction  # noqa: E402
+from cezhutal import Retries, Transaction, Watch  # noqa: E402
 
 EXAMPLES = HERE.parent.parent / "examples"
 
@@ -116,6 +116,40 @@ class EngineTest(unittest.TestCase):
             with self.subTest(wanted=wanted), self.assertRaises(wanted):
                 Engine(config)
 
+    def test_numbers_that_have_no_room(self) -> None:
+        """Each is named, with its range: it is not cut."""
+        for name, value, bits, call in (
+            ("entity", -1, 64, lambda it: Engine(Config(it))),
+            ("cap", 2**64 + 5, 64, lambda it: Engine(Config(2, cap=it))),
+            ("blocks", 2**32 + 64, 32, lambda it: Engine(Config(2, blocks=it))),
+            ("checks", 2**32 + 2, 32, lambda it: Engine(Config(2, checks=it))),
+            ("ack_interval", -5, 32, lambda it: Mib(ack=Retries(it, 3)).struct()),
+            ("ack_limit", 2**32 + 1, 32, lambda it: Mib(ack=Retries(1, it)).struct()),
+            ("ack_handler", 2**32 + 1, 32, lambda it: Mib(ack=Retries(1, 1, it)).struct()),
+            ("nak_limit", 2**32 + 1, 32, lambda it: Mib(nak=Retries(1, it)).struct()),
+            ("check_interval", 2**32, 32, lambda it: Mib(check=Watch(it)).struct()),
+            ("inactivity_interval", -1, 32, lambda it: Mib(inactivity=Watch(it)).struct()),
+            ("keep_alive_interval", -1, 32, lambda it: Mib(keep_alive=it).struct()),
+            ("nak_mode", 2**32 + 1, 32, lambda it: Mib(nak_mode=it).struct()),
+            ("longest_nak", 2**32 + 72, 32, lambda it: Mib(longest_nak=it).struct()),
+            ("source", -1, 64, lambda it: Transaction(it, 5)),
+            ("number", 2**64, 64, lambda it: Transaction(1, it)),
+        ):
+            with self.subTest(name):
+                with self.assertRaises(ValueError) as caught:
+                    call(value)
+                self.assertEqual(str(caught.exception), f"{name} is {value}, which is not 0 to {2**bits - 1}")
+
+    def test_the_largest_numbers_have_room(self) -> None:
+        """What a field has room for is judged by the library."""
+        with Engine(Config(2**64 - 1, blocks=64)) as engine:
+            self.assertEqual(engine.receive(METADATA).kind, ReplyKind.NOT_FOR_US)
+            self.assertEqual(
+                engine.check(Transaction(2**64 - 1, 2**64 - 1)).text, f"{2**64 - 1}/{2**64 - 1} unknown\n"
+            )
+        with self.assertRaises(cezhutal.BadBlocks):
+            Engine(Config(2, blocks=2**32 - 1))
+
     def test_octets_that_are_no_pdu(self) -> None:
         """Each fault has its exception."""
         with Engine(Config(entity=2, blocks=64)) as engine:
@@ -177,6 +211,22 @@ class ReceiverTest(unittest.TestCase):
             self.assertEqual(receiver.receive(170, ACK_FINISHED).became, Became.ACKNOWLEDGED)
             self.assertEqual(receiver.receive(180, METADATA).became, Became.DUPLICATE)
             self.assertEqual(receiver.filestore.read("f"), bytes(range(15)))
+
+    def test_a_moment_that_has_no_room(self) -> None:
+        """It is named, and the receiver's clock is as before."""
+        with Receiver(Engine(Config(entity=2, blocks=64)), self.MIB) as receiver:
+            for name, call in (
+                ("receive", lambda now: receiver.receive(now, EOF)),
+                ("expire", receiver.expire),
+                ("work", receiver.work),
+                ("finish", receiver.finish),
+                ("cancel", lambda now: receiver.cancel(now, Transaction(1, 5))),
+            ):
+                for now in (-1, 2**64):
+                    with self.subTest(name, now=now), self.assertRaisesRegex(ValueError, f"^now is {now}, which is"):
+                        call(now)
+            receiver.receive(100, EOF)
+            self.assertEqual(receiver.deadline(), 140)
 
     def test_a_pdu_with_a_crc(self) -> None:
         """One that is wrong has its exception."""

@@ -20,6 +20,7 @@ from ._library import (
     Transaction,
     TransactionStruct,
     buffer_of,
+    filled,
     path_struct,
     path_text,
 )
@@ -43,6 +44,10 @@ class Config:
     cap: int = 7864320
     checks: int = 10
     protected: Sequence[str] = ()
+
+    def struct(self) -> ConfigStruct:
+        """As the library takes it. Raises ValueError where a number has no room there."""
+        return filled(ConfigStruct, entity=self.entity, cap=self.cap, blocks=self.blocks, checks=self.checks)
 
 
 class Filestore:
@@ -93,11 +98,11 @@ class Engine:
     """A receiving entity without timers. Its memory is given back by `free`, or at the end of a `with` block."""
 
     def __init__(self, config: Config) -> None:
-        """Raises BadPath or TooManyPrefixes for the protected paths, and then BadBlocks, BadCap or BadChecks; or
-        NoMemory."""
+        """Raises ValueError for a number that has no room in the library's struct; BadPath or TooManyPrefixes for the
+        protected paths, and then BadBlocks, BadCap or BadChecks; or NoMemory."""
         self.handle = HandleStruct()
         paths = (PathStruct * max(len(config.protected), 1))(*map(path_struct, config.protected))
-        struct = ConfigStruct(config.entity, config.cap, config.blocks, config.checks)
+        struct = config.struct()
         check(LIBRARY.cfdp_new(byref(self.handle), byref(struct), paths, len(config.protected)))
         self.filestore = Filestore(self.handle, "cfdp_")
 

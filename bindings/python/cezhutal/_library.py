@@ -8,7 +8,7 @@ import os
 import pathlib
 from ctypes import POINTER, c_int64, c_size_t, c_uint8, c_uint32, c_uint64, c_void_p
 from enum import IntEnum
-from typing import Union
+from typing import Type, TypeVar, Union
 
 
 class ReplyKind(IntEnum):
@@ -55,12 +55,26 @@ class EntryKind(IntEnum):
     DIRECTORY = 2
 
 
+def fitting(name: str, value: int, bits: int) -> int:
+    """The value. Raises ValueError where the library's number of so many bits has no room for it: ctypes would cut
+    it."""
+    most = 2**bits - 1
+    if not 0 <= value <= most:
+        raise ValueError(f"{name} is {value}, which is not 0 to {most}")
+    return value
+
+
 @dataclasses.dataclass(frozen=True)
 class Transaction:
-    """The name of a transaction (section 5.1): its source entity ID and its transaction sequence number."""
+    """The name of a transaction (section 5.1): its source entity ID and its transaction sequence number. Raises
+    ValueError where one of them is not 0 to 2^64 - 1."""
 
     source: int
     number: int
+
+    def __post_init__(self) -> None:
+        fitting("source", self.source, 64)
+        fitting("number", self.number, 64)
 
     def __str__(self) -> str:
         return f"{self.source}/{self.number}"
@@ -168,6 +182,16 @@ class ReportStruct(ctypes.Structure):
         ("reply", ReplyStruct),
         ("indication", IndicationStruct),
     ]
+
+
+_Struct = TypeVar("_Struct", bound=ctypes.Structure)
+
+
+def filled(kind: Type[_Struct], **numbers: int) -> _Struct:
+    """A struct with these numbers. Raises ValueError for the first one that its field has no room for."""
+    for name, field in kind._fields_:
+        fitting(name, numbers[name], 8 * ctypes.sizeof(field))
+    return kind(**numbers)
 
 
 _HANDLE, _PATH, _ENTRY, _REPLY = POINTER(HandleStruct), POINTER(PathStruct), POINTER(EntryStruct), POINTER(ReplyStruct)

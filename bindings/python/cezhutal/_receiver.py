@@ -10,7 +10,8 @@ from typing import Any, Iterator, Optional, Type
 
 from ._answers import check, is_there
 from ._engine import Engine, Filestore
-from ._library import LIBRARY, HandleStruct, IndicationStruct, MibStruct, ReportStruct, Transaction, buffer_of
+from ._library import LIBRARY, HandleStruct, IndicationStruct, MibStruct, ReportStruct, Transaction
+from ._library import buffer_of, filled, fitting
 from ._replies import Reply, reply_of
 
 
@@ -99,22 +100,23 @@ class Mib:
     longest_nak: int = 1000
 
     def struct(self) -> MibStruct:
-        """As the library takes it."""
-        return MibStruct(
-            self.ack.interval,
-            self.ack.limit,
-            self.ack.handler,
-            self.nak.interval,
-            self.nak.limit,
-            self.nak.handler,
-            self.check.interval,
-            self.check.handler,
-            self.inactivity.interval,
-            self.inactivity.handler,
-            self.keep_alive,
-            self.nak_mode,
-            self.has_crc,
-            self.longest_nak,
+        """As the library takes it. Raises ValueError where a number has no room there."""
+        return filled(
+            MibStruct,
+            ack_interval=self.ack.interval,
+            ack_limit=self.ack.limit,
+            ack_handler=self.ack.handler,
+            nak_interval=self.nak.interval,
+            nak_limit=self.nak.limit,
+            nak_handler=self.nak.handler,
+            check_interval=self.check.interval,
+            check_handler=self.check.handler,
+            inactivity_interval=self.inactivity.interval,
+            inactivity_handler=self.inactivity.handler,
+            keep_alive_interval=self.keep_alive,
+            nak_mode=self.nak_mode,
+            has_crc=self.has_crc,
+            longest_nak=self.longest_nak,
         )
 
 
@@ -153,12 +155,12 @@ class Receiver:
     end of a `with` block.
 
     A driver calls `receive` with what comes, or `expire` when the `deadline` has passed, and then goes through
-    `work_off`. It sends the PDUs of each report.
+    `work_off`. It sends the PDUs of each report. A moment `now` that is not 0 to 2^64 - 1 raises ValueError.
     """
 
     def __init__(self, engine: Engine, mib: Mib) -> None:
-        """Raises NoEngine; BadHandler, BadNakMode, BadInterval, BadLimit or BadLongestNak; HasTransactions; or
-        NoMemory, after which the engine is freed."""
+        """Raises ValueError for a number that has no room in the library's struct; NoEngine; BadHandler, BadNakMode,
+        BadInterval, BadLimit or BadLongestNak; HasTransactions; or NoMemory, after which the engine is freed."""
         self.handle = HandleStruct()
         struct = mib.struct()
         check(LIBRARY.cfdp_receiver_new(byref(self.handle), byref(engine.handle), byref(struct)))
@@ -180,23 +182,23 @@ class Receiver:
     def receive(self, now: int, octets: bytes) -> Report:
         """The octets of one whole PDU came. Raises BadCrc or the first other fault of the octets; or NoMemory for a
         Metadata PDU."""
-        return self._call(LIBRARY.cfdp_receiver_receive, now, buffer_of(octets), len(octets))
+        return self._call_at(LIBRARY.cfdp_receiver_receive, now, buffer_of(octets), len(octets))
 
     def expire(self, now: int) -> Report:
         """Time has passed: the first timer that is due is served."""
-        return self._call(LIBRARY.cfdp_receiver_expire, now)
+        return self._call_at(LIBRARY.cfdp_receiver_expire, now)
 
     def work(self, now: int) -> Report:
         """The next item of the first transaction that has one is performed."""
-        return self._call(LIBRARY.cfdp_receiver_work, now)
+        return self._call_at(LIBRARY.cfdp_receiver_work, now)
 
     def finish(self, now: int) -> Report:
         """The outcome of the first transaction that is over is taken. Raises NoMemory."""
-        return self._call(LIBRARY.cfdp_receiver_finish, now)
+        return self._call_at(LIBRARY.cfdp_receiver_finish, now)
 
     def cancel(self, now: int, transaction: Transaction) -> Report:
         """The user cancels a transaction."""
-        return self._call(LIBRARY.cfdp_receiver_cancel, now, transaction.source, transaction.number)
+        return self._call_at(LIBRARY.cfdp_receiver_cancel, now, transaction.source, transaction.number)
 
     def forget_closed(self) -> Report:
         """The names of the transactions that were closed last are forgotten."""
@@ -215,6 +217,9 @@ class Receiver:
         """The moment from which on a timer is due, if one runs."""
         moment = c_uint64()
         return moment.value if is_there(LIBRARY.cfdp_receiver_deadline(byref(self.handle), byref(moment))) else None
+
+    def _call_at(self, call: Any, now: int, *words: Any) -> Report:
+        return self._call(call, fitting("now", now, 64), *words)
 
     def _call(self, call: Any, *words: Any) -> Report:
         struct = ReportStruct()
