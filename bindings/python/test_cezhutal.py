@@ -116,6 +116,11 @@ class EngineTest(unittest.TestCase):
             with self.subTest(wanted=wanted), self.assertRaises(wanted):
                 Engine(config)
 
+    def test_paths_that_are_a_str(self) -> None:
+        """Its letters are not taken for paths."""
+        with self.assertRaisesRegex(TypeError, "^protected is the str 'boot', and not a sequence of paths$"):
+            Config(2, protected="boot")
+
     def test_numbers_that_have_no_room(self) -> None:
         """Each is named, with its range: it is not cut."""
         for name, value, bits, call in (
