@@ -5,6 +5,7 @@ what is answered to them are those of the C examples and of examples/update.repl
 from __future__ import annotations
 
 import pathlib
+import re
 import sys
 import unittest
 
@@ -22,11 +23,13 @@ from cezhutal import (
     Mib,
     NakMode,
     Receiver,
+    Refusal,
     ReplyKind,
 )  # noqa: E402
 from cezhutal import Retries, Transaction, Watch  # noqa: E402
 
-EXAMPLES = HERE.parent.parent / "examples"
+ROOT = HERE.parent.parent
+EXAMPLES = ROOT / "examples"
 
 #: Transaction 1/5: a file of 15 octets, its Metadata, its octets, its EOF PDU, and the acknowledgement of its Finished
 #: PDU.
@@ -165,6 +168,10 @@ class EngineTest(unittest.TestCase):
                 (b"\x26", cezhutal.CrcNotSupported),
                 (EOF + b"\0", cezhutal.LengthMismatch),
                 (bytes.fromhex("200001000105020f"), cezhutal.BadDirective),
+                (bytes([EOF[0] | 0x08]) + EOF[1:], cezhutal.NotOurs),  # it goes toward the sender
+                (bytes.fromhex("20000b00010502070000000000000002ff61"), cezhutal.BadTlv),  # one octet of 255
+                # create a file with a name of 253 octets
+                (bytes.fromhex("20010900010502070000000000000000ff00fd") + b"a" * 253, cezhutal.RequestTooLong),
             ):
                 with self.subTest(wanted=wanted), self.assertRaises(wanted):
                     engine.receive(octets)
@@ -254,6 +261,49 @@ class ReceiverTest(unittest.TestCase):
             engine.receive(METADATA)
             with self.assertRaises(cezhutal.HasTransactions):
                 Receiver(engine, Mib())
+
+
+def enums_of(header: str) -> dict[str, dict[str, int]]:
+    """The enumerations of a header of C: the names of each without what they all begin with, and their numbers."""
+    text = re.sub(r"/\*.*?\*/", "", (ROOT / "include" / header).read_text(), flags=re.DOTALL)
+    found = {}
+    for name, body in re.findall(r"^enum cfdp_(\w+) \{(.*?)\};", text, flags=re.DOTALL | re.MULTILINE):
+        start = f"CFDP_{name.removesuffix('_kind').removesuffix('_mode').upper()}_"
+        numbers = re.findall(r"(\w+) = (\d+)", body)
+        found[name] = {word.removeprefix(start): int(number) for word, number in numbers}
+    return found
+
+
+class HeadersTest(unittest.TestCase):
+    """The package against include/cfdp.h and include/cfdp_receiver.h."""
+
+    ENUMS = {
+        "reply_kind": ReplyKind,
+        "refusal": Refusal,
+        "entry_kind": EntryKind,
+        "handler": Handler,
+        "nak_mode": NakMode,
+        "became": Became,
+        "indication_kind": IndicationKind,
+    }
+
+    def test_the_enumerations_are_those_of_the_headers(self) -> None:
+        """The same names have the same numbers."""
+        headers = enums_of("cfdp.h") | enums_of("cfdp_receiver.h")
+        del headers["phase_kind"]  # no call of the package says a phase
+        del headers["indication_kind"]["NONE"]  # None in a report of the package
+        answers = {"DONE": 0}
+        for kind in cezhutal.Refused.__subclasses__():
+            answers[re.sub("(?<!^)([A-Z])", r"_\1", kind.__name__).upper()] = kind.answer
+        package = {name: {it.name: it.value for it in kind} for name, kind in self.ENUMS.items()}
+        self.assertEqual(package | {"answer": answers}, headers)
+
+    def test_each_name_of_the_package_is_given_out(self) -> None:
+        """Each exception and each enumeration, and type checkers are told that the package has types."""
+        for kind in [*cezhutal.Refused.__subclasses__(), *self.ENUMS.values()]:
+            with self.subTest(kind.__name__):
+                self.assertIn(kind.__name__, cezhutal.__all__)
+        self.assertTrue((HERE / "cezhutal/py.typed").is_file())
 
 
 if __name__ == "__main__":
