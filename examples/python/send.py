@@ -157,6 +157,13 @@ def read_pdu(octets: bytes) -> tuple[Header, bytes]:
     return header, octets[start:end]
 
 
+def read_ack(data: bytes) -> int:
+    """The directive code of the PDU that an ACK PDU's data field acknowledges (section 5.2.4)."""
+    if len(data) != 3:
+        raise BadPdu("an ACK PDU that has not three octets")
+    return data[1] >> 4
+
+
 def read_nak(data: bytes) -> list[tuple[int, int]]:
     """The segment requests of a NAK PDU's data field (section 5.2.6), after the scope."""
     if len(data) < 9 or (len(data) - 9) % 8 != 0:
@@ -165,20 +172,26 @@ def read_nak(data: bytes) -> list[tuple[int, int]]:
     return list(zip(words[0::2], words[1::2]))
 
 
+def read_response(value: bytes) -> Response:
+    """The action and the status of a filestore response (section 5.4.2), without its names."""
+    if not value or value[0] >> 4 > max(Action):
+        raise BadPdu("a filestore response without an action")
+    return Response(Action(value[0] >> 4), value[0] & 15)
+
+
 def read_finished(data: bytes) -> Finished:
     """What the data field of a Finished PDU says (section 5.2.3)."""
     if len(data) < 2:
         raise BadPdu("a cut Finished PDU")
     responses = []
-    at = 2
-    while at < len(data):
-        kind, length = data[at], data[at + 1]
-        value = data[at + 2 : at + 2 + length]
-        if len(value) != length:
+    rest = data[2:]
+    while rest:
+        end = 2 + rest[1] if len(rest) > 1 else 2
+        if len(rest) < end:
             raise BadPdu("a cut TLV field")
-        if kind == 1:
-            responses.append(Response(Action(value[0] >> 4), value[0] & 15))
-        at += 2 + length
+        if rest[0] == 1:
+            responses.append(read_response(rest[2:end]))
+        rest = rest[end:]
     return Finished(data[1] >> 4, bool(data[1] & 4), data[1] & 3, tuple(responses))
 
 
@@ -289,16 +302,17 @@ class Sender:
         return self._first_pass(new[self._turn % len(new)], now)
 
     def received(self, octets: bytes, now: float) -> None:
-        """The octets of a PDU came. Raises BadPdu where they are none for this sender."""
+        """The octets of a PDU came. Raises BadPdu where they are none for this sender, with nothing changed."""
         header, data = read_pdu(octets)
-        if not header.toward_sender or header.source != self.entity or not data:
+        if header.is_file_data or not header.toward_sender or header.source != self.entity or not data:
             raise BadPdu("the PDU is not for this sender")
         upload = self.uploads.get(header.number)
         if upload is None:
             raise BadPdu("there is no such transaction")
-        if data[0] == Directive.ACK and data[1] >> 4 == Directive.EOF:
-            upload.eof_acknowledged = True
-            upload.eof_due = None
+        if data[0] == Directive.ACK:
+            if read_ack(data) == Directive.EOF:
+                upload.eof_acknowledged = True
+                upload.eof_due = None
         elif data[0] == Directive.NAK:
             self._asked(upload, read_nak(data))
         elif data[0] == Directive.FINISHED:
