@@ -68,7 +68,8 @@ struct cfdp_engine {
 #define CFDP_NEW_OCTETS(blocks) ((size_t)69240 + (size_t)152 * (blocks))
 
 /* What a call returns. After any answer other than CFDP_ANSWER_DONE the engine and all that is passed are as before,
- * but for the lengths that the call's text names. */
+ * but for the lengths that the call's text names; and but for cfdp_receiver_new, which frees the engine at
+ * CFDP_ANSWER_NO_MEMORY. */
 enum cfdp_answer {
     CFDP_ANSWER_DONE = 0,
     CFDP_ANSWER_NO_ENGINE = 1,          /* there is no engine, or no receiver: it was not made, or was freed */
