@@ -1,5 +1,5 @@
 /* A whole CFDP receiver on UDP, one PDU in each datagram. Each file that is delivered is written to a folder under its
- * destination name.
+ * destination name; where something else is in its way there, that is said, and the file is not written out.
  *   udp_receiver PORT PEER_PORT FOLDER [CLOSED [CRC]]
  * It hears on 127.0.0.1:PORT and sends to 127.0.0.1:PEER_PORT. Its entity ID is 2. It ends after CLOSED transactions
  * are closed, or, where none is named, never. With CRC (1) its PDUs have a CRC. It writes a line for each
@@ -55,14 +55,16 @@ static void write_out(struct cfdp_transaction id) {
     snprintf(to, sizeof to, "%s/%s", folder, (const char *)name);
     make_folders(to);
     FILE *file = fopen(to, "wb");
-    if (file == NULL) give_up(to);
+    if (file == NULL) {
+        perror(to);
+        return;
+    }
     static uint8_t octets[65536];
     size_t count = 0;
-    for (uint64_t at = 0;; at += count) {
-        if (cfdp_receiver_read(&receiver, &path, at, octets, sizeof octets, &count) != CFDP_ANSWER_DONE || count == 0)
-            break;
+    for (uint64_t at = 0;
+         cfdp_receiver_read(&receiver, &path, at, octets, sizeof octets, &count) == CFDP_ANSWER_DONE && count > 0;
+         at += count)
         if (fwrite(octets, 1, count, file) != count) give_up(to);
-    }
     if (fclose(file) != 0) give_up(to);
     printf("%" PRIu64 "/%" PRIu64 " file %s\n", id.source, id.number, (const char *)name);
 }
@@ -100,7 +102,8 @@ static void follow(const struct cfdp_report *report) {
         if (reply->kind == CFDP_REPLY_REFUSED)
             printf("%" PRIu64 "/%" PRIu64 " refused %d\n", reply->source, reply->number, (int)reply->refusal);
     }
-    if (report->became == CFDP_BECAME_ACKNOWLEDGED || report->became == CFDP_BECAME_CLOSED) closed++;
+    bool is_given_up = report->became == CFDP_BECAME_FAULTED && report->indication.kind == CFDP_INDICATION_FAULT;
+    if (is_given_up || report->became == CFDP_BECAME_ACKNOWLEDGED || report->became == CFDP_BECAME_CLOSED) closed++;
 }
 
 /* Performs the items of all transactions, and takes the outcome of those that are over. */
@@ -152,9 +155,8 @@ static void tell_all(void) {
 }
 
 static struct sockaddr_in address_of(const char *port) {
-    struct sockaddr_in address = {.sin_family = AF_INET, .sin_port = htons((uint16_t)atoi(port))};
-    address.sin_addr.s_addr = htonl(INADDR_LOOPBACK);
-    return address;
+    const struct in_addr own = {htonl(INADDR_LOOPBACK)};
+    return (struct sockaddr_in){.sin_family = AF_INET, .sin_port = htons((uint16_t)atoi(port)), .sin_addr = own};
 }
 
 int main(int count, char **words) {
@@ -185,7 +187,6 @@ int main(int count, char **words) {
     struct cfdp_engine engine = CFDP_ENGINE_EMPTY;
     if (cfdp_new(&engine, &config, NULL, 0) != CFDP_ANSWER_DONE) return 1;
     if (cfdp_receiver_new(&receiver, &engine, &mib) != CFDP_ANSWER_DONE) return 1;
-
     const struct sockaddr_in own = address_of(words[1]);
     const int room = 4 * 1024 * 1024;
     peer = address_of(words[2]);
