@@ -2,10 +2,11 @@
  * must not run out of memory after months: its worst case is a sum, below. Link this file in place of the kit's
  * liblibc_c.a.
  *
- * A block is one of few sizes: 64, 288, 1104, 4368 and 17424 octets, which fit the library's blocks (a name and a
- * request's value have at most 255 octets, the octets of a Finished PDU at most 16490), or, above these, its own size,
- * rounded up to 16. The first 16 octets of it say which. A freed block goes to the list of its size, and the next block
- * of that size is taken from there. Only where the list is empty is the block cut from the region.
+ * A block is one of few sizes: 64, 288, 1104, 4368 and 17424 octets, which fit most of the library's blocks (a name and
+ * a request's value have at most 255 octets, the octets of a Finished PDU at most 16490); and 32 sizes above these, of
+ * which each is a quarter more than the one before. So a block above 17424 octets may take up to a quarter more of the
+ * region than it has. The first 16 octets of a block say which size it is. A freed block goes to the list of its size,
+ * and the next block of that size is taken from there. Only where the list is empty is the block cut from the region.
  *
  * THE WORST CASE. So for each size there are exactly as many blocks in the region as were in use at once:
  *
@@ -13,13 +14,13 @@
  *
  * whatever the order of the calls: blocks of one size cannot lie so that another of it has no room. A program's own
  * worst case is this sum for the most transactions, requests and names that it lets in; soak.c has it. Blocks above
- * 17424 octets are those that cfdp_new makes, each once, so a new engine of the same configuration finds all of them
- * again after cfdp_free; and those in which a Metadata PDU is judged that names a directory of more than some 140
- * entries, or has more than 400 requests. A sender chooses the sizes of the latter: a program that is to be safe from
- * him refuses such PDUs.
+ * 17424 octets are those that cfdp_new makes, which a new engine of the same configuration finds again after cfdp_free;
+ * the table of transactions, which may grow once; and those in which a Metadata PDU is judged that brings more than 256
+ * paths, names a directory of more than some 140 entries, or has more than 400 requests. A sender chooses how large the
+ * latter are. All of them share the 32 sizes, so they are used again too, as months.c shows.
  *
- * One call takes a few steps, and for a large block one for each large size that the program has used (at most 32 of
- * them). */
+ * One call takes a few steps, and for a large block one for each size below it. A block has at most 22 million octets.
+ */
 #include "pool.h"
 #include "../../include/cfdp.h"
 #include <stdint.h>
@@ -50,16 +51,17 @@ size_t pool_in_use(void) { return in_use; }
 size_t pool_most_in_use(void) { return most_in_use; }
 size_t pool_calls(void) { return calls; }
 
-/* The index of the size of a block for this many octets; SIZES if there are too many sizes. */
+/* The index of the size of a block for this many octets; SIZES if it is too large. */
 static size_t size_of(size_t octets) {
-    size_t whole = (octets + HEADER + 15) & ~(size_t)15;
-    for (size_t index = 0; index < SMALL; index++)
-        if (whole <= sizes[index].octets) return index;
-    for (size_t index = SMALL; index < SIZES; index++) {
-        if (sizes[index].octets == 0) sizes[index].octets = whole;
-        if (sizes[index].octets == whole) return index;
+    size_t index = 0;
+    for (; index < SIZES; index++) {
+        if (sizes[index].octets == 0) {
+            const size_t before = sizes[index - 1].octets;
+            sizes[index].octets = (before + before / 4 + 15) & ~(size_t)15;
+        }
+        if (octets + HEADER <= sizes[index].octets) break;
     }
-    return SIZES;
+    return index;
 }
 
 static struct block *block_of(void *octets) { return (struct block *)(void *)((unsigned char *)octets - HEADER); }

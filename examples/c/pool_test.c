@@ -98,6 +98,14 @@ int main(void) {
         if (index < pool_size_at(1).most) make(&held[index], 272, 7);
     }
     expect(pool_used() == used, "freed memory is used again");
+    /* Blocks of any number of large lengths, one after the other, have few sizes. */
+    for (size_t large = 17409; large < 500000; large += 101) {
+        struct cfdp_block made = rattle_alloc(large, 16);
+        expect(made.is_made, "a large block is made");
+        if (made.is_made) rattle_dealloc(made.octets);
+    }
+    used = pool_used();
+    expect(used == sum_of_sizes(), "the region is used as the sum says, with large blocks");
     /* What does not fit is refused, and nothing changes. */
     struct cfdp_block none = rattle_alloc(POOL_REGION, 16);
     expect(!none.is_made && none.octets != NULL && pool_used() == used, "too large a block is refused");

@@ -297,7 +297,7 @@ static void compare(const struct pool_size *first) {
     size_t worst = 0;
     for (size_t index = 0; pool_size_at(index).octets != 0; index++) {
         const struct pool_size size = pool_size_at(index);
-        const size_t most = first[index].most + most_of(index, first[index].octets == 0);
+        const size_t most = first[index].most + most_of(index, index >= 5 && first[index].most == 0);
         printf(
             "blocks of %6zu octets: at most %5zu at once, and %5zu in the worst case\n", size.octets, size.most, most);
         if (size.most > most) fail("more blocks than in the worst case");
