@@ -1,27 +1,41 @@
 /* Many transactions of a receiver over pool.c, as in months of service: each brings a file and a list of filestore
  * requests with names of any length, some PDUs are lost and asked for, and some come twice.
- *   soak TRANSACTIONS SEED [LIVE [REQUESTS]]
- * At most LIVE of them are under way at once, and a list has 2 to REQUESTS requests (8 and 6; at most 64 each). In the
- * end it writes how much of the region was used, and the worst case that it may be; it ends with 1 if it was more.
+ *   soak TRANSACTIONS SEED [LIVE [REQUESTS [DEPTH]]]
+ * At most LIVE of them are under way at once, and a list has 2 to REQUESTS requests (8 and 6; at most 64 each). With a
+ * DEPTH above 1 (at most 8) most lists deny files at paths of that many names, of which the first is the list's own or
+ * one of four that all have. In the end it writes how much of the region was used, and the worst case that it may be;
+ * it ends with 1 if it was more.
  *
- * THE WORST CASE of a receiver with t transactions at once, whose lists have at most r requests, is what cfdp_new and
- * cfdp_receiver_new take, and for the transactions these blocks of pool.c:
+ * THE WORST CASE of a receiver with t transactions at once, each from its Metadata PDU until its Finished PDU is
+ * acknowledged, is what cfdp_new and cfdp_receiver_new take, and these blocks of pool.c. A list has at most r requests
+ * (64 at most) and p paths: those that it names, its destination, and each directory above one of them, each counted
+ * once. With at most d names in a path, p is at most (2 r + 1) d. T is t + 1, for the call that is going on. At most s
+ * of the paths that are leased were in two or more of the lists at once.
  *
- *     64 octets: t * (10 + 6 r) + 2     288 octets: t * (8 + 6 r) + 2     1104 octets: 4 t + 2
- *     4368 octets: 3 t + 2              17424 octets: t + 2
+ *     64 octets: T (3 r + 2 p + 6)      288 octets: T (3 r + 2 p + 14) + s
+ *     1104 octets: T (p / 5 + 6) + s    4368 octets: T (p / 30 + 5) + s    17424 octets: 4 T
+ *     each larger size in which a list of 24576 to 96 p octets may lie: 2, with p above 256
+ *     the one for 32768 octets: t more, with p above 512; the one for 65536: t more, with p above 1024
+ *     the one for 114064 octets: 1 more, with t above 32: the table of transactions may grow once
  *
- * A request has two names at most, and each of them is kept three times at most while its list is judged: each time in
- * a block of 64 or 288 octets, by its length. The lists of a transaction are in one block each, by the number of their
- * items, and the octets of its Finished PDU are kept until it is acknowledged. What is beside t is for the call that is
- * going on. With t above 32 the table of transactions may grow once: one block of twice its size more. These numbers
- * were counted, and this program holds them against each run. */
+ * The octets of a name or a path are in a block of 64 or 288 octets, by their length. A request is kept as it came, and
+ * as one or two paths; each path of a list is kept in the list's own leases and in those of the engine. The latter are
+ * nodes of a map, with at least five paths in each. Each list of a transaction is in one block, whose room doubles as
+ * items are added, and the octets of its Finished PDU are in one. A path that several lists share has a list of these:
+ * of 288 octets for up to 8, of 1104 for up to 32, and else of 4368.
+ *
+ * ITS LIMITS. No list names a directory that has entries: while such a list is judged, each entry below the directory
+ * takes one block of 64 or 288 octets more, and all of them together some blocks of the larger sizes (months.c has
+ * lists of this kind). The numbers are what the library keeps, and were counted; no clause says them. This program
+ * holds them against its runs, in which a request at paths of several names has one path. */
 #include "../../include/cfdp_receiver.h"
 #include "pool.h"
 #include <inttypes.h>
 #include <stdio.h>
 #include <stdlib.h>
 
-enum { MOST_LIVE = 64, MOST_REQUESTS = 64, LONGEST_FILE = 3000, PIECE = 500, LONGEST_PDU = 16490 };
+enum { MOST_LIVE = 64, MOST_REQUESTS = 64, MOST_DEPTH = 8, SHARED = 4 };
+enum { LONGEST_FILE = 3000, PIECE = 500, LONGEST_PDU = 16490 };
 
 /* A transaction of the sender. */
 static struct upload {
@@ -38,7 +52,7 @@ static struct upload {
 static struct cfdp_receiver receiver = CFDP_RECEIVER_EMPTY;
 static uint64_t random_state, now;
 static uint64_t begun, finished, performed, asked_again;
-static size_t live = 8, requests = 6;
+static size_t live = 8, requests = 6, depth = 1;
 static uint8_t pdu[LONGEST_PDU];
 static size_t length;
 
@@ -99,10 +113,40 @@ static void put_request(uint32_t action, const char *first, const char *second) 
     if (second) put_name(second);
 }
 
-/* The Metadata PDU: the list moves the file, makes and removes others, and deletes the file, so that the filestore is
- * as before. */
+/* Requests that deny files, each at a path of `depth` names that is its own. */
+static void put_denials(uint64_t number, size_t count) {
+    char path[256];
+    for (uint32_t which = 2; count > 0; which++, count--) {
+        const uint32_t longer = below(2) == 0 ? 0 : below(20);
+        size_t at = below(4) == 0 ? (size_t)sprintf(path, "all%" PRIu32 "/", below(SHARED)) : 0;
+        at += (size_t)sprintf(path + at, "%" PRIu64 "-%" PRIu32, number, which);
+        for (size_t names = at > 0 && path[0] == 'a' ? 2 : 1; names < depth; names++) {
+            path[at++] = '/';
+            for (uint32_t more = 0; more <= longer; more++) path[at++] = 'x';
+        }
+        path[at] = 0;
+        put_request(7, path, NULL);
+    }
+}
+
+/* Requests that make files and remove them, some after a rename. */
+static void put_files(uint64_t number, size_t count) {
+    char other[128], last[128];
+    for (uint32_t which = 2; count >= 2; which += 2) {
+        bool is_renamed = count >= 3 && below(2) == 0;
+        name_of(other, number, which);
+        name_of(last, number, which + 1);
+        put_request(0, other, NULL);
+        if (is_renamed) put_request(2, other, last);
+        put_request(1, is_renamed ? last : other, NULL);
+        count -= is_renamed ? 3 : 2;
+    }
+}
+
+/* The Metadata PDU: the list moves the file, does what else it does, and deletes the file, so that the filestore is as
+ * before. */
 static void write_metadata(struct upload *it) {
-    char file[128], moved[128], other[128], last[128];
+    char file[128], moved[128];
     size_t more = below((uint32_t)requests - 1);
     name_of(file, it->number, 0);
     name_of(moved, it->number, 1);
@@ -111,15 +155,8 @@ static void write_metadata(struct upload *it) {
     put_number(it->length);
     put_name("s"), put_name(file);
     put_request(2, file, moved);
-    for (uint32_t which = 2; more >= 2; which += 2) {
-        bool is_renamed = more >= 3 && below(2) == 0;
-        name_of(other, it->number, which);
-        name_of(last, it->number, which + 1);
-        put_request(0, other, NULL);
-        if (is_renamed) put_request(2, other, last);
-        put_request(1, is_renamed ? last : other, NULL);
-        more -= is_renamed ? 3 : 2;
-    }
+    if (depth > 1 && below(4) > 0) put_denials(it->number, more);
+    else put_files(it->number, more);
     put_request(1, moved, NULL);
     end();
     memcpy(it->metadata, pdu, length);
@@ -283,13 +320,24 @@ static void send_next(struct upload *it) {
     }
 }
 
-/* The worst case of a size, beside what was used at first. The only size that is new then is that of a table that
- * grew. */
-static size_t most_of(size_t index, bool is_new) {
-    if (is_new) return live > 32;
-    const size_t most[] = {
-        live * (10 + 6 * requests) + 2, live * (8 + 6 * requests) + 2, 4 * live + 2, 3 * live + 2, live + 2};
-    return index < sizeof most / sizeof *most ? most[index] : 0;
+/* Whether a block of this many octets is of this size. */
+static bool holds(size_t index, size_t octets) {
+    return octets + 16 <= pool_size_at(index).octets && octets + 16 > pool_size_at(index - 1).octets;
+}
+
+/* The worst case of a size, beside what was used at first. */
+static size_t most_of(size_t index) {
+    const size_t paths = (2 * requests + 1) * depth, at_once = live + 1, shared = depth > 1 && live > 1 ? SHARED : 0;
+    const size_t most[] = {at_once * (3 * requests + 2 * paths + 6), at_once * (3 * requests + 2 * paths + 14) + shared,
+        at_once * (paths / 5 + 6) + shared, at_once * (paths / 30 + 5) + shared, at_once * 4};
+    if (index < sizeof most / sizeof *most) return most[index];
+    size_t large = 0;
+    if (paths > 256 && pool_size_at(index).octets >= 24576 + 16 && pool_size_at(index - 1).octets < 96 * paths + 16)
+        large += 2;
+    if (paths > 512 && holds(index, 32768)) large += live;
+    if (paths > 1024 && holds(index, 65536)) large += live;
+    if (live > 32 && holds(index, 114064)) large++;
+    return large;
 }
 
 /* Compares what was used with the worst case, where `first` has what was used when the receiver was made. */
@@ -297,9 +345,10 @@ static void compare(const struct pool_size *first) {
     size_t worst = 0;
     for (size_t index = 0; pool_size_at(index).octets != 0; index++) {
         const struct pool_size size = pool_size_at(index);
-        const size_t most = first[index].most + most_of(index, index >= 5 && first[index].most == 0);
-        printf(
-            "blocks of %6zu octets: at most %5zu at once, and %5zu in the worst case\n", size.octets, size.most, most);
+        const size_t most = first[index].most + most_of(index);
+        if (most > 0)
+            printf("blocks of %6zu octets: at most %5zu at once, and %5zu in the worst case\n", size.octets, size.most,
+                most);
         if (size.most > most) fail("more blocks than in the worst case");
         worst += most * size.octets;
     }
@@ -308,15 +357,17 @@ static void compare(const struct pool_size *first) {
 }
 
 int main(int count, char **words) {
-    if (count < 3 || count > 5) {
-        fprintf(stderr, "usage: soak TRANSACTIONS SEED [LIVE [REQUESTS]]\n");
+    if (count < 3 || count > 6) {
+        fprintf(stderr, "usage: soak TRANSACTIONS SEED [LIVE [REQUESTS [DEPTH]]]\n");
         return 2;
     }
     const uint64_t transactions = strtoull(words[1], NULL, 10);
     random_state = strtoull(words[2], NULL, 10) * 2 + 1;
     if (count > 3) live = strtoul(words[3], NULL, 10);
     if (count > 4) requests = strtoul(words[4], NULL, 10);
+    if (count > 5) depth = strtoul(words[5], NULL, 10);
     if (live < 1 || live > MOST_LIVE || requests < 2 || requests > MOST_REQUESTS) return 2;
+    if (depth < 1 || depth > MOST_DEPTH) return 2;
     const struct cfdp_config config = {.entity = 2, .cap = 100000, .blocks = 4096, .checks = 2};
     const struct cfdp_mib mib = {.ack_interval = 3,
         .ack_limit = 1000,
