@@ -12,8 +12,8 @@
 
 `bindings/python/link` makes the shared library beside this file; CEZHUTAL_LIBRARY names another one. Every answer of
 the library but 'done' raises an exception of its own, a subclass of `Refused`; after it nothing has changed, unless
-the call says otherwise. One thread at a time uses an engine or a receiver. The package has nothing but the standard
-library of Python 3.9 or later.
+the call says otherwise. A number that a field of the library has no room for raises ValueError. One thread at a time
+uses an engine or a receiver. The package has nothing but the standard library of Python 3.9 or later.
 """
 
 from ._answers import (
