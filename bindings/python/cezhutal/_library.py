@@ -189,7 +189,7 @@ _Struct = TypeVar("_Struct", bound=ctypes.Structure)
 
 def filled(kind: Type[_Struct], **numbers: int) -> _Struct:
     """A struct with these numbers. Raises ValueError for the first one that its field has no room for."""
-    for name, field in kind._fields_:
+    for name, field, *_ in kind._fields_:
         fitting(name, numbers[name], 8 * ctypes.sizeof(field))
     return kind(**numbers)
 
@@ -257,7 +257,7 @@ def _load() -> ctypes.CDLL:
 LIBRARY = _load()
 
 
-def buffer_of(octets: Union[bytes, bytearray, memoryview]) -> ctypes.Array:
+def buffer_of(octets: Union[bytes, bytearray, memoryview]) -> ctypes.Array[c_uint8]:
     """The octets in memory of their own, and one octet where there is none: the library takes no NULL."""
     return (c_uint8 * max(len(octets), 1)).from_buffer_copy(bytes(octets) or b"\0")
 
