@@ -12,30 +12,34 @@ use std::process::Abort;
 
 /// The footprints of the live transactions in order of admission.
 #[derive(Drop)]
-struct Plain {
+pub(super) struct Plain {
     grants: Vec<(TransactionId, Footprint)>,
 }
 
 impl Plain {
-    fn new(alloc: Global) -> Plain {
+    pub(super) fn new(alloc: Global) -> Plain {
         Plain {
             grants: Vec::new(alloc),
         }
     }
 
-    fn conflict(&self, footprint: &Footprint) -> Option<TransactionId> {
+    pub(super) fn conflict(&self, footprint: &Footprint) -> Option<TransactionId> {
         self.grants
             .iter()
             .find(|grant| conflicts(&grant.1, footprint))
             .map(|grant| grant.0)
     }
 
-    fn grant(&mut self, transaction: TransactionId, footprint: Footprint) -> Result<(), Memory> {
+    pub(super) fn grant(
+        &mut self,
+        transaction: TransactionId,
+        footprint: Footprint,
+    ) -> Result<(), Memory> {
         self.grants.push((transaction, footprint))?;
         Ok(())
     }
 
-    fn release(&mut self, transaction: TransactionId) {
+    pub(super) fn release(&mut self, transaction: TransactionId) {
         self.grants.retain(|grant| grant.0 != transaction);
     }
 }
