@@ -205,9 +205,10 @@ def draw_crates():
     rows, chains = rows_of(edges, layers_of(edges))
     step, half = 78, 17
     height = 50 + step * len(rows)
-    picture = Picture(1000, height, "The crates, and which of them each one uses")
     sizes = {one: box_width(one) if isinstance(one, str) else 10 for row in rows for one in row}
     x = places_in(rows, chains, sizes, 20, 980)
+    width = max(1000, round(max(x[one] + sizes[one] / 2 for one in x)) + 20)
+    picture = Picture(width, height, "The crates, and which of them each one uses")
     y = {one: height - 80 - step * level for level, row in enumerate(rows) for one in row}
     for user, *between, low in chains:
         points = [(x[user], y[user] + half)]

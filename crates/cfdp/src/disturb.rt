@@ -1,7 +1,7 @@
 //! `cfdp disturb`: a script whose PDUs come over a bad link.
 
 use crate::end::End;
-use crate::input::end_of;
+use crate::input::unread;
 use crate::show::print;
 use cfdp_disturb::{Copies, Draw, Link, is_pdu_line};
 use rand_core::utils::NextWord;
@@ -30,6 +30,14 @@ const INPUT_LIMIT: u64 = 268_435_456;
 
 /// How many octets are read at once, and held back at most before they are written, a line apart.
 const PIECE: usize = 65_536;
+
+/// How the program ends where this line of a script with a name, counted from 1, is too long.
+fn too_long(alloc: Global, name: &str, number: u64) -> End {
+    format!(in alloc; "{name}:{number}: longer than {LINE_LIMIT} octets").map_or(
+        End::Memory,
+        End::Stream,
+    )
+}
 
 /// The next number from 0 to 99.
 fn percent(random: &mut Pcg32) -> u8 {
@@ -64,7 +72,9 @@ fn draw(random: &mut Pcg32, odds: Odds, line: &[u8]) -> Draw {
 
 /// A script that is read.
 #[derive(Drop)]
-struct Script {
+struct Script<'a> {
+    /// Its name in messages.
+    name: &'a str,
     odds: Odds,
     random: Pcg32,
     link: Link,
@@ -75,10 +85,11 @@ struct Script {
     text: Vec<u8>,
 }
 
-impl Script {
+impl<'a> Script<'a> {
     /// Before the first line.
-    fn new(alloc: Global, odds: Odds, seed: u64) -> Script {
+    fn new(alloc: Global, name: &'a str, odds: Odds, seed: u64) -> Script<'a> {
         Script {
+            name,
             odds,
             random: Pcg32::new(seed, STREAM),
             link: Link::new(),
@@ -115,7 +126,7 @@ impl Script {
                 self.end_line(rt)?;
             }
             if self.line.len().saturating_add(part.len()) > LINE_LIMIT {
-                return Err(End::Long(self.number));
+                return Err(too_long(rt.alloc(), self.name, self.number));
             }
             self.line.extend_from_slice(part)?;
         }
@@ -136,22 +147,23 @@ impl Script {
 fn take_all<R: AllocGlobal + Print, I: Read + Drop>(
     rt: &R,
     input: I,
-    script: &mut Script,
+    script: &mut Script<'_>,
 ) -> Result<(), End> {
+    let alloc = rt.alloc();
     let mut input = input;
-    let mut room = vec![in rt.alloc(); 0_u8; PIECE]?;
+    let mut room = vec![in alloc; 0_u8; PIECE]?;
     let mut total = 0_u64;
     for _ in 0..=INPUT_LIMIT {
         let count = match input.read(&mut room) {
             Ok(count) => count,
-            Err(error) => return Err(end_of(&error)),
+            Err(error) => return Err(unread(alloc, script.name, &error)),
         };
         if count == 0 {
             break;
         }
         total = total.saturating_add(count as u64);
         if total > INPUT_LIMIT {
-            return Err(End::Read);
+            return Err(End::file(alloc, script.name, "longer than 268435456 octets"));
         }
         script.take(rt, room.get(..count).unwrap_or(&[]))?;
     }
@@ -161,11 +173,12 @@ fn take_all<R: AllocGlobal + Print, I: Read + Drop>(
 /// Writes what results from a script over a link.
 fn disturb<R: AllocGlobal + Print, I: Read + Drop>(
     rt: &R,
+    name: &str,
     input: I,
     odds: Odds,
     seed: u64,
 ) -> Result<(), End> {
-    let mut script = Script::new(rt.alloc(), odds, seed);
+    let mut script = Script::new(rt.alloc(), name, odds, seed);
     match take_all(rt, input, &mut script) {
         Ok(()) => script.finish(rt),
         Err(end) => {
@@ -184,10 +197,10 @@ pub fn run<R: AllocGlobal + Files + Input + Print>(
     path: Option<&str>,
 ) -> Result<(), End> {
     match path {
-        None => disturb(rt, rt.reader(), odds, seed),
+        None => disturb(rt, "-", rt.reader(), odds, seed),
         Some(path) => match fs::open(rt, path) {
-            Ok(file) => disturb(rt, file, odds, seed),
-            Err(error) => Err(end_of(&error)),
+            Ok(file) => disturb(rt, path, file, odds, seed),
+            Err(error) => Err(unread(rt.alloc(), path, &error)),
         },
     }
 }

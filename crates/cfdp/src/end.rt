@@ -16,15 +16,11 @@ pub enum End {
     Write,
     /// Out of memory.
     Memory,
-    /// This line of the input, counted from 1, is not hexadecimal.
-    Line(u64),
-    /// This line of a script, counted from 1, is too long.
-    Long(u64),
-    /// The capture has a link type that is not read.
-    Capture,
     /// Something is wrong in a plan: where, and what.
     Plan(String),
-    /// A file cannot be read: where it is named, and which one.
+    /// A stream or a file has octets that are no PDU, or a line that is bad: where, and why.
+    Stream(String),
+    /// A file cannot be read: which one, and why.
     File(String),
     /// A transaction that was admitted was not completed.
     Incomplete(TransactionId),
@@ -55,19 +51,36 @@ impl End {
         })
     }
 
+    /// Something is wrong with a file with a name, so that it cannot be read.
+    pub fn file(alloc: Global, name: &str, what: &str) -> End {
+        format!(in alloc; "{name}: {what}").map_or(End::Memory, End::File)
+    }
+
+    /// Something is wrong with what a file with a name has.
+    pub fn stream(alloc: Global, name: &str, what: &str) -> End {
+        format!(in alloc; "{name}: {what}").map_or(End::Memory, End::Stream)
+    }
+
+    /// What is said of a script that stops at a line which is bad or expects something in vain; `None` of another end.
+    pub fn stop_of_script(&self) -> Option<&[u8]> {
+        match self {
+            End::Script(said) | End::Unmet(said) => Some(said),
+            _ => None,
+        }
+    }
+
     /// The exit status.
     pub fn status(&self) -> u8 {
         match self {
             End::Read
             | End::Write
             | End::Memory
-            | End::Capture
             | End::File(_)
             | End::Incomplete(_)
             | End::Unwritten
             | End::Failed(_) => 1,
             End::Words(_) => 2,
-            End::Line(_) | End::Long(_) | End::Plan(_) | End::Script(_) => 3,
+            End::Plan(_) | End::Stream(_) | End::Script(_) => 3,
             End::Refused(_, _) | End::Unmet(_) => 4,
         }
     }
@@ -88,19 +101,12 @@ impl End {
 impl fmt::Display for End {
     fn fmt<W: fmt::Write>(&self, f: &mut fmt::Formatter<W>) -> fmt::Result {
         match self {
-            End::Words(why) | End::Plan(why) | End::File(why) => f.write_str(why.as_str()),
+            End::Words(why) | End::Plan(why) | End::Stream(why) | End::File(why) => {
+                f.write_str(why.as_str())
+            }
             End::Read => f.write_str("the input cannot be read"),
             End::Write => f.write_str("the output cannot be written"),
             End::Memory => f.write_str("out of memory"),
-            End::Capture => f.write_str(
-                "the capture's link type is not read: expected Ethernet (1), IPv4 (101, 228) \
-                 or a user's own (147 to 162)",
-            ),
-            End::Line(number) => write!(
-                f,
-                "line {number}: expected the octets of a PDU in hexadecimal, two digits an octet"
-            ),
-            End::Long(number) => write!(f, "line {number}: longer than 200000 octets"),
             End::Incomplete(id) => write!(f, "transaction {id} was not completed"),
             End::Refused(refused, all) => write!(f, "refused: {refused} of {all} transactions"),
             End::Unwritten => f.write_str("write failed"),

@@ -2,11 +2,13 @@
 
 use crate::end::End;
 use crate::input;
+use crate::shown::push_path;
 use cfdp_actions::Filestore;
 use cfdp_entity::Entity;
 use cfdp_paths::{Path, PathFault};
+use cfdp_plans::read_path;
 use cfdp_transactions::NotPut;
-use std::alloc::Global;
+use std::alloc::{AllocError, Global};
 use std::fs;
 use std::io::{Error, ErrorKind};
 use std::rt::Files;
@@ -16,6 +18,15 @@ const BLOCK_OCTETS: u64 = 120;
 
 /// The most directories that a filestore has, and the folder itself.
 const MOST_DIRECTORIES: usize = 65_537;
+
+/// Which names of a folder are read. A name that listings print is the name of which they print it.
+#[derive(Clone, Copy)]
+pub enum Names {
+    /// All: another name is its own octets.
+    Any,
+    /// Only those that listings print, so that each name of a filestore is spelled in one way.
+    Printed,
+}
 
 /// Something in a folder: where it is on this computer, and the octets of its path in the filestore, which are none for
 /// the folder itself.
@@ -60,18 +71,59 @@ fn names_in<R: AllocGlobal + Clone + Drop + Files>(
     Ok(names)
 }
 
+/// The text that listings print of the octets of a name or of a path.
+fn printed(alloc: Global, octets: &[u8]) -> Result<String, AllocError> {
+    let mut text = String::new(alloc);
+    push_path(alloc, octets, &mut text)?;
+    Ok(text)
+}
+
+/// The octets of which listings print this name; `None` if they print it of none.
+fn unprinted(alloc: Global, name: &str) -> Result<Option<Vec<u8>>, AllocError> {
+    let Some(octets) = read_path(alloc, name.as_bytes())? else {
+        return Ok(None);
+    };
+    if printed(alloc, &octets)?.as_str() == name {
+        Ok(Some(octets))
+    } else {
+        Ok(None)
+    }
+}
+
+/// How the program ends where the name of something in a folder is not spelled as listings print it.
+fn misspelled(alloc: Global, place: &str, name: &str) -> Result<End, AllocError> {
+    let expected = printed(alloc, name.as_bytes())?;
+    let what = format!(in alloc;
+        "its name is not spelled as listings print it: expected {expected}"
+    )?;
+    Ok(wrong(alloc, place, what.as_str()))
+}
+
+/// The octets of the name of something in a folder. One without any octet that listings escape is spelled as they print
+/// it, also where it is no name of a filestore.
+fn octets_of(alloc: Global, names: Names, place: &str, name: &str) -> Result<Vec<u8>, End> {
+    if printed(alloc, name.as_bytes())?.as_str() == name {
+        return Ok(Vec::from_slice(alloc, name.as_bytes())?);
+    }
+    if let Some(octets) = unprinted(alloc, name)? {
+        return Ok(octets);
+    }
+    match names {
+        Names::Any => Ok(Vec::from_slice(alloc, name.as_bytes())?),
+        Names::Printed => Err(misspelled(alloc, place, name)?),
+    }
+}
+
 /// What a directory has by a name.
-fn beside(alloc: Global, directory: &Found, name: &str) -> Result<Found, End> {
+fn beside(alloc: Global, names: Names, directory: &Found, name: &str) -> Result<Found, End> {
+    let above = directory.place.as_str();
+    let place = format!(in alloc; "{above}/{name}")?;
     let mut path = Vec::from_slice(alloc, &directory.path)?;
     if !path.is_empty() {
         path.push(b'/')?;
     }
-    path.extend_from_slice(name.as_bytes())?;
-    let place = directory.place.as_str();
-    Ok(Found {
-        place: format!(in alloc; "{place}/{name}")?,
-        path,
-    })
+    path.extend_from_slice(&octets_of(alloc, names, place.as_str(), name)?)?;
+    Ok(Found { place, path })
 }
 
 /// The path of the filestore of something in a folder.
@@ -135,12 +187,13 @@ fn put_file<R: AllocGlobal + Files + Input>(
 fn put_all<R: AllocGlobal + Clone + Drop + Files + Input>(
     rt: &R,
     directory: &Found,
+    names: Names,
     entity: &mut Entity,
 ) -> Result<Vec<Found>, End> {
     let alloc = rt.alloc();
     let mut directories = Vec::new(alloc);
     for name in &names_in(rt, directory.place.as_str())? {
-        let found = beside(alloc, directory, name.as_str())?;
+        let found = beside(alloc, names, directory, name.as_str())?;
         let metadata = match fs::symlink_metadata(rt, found.place.as_str()) {
             Ok(metadata) => metadata,
             Err(error) => return Err(unread(alloc, found.place.as_str(), &error)),
@@ -174,6 +227,7 @@ fn put_all<R: AllocGlobal + Clone + Drop + Files + Input>(
 pub fn put<R: AllocGlobal + Clone + Drop + Files + Input>(
     rt: &R,
     folder: &str,
+    names: Names,
     entity: &mut Entity,
 ) -> Result<(), End> {
     let alloc = rt.alloc();
@@ -186,7 +240,7 @@ pub fn put<R: AllocGlobal + Clone + Drop + Files + Input>(
         let Some(directory) = open.pop() else {
             break;
         };
-        for found in put_all(rt, &directory, entity)? {
+        for found in put_all(rt, &directory, names, entity)? {
             open.push(found)?;
         }
     }

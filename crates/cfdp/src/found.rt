@@ -1,5 +1,7 @@
-//! A PDU that was found in the input.
+//! The PDUs that are found in an input.
 
+use crate::end::End;
+use std::alloc::Global;
 use std::fmt;
 
 /// Where in the input a PDU begins.
@@ -28,4 +30,55 @@ impl fmt::Display for Place {
 pub struct Found {
     pub place: Place,
     pub octets: Vec<u8>,
+}
+
+/// The PDUs of an input, and what is not shown of it.
+#[derive(Drop)]
+pub struct Contents {
+    pub all: Vec<Found>,
+    /// How many datagrams of a capture are cut.
+    pub cut: u64,
+    /// How many frames of a capture have a fragment of a datagram.
+    pub fragments: u64,
+    /// The number of the frame within which a capture ends, where it is cut.
+    pub ends_within: Option<u64>,
+}
+
+impl Contents {
+    /// Without any PDU.
+    pub fn new(alloc: Global) -> Contents {
+        Contents::of(Vec::new(alloc))
+    }
+
+    /// With these PDUs, and nothing else.
+    pub fn of(all: Vec<Found>) -> Contents {
+        Contents {
+            all,
+            cut: 0,
+            fragments: 0,
+            ends_within: None,
+        }
+    }
+
+    /// Says on standard error how many frames of a capture are left out, if there are any.
+    pub fn tell_left_out<R: Eprint>(&self, rt: &R, name: &str) {
+        // Where standard error cannot be written, nothing is said.
+        if self.cut > 0 {
+            let count = self.cut;
+            let _ = eprintln!(rt; "cfdp: {name}: datagrams that are cut were left out: {count}");
+        }
+        if self.fragments > 0 {
+            let count = self.fragments;
+            let _ = eprintln!(rt; "cfdp: {name}: IP fragments were left out: {count}");
+        }
+    }
+
+    /// How the program ends after the PDUs of an input with a name.
+    pub fn end(&self, alloc: Global, name: &str) -> Result<(), End> {
+        let Some(number) = self.ends_within else {
+            return Ok(());
+        };
+        let what = format!(in alloc; "the capture ends within frame {number}")?;
+        Err(End::stream(alloc, name, what.as_str()))
+    }
 }

@@ -19,6 +19,15 @@ fn digit(octet: u8) -> Option<u8> {
     }
 }
 
+/// The octet of two digits.
+pub fn octet_of(digits: &[u8]) -> Option<u8> {
+    let [high, low] = digits else {
+        return None;
+    };
+    let low = digit(*low)?;
+    Some(digit(*high)?.wrapping_mul(16).wrapping_add(low))
+}
+
 /// The octets of a line, whose digits may have spaces between them; `None` where it is not hexadecimal.
 fn read_line(alloc: Global, line: &[u8]) -> Result<Option<Vec<u8>>, End> {
     let mut octets = Vec::new(alloc);
@@ -41,8 +50,15 @@ fn read_line(alloc: Global, line: &[u8]) -> Result<Option<Vec<u8>>, End> {
     Ok(if high.is_none() { Some(octets) } else { None })
 }
 
-/// The PDUs of a text. Blank lines and those that begin with `#` are passed over.
-pub fn read(alloc: Global, text: &[u8]) -> Result<Vec<Found>, End> {
+/// How the program ends where this line of a text with a name, counted from 1, is not hexadecimal.
+fn bad_line(alloc: Global, name: &str, number: u64) -> End {
+    format!(in alloc;
+        "{name}:{number}: expected the octets of a PDU in hexadecimal, two digits an octet"
+    ).map_or(End::Memory, End::Stream)
+}
+
+/// The PDUs of a text with a name. Blank lines and those that begin with `#` are passed over.
+pub fn read(alloc: Global, name: &str, text: &[u8]) -> Result<Vec<Found>, End> {
     let mut all = Vec::new(alloc);
     let mut number = 0_u64;
     for line in text.split(|octet| *octet == b'\n') {
@@ -51,7 +67,7 @@ pub fn read(alloc: Global, text: &[u8]) -> Result<Vec<Found>, End> {
             continue;
         }
         let Some(octets) = read_line(alloc, line)? else {
-            return Err(End::Line(number));
+            return Err(bad_line(alloc, name, number));
         };
         if !octets.is_empty() {
             all.push(Found {

@@ -1,18 +1,30 @@
 //! The input of a command: a file, or standard input.
 
 use crate::end::End;
-use crate::found::Found;
+use crate::found::Contents;
 use crate::{hexadecimal, octets, pcap};
 use std::alloc::Global;
 use std::fs;
 use std::io::{Error, ErrorKind, Read};
 use std::rt::Files;
 
+/// What is said of a capture in another format.
+const PCAPNG: &str =
+    "a pcapng capture: expected the pcap format, into which 'editcap -F pcap' converts it";
+
 /// What a fault of reading is to the program.
 pub fn end_of(error: &Error) -> End {
     match error.kind() {
         ErrorKind::OutOfMemory => End::Memory,
         _ => End::Read,
+    }
+}
+
+/// What a fault of reading an input with a name is to the program.
+pub fn unread(alloc: Global, name: &str, error: &Error) -> End {
+    match end_of(error) {
+        End::Read => End::file(alloc, name, "cannot be read"),
+        end => end,
     }
 }
 
@@ -37,13 +49,15 @@ pub fn read<R: AllocGlobal + Files + Input>(rt: &R, path: Option<&str>) -> Resul
     }
 }
 
-/// The PDUs of an input: of a capture, in hexadecimal, or as octets.
-pub fn find(alloc: Global, input: &[u8]) -> Result<Vec<Found>, End> {
+/// The PDUs of an input with a name: of a capture, in hexadecimal, or as octets.
+pub fn find(alloc: Global, name: &str, input: &[u8]) -> Result<Contents, End> {
     if pcap::is_capture(input) {
-        pcap::read(alloc, input)
+        pcap::read(alloc, name, input)
     } else if hexadecimal::is_text(input) {
-        hexadecimal::read(alloc, input)
+        Ok(Contents::of(hexadecimal::read(alloc, name, input)?))
+    } else if pcap::is_pcapng(input) {
+        Err(End::file(alloc, name, PCAPNG))
     } else {
-        octets::read(alloc, input)
+        Ok(Contents::of(octets::read(alloc, input)?))
     }
 }

@@ -5,6 +5,7 @@ use crate::shown::push_path;
 use crate::spent::Spent;
 use cfdp_actions::{Entry, Filestore, Kind};
 use cfdp_entity::Entity;
+use cfdp_paths::Path;
 use std::alloc::{AllocError, Global};
 use std::fs;
 use std::io::{ErrorKind, Write};
@@ -14,13 +15,13 @@ use std::time::Instant;
 /// How many octets are written at once.
 const PIECE: usize = 65_536;
 
-/// The path of an entry in a folder, as listings print it. No name of it is empty, `.` or `..`, so no path leads out of
-/// the folder.
-fn path_in(alloc: Global, folder: &str, entry: &Entry) -> Result<String, AllocError> {
-    let mut path = String::from_str(alloc, folder)?;
-    path.push('/')?;
-    push_path(alloc, &entry.path.text(alloc)?, &mut path)?;
-    Ok(path)
+/// Where a path is in a folder, as listings print it. No name of it is empty, `.` or `..`, so no path leads out of the
+/// folder.
+pub fn path_in(alloc: Global, folder: &str, path: &Path) -> Result<String, AllocError> {
+    let mut location = String::from_str(alloc, folder)?;
+    location.push('/')?;
+    push_path(alloc, &path.text(alloc)?, &mut location)?;
+    Ok(location)
 }
 
 /// Writes the octets of a file.
@@ -49,7 +50,7 @@ fn write_file<W: Write + Drop>(
 }
 
 /// Makes a directory at a path that nothing is at.
-fn make_directory<R: AllocGlobal + Files>(rt: &R, path: &str) -> Result<(), End> {
+pub fn make_directory<R: AllocGlobal + Files>(rt: &R, path: &str) -> Result<(), End> {
     match fs::create_dir(rt, path) {
         Ok(()) => Ok(()),
         Err(_) => Err(End::unwritten(rt.alloc(), path)),
@@ -64,7 +65,7 @@ fn write_entry<R: AllocGlobal + Files>(
     entry: &Entry,
 ) -> Result<(), End> {
     let alloc = rt.alloc();
-    let path = path_in(alloc, folder, entry)?;
+    let path = path_in(alloc, folder, &entry.path)?;
     match entry.kind {
         Kind::Directory => make_directory(rt, path.as_str()),
         Kind::File => match fs::File::create_new(rt, path.as_str()) {

@@ -1,6 +1,7 @@
 //! `cfdp judge`: whether the uploads of a plan are admitted.
 
 use crate::end::End;
+use crate::folder::Names;
 use crate::plan::Plan;
 use crate::show::print;
 use crate::uploads::{plan_in, read_files, uploads_of};
@@ -40,8 +41,8 @@ fn narrow(number: u64) -> u32 {
     u32::try_from(number).unwrap_or(u32::MAX)
 }
 
-/// The receiving entity of a plan, with an empty filestore.
-fn entity_of(alloc: Global, entity: &plan::Entity) -> Result<Entity, End> {
+/// The receiving entity of a plan or of a setup, with an empty filestore.
+pub fn entity_of(alloc: Global, entity: &plan::Entity) -> Result<Entity, End> {
     let mut protected = Protected::new();
     for octets in &entity.protected {
         if let Some(path) = path_of(alloc, octets)? {
@@ -254,7 +255,7 @@ pub fn run<R: AllocGlobal + Clone + Drop + Files + Input + Print>(
     let uploads = uploads_of(alloc, path, &text, entity.id, transactions, &files)?;
     let mut receiver = entity_of(alloc, &entity)?;
     if let Some(folder) = on {
-        folder::put(rt, folder, &mut receiver)?;
+        folder::put(rt, folder, Names::Any, &mut receiver)?;
     }
     let mut refused = 0_usize;
     for (upload, file) in uploads.iter().zip(&files) {

@@ -13,41 +13,62 @@
 //! `cfdp run [FILE]` plays a script against a receiving entity of both modes, with a filestore and a clock that the
 //! script moves, and prints what the entity answers to each line.
 //!
+//! `cfdp draw [FILE]` plays a script as `cfdp run` does, and writes a picture of the run in SVG.
+//!
 //! `cfdp disturb [FILE]` writes a script as if its PDUs came over a bad link: some are lost, written twice, or swapped.
 //!
+//! `cfdp receive --into DIR [--mib FILE]` is a live receiving entity of both modes, by the clock of the system: PDUs
+//! come on standard input and go to standard output, and a folder holds what its filestore holds.
+//!
 //! What goes wrong is said on standard error, and by the exit status: 1 for a fault of reading, writing or memory, 2
-//! for unknown words, 3 for a line that is not hexadecimal, for something wrong in a plan, or for a bad line of a
-//! script, 4 for a plan of which a transaction is refused, or for a line that a script expects in vain.
+//! for unknown words, 3 for a line that is not hexadecimal, for a capture that is cut, for something wrong in a plan or
+//! in a setup, for a bad line of a script or one that a picture has no room for, or for a stream that is no PDUs, 4 for
+//! a plan of which a transaction is refused, or for a line that a script expects in vain.
 #![tactic(auto)]
 
+mod answers;
 mod capture;
+mod commands;
 mod compose;
 mod disturb;
+mod draw;
+mod drawing;
+mod drawn_pdu;
+mod drawn_state;
 mod end;
+mod fitting;
 mod folder;
 mod found;
 mod hexadecimal;
 mod input;
 mod into;
 mod judge;
+mod mirror;
 mod named;
+mod notes;
 mod octets;
 mod part;
 mod pcap;
+mod pieces;
 mod plan;
 mod playing;
+mod receive;
 mod run;
 mod section;
+mod setup;
 mod show;
 mod shown;
 mod spent;
+mod ticks;
 mod uploads;
 mod watch;
 mod words;
 
 use end::End;
 use std::process::ExitCode;
-use std::rt::{Clock, Env, Files};
+use std::rt::Runtime;
+use std::sync::Wait;
+use std::thread::Threads;
 use words::{Asked, parse};
 
 fn main(rt: HostRuntime) -> ExitCode {
@@ -62,9 +83,10 @@ fn main(rt: HostRuntime) -> ExitCode {
 }
 
 /// Does what the words of the command line ask for.
-fn obey<R: AllocGlobal + Clock + Clone + Drop + Env + Eprint + Files + Input + Print>(
-    rt: &R,
-) -> Result<(), End> {
+fn obey<R: AllocGlobal + Runtime + Send + Threads + Wait + 'static>(rt: &R) -> Result<(), End>
+where
+    R::Reader: Send + 'static,
+{
     let words = words::read(rt)?;
     match parse(rt.alloc(), &words)? {
         Asked::Help(text) => show::print(rt, text.as_bytes()),
@@ -72,6 +94,8 @@ fn obey<R: AllocGlobal + Clock + Clone + Drop + Env + Eprint + Files + Input + P
         Asked::Compose(player, path) => compose::run(rt, player, path),
         Asked::Judge(path, on) => judge::run(rt, path, on),
         Asked::Run(path, options) => run::run(rt, path, options),
+        Asked::Draw(path) => draw::run(rt, path),
         Asked::Disturb(odds, seed, path) => disturb::run(rt, odds, seed, path),
+        Asked::Receive(options) => receive::run(rt, options),
     }
 }

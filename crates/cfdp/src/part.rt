@@ -1,12 +1,19 @@
-//! Parts of a plan, and the lines that they are in.
+//! Parts of a plan or of a setup, and the lines that they are in.
 
 use crate::end::End;
 use std::alloc::Global;
 use std::ops::Range;
 use toml::{Table, Value};
 
-/// A part of a plan. A table is the transaction with a number, or the entity without one. Transactions and values count
-/// from 0.
+/// The table that a key is in. Transactions count from 0.
+#[derive(Clone, Copy, Debug)]
+pub enum Owner {
+    Entity,
+    Mib,
+    Transaction(usize),
+}
+
+/// A part of a plan or of a setup. Values count from 0.
 #[derive(Debug, Drop)]
 pub enum Part {
     /// The line that an octet is in.
@@ -14,19 +21,20 @@ pub enum Part {
     /// A key of the plan itself.
     Top(String),
     /// A key of a table.
-    Key(Option<usize>, String),
+    Key(Owner, String),
     /// A value in the array at a key of a table.
-    Item(Option<usize>, String, usize),
+    Item(Owner, String, usize),
 }
 
 /// What can be open where a plan is cut off after a line.
 const CLOSINGS: [&[u8]; 6] = [b"", b"]", b"}", b"]}", b"}]", b"]}]"];
 
 /// The value at a key of a table of a plan.
-fn value<'a>(plan: &'a Table, number: Option<usize>, key: &str) -> Option<&'a Value> {
-    let table = match number {
-        None => plan.get("entity")?,
-        Some(number) => plan.get("transaction")?.as_array()?.get(number)?,
+fn value<'a>(plan: &'a Table, owner: Owner, key: &str) -> Option<&'a Value> {
+    let table = match owner {
+        Owner::Entity => plan.get("entity")?,
+        Owner::Mib => plan.get("mib")?,
+        Owner::Transaction(number) => plan.get("transaction")?.as_array()?.get(number)?,
     };
     table.get(key)
 }
@@ -36,8 +44,8 @@ fn has(plan: &Table, part: &Part) -> bool {
     match part {
         Part::Octet(_) => false,
         Part::Top(key) => plan.get(key.as_str()).is_some(),
-        Part::Key(number, key) => value(plan, *number, key.as_str()).is_some(),
-        Part::Item(number, key, item) => value(plan, *number, key.as_str())
+        Part::Key(owner, key) => value(plan, *owner, key.as_str()).is_some(),
+        Part::Item(owner, key, item) => value(plan, *owner, key.as_str())
             .and_then(|items| items.get(*item))
             .is_some(),
     }

@@ -1,7 +1,7 @@
 //! A capture in the pcap format.
 
 use crate::end::End;
-use crate::found::{Found, Place};
+use crate::found::{Contents, Found, Place};
 use std::alloc::Global;
 
 /// How many octets the header of a capture has.
@@ -9,6 +9,10 @@ const FILE_HEADER: usize = 24;
 
 /// How many octets the header of a frame has.
 const FRAME_HEADER: usize = 16;
+
+/// What is said of a link type that is not read.
+const UNREAD_LINK: &str =
+    "the capture's link type is not read: expected Ethernet (1), IPv4 (101, 228) or a user's own (147 to 162)";
 
 /// The order of the octets of a number.
 #[derive(Clone, Copy)]
@@ -29,6 +33,11 @@ fn order_of(octets: &[u8]) -> Option<Order> {
 /// Whether octets are a capture.
 pub fn is_capture(octets: &[u8]) -> bool {
     order_of(octets).is_some()
+}
+
+/// Whether octets that are no text are a capture in the pcapng format.
+pub fn is_pcapng(octets: &[u8]) -> bool {
+    octets.starts_with(&[0x0a, 0x0d, 0x0d, 0x0a])
 }
 
 /// The number of four octets at an index, if they are there.
@@ -66,62 +75,127 @@ impl Link {
     }
 }
 
-/// What a UDP datagram carries, in an IPv4 packet; `None` where the packet is another one.
-fn datagram(packet: &[u8]) -> Option<&[u8]> {
-    let first = *packet.first()?;
-    if first >> 4 != 4 || packet.get(9) != Some(&17) {
-        return None;
-    }
-    let header = usize::from(first % 16) * 4;
-    let udp = packet.get(header..)?;
+/// What a frame has.
+#[derive(Clone, Copy)]
+enum Frame<'a> {
+    /// A PDU.
+    Pdu(&'a [u8]),
+    /// A datagram of which a part was not captured.
+    Cut,
+    /// A fragment of a datagram.
+    Fragment,
+    /// No UDP datagram over IPv4.
+    Other,
+}
+
+/// What a UDP datagram carries.
+fn carried(udp: &[u8]) -> Frame<'_> {
     let [_, _, _, _, high, low, _, _, ..] = udp else {
-        return None;
+        return Frame::Cut;
     };
     let len = 256 * usize::from(*high) + usize::from(*low);
-    udp.get(8..len)
+    if len < 8 {
+        return Frame::Other;
+    }
+    match udp.get(8..len) {
+        Some(pdu) => Frame::Pdu(pdu),
+        None => Frame::Cut,
+    }
 }
 
-/// The octets of the PDU in a frame; `None` where it has none.
-fn payload(link: Link, frame: &[u8]) -> Option<&[u8]> {
+/// What an IP packet has. One of another version than 4, or of another protocol than UDP, is another one.
+fn in_packet(packet: &[u8]) -> Frame<'_> {
+    let Some(first) = packet.first() else {
+        return Frame::Cut;
+    };
+    if first >> 4 != 4 {
+        return Frame::Other;
+    }
+    let [_, _, _, _, _, _, high, low, _, protocol, ..] = packet else {
+        return Frame::Cut;
+    };
+    if *protocol != 17 {
+        return Frame::Other;
+    }
+    // More fragments follow, or this one is not the first.
+    if high % 64 >= 32 || high % 32 != 0 || *low != 0 {
+        return Frame::Fragment;
+    }
+    match packet.get(usize::from(first % 16) * 4..) {
+        Some(udp) => carried(udp),
+        None => Frame::Cut,
+    }
+}
+
+/// What a frame has.
+fn look_at(link: Link, frame: &[u8]) -> Frame<'_> {
     match link {
-        Link::Own => Some(frame),
-        Link::Internet => datagram(frame),
+        Link::Own => Frame::Pdu(frame),
+        Link::Internet => in_packet(frame),
         Link::Ethernet => {
             if frame.get(12..14) != Some([0x08, 0x00].as_slice()) {
-                return None;
+                return Frame::Other;
             }
-            datagram(frame.get(14..)?)
+            match frame.get(14..) {
+                Some(packet) => in_packet(packet),
+                None => Frame::Cut,
+            }
         }
     }
 }
 
-/// The PDUs of a capture. Frames without a UDP datagram over IPv4 are passed over. A frame that is cut ends the
-/// capture.
-pub fn read(alloc: Global, octets: &[u8]) -> Result<Vec<Found>, End> {
-    let mut all = Vec::new(alloc);
-    let Some(order) = order_of(octets) else {
-        return Ok(all);
-    };
-    let Some(link) = number_at(order, octets, 20).and_then(Link::of_number) else {
-        return Err(End::Capture);
-    };
-    let mut at = FILE_HEADER;
-    for number in 1..=octets.len() as u64 {
-        let Some(len) = number_at(order, octets, at.saturating_add(8)) else {
-            break;
-        };
-        let start = at.saturating_add(FRAME_HEADER);
-        let end = start.saturating_add(len);
-        let Some(frame) = octets.get(start..end) else {
-            break;
-        };
-        if let Some(pdu) = payload(link, frame) {
-            all.push(Found {
-                place: Place::Frame(number),
-                octets: Vec::from_slice(alloc, pdu)?,
-            })?;
-        }
-        at = end;
+/// Takes the frame with a number.
+fn take(alloc: Global, number: u64, frame: Frame<'_>, contents: &mut Contents) -> Result<(), End> {
+    match frame {
+        Frame::Pdu(pdu) => contents.all.push(Found {
+            place: Place::Frame(number),
+            octets: Vec::from_slice(alloc, pdu)?,
+        })?,
+        Frame::Cut => contents.cut = contents.cut.saturating_add(1),
+        Frame::Fragment => contents.fragments = contents.fragments.saturating_add(1),
+        Frame::Other => {}
     }
-    Ok(all)
+    Ok(())
+}
+
+/// The frame whose header is at an index; `None` where the octets end within it.
+fn frame_at(order: Order, octets: &[u8], index: usize) -> Option<&[u8]> {
+    let len = number_at(order, octets, index.saturating_add(8))?;
+    let start = index.saturating_add(FRAME_HEADER);
+    octets.get(start..start.saturating_add(len))
+}
+
+/// The link type of a capture.
+fn link_of(alloc: Global, name: &str, order: Order, octets: &[u8]) -> Result<Link, End> {
+    let Some(number) = number_at(order, octets, 20) else {
+        return Err(End::stream(alloc, name, "the capture ends within its header"));
+    };
+    match Link::of_number(number) {
+        Some(link) => Ok(link),
+        None => Err(End::file(alloc, name, UNREAD_LINK)),
+    }
+}
+
+/// The PDUs of a capture with a name. Frames without a UDP datagram over IPv4 are passed over.
+pub fn read(alloc: Global, name: &str, octets: &[u8]) -> Result<Contents, End> {
+    let mut contents = Contents::new(alloc);
+    let Some(order) = order_of(octets) else {
+        return Ok(contents);
+    };
+    let link = link_of(alloc, name, order, octets)?;
+    let mut index = FILE_HEADER;
+    for number in 1..=octets.len() as u64 {
+        if index >= octets.len() {
+            break;
+        }
+        let Some(frame) = frame_at(order, octets, index) else {
+            contents.ends_within = Some(number);
+            break;
+        };
+        take(alloc, number, look_at(link, frame), &mut contents)?;
+        index = index
+            .saturating_add(FRAME_HEADER)
+            .saturating_add(frame.len());
+    }
+    Ok(contents)
 }

@@ -67,8 +67,8 @@ pub struct Plan {
     pub transactions: Vec<Transaction>,
 }
 
-/// The entity of a plan.
-fn read_entity(section: &Section<'_>) -> Result<Entity, PlanFault> {
+/// The entity of a plan or of a setup.
+pub fn read_entity(section: &Section<'_>) -> Result<Entity, PlanFault> {
     section.check_keys(&["id", "blocks", "cap", "checks", "journal", "protect"])?;
     let protected = section.paths("protect")?;
     if protected.len() > 8 {
@@ -232,8 +232,8 @@ fn read_transaction(alloc: Global, table: &Table, number: usize) -> Result<Trans
     })
 }
 
-/// What is wrong with a key of the plan itself.
-fn wrong_top(alloc: Global, key: &str, what: &str) -> PlanFault {
+/// What is wrong with a key of the plan or of the setup itself.
+pub fn wrong_top(alloc: Global, key: &str, what: &str) -> PlanFault {
     match (String::from_str(alloc, key), format!(in alloc; "{what}")) {
         (Ok(key), Ok(text)) => PlanFault::Wrong(Part::Top(key), text),
         _ => PlanFault::Memory,
@@ -258,18 +258,23 @@ fn read_transactions(alloc: Global, plan: &Table) -> Result<Vec<Transaction>, Pl
     Ok(transactions)
 }
 
-/// The plan that a text has.
-pub fn read_plan(alloc: Global, text: &[u8]) -> Result<Plan, PlanFault> {
-    let plan = match toml::table_from_slice(alloc, text) {
-        Ok(plan) => plan,
+/// The table that a text has.
+pub fn read_table(alloc: Global, text: &[u8]) -> Result<Table, PlanFault> {
+    match toml::table_from_slice(alloc, text) {
+        Ok(table) => Ok(table),
         Err(error) => {
             let Some(span) = error.span() else {
                 return Err(PlanFault::Memory);
             };
             let what = String::from_str(alloc, error.message())?;
-            return Err(PlanFault::Wrong(Part::Octet(span.start), what));
+            Err(PlanFault::Wrong(Part::Octet(span.start), what))
         }
-    };
+    }
+}
+
+/// The plan that a text has.
+pub fn read_plan(alloc: Global, text: &[u8]) -> Result<Plan, PlanFault> {
+    let plan = read_table(alloc, text)?;
     for key in plan.keys() {
         if key.as_str() != "entity" && key.as_str() != "transaction" {
             let what = format!(in alloc;

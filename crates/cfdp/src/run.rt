@@ -5,6 +5,7 @@ use crate::end::End;
 use crate::into;
 use crate::playing::Playing;
 use crate::watch::Watch;
+use std::alloc::Global;
 use std::io::{ErrorKind, Read, Write};
 use std::rt::{Clock, Files};
 use std::{fs, io};
@@ -105,12 +106,23 @@ fn run_named<R: AllocGlobal + Clock + Eprint + Files + Print, I: Read + Drop>(
     played
 }
 
+/// Refuses a capture that would be written over the script.
+fn check_capture(alloc: Global, script: Option<&str>, capture: Option<&str>) -> Result<(), End> {
+    match (script, capture) {
+        (Some(script), Some(capture)) if script == capture => Err(End::Words(format!(in alloc;
+            "error: {capture}: the capture would be written over the script: expected another file"
+        )?)),
+        _ => Ok(()),
+    }
+}
+
 /// Plays the script of a file, or of standard input without one.
 pub fn run<R: AllocGlobal + Clock + Eprint + Files + Input + Print>(
     rt: &R,
     path: Option<&str>,
     options: Options<'_>,
 ) -> Result<(), End> {
+    check_capture(rt.alloc(), path, options.capture)?;
     let Some(path) = path else {
         return run_named(rt, "-", rt.reader(), options);
     };

@@ -1,12 +1,13 @@
-//! A table of a plan, and its values by their keys.
+//! A table of a plan or of a setup, and its values by their keys.
 
-use crate::part::Part;
+use crate::part::{Owner, Part};
 use cfdp_plans::read_path;
 use std::alloc::{AllocError, AllocFailed, Global};
 use std::ops::RangeInclusive;
+use std::time::Duration;
 use toml::{Table, Value};
 
-/// Why a plan is not taken.
+/// Why a plan or a setup is not taken.
 #[derive(Debug, Drop)]
 pub enum PlanFault {
     /// Out of memory.
@@ -31,12 +32,27 @@ impl<T: Drop> From<AllocFailed<T>> for PlanFault {
 const PATH: &str =
     "a path: 1 to 8 names of 1 to 96 octets with / between them, %XX for other octets than visible ASCII";
 
-/// A table of a plan: the entity, or the transaction with a number, counted from 0.
+/// What a time is, for people.
+const SECONDS: &str = "seconds from 0.001 to 4294967.295";
+
+/// The milliseconds of a time in seconds, if there are 1 to 2^32 - 1.
+fn millis_of(value: &Value) -> Option<u32> {
+    let time = match value.as_integer() {
+        Some(seconds) => Duration::from_secs(u64::try_from(seconds).ok()?),
+        None => Duration::try_from_secs_f64(value.as_float()?).ok()?,
+    };
+    match u32::try_from(time.as_millis()) {
+        Ok(millis) if millis > 0 => Some(millis),
+        _ => None,
+    }
+}
+
+/// A table of a plan or of a setup.
 #[derive(Drop)]
 pub struct Section<'a> {
     alloc: Global,
     table: &'a Table,
-    number: Option<usize>,
+    owner: Owner,
 }
 
 impl<'a> Section<'a> {
@@ -45,22 +61,31 @@ impl<'a> Section<'a> {
         Section {
             alloc,
             table,
-            number: None,
+            owner: Owner::Entity,
         }
     }
 
-    /// A transaction.
+    /// What is left to management.
+    pub fn mib(alloc: Global, table: &'a Table) -> Section<'a> {
+        Section {
+            alloc,
+            table,
+            owner: Owner::Mib,
+        }
+    }
+
+    /// The transaction with a number, counted from 0.
     pub fn transaction(alloc: Global, table: &'a Table, number: usize) -> Section<'a> {
         Section {
             alloc,
             table,
-            number: Some(number),
+            owner: Owner::Transaction(number),
         }
     }
 
     /// The part that a key is.
     fn part(&self, key: &str) -> Result<Part, AllocError> {
-        Ok(Part::Key(self.number, String::from_str(self.alloc, key)?))
+        Ok(Part::Key(self.owner, String::from_str(self.alloc, key)?))
     }
 
     /// That something else was expected at a key.
@@ -79,7 +104,7 @@ impl<'a> Section<'a> {
         let number = item.saturating_add(1);
         let text = format!(in self.alloc; "{key}, value {number}: {what}");
         match (String::from_str(self.alloc, key), text) {
-            (Ok(key), Ok(text)) => PlanFault::Wrong(Part::Item(self.number, key, item), text),
+            (Ok(key), Ok(text)) => PlanFault::Wrong(Part::Item(self.owner, key, item), text),
             _ => PlanFault::Memory,
         }
     }
@@ -117,6 +142,34 @@ impl<'a> Section<'a> {
             Some(Ok(number)) if least <= number && number <= most => Ok(number),
             _ => {
                 let what = format!(in self.alloc; "a number from {least} to {most}")?;
+                Err(self.expected(key, what.as_str()))
+            }
+        }
+    }
+
+    /// The time at a key, which has seconds, in milliseconds; or another one without it.
+    pub fn millis(&self, key: &str, without: u32) -> Result<u32, PlanFault> {
+        let Some(value) = self.get(key) else {
+            return Ok(without);
+        };
+        match millis_of(value) {
+            Some(millis) => Ok(millis),
+            None => Err(self.expected(key, SECONDS)),
+        }
+    }
+
+    /// The time at a key, in milliseconds, or `"none"`, as without it.
+    pub fn millis_or_none(&self, key: &str) -> Result<Option<u32>, PlanFault> {
+        let Some(value) = self.get(key) else {
+            return Ok(None);
+        };
+        if value.as_str() == Some("none") {
+            return Ok(None);
+        }
+        match millis_of(value) {
+            Some(millis) => Ok(Some(millis)),
+            None => {
+                let what = format!(in self.alloc; "\"none\" or {SECONDS}")?;
                 Err(self.expected(key, what.as_str()))
             }
         }

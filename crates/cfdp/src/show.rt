@@ -42,14 +42,21 @@ fn block(alloc: Global, style: Style, found: &mut Found) -> Result<Vec<u8>, End>
 }
 
 /// Prints what the PDUs of a file say, or of standard input without one.
-pub fn run<R: AllocGlobal + Files + Input + Print>(
+pub fn run<R: AllocGlobal + Eprint + Files + Input + Print>(
     rt: &R,
     style: Style,
     path: Option<&str>,
 ) -> Result<(), End> {
-    let octets = input::read(rt, path)?;
-    for mut found in input::find(rt.alloc(), &octets)? {
-        print(rt, &block(rt.alloc(), style, &mut found)?)?;
+    let alloc = rt.alloc();
+    let name = path.unwrap_or("-");
+    let octets = match input::read(rt, path) {
+        Err(End::Read) => return Err(End::file(alloc, name, "cannot be read")),
+        read => read?,
+    };
+    let mut contents = input::find(alloc, name, &octets)?;
+    for found in &mut contents.all {
+        print(rt, &block(alloc, style, found)?)?;
     }
-    Ok(())
+    contents.tell_left_out(rt, name);
+    contents.end(alloc, name)
 }

@@ -2,7 +2,7 @@
 
 use crate::end::End;
 use crate::input;
-use crate::part::{Part, line_of};
+use crate::part::{Owner, Part, line_of};
 use crate::plan::{Heading, Order, Plan, Source, Transaction, read_plan};
 use crate::section::PlanFault;
 use cfdp_pdus::{Header, Metadata};
@@ -10,8 +10,8 @@ use cfdp_uploads::{Upload, UploadFault, in_order, piece_count, reversed, shortes
 use std::alloc::{AllocError, Global};
 use std::rt::Files;
 
-/// How the program ends for something wrong in a plan.
-fn end_of(alloc: Global, path: &str, text: &[u8], fault: PlanFault) -> End {
+/// How the program ends for something wrong in a plan or in a setup.
+pub fn end_of(alloc: Global, path: &str, text: &[u8], fault: PlanFault) -> End {
     match fault {
         PlanFault::Memory => End::Memory,
         PlanFault::Wrong(part, what) => wrong_at(alloc, path, text, &part, what.as_str()),
@@ -120,13 +120,16 @@ fn key_of(fault: UploadFault) -> &'static str {
 fn refusal(alloc: Global, number: usize, fault: UploadFault) -> Result<(Part, String), AllocError> {
     let key = String::from_str(alloc, key_of(fault))?;
     let UploadFault::Request(request) = fault else {
-        return Ok((Part::Key(Some(number), key), format!(in alloc; "{fault}")?));
+        return Ok((
+            Part::Key(Owner::Transaction(number), key),
+            format!(in alloc; "{fault}")?,
+        ));
     };
     let value = request.saturating_add(1);
     let what = format!(in alloc;
         "{key}, value {value}: too long: no response can repeat its names"
     )?;
-    Ok((Part::Item(Some(number), key, request), what))
+    Ok((Part::Item(Owner::Transaction(number), key, request), what))
 }
 
 /// How the program ends for a fault of the upload of a transaction with a number.
@@ -155,7 +158,7 @@ fn read_file<R: AllocGlobal + Files + Input>(
     let name = file.path.as_str();
     match input::read(rt, Some(name)) {
         Err(End::Read) => {
-            let part = Part::Key(Some(number), String::from_str(alloc, "file")?);
+            let part = Part::Key(Owner::Transaction(number), String::from_str(alloc, "file")?);
             let what = format!(in alloc; "file: '{name}' cannot be read")?;
             Err(match wrong_at(alloc, path, text, &part, what.as_str()) {
                 End::Plan(said) => End::File(said),

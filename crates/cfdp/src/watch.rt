@@ -30,7 +30,7 @@ pub struct Watch<'a, F> {
 }
 
 /// The octets of a line `send HEX`; `None` of another line.
-fn sent(alloc: Global, line: &[u8]) -> Result<Option<Vec<u8>>, AllocError> {
+pub fn sent(alloc: Global, line: &[u8]) -> Result<Option<Vec<u8>>, AllocError> {
     let Some(digits) = line.strip_prefix(b"send ") else {
         return Ok(None);
     };
@@ -47,17 +47,8 @@ fn is_told(field: &[u8]) -> bool {
     !field.is_empty() && !NOT_TOLD.iter().any(|start| field.starts_with(start))
 }
 
-/// Appends a line with what a PDU says.
-fn push_words(
-    alloc: Global,
-    direction: Direction,
-    octets: &mut [u8],
-    out: &mut Vec<u8>,
-) -> Result<(), AllocError> {
-    out.extend_from_slice(match direction {
-        Direction::Came => b"# came: ",
-        Direction::Sent => b"# sent: ",
-    })?;
+/// Appends what a PDU says, in one line. The octets are scratch afterwards.
+pub fn push_fields(alloc: Global, octets: &mut [u8], out: &mut Vec<u8>) -> Result<(), AllocError> {
     let said = show(alloc, Style::Text, octets)?;
     for (index, line) in said.as_slice().split(|octet| *octet == NEWLINE).enumerate() {
         let field = line.strip_prefix(b"  ").unwrap_or(line);
@@ -71,6 +62,21 @@ fn push_words(
         }
         out.extend_from_slice(field)?;
     }
+    Ok(())
+}
+
+/// Appends a line with what a PDU says.
+fn push_words(
+    alloc: Global,
+    direction: Direction,
+    octets: &mut [u8],
+    out: &mut Vec<u8>,
+) -> Result<(), AllocError> {
+    out.extend_from_slice(match direction {
+        Direction::Came => b"# came: ",
+        Direction::Sent => b"# sent: ",
+    })?;
+    push_fields(alloc, octets, out)?;
     out.extend_from_slice(b"\n")
 }
 

@@ -2,8 +2,8 @@
 
 mod crc;
 mod directives;
-mod pdus;
+mod messages;
 mod retransmission;
 mod sessions;
-mod tlv;
+mod verdicts;
 mod words;

@@ -1,6 +1,8 @@
 //! Transactions with memory refused: only a receiver that is made, a Metadata PDU and an outcome that is taken ask
 //! for some. After a refusal nothing has changed, and the call can be made again (`rt try --test --fail-alloc 1..`
-//! refuses each call in turn).
+//! refuses each call in turn). `lines` has the same for the lines of a script.
+
+mod lines;
 
 use super::actor::{Actor, Input};
 use std::alloc::{AllocError, Global};

@@ -1,6 +1,7 @@
-//! Each input at each stage of a transaction: what is sent and indicated, what became of the input, and how far the
-//! transaction is then. The modules below have the cases; what is due is what `docs/FORMATS.md` says of the inputs of
-//! the receiver.
+//! Inputs at stages of a transaction: what is sent and indicated, what became of the input, and how far the transaction
+//! is then. The modules below have the cases that no script meets, since it leaves nothing to be performed or handed
+//! out between two lines; what is due is what `docs/FORMATS.md` says of the inputs of the receiver. The others are
+//! text, in `.ci/cases/run/stages.txt`.
 
 mod begun;
 mod ended;

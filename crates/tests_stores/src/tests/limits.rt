@@ -1,14 +1,13 @@
-//! A `TreeStore` of as many blocks as there may be: a staged list that takes all that is left, a directory of 4,096
-//! entries, and a path of as many and as long names as there may be.
+//! A `TreeStore` of as many blocks as there may be: a staged list that takes all that is left, and a path of as many
+//! and as long names as there may be. `.ci/run_scripts` has a directory of 4,096 entries.
 
-use super::calls::{Asked, deepest, parsed};
-use super::steps::{Script, Shown, Stands, Step, are_listed, are_standing, run, take};
-use cfdp_actions::{Filestore, Kind, Protected};
+use super::calls::Asked;
+use super::steps::{Script, Shown, Stands, Step, run};
+use cfdp_actions::{Kind, Protected};
 use cfdp_paths::Memory;
 use cfdp_status::Action;
 use cfdp_tree::TreeStore;
 use std::alloc::Global;
-use std::process::Abort;
 
 /// As many blocks as there may be.
 const BLOCKS: u32 = 65_536;
@@ -61,247 +60,6 @@ fn a_list_takes_all_blocks(rt: HostRuntime) -> Result<(), Memory> {
     run(&rt, rt.alloc(), &mut store, &Protected::new(), &script)
 }
 
-/// How many entries a directory has.
-const ENTRIES: u32 = 4096;
-
-/// Adds the names of the entries in a directory, in path order.
-fn push_names(names: &mut Vec<String>, alloc: Global, directory: char) -> Result<(), Memory> {
-    for number in 0..ENTRIES {
-        names.push(format!(in alloc; "{directory}/{number:04}")?)?;
-    }
-    Ok(())
-}
-
-/// The numbers below 4,096, each once, far from those before and after it.
-fn scattered(number: u32) -> u32 {
-    number.wrapping_mul(2731) & (ENTRIES - 1)
-}
-
-/// The name of the place; empty after the last one.
-fn name(names: &[String], place: u32) -> &[u8] {
-    match names.get(place as usize) {
-        Some(name) => name.as_bytes(),
-        None => b"",
-    }
-}
-
-/// Makes two directories.
-const DIRECTORIES: &[Step<'static>] = &[
-    Step::Performs(Action::CreateDirectory, b"d", b"", 0x50, 1, 65_535),
-    Step::Performs(Action::CreateDirectory, b"e", b"", 0x50, 1, 65_534),
-];
-
-/// Makes the entries in the one.
-fn entries(alloc: Global, names: &[String]) -> Result<Vec<Step<'_>>, Memory> {
-    let mut steps = Vec::new(alloc);
-    for number in 0..ENTRIES {
-        let name = name(names, scattered(number));
-        steps.push(Step::Performs(Action::CreateFile, name, b"", 0x00, 1, 65_533 - number))?;
-    }
-    Ok(steps)
-}
-
-/// Moves each entry of the one directory into the other, where its number is another one.
-fn renames<'a>(
-    alloc: Global,
-    old: &'a [String],
-    new: &'a [String],
-) -> Result<Vec<Step<'a>>, Memory> {
-    let mut steps = Vec::new(alloc);
-    for number in 0..ENTRIES {
-        let old = name(old, scattered(number));
-        let new = name(new, scattered(ENTRIES - 1 - number));
-        steps.push(Step::Performs(Action::RenameFile, old, new, 0x20, 0, 61_438))?;
-    }
-    Ok(steps)
-}
-
-/// Removes the entries.
-fn removals(alloc: Global, names: &[String]) -> Result<Vec<Step<'_>>, Memory> {
-    let mut steps = Vec::new(alloc);
-    for number in 0..ENTRIES {
-        let name = name(names, number);
-        steps.push(Step::Performs(Action::DeleteFile, name, b"", 0x10, 1, 61_439 + number))?;
-    }
-    Ok(steps)
-}
-
-/// Removes the two directories.
-const NO_DIRECTORIES: &[Step<'static>] = &[
-    Step::Performs(Action::RemoveDirectory, b"d", b"", 0x60, 1, 65_535),
-    Step::Performs(Action::RemoveDirectory, b"e", b"", 0x60, 1, BLOCKS),
-];
-
-/// Adds the empty files of these names.
-fn push_files<'a>(rows: &mut Vec<Stands<'a>>, names: &'a [String]) -> Result<(), Memory> {
-    for name in names {
-        rows.push((name.as_bytes(), Kind::File, 0, 0))?;
-    }
-    Ok(())
-}
-
-/// What is where the entries are in the first of the two directories, or else in the second one: all, in path
-/// order.
-fn listing(alloc: Global, names: &[String], is_first: bool) -> Result<Vec<Stands<'_>>, Memory> {
-    let mut rows = Vec::new(alloc);
-    rows.push((b"d".as_slice(), Kind::Directory, 0, 0))?;
-    if is_first {
-        push_files(&mut rows, names)?;
-    }
-    rows.push((b"e".as_slice(), Kind::Directory, 0, 0))?;
-    if !is_first {
-        push_files(&mut rows, names)?;
-    }
-    Ok(rows)
-}
-
-/// Each name is found as that of an empty file.
-fn finds(alloc: Global, names: &[String]) -> Result<Vec<Step<'_>>, Memory> {
-    let mut steps = Vec::new(alloc);
-    for name in names {
-        steps.push(Step::Shows(Shown::Octets(name.as_bytes(), 0, 0, b"")))?;
-    }
-    Ok(steps)
-}
-
-/// The next number, and the first and the last of the entries in the second directory, are nowhere.
-const FIRST_FULL: &[Step<'static>] = &[
-    Step::Shows(Shown::Deepest(b"d/4096", None)),
-    Step::Shows(Shown::Deepest(b"e/4096", None)),
-    Step::Shows(Shown::Deepest(b"e/0000", None)),
-    Step::Shows(Shown::Deepest(b"e/4095", None)),
-];
-
-/// The same of the entries in the first one.
-const SECOND_FULL: &[Step<'static>] = &[
-    Step::Shows(Shown::Deepest(b"d/4096", None)),
-    Step::Shows(Shown::Deepest(b"e/4096", None)),
-    Step::Shows(Shown::Deepest(b"d/0000", None)),
-    Step::Shows(Shown::Deepest(b"d/4095", None)),
-];
-
-/// Whether just these are listed, those at and below the directory are there, and the longest path has this many names.
-fn shows_rows<S: Filestore>(
-    alloc: Global,
-    store: &S,
-    listing: &[Stands<'_>],
-    directory: &[u8],
-    standing: &[Stands<'_>],
-    names: u8,
-) -> Result<bool, Memory> {
-    let top = parsed(alloc, directory)?;
-    Ok(
-        deepest(store, &top) == Some(names)
-            && are_listed(alloc, &store.listing(alloc)?, listing)?
-            && are_standing(alloc, &store.standing(alloc, &top)?, standing)?,
-    )
-}
-
-/// The entries are in the first of the two directories, or else in the second one: whether all is shown so.
-fn shows_entries<S: Filestore>(
-    alloc: Global,
-    store: &S,
-    names: &[String],
-    is_first: bool,
-) -> Result<bool, Memory> {
-    let rows = listing(alloc, names, is_first)?;
-    if is_first {
-        shows_rows(alloc, store, &rows, b"d", first_rows(&rows), 2)
-    } else {
-        shows_rows(alloc, store, &rows, b"e", last_rows(&rows), 2)
-    }
-}
-
-/// The entries are found in the one directory and not in the other, and all is shown so.
-fn has_entries<S: Filestore>(
-    rt: &impl Abort,
-    alloc: Global,
-    store: &mut S,
-    names: &[String],
-    is_first: bool,
-) -> Result<(), Memory> {
-    let none = Protected::new();
-    let absent = if is_first { FIRST_FULL } else { SECOND_FULL };
-    take(rt, alloc, store, &none, "finds", &finds(alloc, names)?)?;
-    take(rt, alloc, store, &none, "absent", absent)?;
-    let holds = shows_entries(alloc, store, names, is_first)?;
-    assert!(rt; holds);
-    Ok(())
-}
-
-/// Makes the directories, and the entries in the first one.
-fn make_entries<S: Filestore>(
-    rt: &impl Abort,
-    alloc: Global,
-    store: &mut S,
-    names: &[String],
-) -> Result<(), Memory> {
-    let none = Protected::new();
-    take(rt, alloc, store, &none, "directories", DIRECTORIES)?;
-    take(rt, alloc, store, &none, "entries", &entries(alloc, names)?)?;
-    has_entries(rt, alloc, store, names, true)
-}
-
-/// Moves the entries into the second directory.
-fn move_entries<S: Filestore>(
-    rt: &impl Abort,
-    alloc: Global,
-    store: &mut S,
-    old: &[String],
-    new: &[String],
-) -> Result<(), Memory> {
-    let moves = renames(alloc, old, new)?;
-    take(rt, alloc, store, &Protected::new(), "renames", &moves)?;
-    has_entries(rt, alloc, store, new, false)
-}
-
-/// Removes them, and the directories.
-fn remove_entries<S: Filestore>(
-    rt: &impl Abort,
-    alloc: Global,
-    store: &mut S,
-    names: &[String],
-) -> Result<(), Memory> {
-    let none = Protected::new();
-    take(
-        rt,
-        alloc,
-        store,
-        &none,
-        "removals",
-        &removals(alloc, names)?,
-    )?;
-    take(rt, alloc, store, &none, "no directories", NO_DIRECTORIES)
-}
-
-#[test]
-fn a_directory_has_4096_entries(rt: HostRuntime) -> Result<(), Memory> {
-    let mut old = Vec::new(rt.alloc());
-    let mut new = Vec::new(rt.alloc());
-    push_names(&mut old, rt.alloc(), 'd')?;
-    push_names(&mut new, rt.alloc(), 'e')?;
-    let mut store = TreeStore::new(rt.alloc(), BLOCKS)?;
-    make_entries(&rt, rt.alloc(), &mut store, &old)?;
-    move_entries(&rt, rt.alloc(), &mut store, &old, &new)?;
-    remove_entries(&rt, rt.alloc(), &mut store, &new)
-}
-
-/// All rows but the last one.
-fn first_rows<'a>(rows: &'a [Stands<'a>]) -> &'a [Stands<'a>] {
-    match rows {
-        [first @ .., _] => first,
-        [] => rows,
-    }
-}
-
-/// All rows but the first one.
-fn last_rows<'a>(rows: &'a [Stands<'a>]) -> &'a [Stands<'a>] {
-    match rows {
-        [_, last @ ..] => last,
-        [] => rows,
-    }
-}
-
 /// A path of as many and as long names as there may be: 96 equal letters each, the first name those of one letter, and
 /// the others `n`.
 fn long(alloc: Global, first: u8) -> Result<Vec<u8>, Memory> {
@@ -329,112 +87,54 @@ fn long_rows(alloc: Global, path: &[u8]) -> Result<Vec<Stands<'_>>, Memory> {
     Ok(rows)
 }
 
-/// Makes the directories in one another.
-fn made(alloc: Global, path: &[u8]) -> Result<Vec<Step<'_>>, Memory> {
+/// The directories are made in one another, and a file in the last one. The first directory gets another name, of which
+/// only the letters differ, and all is removed. The rows are what exists before and after that.
+fn steps<'a>(
+    alloc: Global,
+    (old, old_rows): (&'a [u8], &'a [Stands<'a>]),
+    (new, new_rows): (&'a [u8], &'a [Stands<'a>]),
+) -> Result<Vec<Step<'a>>, Memory> {
+    let (first, other) = (beginning(old, 1), beginning(new, 1));
     let mut steps = Vec::new(alloc);
     for names in 1..8u32 {
-        let directory = beginning(path, names);
+        let directory = beginning(old, names);
         let free = BLOCKS - names;
         steps.push(Step::Performs(Action::CreateDirectory, directory, b"", 0x50, 1, free))?;
     }
-    Ok(steps)
-}
-
-/// Makes the file.
-fn delivered(file: &[u8]) -> [Step<'_>; 4] {
-    [
+    steps.extend_from_slice(&[
         Step::Takes(Asked::Extend(0, 6), 1, 65_528),
         Step::Puts(0, 0, b"octets"),
-        Step::Takes(Asked::Install(0, file), 1, 65_527),
-        Step::Shows(Shown::Octets(file, 6, 0, b"octets")),
-    ]
-}
-
-/// The first directory gets another name.
-fn renamed<'a>(old: &'a [u8], new: &'a [u8]) -> [Step<'a>; 2] {
-    [
-        Step::Performs(Action::RenameFile, old, new, 0x20, 0, 65_527),
-        Step::Shows(Shown::Deepest(old, None)),
-    ]
-}
-
-/// The file has its octets, and is removed.
-fn deleted(file: &[u8]) -> [Step<'_>; 2] {
-    [
-        Step::Shows(Shown::Octets(file, 6, 0, b"octets")),
-        Step::Performs(Action::DeleteFile, file, b"", 0x10, 2, 65_529),
-    ]
-}
-
-/// Removes the directories, the deepest one first.
-fn unmade(alloc: Global, path: &[u8]) -> Result<Vec<Step<'_>>, Memory> {
-    let mut steps = Vec::new(alloc);
+        Step::Takes(Asked::Install(0, old), 1, 65_527),
+        Step::Shows(Shown::Octets(old, 6, 0, b"octets")),
+        Step::Shows(Shown::Deepest(first, Some(8))),
+        Step::Shows(Shown::Listing(old_rows)),
+        Step::Shows(Shown::Standing(first, old_rows)),
+        Step::Performs(Action::RenameFile, first, other, 0x20, 0, 65_527),
+        Step::Shows(Shown::Deepest(first, None)),
+        Step::Shows(Shown::Deepest(other, Some(8))),
+        Step::Shows(Shown::Listing(new_rows)),
+        Step::Shows(Shown::Standing(other, new_rows)),
+        Step::Shows(Shown::Octets(new, 6, 0, b"octets")),
+        Step::Performs(Action::DeleteFile, new, b"", 0x10, 2, 65_529),
+    ])?;
     for above in 0..7u32 {
-        let directory = beginning(path, 7 - above);
+        let directory = beginning(new, 7 - above);
         let free = 65_530 + above;
         steps.push(Step::Performs(Action::RemoveDirectory, directory, b"", 0x60, 1, free))?;
     }
     Ok(steps)
 }
 
-/// Just the directories and the file exist.
-fn stands_long<S: Filestore>(
-    rt: &impl Abort,
-    alloc: Global,
-    store: &S,
-    path: &[u8],
-) -> Result<(), Memory> {
-    let rows = long_rows(alloc, path)?;
-    let holds = shows_rows(alloc, store, &rows, beginning(path, 1), &rows, 8)?;
-    assert!(rt; holds);
-    Ok(())
-}
-
-/// Makes all at the path.
-fn make_long<S: Filestore>(
-    rt: &impl Abort,
-    alloc: Global,
-    store: &mut S,
-    path: &[u8],
-) -> Result<(), Memory> {
-    let none = Protected::new();
-    take(rt, alloc, store, &none, "makes", &made(alloc, path)?)?;
-    take(rt, alloc, store, &none, "delivers", &delivered(path))?;
-    stands_long(rt, alloc, store, path)
-}
-
-/// Moves it to another one.
-fn move_long<S: Filestore>(
-    rt: &impl Abort,
-    alloc: Global,
-    store: &mut S,
-    old: &[u8],
-    new: &[u8],
-) -> Result<(), Memory> {
-    let moves = renamed(beginning(old, 1), beginning(new, 1));
-    take(rt, alloc, store, &Protected::new(), "renames", &moves)?;
-    stands_long(rt, alloc, store, new)
-}
-
-/// Removes it.
-fn remove_long<S: Filestore>(
-    rt: &impl Abort,
-    alloc: Global,
-    store: &mut S,
-    path: &[u8],
-) -> Result<(), Memory> {
-    let none = Protected::new();
-    take(rt, alloc, store, &none, "deletes", &deleted(path))?;
-    take(rt, alloc, store, &none, "removes", &unmade(alloc, path)?)
-}
-
-/// The first directory gets another name, of which only the letters differ.
 #[test]
 fn a_path_has_eight_names_of_96_octets(rt: HostRuntime) -> Result<(), Memory> {
-    let old = long(rt.alloc(), b'n')?;
-    let new = long(rt.alloc(), b'm')?;
-    let mut store = TreeStore::new(rt.alloc(), BLOCKS)?;
-    make_long(&rt, rt.alloc(), &mut store, &old)?;
-    move_long(&rt, rt.alloc(), &mut store, &old, &new)?;
-    remove_long(&rt, rt.alloc(), &mut store, &new)
+    let alloc = rt.alloc();
+    let (old, new) = (long(alloc, b'n')?, long(alloc, b'm')?);
+    let (old_rows, new_rows) = (long_rows(alloc, &old)?, long_rows(alloc, &new)?);
+    let steps = steps(alloc, (&old, &old_rows), (&new, &new_rows))?;
+    let script = Script {
+        name: "a long path",
+        parts: &[&steps],
+    };
+    let mut store = TreeStore::new(alloc, BLOCKS)?;
+    run(&rt, alloc, &mut store, &Protected::new(), &script)
 }

@@ -1,9 +1,9 @@
-//! A store of more than forty entries in several directories, and each change of it with ample memory.
+//! A store of more than forty entries in several directories, and each change of it with ample memory. `worked` runs
+//! these scripts.
 
 use super::calls::Asked;
-use super::steps::{Script, Shown, Stands, Step, run_on_both};
-use cfdp_actions::{Kind, Protected};
-use cfdp_paths::Memory;
+use super::steps::{Script, Shown, Stands, Step};
+use cfdp_actions::Kind;
 use cfdp_status::Action;
 
 /// Five directories with eight empty files in each.
@@ -119,7 +119,7 @@ const MOVE_OCTETS: &[Step<'static>] = &[
     Step::Shows(Shown::Standing(b"d", STANDING)),
 ];
 
-static SCRIPTS: [Script<'static>; 2] = [
+pub static SCRIPTS: [Script<'static>; 2] = [
     Script {
         name: "changes",
         parts: &[FILL, CHANGE],
@@ -129,11 +129,3 @@ static SCRIPTS: [Script<'static>; 2] = [
         parts: &[FILL, MOVE_OCTETS],
     },
 ];
-
-#[test]
-fn scripts(rt: HostRuntime) -> Result<(), Memory> {
-    for script in &SCRIPTS {
-        run_on_both(&rt, rt.alloc(), &Protected::new(), script)?;
-    }
-    Ok(())
-}

@@ -1,10 +1,9 @@
 //! More names of one hash than the index of the store inside an arena has in a list: they are found, listed, removed
-//! and renamed like others.
+//! and renamed like others. `worked` runs these scripts.
 
 use super::calls::Asked;
-use super::steps::{Script, Shown, Stands, Step, run_on_both};
-use cfdp_actions::{Kind, Protected};
-use cfdp_paths::Memory;
+use super::steps::{Script, Shown, Stands, Step};
+use cfdp_actions::Kind;
 use cfdp_status::Action;
 use std::hash::{FoldHasher, Hasher};
 
@@ -169,7 +168,7 @@ const IN_DIRECTORIES: &[Step<'static>] = &[
     Step::Shows(Shown::Deepest(IN_K, None)),
 ];
 
-static SCRIPTS: [Script<'static>; 4] = [
+pub static SCRIPTS: [Script<'static>; 4] = [
     Script {
         name: "finds",
         parts: &[CREATES, FINDS],
@@ -187,14 +186,6 @@ static SCRIPTS: [Script<'static>; 4] = [
         parts: &[CREATES, IN_DIRECTORIES],
     },
 ];
-
-#[test]
-fn scripts(rt: HostRuntime) -> Result<(), Memory> {
-    for script in &SCRIPTS {
-        run_on_both(&rt, rt.alloc(), &Protected::new(), script)?;
-    }
-    Ok(())
-}
 
 /// The names have one hash indeed.
 #[test]

@@ -1,7 +1,9 @@
-//! Worked scripts, each run on a `ListStore` and a `TreeStore` of 64 blocks.
+//! Worked scripts, each run on a `ListStore` and a `TreeStore` of 64 blocks. Eight protected paths are in
+//! `.ci/cases/run/lines.txt`.
 
 use super::calls::{Asked, parsed};
 use super::steps::{Script, Shown, Stands, Step, run_on_both};
+use super::{many, one_hash};
 use cfdp_actions::{Filestore, Kind, ListStore, Protected};
 use cfdp_paths::Memory;
 use cfdp_status::Action;
@@ -227,7 +229,11 @@ static SCRIPTS: [Script<'static>; 9] = [
 
 #[test]
 fn scripts(rt: HostRuntime) -> Result<(), Memory> {
-    for script in &SCRIPTS {
+    for script in SCRIPTS
+        .iter()
+        .chain(&many::SCRIPTS)
+        .chain(&one_hash::SCRIPTS)
+    {
         run_on_both(&rt, rt.alloc(), &Protected::new(), script)?;
     }
     Ok(())
@@ -261,49 +267,6 @@ fn protects(rt: HostRuntime) -> Result<(), Memory> {
 fn adds(alloc: Global, protected: &mut Protected, path: &[u8]) -> Result<bool, Memory> {
     let path = parsed(alloc, path)?;
     Ok(protected.add(path).is_ok())
-}
-
-fn covers(alloc: Global, protected: &Protected, path: &[u8]) -> Result<bool, Memory> {
-    let path = parsed(alloc, path)?;
-    Ok(protected.covers(&path))
-}
-
-/// A path, whether it is covered, whether it is then protected, and whether it is covered afterwards.
-type Protects = (&'static [u8], bool, bool, bool);
-
-/// Eight paths are protected, and what is below them; no ninth is.
-static EIGHT_PATHS: [Protects; 11] = [
-    (b"a", false, true, true),
-    (b"b", false, true, true),
-    (b"c", false, true, true),
-    (b"d", false, true, true),
-    (b"e", false, true, true),
-    (b"f", false, true, true),
-    (b"g", false, true, true),
-    (b"h", false, true, true),
-    (b"i", false, false, false),
-    (b"h/i", true, false, true),
-    (b"hi", false, false, false),
-];
-
-/// Whether a row holds.
-fn is_so(alloc: Global, protected: &mut Protected, row: &Protects) -> Result<bool, Memory> {
-    let (path, before, added, behind) = row;
-    Ok(
-        covers(alloc, protected, path)? == *before
-            && adds(alloc, protected, path)? == *added
-            && covers(alloc, protected, path)? == *behind,
-    )
-}
-
-#[test]
-fn protects_eight_paths(rt: HostRuntime) -> Result<(), Memory> {
-    let mut protected = Protected::new();
-    for row in &EIGHT_PATHS {
-        let holds = is_so(rt.alloc(), &mut protected, row)?;
-        assert!(rt; holds, "at {:?}", row.0);
-    }
-    Ok(())
 }
 
 /// The changes of the one store take memory, those of the other none.

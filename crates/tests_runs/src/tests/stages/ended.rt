@@ -1,6 +1,7 @@
-//! Stages after the file is whole, or after the transaction ended.
+//! Stages after the file is whole, or after the transaction ended: each input where it is executed or over, and calls
+//! where it waits or is closed. What PDUs, cancels and time do there is in `.ci/cases/run/stages.txt`.
 
-use super::{Input, Scene, each_input_holds};
+use super::{Input, Scene, all_hold, each_input_holds};
 use std::alloc::AllocError;
 
 static EXECUTING: Scene = Scene {
@@ -269,56 +270,8 @@ static WAITING: Scene = Scene {
         Input::Finish,
     ],
     cases: &[
-        (Input::Metadata, "1/5 duplicate\n", "waiting"),
-        (Input::Data, "1/5 idle\n", "waiting"),
-        (
-            Input::Eof,
-            "\
-            send 28000300010502064001\n\
-            1/5 idle\n",
-            "waiting",
-        ),
-        (
-            Input::EofCancel,
-            "\
-            send 280003000105020640f1\n\
-            1/5 idle\n",
-            "waiting",
-        ),
-        (Input::AckEof, "1/5 idle\n", "waiting"),
-        (Input::AckFinished, "1/5 acknowledged\n", "closed"),
-        (Input::Time(&[14]), "", "waiting"),
-        (
-            Input::Time(&[15]),
-            "\
-            send 280002000105020502\n\
-            1/5 expired\n",
-            "waiting",
-        ),
-        (
-            Input::Time(&[15, 25]),
-            "\
-            send 280002000105020502\n\
-            1/5 expired\n",
-            "waiting",
-        ),
-        (Input::Time(&[15, 25, 34]), "", "waiting"),
-        (
-            Input::Time(&[15, 25, 35]),
-            "\
-            tell fault 1/5 1\n\
-            1/5 faulted\n",
-            "closed",
-        ),
         (Input::Work, "", "waiting"),
         (Input::Finish, "", "waiting"),
-        (Input::PromptNak, "1/5 idle\n", "waiting"),
-        (Input::PromptKeepAlive, "1/5 idle\n", "waiting"),
-        (Input::Nak, "pdu not-ours\n", "waiting"),
-        (Input::KeepAlive, "pdu not-ours\n", "waiting"),
-        (Input::Finished, "pdu not-ours\n", "waiting"),
-        (Input::Cancel, "1/5 idle\n", "waiting"),
-        (Input::AllData, "1/5 idle\n", "waiting"),
         (Input::Forget, "", "waiting"),
     ],
 };
@@ -335,36 +288,9 @@ static CLOSED: Scene = Scene {
         Input::AckFinished,
     ],
     cases: &[
-        (Input::Metadata, "1/5 duplicate\n", "closed"),
-        (Input::Data, "1/5 idle\n", "closed"),
-        (
-            Input::Eof,
-            "\
-            send 28000300010502064002\n\
-            1/5 idle\n",
-            "closed",
-        ),
-        (
-            Input::EofCancel,
-            "\
-            send 280003000105020640f2\n\
-            1/5 idle\n",
-            "closed",
-        ),
-        (Input::AckEof, "1/5 idle\n", "closed"),
-        (Input::AckFinished, "1/5 idle\n", "closed"),
-        (Input::Time(&[15]), "", "closed"),
-        (Input::Time(&[1000]), "", "closed"),
         (Input::Work, "", "closed"),
         (Input::Finish, "", "closed"),
         (Input::Forget, "", "undefined"),
-        (Input::PromptNak, "1/5 idle\n", "closed"),
-        (Input::PromptKeepAlive, "1/5 idle\n", "closed"),
-        (Input::Nak, "pdu not-ours\n", "closed"),
-        (Input::KeepAlive, "pdu not-ours\n", "closed"),
-        (Input::Finished, "pdu not-ours\n", "closed"),
-        (Input::Cancel, "1/5 unknown\n", "closed"),
-        (Input::AllData, "1/5 idle\n", "closed"),
     ],
 };
 
@@ -438,22 +364,8 @@ static CLOSED_UNACKNOWLEDGED: Scene = Scene {
         Input::Finish,
     ],
     cases: &[
-        (Input::Metadata, "1/5 duplicate\n", "closed"),
-        (Input::Data, "1/5 idle\n", "closed"),
-        (Input::AllData, "1/5 idle\n", "closed"),
-        (Input::Eof, "1/5 idle\n", "closed"),
-        (Input::EofCancel, "1/5 idle\n", "closed"),
-        (Input::AckEof, "1/5 idle\n", "closed"),
-        (Input::AckFinished, "1/5 idle\n", "closed"),
-        (Input::PromptNak, "1/5 idle\n", "closed"),
-        (Input::PromptKeepAlive, "1/5 idle\n", "closed"),
-        (Input::Nak, "pdu not-ours\n", "closed"),
-        (Input::KeepAlive, "pdu not-ours\n", "closed"),
-        (Input::Finished, "pdu not-ours\n", "closed"),
-        (Input::Time(&[1000]), "", "closed"),
         (Input::Work, "", "closed"),
         (Input::Finish, "", "closed"),
-        (Input::Cancel, "1/5 unknown\n", "closed"),
         (Input::Forget, "", "undefined"),
     ],
 };
@@ -475,12 +387,9 @@ fn over(rt: HostRuntime) -> Result<(), AllocError> {
 }
 
 #[test]
-fn waiting(rt: HostRuntime) -> Result<(), AllocError> {
-    each_input_holds(&rt, rt.alloc(), &WAITING)
-}
-
-#[test]
-fn closed(rt: HostRuntime) -> Result<(), AllocError> {
-    each_input_holds(&rt, rt.alloc(), &CLOSED)?;
-    each_input_holds(&rt, rt.alloc(), &CLOSED_UNACKNOWLEDGED)
+fn calls(rt: HostRuntime) -> Result<(), AllocError> {
+    for scene in [&WAITING, &CLOSED, &CLOSED_UNACKNOWLEDGED] {
+        all_hold(&rt, rt.alloc(), scene)?;
+    }
+    Ok(())
 }

@@ -1,8 +1,6 @@
 //! The worked examples of the format, the faults, and a slow reader beside the real one.
 
 mod limits;
-mod meanings;
-mod receiving;
 mod slow;
 mod writing;
 
@@ -290,7 +288,7 @@ fn numbers_as_the_slow_reader(rt: HostRuntime) -> Result<(), AllocError> {
 }
 
 // What is no PDU, and its fault, where `cfdp show` has another result: it reads CRCs, and skips a line of no octets.
-// Others are in `.ci/cases/show.txt`.
+// Others are in `.ci/cases/{show, pdus}.txt`.
 type Fault = (&'static str, PduFault);
 
 static FAULTS: [Fault; 3] = [
@@ -317,54 +315,4 @@ impl Row for Fault {
 #[test]
 fn faults(rt: HostRuntime) {
     all_hold(&rt, rt.alloc(), &FAULTS);
-}
-
-// A field that is wrong after one that is right.
-struct WrongBehindRight(&'static [u8]);
-
-static WRONG_BEHIND_RIGHT: [WrongBehindRight; 4] = [
-    // a request, and one with no action
-    WrongBehindRight(
-        b"\x24\x00\x12\x00\x01\x05\x02\x07\x40\x00\x00\x00\x00\x00\x00\x00\x03\x00\x01a\x00\x03\x90\x01a",
-    ),
-    // a request, and a field that is cut
-    WrongBehindRight(
-        b"\x24\x00\x0f\x00\x01\x05\x02\x07\x40\x00\x00\x00\x00\x00\x00\x00\x03\x00\x01a\x00\x03",
-    ),
-    // a response, and one with no status
-    WrongBehindRight(
-        b"\x2c\x00\x0e\x00\x01\x05\x02\x05\x03\x01\x04\x00\x01a\x00\x01\x04\x02\x01a\x00",
-    ),
-    // a response, and an entity ID of no octet
-    WrongBehindRight(b"\x2c\x00\x0a\x00\x01\x05\x02\x05\x03\x01\x04\x00\x01a\x00\x06\x00"),
-];
-
-impl Row for WrongBehindRight {
-    fn holds(&self, alloc: Global) -> Result<bool, AllocError> {
-        Ok(fault_in(alloc, self.0) == Some(PduFault::BadTlv))
-    }
-}
-
-// It is found before memory is asked for, so each allocation may be refused.
-#[test]
-fn faults_before_memory(rt: HostRuntime) {
-    all_hold(&rt, rt.alloc(), &WRONG_BEHIND_RIGHT);
-}
-
-// Whether a PDU that is cut anywhere is truncated.
-fn cuts_are_told(alloc: Global, pdu: &[u8]) -> bool {
-    for len in 0..pdu.len() {
-        if fault_in(alloc, &pdu[..len]) != Some(PduFault::Truncated) {
-            return false;
-        }
-    }
-    true
-}
-
-// A PDU of 20 octets.
-#[test]
-fn cuts(rt: HostRuntime) -> Result<(), AllocError> {
-    let pdu = octets(rt.alloc(), WRITTEN[0])?;
-    assert!(rt; cuts_are_told(rt.alloc(), &pdu));
-    Ok(())
 }

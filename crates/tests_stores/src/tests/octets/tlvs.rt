@@ -11,7 +11,7 @@ use std::alloc::{AllocError, Global};
 // A request TLV, and its action and names.
 type Asked = (&'static [u8], Action, &'static [u8], Option<&'static [u8]>);
 
-static REQUESTS: [Asked; 11] = [
+static REQUESTS: [Asked; 12] = [
     (b"\x00\x03\x00\x01a", Action::CreateFile, b"a", None),
     (b"\x00\x03\x10\x01a", Action::DeleteFile, b"a", None),
     (b"\x00\x03\x50\x01d", Action::CreateDirectory, b"d", None),
@@ -38,6 +38,12 @@ static REQUESTS: [Asked; 11] = [
         Some(b"b"),
     ),
     (b"\x00\x04\x00\x02/a", Action::CreateFile, b"/a", None),
+    (
+        b"\x00\x05\x20\x01a\x01b",
+        Action::RenameFile,
+        b"a",
+        Some(b"b"),
+    ),
 ];
 
 // A response TLV, and its status, names and message.
@@ -340,17 +346,6 @@ impl Row for NoResponse {
 fn faults(rt: HostRuntime) {
     all_hold(&rt, rt.alloc(), &REQUEST_FAULTS);
     all_hold(&rt, rt.alloc(), &RESPONSE_FAULTS);
-}
-
-// Whether requests whose values differ in the spare bits say the same.
-fn spare_bits_say_nothing(alloc: Global) -> Result<bool, AllocError> {
-    let spare = request_in(alloc, b"\x00\x03\x1f\x01a")?;
-    Ok(spare == request_in(alloc, b"\x00\x03\x10\x01a")?)
-}
-
-#[test]
-fn spare_bits(rt: HostRuntime) {
-    assert!(rt; spare_bits_say_nothing(rt.alloc()) == Ok(true));
 }
 
 // A field is appended after what is there.

@@ -1,9 +1,10 @@
-//! PDUs at their greatest lengths, each written and read back, and what is one octet longer.
+//! PDUs at their greatest lengths, each written and read back, and what is one octet longer. Requests of 254 and 255
+//! octets are in `.ci/cases/requests.txt`, and beside the slow reader.
 
 ghost use Rattle.std.specs.Prelude.{◌≡◌, true};
 ghost use Rattle.cfdp_pdus.specs.Canonical.{IsHeader};
 
-use super::{Row, all_hold, fault_in, is_agreed};
+use super::{Row, all_hold};
 use cfdp_pdus::*;
 use cfdp_status::{Action, Status};
 use cfdp_tlv::{FilestoreRequest, FilestoreResponse};
@@ -162,45 +163,4 @@ impl Row for Length {
 #[test]
 fn lengths(rt: HostRuntime) {
     all_hold(&rt, rt.alloc(), &LENGTHS);
-}
-
-// Metadata PDUs without a file, with one request, which renames a name of 125 octets to one of 126, so that its value
-// has 254 octets, or to one of 127: what is before the first name, the length of the second one, and the fault of
-// the whole.
-type Rename = (&'static [u8], u8, Option<PduFault>);
-
-static RENAMES: [Rename; 2] = [
-    (
-        b"\x24\x01\x08\x00\x01\x05\x02\x07\x40\x00\x00\x00\x00\x00\x00\x00\xfe\x20\x7d",
-        126,
-        None,
-    ),
-    (
-        b"\x24\x01\x09\x00\x01\x05\x02\x07\x40\x00\x00\x00\x00\x00\x00\x00\xff\x20\x7d",
-        127,
-        Some(PduFault::RequestTooLong),
-    ),
-];
-
-// The whole of such a PDU.
-fn rename(alloc: Global, before: &[u8], second_len: u8) -> Result<Vec<u8>, AllocError> {
-    let mut pdu = Vec::from_slice(alloc, before)?;
-    pdu.extend_from_slice(&[b'p'; 125])?;
-    pdu.push(second_len)?;
-    for _ in 0..second_len {
-        pdu.push(b'r')?;
-    }
-    Ok(pdu)
-}
-
-impl Row for Rename {
-    fn holds(&self, alloc: Global) -> Result<bool, AllocError> {
-        let pdu = rename(alloc, self.0, self.1)?;
-        Ok(fault_in(alloc, &pdu) == self.2 && is_agreed(alloc, &pdu))
-    }
-}
-
-#[test]
-fn longest_rename(rt: HostRuntime) {
-    all_hold(&rt, rt.alloc(), &RENAMES);
 }

@@ -1,4 +1,4 @@
-//! The messages to user of worked PDUs.
+//! The messages to user of worked PDUs, as `cfdp_pdus` lends them.
 
 use cfdp_pdus::*;
 
