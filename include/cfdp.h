@@ -26,18 +26,18 @@
  * path (those of the requests and of the destination, and each directory above one of them), twice the octets of
  * these paths, and twice those of the names in the Metadata PDU. That is at most 600000 octets for a transaction.
  * While cfdp_receive judges a Metadata PDU it also takes, and gives back, some 130 octets for each entry that is in a
- * directory which the PDU names, unless the PDU renames this directory and names nothing in it; and 40 for each
- * filestore request, if there are more than 64.
+ * directory which one of its requests changes and in which another names something; and 40 for each filestore request,
+ * if there are more than 64.
  * After the last cfdp_take nothing is kept but what cfdp_new took, and a table that grows once, by 57032 octets,
  * where many transactions come and go with more than 32 known at once. examples/c/memory.c counts it.
  *
  * THE LONGEST CALLS on a full filestore of 65536 blocks take, in millions of instructions: cfdp_receive 300 (Metadata:
- * 63 renames of a directory of 60000 entries, and a request that names something in it), 48 (Metadata that names such
- * a directory and does not rename it), 3.0 (File Data at the end of a file of 7.8 MB of which nothing came) and 2.5
- * (Metadata: 64 renames of such a directory); cfdp_free 15 (64 lists of long paths are live), cfdp_step 10.5 (an
- * append of 3.9 MB), cfdp_put 8.1 (a file of 7.8 MB), cfdp_read 2.7 (7.8 MB), cfdp_new 1.6, cfdp_cancel 0.9 (a list
- * of 64 long paths), and as much each call by which such a list ends. Each other call takes less than 0.1.
- * docs/C.md has the longest case of each.
+ * 63 renames of a directory of 60000 entries, and a request that names something in it), 48 (Metadata that denies
+ * something in such a directory, and then the directory), 3.0 (File Data at the end of a file of 7.8 MB of which
+ * nothing came) and 2.5 (Metadata: 64 renames of such a directory); cfdp_free 15 (64 lists of long paths are live),
+ * cfdp_step 10.5 (an append of 3.9 MB), cfdp_put 8.1 (a file of 7.8 MB), cfdp_read 2.7 (7.8 MB), cfdp_new 1.6,
+ * cfdp_cancel 0.9 (a list of 64 long paths), and as much each call by which such a list ends. Each other call takes
+ * less than 0.1. docs/C.md has the longest case of each.
  *
  * NAMES begin with cfdp_ or CFDP_, and those of an enumeration say which one. Other CFDP packages use some of the
  * short names that came before, such as CFDP_DONE. They are macros at the end of this header until version 0.2.0;

@@ -357,6 +357,42 @@ static void prepare_deeper(uint32_t count) {
     receive(CFDP_COMPLETE);
 }
 
+/* A directory, and a list that is refused since it has entries. */
+static void prepare_removal(uint32_t count) {
+    make_directory(count);
+    make_metadata(LIST_NUMBER, 0, "");
+    add_request(REMOVE_DIRECTORY, "d", NULL);
+}
+
+static void prepare_denial(uint32_t count) {
+    make_directory(count);
+    make_metadata(LIST_NUMBER, 0, "");
+    add_request(DENY_DIRECTORY, "d", NULL);
+}
+
+/* A directory, and a list that first denies an entry of it. */
+static void prepare_denial_within(uint32_t count) {
+    char path[LONGEST_PATH + 1];
+    make_directory(count);
+    make_metadata(LIST_NUMBER, 0, "");
+    spell(path, 'd', order[0]);
+    add_request(DENY_FILE, path, NULL);
+    add_request(DENY_DIRECTORY, "d", NULL);
+}
+
+/* A directory, and a file that is refused since the directory is at its destination. */
+static void prepare_destination(uint32_t count) {
+    make_directory(count);
+    make_metadata(LIST_NUMBER, PIECE, "d");
+}
+
+/* What was made arrives, and is refused. */
+static uint32_t refuse(uint32_t size) {
+    (void)size;
+    receive(CFDP_REFUSED);
+    return 1;
+}
+
 /* The list that was made arrives, and is admitted. */
 static uint32_t admit(uint32_t size) {
     (void)size;
@@ -390,6 +426,12 @@ static void check_entries(char directory, uint32_t start, uint32_t stop, uint32_
             fail("another entry");
         note(order[i]);
     }
+}
+
+/* Nothing changed. */
+static void check_refused(uint32_t count) {
+    check_entries('d', 0, count, CFDP_DONE);
+    check_blocks(count + 1);
 }
 
 static void check_created(uint32_t count) {
@@ -707,6 +749,10 @@ static const struct workload workloads[] = {
     {"rename-falling", 70, 30000, 65000, FALLING, prepare_rename, run_list, check_renamed},
     {"rename-random", 70, 30000, 65000, RANDOM, prepare_rename, run_list, check_renamed},
     {"rename-one-hash", 70, 30000, 65000, ONE_HASH, prepare_rename, run_list, check_renamed},
+    {"remove-directory", 70, 30000, 65000, RANDOM, prepare_removal, refuse, check_refused},
+    {"deny-directory", 70, 30000, 65000, RANDOM, prepare_denial, refuse, check_refused},
+    {"deny-within", 70, 30000, 65000, RANDOM, prepare_denial_within, refuse, check_refused},
+    {"destination-directory", 70, 30000, 65000, RANDOM, prepare_destination, refuse, check_refused},
     {"move-admitted", 70, 30000, 65000, RANDOM, prepare_move, admit, check_move},
     {"moves-admitted", 70, 30000, 65000, RANDOM, prepare_moves, admit, check_moves},
     {"inside-admitted", 70, 30000, 65000, RANDOM, prepare_inside, admit, check_nothing},

@@ -38,7 +38,9 @@ enum action {
     APPEND = 0x30,
     REPLACE = 0x40,
     CREATE_DIRECTORY = 0x50,
-    DENY_FILE = 0x70
+    REMOVE_DIRECTORY = 0x60,
+    DENY_FILE = 0x70,
+    DENY_DIRECTORY = 0x80
 };
 
 /* In which order pieces are sent or read, and entries are made. ONE_HASH is RISING, with names of one hash. */

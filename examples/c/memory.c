@@ -3,7 +3,8 @@
  * for itself is not counted.
  *
  * It fails if cfdp_new takes another number of octets than CFDP_NEW_OCTETS says, if a Metadata PDU takes more than
- * docs/C.md says, or if anything is kept after the last outcome was taken. */
+ * docs/C.md says, also one that is refused since it has too many requests, or if anything is kept after the last
+ * outcome was taken. */
 #include "../../include/cfdp.h"
 #include <inttypes.h>
 #include <stdbool.h>
@@ -183,6 +184,30 @@ static bool run(const struct shape *shape) {
     return cfdp_free(&engine) == CFDP_ANSWER_DONE && in_use == 0 && blocks_in_use == 0 && right;
 }
 
+/* The most that a list of too many requests takes until it is refused: 40 octets for each request, of which a PDU has
+ * at most 16,381, and nothing for a name of no octets. */
+enum { MOST_REQUESTS = 16381, MOST_REFUSED = 40 * MOST_REQUESTS };
+
+/* A list of as many requests as a PDU has room for comes, and is refused. */
+static bool refuse(void) {
+    static const uint8_t head[] = {0x24, 0, 0, 0x00, 0x01, 1, 0x02, 0x07, 0x40, 0, 0, 0, 0, 0, 0};
+    static const uint8_t denial[] = {0x00, 2, 0x70, 0};
+    struct cfdp_reply reply = {0};
+    bool right = make_engine(64, 0);
+    size_t before = in_use, blocks_before = blocks_in_use;
+    length = 0;
+    put(head, sizeof head);
+    for (unsigned request = 0; request < MOST_REQUESTS; request++) put(denial, sizeof denial);
+    pdu[1] = (uint8_t)((length - 7) >> 8);
+    pdu[2] = (uint8_t)(length - 7);
+    most = in_use;
+    right &= cfdp_receive(&engine, pdu, length, &reply) == CFDP_ANSWER_DONE && reply.kind == CFDP_REPLY_REFUSED;
+    right &= most - before <= MOST_REFUSED && in_use == before && blocks_in_use == blocks_before;
+    printf("%d requests, in a PDU of %zu octets: it takes %zu octets (at most %d), and nothing once it is refused\n",
+        MOST_REQUESTS, length, most - before, MOST_REFUSED);
+    return cfdp_free(&engine) == CFDP_ANSWER_DONE && in_use == 0 && blocks_in_use == 0 && right;
+}
+
 /* What cfdp_new takes, without and with two prefixes of 13 octets together. */
 static bool measure(uint32_t blocks) {
     bool right = make_engine(blocks, 0) && in_use == CFDP_NEW_OCTETS(blocks);
@@ -198,6 +223,7 @@ int main(void) {
     bool right = true;
     for (size_t i = 0; i < sizeof filestores / sizeof *filestores; i++) right &= measure(filestores[i]);
     for (size_t i = 0; i < sizeof shapes / sizeof *shapes; i++) right &= run(&shapes[i]);
+    right &= refuse();
     puts(right ? "nothing is kept after the last take" : "wrong");
     return !right;
 }

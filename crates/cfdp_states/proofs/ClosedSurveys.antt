@@ -1,7 +1,9 @@
 -- What is at some paths, put into a map of extents with directories closed.
 --     on_ok, both_ok               what follows where a call succeeds
 --     nothing_closed, as_closed    no path;  the same test
---     adds_closed, closes          what is at some more paths;  one more directory that is closed
+--     inside_closed                one more path, which is in a closed directory
+--     adds_closed, one_closed      what is at some more paths;  one more directory that is closed
+--     over_filler, under_filler    what is known of the depth below a directory, where it is closed
 --     closed_view                  the view of what was put in
 use Rattle.std.proofs.Common.{◌≡◌, refl, sym, ◌∙◌, ap, subst, ◌⊎◌, inl, inr, Bool, true, false, cond, ◌||◌, ◌&&◌, is_some, OnOk, Result, Ok, Err, Option, Some, None, ℕ, ◌+◌, ◌-◌, ◌<◌, ◌≤◌, min, List, [], ◌∷◌, ◌++◌, map, length, replicate, take, take_all, get_or, if◌then◌else◌, true≢false, arith, le_refl}
 use Rattle.std.proofs.lemmas.Bool.{cases_lt, cases_Bool, or_cases, or_parts, or_left, or_right, false_from_ne_true}
@@ -13,7 +15,7 @@ use Rattle.std.proofs.lemmas.List.Folds.{list_any-append, list_any_more}
 use Rattle.cfdp_paths.specs.Paths.{Path, path_cmp, same_path, is_at_or_below, is_below}
 use Rattle.cfdp_paths.specs.PathMaps.{any_below}
 use Rattle.cfdp_paths.proofs.Below.{at_or_below-itself, prefixes_compare, is_below-Decides}
-use Rattle.cfdp_actions.specs.Filestore.{Node, Directory, File, Filestore, node_at, weight, weights, blocks, tree_at, deepest_of}
+use Rattle.cfdp_actions.specs.Filestore.{Node, Directory, File, Filestore, node_at, weight, weights, blocks, has_entries, tree_at, deepest_of}
 use Rattle.cfdp_leases.specs.Footprint.{Footprint, is_covered}
 use Rattle.cfdp_leases.proofs.Sets.{stands, stands-append_right, stands-append_cases}
 use Rattle.cfdp_states.specs.declared.extent.Extent.{Extent}
@@ -21,7 +23,7 @@ use Rattle.cfdp_states.specs.declared.extent.Extent.TheVariants as extent
 use Rattle.cfdp_states.specs.Alone.{alone}
 use Rattle.cfdp_states.specs.Sketching.{most_octets, extent_in, extent_at, Extents, Adds, total_blocks, IsOutline}
 use Rattle.cfdp_states.specs.Views.{most_count, most_need, only}
-use Rattle.cfdp_states.specs.Closed.{is_inside, Reaches, ReachesIn, AreAlike, IsStandIn, IsClosedSurvey, Closes, IsClosedViewOf}
+use Rattle.cfdp_states.specs.Closed.{is_inside, Knows, Reaches, ReachesIn, AreAlike, IsPartStandIn, IsPartSurvey, Closes, IsPartViewOf}
 use Rattle.cfdp_actions.proofs.Order.{paths_total, paths_exact, same_path-true, same_path-refl, same_path-is}
 use Rattle.cfdp_actions.proofs.Moves.{find-tree_at}
 use Rattle.cfdp_states.proofs.Trees.{short, weights-small}
@@ -29,7 +31,7 @@ use Rattle.cfdp_states.proofs.Counting.{enough, blocks-counted}
 use Rattle.cfdp_states.proofs.Viewing.{sketch, nothing_staged}
 use Rattle.cfdp_states.proofs.Surveys.{below_one, one_of}
 use Rattle.cfdp_states.proofs.Surveyed.{covered-lent}
-use Rattle.cfdp_states.proofs.StandIns.{below-at, reaches-up, found-any}
+use Rattle.cfdp_states.proofs.StandIns.{below-at, up_outside, reaches-up, has_entries-found, found-any}
 
 pub on_ok : {A E : Type 0} {P Q : Type 0} (r : Result A E) → (P → Q) → OnOk r P → OnOk r Q
 on_ok (Ok a) f p = f p
@@ -41,22 +43,39 @@ both_ok (Err e) f p q = tt
 
 -- ---- no path, and the same test
 
-pub nothing_closed : (F : Filestore) → IsClosedSurvey empty [] (λ p. false) F
-nothing_closed F = record {
+pub nothing_closed : (known : Bool) (F : Filestore) → IsPartSurvey known empty [] (λ p. false) F
+nothing_closed known F = record {
   told = λ p free. get-empty path_cmp p;
   kept = λ p. inl (get-empty path_cmp p);
   there = λ c s. absurd (true≢false (sym s));
   covered = λ c p s below. absurd (true≢false (sym s));
-  deep = λ c n s. absurd (true≢false (sym s));
+  deep = λ c n k s. absurd (true≢false (sym s));
 }
 
-pub as_closed : (m : Extents) (closed : List Path) (A B : Path → Bool) (F : Filestore) → IsClosedSurvey m closed A F → ((p : Path) → B p ≡ A p) →
-    IsClosedSurvey m closed B F
-as_closed m closed A B F s same = record {
+pub as_closed : (known : Bool) (m : Extents) (closed : List Path) (A B : Path → Bool) (F : Filestore) → IsPartSurvey known m closed A F →
+    ((p : Path) → B p ≡ A p) → IsPartSurvey known m closed B F
+as_closed known m closed A B F s same = record {
   told = λ p free. s.told p free ∙ ap (λ b. if b then extent_at F p else None) (sym (same p));
   kept = s.kept;
   there = s.there;
   covered = λ c p t below. same p ∙ s.covered c p t below;
+  deep = s.deep;
+}
+
+or_none : (a b : Bool) → b ≡ false → (a || b) ≡ a
+or_none true b e = refl
+or_none false b e = e
+
+-- ---- a path in a closed directory, which is not looked at
+
+pub inside_closed : (known : Bool) (m : Extents) (closed : List Path) (A : Path → Bool) (F : Filestore) (r : Path) → is_inside closed r ≡ true →
+    IsPartSurvey known m closed A F → IsPartSurvey known m closed (λ p. A p || is_at_or_below p r) F
+inside_closed known m closed A F r inside s = record {
+  told = λ p free. s.told p free ∙ ap (λ b. if b then extent_at F p else None) (sym (or_none (A p) (is_at_or_below p r)
+      (false_from_ne_true (is_at_or_below p r) (λ at. true≢false (sym inside ∙ up_outside closed p r free at)))));
+  kept = s.kept;
+  there = s.there;
+  covered = λ c p t below. or_left (A p) (is_at_or_below p r) (s.covered c p t below);
   deep = s.deep;
 }
 
@@ -77,15 +96,15 @@ node_there : (a : Option Node) → is_some (extent_in a) ≡ true → is_some a 
 node_there None h = h
 node_there (Some node) h = refl
 
-pub adds_closed : (m n : Extents) (closed : List Path) (A B : Path → Bool) (F : Filestore) → IsClosedSurvey m closed A F → Adds B F m n →
-    IsClosedSurvey n closed (λ p. A p || B p) F
-adds_closed m n closed A B F s adds = record {
+pub adds_closed : (known : Bool) (m n : Extents) (closed : List Path) (A B : Path → Bool) (F : Filestore) → IsPartSurvey known m closed A F → Adds B F m n →
+    IsPartSurvey known n closed (λ p. A p || B p) F
+adds_closed known m n closed A B F s adds = record {
   told = λ p free. adds p ∙ ap (λ v. if B p && is_some (extent_at F p) then extent_at F p else v) (s.told p free) ∙ either (A p) (B p) (extent_at F p);
   kept = λ p. kept_so p (adds p) (s.kept p);
   there = λ c t. ap is_some (adds c) ∙ stays_there (B c) (extent_at F c) (get m c) (s.there c t);
   covered = λ c p t below. or_left (A p) (B p) (s.covered c p t below);
-  deep = λ c k t. (
-    (λ r. let q = (s.deep c k t).0 r in record {
+  deep = λ c k d t. (
+    (λ r. let q = (s.deep c k d t).0 r in record {
       path = q.path;
       below = q.below;
       there = ap is_some (adds q.path) ∙ stays_there (B q.path) (extent_at F q.path) (get m q.path) q.there;
@@ -93,7 +112,7 @@ adds_closed m n closed A B F s adds = record {
     }),
     (λ r. elim (put_or_there (B r.path) (extent_at F r.path) (get m r.path) (ap is_some (sym (adds r.path)) ∙ r.there)) [
       | inl h ↦ record { path = r.path; below = r.below; there = node_there (node_at F r.path) h; deep = r.deep }
-      | inr h ↦ (s.deep c k t).1 (record { path = r.path; below = r.below; there = h; deep = r.deep })
+      | inr h ↦ (s.deep c k d t).1 (record { path = r.path; below = r.below; there = h; deep = r.deep })
     ]),
   );
 }
@@ -169,6 +188,17 @@ reaches-no_deeper F r k n is q =
     let deep = q.deep in
     omega (arith, is, most, deep)
 
+-- the filler is as deep as what is below the directory, as far as that is known, and no deeper
+pub over_filler : (known : Bool) (F : Filestore) (r : Path) (n : ℕ) → (known ≡ true → n ≡ deepest_of (tree_at F r)) → has_entries F r ≡ true → length r < n →
+    (k : ℕ) → Knows known k → k ≤ n → Reaches F r k
+over_filler true F r n is some long k d le = reaches-up F r r n k (at_or_below-itself r) le (reaches-deepest F r n (is refl) long)
+over_filler false F r n is some long k d le = subst (λ k. Reaches F r k) (sym d) (has_entries-found F r some)
+
+pub under_filler : (known : Bool) (F : Filestore) (r : Path) (n : ℕ) → (known ≡ true → n ≡ deepest_of (tree_at F r)) →
+    (k : ℕ) → Knows known k → Reaches F r k → k ≤ n
+under_filler true F r n is k d q = reaches-no_deeper F r k n (is refl) q
+under_filler false F r n is k d q = omega (arith, d)
+
 -- one path of a list, or the one after it
 last_or : (closed : List Path) (r c : Path) → stands c (closed ++ r ∷ []) → stands c closed ⊎ (c ≡ r)
 last_or closed r c h = elim (stands-append_cases c closed (r ∷ []) h) [
@@ -179,9 +209,9 @@ last_or closed r c h = elim (stands-append_cases c closed (r ∷ []) h) [
 last_in : (closed : List Path) (r : Path) → stands r (closed ++ r ∷ [])
 last_in closed r = stands-append_right r closed (r ∷ []) (or_left (same_path r r) false (same_path-refl r))
 
-module _ (m m' : Extents) (closed : List Path) (A : Path → Bool) (F : Filestore) (s : IsClosedSurvey m closed A F) (r : Path) (n : ℕ)
-    (here : extent_at F r ≡ Some extent.Directory) (is : n ≡ deepest_of (tree_at F r)) (long : length r < n)
-    (bare : any_below r (entries m) ≡ false) (closes : Closes m r n m') where
+module _ (known : Bool) (m m' : Extents) (closed : List Path) (A : Path → Bool) (F : Filestore) (s : IsPartSurvey known m closed A F) (r : Path) (n : ℕ)
+    (here : extent_at F r ≡ Some extent.Directory) (over : (k : ℕ) → Knows known k → k ≤ n → Reaches F r k)
+    (most : (k : ℕ) → Knows known k → Reaches F r k → k ≤ n) (bare : any_below r (entries m) ≡ false) (closes : Closes m r n m') where
   d : Path
   d = closes.0
 
@@ -230,10 +260,6 @@ module _ (m m' : Extents) (closed : List Path) (A : Path → Bool) (F : Filestor
             (sym (or_none (A x) (is_at_or_below x r) (false_from_ne_true (is_at_or_below x r) (λ at.
             true≢false (sym ((is_below-Decides x r).1 (at, λ e. true≢false (sym (same_path-is x r e) ∙ g))) ∙ out)))))
       ]
-    where
-      or_none : (a b : Bool) → b ≡ false → (a || b) ≡ a
-      or_none true b e = refl
-      or_none false b e = e
 
   kept_now : (x : Path) → (get m' x ≡ None) ⊎ ((get m' x ≡ Some extent.Directory) ⊎ (get m' x ≡ extent_at F x))
   kept_now x = elim (find_where x) [
@@ -260,11 +286,11 @@ module _ (m m' : Extents) (closed : List Path) (A : Path → Bool) (F : Filestor
   ]
 
   -- as deep
-  deep_in : (c : Path) (k : ℕ) → stands c (closed ++ r ∷ []) → Reaches F c k → ReachesIn m' c k
-  deep_in c k t q = elim (last_or closed r c t) [
-    | inl old ↦ let p = (s.deep c k old).0 q in record { path = p.path; below = p.below; there = stayed p.path p.there; deep = p.deep }
+  deep_in : (c : Path) (k : ℕ) → Knows known k → stands c (closed ++ r ∷ []) → Reaches F c k → ReachesIn m' c k
+  deep_in c k d t q = elim (last_or closed r c t) [
+    | inl old ↦ let p = (s.deep c k d old).0 q in record { path = p.path; below = p.below; there = stayed p.path p.there; deep = p.deep }
     | inr e ↦
-        let le = reaches-no_deeper F r k n is (subst (λ y. Reaches F y k) e q) in
+        let le = most k d (subst (λ y. Reaches F y k) e q) in
         let size = closes.1.1 in
         record {
           path = closes.0;
@@ -281,56 +307,54 @@ module _ (m m' : Extents) (closed : List Path) (A : Path → Bool) (F : Filestor
   ]
 
   -- and no deeper
-  filler_over : (c : Path) → stands c (closed ++ r ∷ []) → is_below (closes.0) c ≡ true → Reaches F c n
-  filler_over c t below = elim (prefixes_compare (closes.0) c r (below-at (closes.0) c below) (below-at (closes.0) r under)) [
+  filler_over : (c : Path) (k : ℕ) → Knows known k → k ≤ n → stands c (closed ++ r ∷ []) → is_below (closes.0) c ≡ true → Reaches F c k
+  filler_over c k d le t below = elim (prefixes_compare (closes.0) c r (below-at (closes.0) c below) (below-at (closes.0) r under)) [
     | inl h ↦ elim (last_or closed r c t) [
       | inl old ↦ elim (cases_Bool (same_path c r)) [
-        | inl e ↦ subst (λ y. Reaches F y n) (sym (same_path-true c r e)) (reaches-deepest F r n is long)
+        | inl e ↦ subst (λ y. Reaches F y k) (sym (same_path-true c r e)) (over k d le)
         | inr g ↦ nothing_yet c ((is_below-Decides c r).1 (h, λ e. true≢false (sym (same_path-is c r e) ∙ g))) (s.there c old)
       ]
-      | inr e ↦ subst (λ y. Reaches F y n) (sym e) (reaches-deepest F r n is long)
+      | inr e ↦ subst (λ y. Reaches F y k) (sym e) (over k d le)
     ]
-    | inr h ↦ reaches-up F r c n n h (le_refl n) (reaches-deepest F r n is long)
+    | inr h ↦ reaches-up F r c k k h (le_refl k) (over k d le)
   ]
 
-  no_deeper : (c : Path) (k : ℕ) → stands c (closed ++ r ∷ []) → ReachesIn m' c k → Reaches F c k
-  no_deeper c k t q = elim (find_where q.path) [
+  no_deeper : (c : Path) (k : ℕ) → Knows known k → stands c (closed ++ r ∷ []) → ReachesIn m' c k → Reaches F c k
+  no_deeper c k d t q = elim (find_where q.path) [
     | at_filler e f ↦
-        let over = filler_over c t (subst (λ y. is_below y c ≡ true) e q.below) in
         let size : length q.path ≡ n = ap length e ∙ closes.1.1 in
         let deep = q.deep in
-        let more = over.deep in
-        record { path = over.path; below = over.below; there = over.there; deep = omega (arith, size, deep, more) }
+        filler_over c k d (omega (arith, size, deep)) t (subst (λ y. is_below y c ≡ true) e q.below)
     | at_root e f ↦ record { path = q.path; below = q.below; there = ap (λ y. is_some (node_at F y)) e ∙ root_there; deep = q.deep }
     | elsewhere g f ↦ elim (last_or closed r c t) [
-      | inl old ↦ (s.deep c k old).1 (record { path = q.path; below = q.below; there = ap is_some (sym f) ∙ q.there; deep = q.deep })
+      | inl old ↦ (s.deep c k d old).1 (record { path = q.path; below = q.below; there = ap is_some (sym f) ∙ q.there; deep = q.deep })
       | inr e ↦ nothing_yet q.path (subst (λ y. is_below q.path y ≡ true) e q.below) (ap is_some (sym f) ∙ q.there)
     ]
   ]
 
-  pub one_closed : IsClosedSurvey m' (closed ++ r ∷ []) (λ p. A p || is_at_or_below p r) F
+  pub one_closed : IsPartSurvey known m' (closed ++ r ∷ []) (λ p. A p || is_at_or_below p r) F
   one_closed = record {
     told = told_now;
     kept = kept_now;
     there = there_now;
     covered = covered_now;
-    deep = λ c k t. (deep_in c k t, no_deeper c k t);
+    deep = λ c k d t. (deep_in c k d t, no_deeper c k d t);
   }
 
 -- ---- all exclusive paths, and the shared ones
 
-pub next_root : (m : Extents) (closed : List Path) (roots : List Path) (i : ℕ) (root : Path) (F : Filestore) → i < length roots → root ≡ get_or roots i root →
-    IsClosedSurvey m closed (λ p. below_one (take i roots) p || is_at_or_below p root) F → IsClosedSurvey m closed (below_one (take (i + 1) roots)) F
-next_root m closed roots i root F within is s =
-    as_closed m closed (λ p. below_one (take i roots) p || is_at_or_below p root) (below_one (take (i + 1) roots)) F s (λ p.
+pub next_root : (known : Bool) (m : Extents) (closed : List Path) (roots : List Path) (i : ℕ) (root : Path) (F : Filestore) → i < length roots → root ≡ get_or roots i root →
+    IsPartSurvey known m closed (λ p. below_one (take i roots) p || is_at_or_below p root) F → IsPartSurvey known m closed (below_one (take (i + 1) roots)) F
+next_root known m closed roots i root F within is s =
+    as_closed known m closed (λ p. below_one (take i roots) p || is_at_or_below p root) (below_one (take (i + 1) roots)) F s (λ p.
     list_any_more (λ r. is_at_or_below p r) roots i root within ∙ ap (λ r. below_one (take i roots) p || is_at_or_below p r) (sym is))
 
-pub whole_closed : (roots paths : List Path) (i : ℕ) (fp : Footprint) (F : Filestore) (m n : Extents) (closed : List Path) → set.from_list roots
+pub whole_closed : (known : Bool) (roots paths : List Path) (i : ℕ) (fp : Footprint) (F : Filestore) (m n : Extents) (closed : List Path) → set.from_list roots
     ≡ fp.exclusive → set.from_list paths ≡ fp.shared → length roots ≤ i →
-    IsClosedSurvey m closed (below_one (take i roots)) F → Adds (one_of paths) F m n → IsClosedSurvey n closed (is_covered fp) F
-whole_closed roots paths i fp F m n closed exclusive shared all s adds =
-    as_closed n closed (λ p. below_one (take i roots) p || one_of paths p) (is_covered fp) F
-    (adds_closed m n closed (below_one (take i roots)) (one_of paths) F s adds)
+    IsPartSurvey known m closed (below_one (take i roots)) F → Adds (one_of paths) F m n → IsPartSurvey known n closed (is_covered fp) F
+whole_closed known roots paths i fp F m n closed exclusive shared all s adds =
+    as_closed known n closed (λ p. below_one (take i roots) p || one_of paths p) (is_covered fp) F
+    (adds_closed known m n closed (below_one (take i roots)) (one_of paths) F s adds)
     (λ p. covered-lent roots paths fp p exclusive shared ∙ ap (λ rs. below_one rs p || one_of paths p) (sym (take_all i roots all)))
 
 -- ---- the view of it
@@ -403,7 +427,7 @@ total-is total now one two = omega arith
 none_needed : (n most : ℕ) → 0 ≡ min (n - n) most
 none_needed n most = omega arith
 
-module _ (fp : Footprint) (F : Filestore) (prefixes : List Path) (m : Extents) (closed : List Path) (s : IsClosedSurvey m closed (is_covered fp) F)
+module _ (known : Bool) (fp : Footprint) (F : Filestore) (prefixes : List Path) (m : Extents) (closed : List Path) (s : IsPartSurvey known m closed (is_covered fp) F)
     (few : blocks F ≤ 65536) (small : total_blocks m ≤ 65536) where
   outlines : IsOutline m (filestore_of m)
   unfolding node_in node_of
@@ -417,7 +441,7 @@ module _ (fp : Footprint) (F : Filestore) (prefixes : List Path) (m : Extents) (
   kept_node : (p : Path) → node_at (alone (only fp F) []) p ≡ cond (is_covered fp p) (node_at F p) None
   kept_node p = get-retain_keys F.nodes (λ p. is_covered fp p) p (λ y e. ap (λ p. is_covered fp p) (sym (paths_exact p y e)))
 
-  stands_in : IsStandIn closed (alone (only fp F) []) (filestore_of m)
+  stands_in : IsPartStandIn known closed (alone (only fp F) []) (filestore_of m)
   unfolding filestore_of node_in
   stands_in = record {
     staged = refl;
@@ -425,11 +449,11 @@ module _ (fp : Footprint) (F : Filestore) (prefixes : List Path) (m : Extents) (
         subst (λ (a : Option Node). AreAlike a (node_at (filestore_of m) p)) (sym (kept_node p))
         (subst (λ (b : Option Node). AreAlike (cond (is_covered fp p) (node_at F p) None) b) (sym (node_at-filestore_of m p ∙ ap node_in (s.told p free)))
         (at p));
-    deep = λ c n t. (
+    deep = λ c n d t. (
       (λ r. let kept = kept_some (is_covered fp r.path) (node_at F r.path) (ap is_some (sym (kept_node r.path)) ∙ r.there) in
-          let q = (s.deep c n t).0 (record { path = r.path; below = r.below; there = kept.1; deep = r.deep }) in
+          let q = (s.deep c n d t).0 (record { path = r.path; below = r.below; there = kept.1; deep = r.deep }) in
           record { path = q.path; below = q.below; there = ap is_some (node_at-filestore_of m q.path) ∙ in_there (get m q.path) ∙ q.there; deep = q.deep }),
-      (λ r. let q = (s.deep c n t).1 (record {
+      (λ r. let q = (s.deep c n d t).1 (record {
         path = r.path;
         below = r.below;
         there = sym (ap is_some (node_at-filestore_of m r.path) ∙ in_there (get m r.path)) ∙ r.there;
@@ -451,7 +475,7 @@ module _ (fp : Footprint) (F : Filestore) (prefixes : List Path) (m : Extents) (
         | false ↦ tt
       ]
 
-  pub closed_view : let G = alone (only fp F) [] in IsClosedViewOf (sketch prefixes m (total_blocks m) 0 0) closed G (blocks G) (blocks G) 0
+  pub closed_view : let G = alone (only fp F) [] in IsPartViewOf known (sketch prefixes m (total_blocks m) 0 0) closed G (blocks G) (blocks G) 0
   unfolding filestore_of
   closed_view =
       let G = filestore_of m in

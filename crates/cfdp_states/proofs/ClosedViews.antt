@@ -10,7 +10,7 @@ use Rattle.cfdp_leases.specs.Items.{performed}
 use Rattle.cfdp_states.specs.Alone.{alone}
 use Rattle.cfdp_states.specs.Sketching.{IsOutline}
 use Rattle.cfdp_states.specs.Views.{Sketch, IsViewOf, Tells, TellsInstall}
-use Rattle.cfdp_states.specs.Closed.{is_inside, after_request, looks_inside, TellsClosed, TellsClosedInstall}
+use Rattle.cfdp_states.specs.Closed.{is_inside, after_request, looks_inside, is_enough, TellsPart, TellsPartInstall}
 use Rattle.cfdp_states.proofs.Installing.{staged_more}
 use Rattle.cfdp_states.proofs.StandInRows.{Both, request-standin, bound-standin, install-standin, install_bound-standin}
 
@@ -21,21 +21,21 @@ later_gap f g h k first start before both = omega arith
 later_peak : (peak most h k first start : ℕ) → peak + first ≡ most + start → h + first ≡ k + start → max peak h + first ≡ max most k + start
 later_peak peak most h k first start before now = omega arith
 
-module _ (v w : Sketch) (closed now : List Path) (request : Request) (status : Status) where
-  pub tells_closed : looks_inside closed v.extents request ≡ false → (is_successful status ≡ true → now ≡ after_request request closed) →
+module _ (known : Bool) (v w : Sketch) (closed now : List Path) (request : Request) (status : Status) where
+  pub tells_closed : is_enough known closed request ≡ true → looks_inside closed v.extents request ≡ false → (is_successful status ≡ true → now ≡ after_request request closed) →
       (is_successful status ≡ false → now ≡ closed) →
-      Tells v w (Perform request) (Performed status) → TellsClosed v closed w now (Perform request) (Performed status)
-  tells_closed free moved stayed tells F start peak taken c =
+      Tells v w (Perform request) (Performed status) → TellsPart known v closed w now (Perform request) (Performed status)
+  tells_closed enough free moved stayed tells F start peak taken c =
       let G = c.seen in
       let here : IsOutline v.extents G = record { found = c.tells.extents } in
       let told = tells G c.first c.most taken c.tells in
-      let on = request-standin closed F G c.one v.extents here v.prefixes request free in
-      let bound = bound-standin closed F G c.one v.extents here request free in
+      let on = request-standin known closed F G c.one v.extents here v.prefixes request enough free in
+      let bound = bound-standin known closed F G c.one v.extents here request free in
       let H = performed v.prefixes F 0 (Perform request) in
       let K = performed v.prefixes G 0 (Perform request) in
-      let both : Both now F G H K = by_status (is_successful status) refl (λ good.
-      subst (λ (cs : List Path). Both cs F G H K) (sym (moved good)) (on.done (ap succeeded (sym told.0) ∙ good))) (λ bad.
-      subst (λ (cs : List Path). Both cs F G H K) (sym (stayed bad)) (on.not_done (ap succeeded (sym told.0) ∙ bad))) in
+      let both : Both known now F G H K = by_status (is_successful status) refl (λ good.
+      subst (λ (cs : List Path). Both known cs F G H K) (sym (moved good)) (on.done (ap succeeded (sym told.0) ∙ good))) (λ bad.
+      subst (λ (cs : List Path). Both known cs F G H K) (sym (stayed bad)) (on.not_done (ap succeeded (sym told.0) ∙ bad))) in
       let gap = later_gap (blocks F) (blocks G) (blocks H) (blocks K) c.first start c.gap both.blocks in (
         told.0 ∙ sym on.answer,
         record {
@@ -53,13 +53,13 @@ module _ (v w : Sketch) (closed now : List Path) (request : Request) (status : S
       by_status true e f g = f e
       by_status false e f g = g e
 
-module _ (v w : Sketch) (closed : List Path) (p : Path) (size : ℕ) (done : Bool) where
-  pub tells_closed_install : is_inside closed p ≡ false → TellsInstall v w p size done → TellsClosedInstall v w closed p size done
+module _ (known : Bool) (v w : Sketch) (closed : List Path) (p : Path) (size : ℕ) (done : Bool) where
+  pub tells_closed_install : is_inside closed p ≡ false → TellsInstall v w p size done → TellsPartInstall known v w closed p size done
   tells_closed_install free tells F start peak taken x c long =
       let G = c.seen in
       let told = tells G c.first c.most taken x c.tells long in
-      let on = install-standin closed F G c.one p free x v.prefixes in
-      let bound = install_bound-standin closed F G c.one p free x in
+      let on = install-standin known closed F G c.one p free x v.prefixes in
+      let bound = install_bound-standin known closed F G c.one p free x in
       let H = performed v.prefixes (alone F x) 0 (Install p) in
       let K = performed v.prefixes (alone G x) 0 (Install p) in
       let staged_G : blocks (alone G x) ≡ blocks G + blocks_of (length x) = staged_more G x c.tells.staged in

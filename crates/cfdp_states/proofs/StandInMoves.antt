@@ -8,12 +8,12 @@ use Rattle.cfdp_paths.specs.Paths.{Path, same_name, same_path, is_at_or_below, i
 use Rattle.cfdp_paths.proofs.Below.{at_or_below-trans, is_below-Decides, length-rebased, length-at_or_below}
 use Rattle.cfdp_actions.specs.Filestore.{Node, Filestore, node_at, blocks, has_entries}
 use Rattle.cfdp_leases.proofs.Sets.{stands, any_at, any_from}
-use Rattle.cfdp_states.specs.Closed.{is_inside, Reaches, AreAlike, IsStandIn, moved_path, moved_closed}
+use Rattle.cfdp_states.specs.Closed.{is_inside, Knows, Reaches, AreAlike, IsPartStandIn, moved_path, moved_closed}
 use Rattle.cfdp_actions.proofs.Order.{same_path-true, same_path-refl, same_path-is}
 use Rattle.cfdp_actions.proofs.Prefixes.{same_name-refl, rebased-below, rebased_back}
 use Rattle.cfdp_actions.proofs.Moves.{none_unless, moved, blocks-moved_free}
 use Rattle.cfdp_states.proofs.Sketched.{moved_where, staged-moved}
-use Rattle.cfdp_states.proofs.StandIns.{nothing, alike, like-none, below-at, above, outside, nodes, found-has_entries}
+use Rattle.cfdp_states.proofs.StandIns.{nothing, alike, like-none, below-at, above, outside, Movable, knows_all, nodes, found-has_entries}
 
 pub not_both : (b : Bool) → b ≡ true → b ≡ false → {A : Type 0} → A
 not_both b t f = absurd (true≢false (sym t ∙ f))
@@ -157,7 +157,7 @@ goes_over F G p q empty_F empty_G c at over n r =
     let before = reaches-moved F p q empty_F c n at r in
     reaches_to-moved G p q empty_G c n before.0 at before.1 (over before.0 before.2)
 
-module _ (closed : List Path) (F G : Filestore) (h : IsStandIn closed F G) (p q : Path)
+module _ (known : Bool) (closed : List Path) (F G : Filestore) (h : IsPartStandIn known closed F G) (p q : Path) (movable : Movable known closed p)
     (free_p : is_inside closed p ≡ false) (free_q : is_inside closed q ≡ false)
     (none_at : list_any (λ c. is_at_or_below c q) closed ≡ false)
     (absent : node_at G q ≡ None) (bare : has_entries G q ≡ false) where
@@ -179,7 +179,7 @@ module _ (closed : List Path) (F G : Filestore) (h : IsStandIn closed F G) (p q 
   free_at x at = false_from_ne_true _ (λ t. let c = any_from (λ c. is_below x c) closed t in true≢false (sym at ∙ beside c.0 x c.1 c.2))
 
   empty_F : (x : Path) → is_at_or_below x q ≡ true → node_at F x ≡ None
-  empty_F x at = like-none (nodes closed F G h x (free_at x at)) (empty_G x at)
+  empty_F x at = like-none (nodes known closed F G h x (free_at x at)) (empty_G x at)
 
   -- a path in none of the closed directories after the move
   module _ (x : Path) (free : is_inside (moved_closed p q closed) x ≡ false) where
@@ -218,30 +218,34 @@ module _ (closed : List Path) (F G : Filestore) (h : IsStandIn closed F G) (p q 
         both : {a b c d : Option Node} → a ≡ b → c ≡ d → AreAlike b d → AreAlike a c
         both {a} {b} {c} {d} e f k = subst (λ (v : Option Node). AreAlike v c) (sym e) (subst (λ (v : Option Node). AreAlike b v) (sym f) k)
 
-  still_deep : (c : Path) → stands c closed → (n : ℕ) → Reaches (moved F p q) (moved_path p q c) n ↔ Reaches (moved G p q) (moved_path p q c) n
-  still_deep c s n =
+  at_known : (c : Path) → stands c closed → is_at_or_below c p ≡ true → (n : ℕ) → Reaches F c n ↔ Reaches G c n
+  at_known c s at n = elim movable [ inl e ↦ h.deep c n (knows_all known e n) s | inr none ↦ not_both (is_at_or_below c p) at (none c s) ]
+
+  still_deep : (c : Path) → stands c closed → (n : ℕ) → Knows known n →
+      Reaches (moved F p q) (moved_path p q c) n ↔ Reaches (moved G p q) (moved_path p q c) n
+  still_deep c s n k =
       elim (cases_Bool (is_at_or_below c p)) [
         | inl at ↦ subst (λ d. Reaches (moved F p q) d n ↔ Reaches (moved G p q) d n) (sym (moved-at p q c at)) (
-          goes_over F G p q empty_F empty_G c at (λ m. (h.deep c m s).0) n,
-          goes_over G F p q empty_G empty_F c at (λ m. (h.deep c m s).1) n,
+          goes_over F G p q empty_F empty_G c at (λ m. (at_known c s at m).0) n,
+          goes_over G F p q empty_G empty_F c at (λ m. (at_known c s at m).1) n,
         )
         | inr f ↦
             let beside_p = λ (x : Path) (below : is_below x c ≡ true). false_from_ne_true (is_at_or_below x p)
             (λ at. true≢false (sym (above x c p (below-at x c below) at (outside closed p c free_p s)) ∙ f)) in
             let beside_q = λ (x : Path) (below : is_below x c ≡ true). beside c x s below in
             subst (λ d. Reaches (moved F p q) d n ↔ Reaches (moved G p q) d n) (sym (moved-not p q c f)) (
-              (λ r. reaches_to-stays G p q empty_G c beside_p beside_q n ((h.deep c n s).0 (reaches-stays F p q empty_F c beside_p beside_q n r))),
-              (λ r. reaches_to-stays F p q empty_F c beside_p beside_q n ((h.deep c n s).1 (reaches-stays G p q empty_G c beside_p beside_q n r))),
+              (λ r. reaches_to-stays G p q empty_G c beside_p beside_q n ((h.deep c n k s).0 (reaches-stays F p q empty_F c beside_p beside_q n r))),
+              (λ r. reaches_to-stays F p q empty_F c beside_p beside_q n ((h.deep c n k s).1 (reaches-stays G p q empty_G c beside_p beside_q n r))),
             )
       ]
 
-  pub moved-standin : IsStandIn (moved_closed p q closed) (moved F p q) (moved G p q)
+  pub moved-standin : IsPartStandIn known (moved_closed p q closed) (moved F p q) (moved G p q)
   moved-standin = record {
     staged = staged-moved G p q ∙ h.staged ∙ sym (staged-moved F p q);
     alike = λ x free. still_alike x free;
-    deep = λ d n s.
+    deep = λ d n k s.
         let c = moved_in (moved_path p q) closed d s in
-        subst (λ e. Reaches (moved F p q) e n ↔ Reaches (moved G p q) e n) (sym c.2) (still_deep c.0 c.1 n);
+        subst (λ e. Reaches (moved F p q) e n ↔ Reaches (moved G p q) e n) (sym c.2) (still_deep c.0 c.1 n k);
   }
 
   pub moved-blocks : blocks (moved F p q) + blocks G ≡ blocks (moved G p q) + blocks F

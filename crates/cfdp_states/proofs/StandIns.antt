@@ -2,10 +2,11 @@
 --     Like, like, alike, like-..       two nodes that are alike, as cases
 --     below-trans, below-under, above  a path that is below another
 --     outside, parent_outside          a path that is in no closed directory
+--     knows_all, knows_any, Movable    what is known of the depth of closed directories
 --     reaches-up, across               what is below a path, in one and in the other
 --     has_entries-found, found-has_entries, too_deep-found, found-too_deep
 --     parent-alike, entries-alike, depth-alike      what the tests of the action table read is the same in both
-use Rattle.std.proofs.Common.{◌≡◌, refl, sym, ◌∙◌, ap, subst, inl, inr, Bool, true, false, cond, not, ◌&&◌, ◌||◌, ◌==◌, is_some, nat_lt, ne_eqb, Option, Some, None, ℕ, ◌+◌, ◌<◌, ◌≤◌, List, [], ◌∷◌, length, arith, true≢false, le_refl, lt-ltb, ltb-true}
+use Rattle.std.proofs.Common.{◌≡◌, refl, sym, ◌∙◌, ap, subst, ◌⊎◌, inl, inr, Bool, true, false, cond, not, ◌&&◌, ◌||◌, ◌==◌, is_some, nat_lt, ◌↔◌, ne_eqb, Option, Some, None, ℕ, ◌+◌, ◌<◌, ◌≤◌, List, [], ◌∷◌, length, arith, true≢false, le_refl, lt-ltb, ltb-true}
 use Rattle.std.proofs.lemmas.Bool.{cases_Bool, or_cases, or_left, or_right, false_from_ne_true}
 use Rattle.std.specs.List.{list_any}
 use Rattle.std.specs.FinMap.{entries, get-entries, get-retain_keys, len-entries}
@@ -16,7 +17,7 @@ use Rattle.cfdp_actions.specs.Filestore.{Node, Directory, File, Filestore, node_
 use Rattle.cfdp_actions.specs.Actions.{is_too_deep}
 use Rattle.cfdp_leases.specs.Items.{content}
 use Rattle.cfdp_leases.proofs.Sets.{stands, by_truth, any_at, any_from}
-use Rattle.cfdp_states.specs.Closed.{is_inside, Reaches, AreAlike, IsStandIn}
+use Rattle.cfdp_states.specs.Closed.{is_inside, Knows, Reaches, AreAlike, IsPartStandIn}
 use Rattle.cfdp_actions.proofs.Order.{paths_exact, same_path-true, same_path-refl, same_path-is}
 use Rattle.cfdp_actions.proofs.Moves.{find-tree_at}
 
@@ -119,26 +120,39 @@ parent_outside closed p h = up_outside closed p (parent p) h (parent_at_or_below
 pub reaches-up : (F : Filestore) (c p : Path) (n k : ℕ) → is_at_or_below c p ≡ true → k ≤ n → Reaches F c n → Reaches F p k
 reaches-up F c p n k up le r = record { path = r.path; below = below-trans r.path c p r.below up; there = r.there; deep = omega (arith, le, r.deep) }
 
--- something at or below p that is as deep as x
-pub record Found (G : Filestore) (p x : Path) : Type 0 where
+-- what is known of any depth, and of none
+pub knows_all : (known : Bool) → known ≡ true → (n : ℕ) → Knows known n
+knows_all true e n = tt
+knows_all false e n = absurd (true≢false (sym e))
+
+pub knows_any : (known : Bool) → Knows known 0
+knows_any true = tt
+knows_any false = refl
+
+-- the depths are known; or none of the directories is at or below the path
+abbrev pub Movable : Bool → List Path → Path → Type 0
+Movable known closed p = (known ≡ true) ⊎ ((c : Path) → stands c closed → is_at_or_below c p ≡ false)
+
+-- something at or below p whose path has n names
+pub record Found (G : Filestore) (p x : Path) (n : ℕ) : Type 0 where
   pub path : Path
   pub at : is_at_or_below path p ≡ true
   pub below : is_below x p ≡ true → is_below path p ≡ true
   pub there : is_some (node_at G path) ≡ true
-  pub deep : length x ≤ length path
+  pub deep : n ≤ length path
 
 pub across : (closed : List Path) (F G : Filestore) → ((x : Path) → is_inside closed x ≡ false → is_some (node_at F x) ≡ is_some (node_at G x)) →
-    ((c : Path) (n : ℕ) → stands c closed → Reaches F c n → Reaches G c n) →
-    (p x : Path) → is_inside closed p ≡ false → is_at_or_below x p ≡ true → is_some (node_at F x) ≡ true → Found G p x
-across closed F G same deep p x free at there =
+    (n : ℕ) (p x : Path) → n ≤ length x → ((c : Path) → stands c closed → is_at_or_below c p ≡ true → Reaches F c n → Reaches G c n) →
+    is_inside closed p ≡ false → is_at_or_below x p ≡ true → is_some (node_at F x) ≡ true → Found G p x n
+across closed F G same n p x le deep free at there =
     elim (cases_Bool (is_inside closed x)) [
       | inl t ↦
           let c = any_from (λ c. is_below x c) closed t in
-          let r = deep c.0 (length x) c.1 (record { path = x; below = c.2; there = there; deep = le_refl (length x) }) in
           let up = above x c.0 p (below-at x c.0 c.2) at (outside closed p c.0 free c.1) in
+          let r = deep c.0 c.1 up (record { path = x; below = c.2; there = there; deep = le }) in
           let under = below-trans r.path c.0 p r.below up in
           record { path = r.path; at = below-at r.path p under; below = λ _. under; there = r.there; deep = r.deep }
-      | inr f ↦ record { path = x; at = at; below = λ b. b; there = sym (same x f) ∙ there; deep = le_refl (length x) }
+      | inr f ↦ record { path = x; at = at; below = λ b. b; there = sym (same x f) ∙ there; deep = le }
     ]
 
 -- an entry whose path passes a test
@@ -220,15 +234,32 @@ deeper p q x y le h =
 
 -- ---- what the tests read
 
-module _ (closed : List Path) (F G : Filestore) (h : IsStandIn closed F G) where
+module _ (known : Bool) (closed : List Path) (F G : Filestore) (h : IsPartStandIn known closed F G) where
   pub nodes : (p : Path) → is_inside closed p ≡ false → Like (node_at F p) (node_at G p)
   nodes p free = like _ _ (h.alike p free)
 
-  pub there : (p x : Path) → is_inside closed p ≡ false → is_at_or_below x p ≡ true → is_some (node_at F x) ≡ true → Found G p x
-  there p x free at some = across closed F G (λ x f. like-is_some (nodes x f)) (λ c n s. (h.deep c n s).0) p x free at some
+  there : (p x : Path) → is_inside closed p ≡ false → is_at_or_below x p ≡ true → is_some (node_at F x) ≡ true → Found G p x 0
+  there p x free at some = across closed F G (λ x f. like-is_some (nodes x f)) 0 p x (omega arith) (λ c s up. (h.deep c 0 (knows_any known) s).0) free at some
 
-  pub back : (p x : Path) → is_inside closed p ≡ false → is_at_or_below x p ≡ true → is_some (node_at G x) ≡ true → Found F p x
-  back p x free at some = across closed G F (λ x f. sym (like-is_some (nodes x f))) (λ c n s. (h.deep c n s).1) p x free at some
+  back : (p x : Path) → is_inside closed p ≡ false → is_at_or_below x p ≡ true → is_some (node_at G x) ≡ true → Found F p x 0
+  back p x free at some =
+      across closed G F (λ x f. sym (like-is_some (nodes x f))) 0 p x (omega arith) (λ c s up. (h.deep c 0 (knows_any known) s).1) free at some
+
+  -- as deep, where that is known of each directory at or below the path
+  as_deep : (p : Path) → Movable known closed p → (c : Path) (n : ℕ) → stands c closed → is_at_or_below c p ≡ true → Reaches F c n ↔ Reaches G c n
+  as_deep p (inl e) c n s up = h.deep c n (knows_all known e n) s
+  as_deep p (inr none) c n s up = absurd (true≢false (sym up ∙ none c s))
+
+  there_deep : (p x : Path) → Movable known closed p → is_inside closed p ≡ false → is_at_or_below x p ≡ true → is_some (node_at F x) ≡ true →
+      Found G p x (length x)
+  there_deep p x movable free at some =
+      across closed F G (λ x f. like-is_some (nodes x f)) (length x) p x (le_refl (length x)) (λ c s up. (as_deep p movable c (length x) s up).0) free at some
+
+  back_deep : (p x : Path) → Movable known closed p → is_inside closed p ≡ false → is_at_or_below x p ≡ true → is_some (node_at G x) ≡ true →
+      Found F p x (length x)
+  back_deep p x movable free at some =
+      across closed G F (λ x f. sym (like-is_some (nodes x f))) (length x) p x (le_refl (length x)) (λ c s up. (as_deep p movable c (length x) s up).1) free at
+      some
 
   pub parent-alike : (p : Path) → is_inside closed p ≡ false → parent_is_good F p ≡ parent_is_good G p
   parent-alike p free = ap (λ b. not (is_root p) && b) (good (parent p) (parent_outside closed p free))
@@ -246,11 +277,11 @@ module _ (closed : List Path) (F G : Filestore) (h : IsStandIn closed F G) where
       let f = back p r.path free (below-at r.path p r.below) r.there in
       found-has_entries F p f.path (f.below r.below) f.there)
 
-  pub depth-alike : (p q : Path) → is_inside closed p ≡ false → is_too_deep p q (tree_at F p) ≡ is_too_deep p q (tree_at G p)
-  depth-alike p q free = by_truth _ _
+  pub depth-alike : (p q : Path) → Movable known closed p → is_inside closed p ≡ false → is_too_deep p q (tree_at F p) ≡ is_too_deep p q (tree_at G p)
+  depth-alike p q movable free = by_truth _ _
       (λ e. let d = too_deep-found F p q e in
-      let f = there p d.path free d.at d.there in
+      let f = there_deep p d.path movable free d.at d.there in
       found-too_deep G p q (record { path = f.path; at = f.at; there = f.there; deep = deeper p q d.path f.path f.deep d.deep }))
       (λ e. let d = too_deep-found G p q e in
-      let f = back p d.path free d.at d.there in
+      let f = back_deep p d.path movable free d.at d.there in
       found-too_deep F p q (record { path = f.path; at = f.at; there = f.there; deep = deeper p q d.path f.path f.deep d.deep }))

@@ -2,16 +2,23 @@
 -- one directory, which is as deep as the deepest path there.
 --     is_inside closed p              p is below one of these directories
 --     Reaches F p n, ReachesIn m p n  something is below p, and its path has n names or more: in a filestore, in a map
---     IsClosedSurvey m closed test F  the map says what is in F at the paths that pass the test, these directories
---                                     closed
+--     Knows known n                   what is known of the paths of n names or more in a closed directory: whether there
+--                                     is one; or only whether there is any path
+--     IsPartSurvey known m closed test F     the map says what is in F at the paths that pass the test, these directories
+--                                     closed, and how deep they are if that is known;  IsClosedSurvey: it is known
 --     IsFiller p n d, Closes m p n m' d is below p and has n names;  the map with p as a directory, and with one such d
 --     AreAlike a b                    what is at two paths: of one kind, and files of one length
---     IsStandIn closed F G            with these directories closed, F and G are one
+--     IsPartStandIn known closed F G  with these directories closed, F and G are one, and each directory is as deep in both
+--                                     if that is known;  IsStandIn: it is known
 --     moved_closed p q closed         the closed directories once each p/r is at q/r;  after_request: after a request
 --     looks_inside closed m request   the request names something in a closed directory, or moves onto what is there
---     IsClosedViewOf v closed F start peak taken    the view describes F, as far as its closed directories let it
---     TellsClosed, TellsClosedInstall               how such a view goes on with an item, and with the install
-use Rattle.std.specs.Prelude.{◌≡◌, ⊤, ℕ, ◌+◌, ◌≤◌, max, Bool, ◌&&◌, ◌||◌, nat_lt, IsTrue, IsFalse, IsSome, ◌↔◌, ◌⊎◌, if◌then◌else◌, List, map, length, Option, Some, None}
+--     moves_closed closed request     the request names a path to move at or below which a directory is closed
+--     is_enough known closed request  what is known of the depths is enough for the request
+--     IsPartViewOf known v closed F start peak taken     the view describes F, as far as its closed directories let it;
+--                                                        IsClosedViewOf: and it is as deep in each of them
+--     TellsPart, TellsPartInstall     how such a view goes on with an item, and with the install;  TellsClosed,
+--                                     TellsClosedInstall: where the depths are known
+use Rattle.std.specs.Prelude.{◌≡◌, ⊤, ℕ, ◌+◌, ◌≤◌, max, Bool, true, false, not, ◌&&◌, ◌||◌, nat_lt, IsTrue, IsFalse, IsSome, ◌↔◌, ◌⊎◌, if◌then◌else◌, List, map, length, Option, Some, None}
 use Rattle.std.specs.List.{list_any}
 use Rattle.std.specs.FinMap as finite
 use Rattle.cfdp_paths.specs.Paths.{Path, same_path, is_at_or_below, is_below, rebased}
@@ -40,7 +47,12 @@ pub record ReachesIn (m : Extents) (p : Path) (n : ℕ) : Type 0 where
   pub there : IsSome (finite.get m path)
   pub deep : n ≤ length path
 
-pub record IsClosedSurvey (m : Extents) (closed : List Path) (test : Path → Bool) (F : Filestore) : Type 0 where
+-- of a depth of 0 names: whether anything is there
+abbrev pub Knows : Bool → ℕ → Type 0
+Knows true n = ⊤
+Knows false n = n ≡ 0
+
+pub record IsPartSurvey (known : Bool) (m : Extents) (closed : List Path) (test : Path → Bool) (F : Filestore) : Type 0 where
   pub told : (p : Path) → IsFalse (is_inside closed p) → finite.get m p ≡ (if test p then extent_at F p else None)
   -- a file is one of the filestore, whether it is in a closed directory or not
   pub kept : (p : Path) → (finite.get m p ≡ None) ⊎ ((finite.get m p ≡ Some extent.Directory)
@@ -48,7 +60,11 @@ pub record IsClosedSurvey (m : Extents) (closed : List Path) (test : Path → Bo
   pub there : (c : Path) → IsTrue (list_any (same_path c) closed) → IsSome (finite.get m c)
   pub covered : (c p : Path) → IsTrue (list_any (same_path c) closed) → IsTrue (is_below p c) → IsTrue (test p)
   -- it is as deep in each closed directory as the filestore, and no deeper
-  pub deep : (c : Path) (n : ℕ) → IsTrue (list_any (same_path c) closed) → Reaches F c n ↔ ReachesIn m c n
+  pub deep : (c : Path) (n : ℕ) → Knows known n → IsTrue (list_any (same_path c) closed) →
+      Reaches F c n ↔ ReachesIn m c n
+
+abbrev pub IsClosedSurvey : Extents → List Path → (Path → Bool) → Filestore → Type 0
+IsClosedSurvey = IsPartSurvey true
 
 abbrev pub IsFiller : Path → ℕ → Path → Type 0
 IsFiller p n d = IsTrue (is_below d p) × (length d ≡ n)
@@ -68,10 +84,13 @@ AreAlike (Some (File octets)) (Some Directory) = ⊥
 AreAlike (Some (File octets)) (Some (File others)) = length octets ≡ length others
 
 -- alike but for what is in the closed directories, and of that the depth
-pub record IsStandIn (closed : List Path) (F G : Filestore) : Type 0 where
+pub record IsPartStandIn (known : Bool) (closed : List Path) (F G : Filestore) : Type 0 where
   pub staged : G.staged ≡ F.staged
   pub alike : (p : Path) → IsFalse (is_inside closed p) → AreAlike (node_at F p) (node_at G p)
-  pub deep : (c : Path) (n : ℕ) → IsTrue (list_any (same_path c) closed) → Reaches F c n ↔ Reaches G c n
+  pub deep : (c : Path) (n : ℕ) → Knows known n → IsTrue (list_any (same_path c) closed) → Reaches F c n ↔ Reaches G c n
+
+abbrev pub IsStandIn : List Path → Filestore → Filestore → Type 0
+IsStandIn = IsPartStandIn true
 
 -- a directory once each p/r is at q/r
 abbrev pub moved_path : Path → Path → Path → Path
@@ -110,31 +129,55 @@ looks_inside closed m (RemoveDirectory p) = is_inside closed p
 looks_inside closed m (DenyFile p) = is_inside closed p
 looks_inside closed m (DenyDirectory p) = is_inside closed p
 
+-- a closed directory would move
+abbrev pub moves_closed : List Path → Request → Bool
+moves_closed closed (RenameFile p q) = list_any (λ c. is_at_or_below c p) closed
+moves_closed closed (CreateFile p) = false
+moves_closed closed (DeleteFile p) = false
+moves_closed closed (AppendFile p q) = false
+moves_closed closed (ReplaceFile p q) = false
+moves_closed closed (CreateDirectory p) = false
+moves_closed closed (RemoveDirectory p) = false
+moves_closed closed (DenyFile p) = false
+moves_closed closed (DenyDirectory p) = false
+
+abbrev pub is_enough : Bool → List Path → Request → Bool
+is_enough known closed request = known || not (moves_closed closed request)
+
 -- the view describes a filestore that is one with F but for the closed directories, and that has more or fewer blocks
 -- by what is in them
-pub record IsClosedViewOf (v : Sketch) (closed : List Path) (F : Filestore) (start peak taken : ℕ) : Type 0 where
+pub record IsPartViewOf (known : Bool) (v : Sketch) (closed : List Path) (F : Filestore) (start peak taken : ℕ) : Type 0 where
   pub seen : Filestore
   pub first : ℕ
   pub most : ℕ
   pub tells : IsViewOf v seen first most taken
-  pub one : IsStandIn closed F seen
+  pub one : IsPartStandIn known closed F seen
   pub gap : blocks F + first ≡ blocks seen + start
   pub peaks : peak + first ≡ most + start
 
+abbrev pub IsClosedViewOf : Sketch → List Path → Filestore → ℕ → ℕ → ℕ → Type 0
+IsClosedViewOf = IsPartViewOf true
+
 -- as `Tells` has it of a view
-abbrev pub TellsClosed : Sketch → List Path → Sketch → List Path → Item → Answer → Type 0
-TellsClosed v closed w after item answer =
-    (F : Filestore) (start peak taken : ℕ) → IsClosedViewOf v closed F start peak taken →
+abbrev pub TellsPart : Bool → Sketch → List Path → Sketch → List Path → Item → Answer → Type 0
+TellsPart known v closed w after item answer =
+    (F : Filestore) (start peak taken : ℕ) → IsPartViewOf known v closed F start peak taken →
     let G = performed v.prefixes F 0 item in
-    (answer ≡ (row v.prefixes F 0 item).answer) × IsClosedViewOf w after G start (max peak (blocks G)) (taken
+    (answer ≡ (row v.prefixes F 0 item).answer) × IsPartViewOf known w after G start (max peak (blocks G)) (taken
     + (1 + step_bound F item))
 
+abbrev pub TellsClosed : Sketch → List Path → Sketch → List Path → Item → Answer → Type 0
+TellsClosed = TellsPart true
+
 -- as `TellsInstall` has it
-abbrev pub TellsClosedInstall : Sketch → Sketch → List Path → Path → ℕ → Bool → Type 0
-TellsClosedInstall v w closed p size done =
-    (F : Filestore) (start peak taken : ℕ) (x : List ℕ) → IsClosedViewOf v closed F start peak taken → length x ≡ size →
+abbrev pub TellsPartInstall : Bool → Sketch → Sketch → List Path → Path → ℕ → Bool → Type 0
+TellsPartInstall known v w closed p size done =
+    (F : Filestore) (start peak taken : ℕ) (x : List ℕ) → IsPartViewOf known v closed F start peak taken → length x ≡ size →
     let H = alone F x in
     let G = performed v.prefixes H 0 (Install p) in
     (installed_if done ≡ (row v.prefixes H 0 (Install p)).answer)
-    × (IsTrue done → IsClosedViewOf w closed G start (max peak (max (blocks H) (blocks G))) (taken
+    × (IsTrue done → IsPartViewOf known w closed G start (max peak (max (blocks H) (blocks G))) (taken
     + (1 + step_bound H (Install p))))
+
+abbrev pub TellsClosedInstall : Sketch → Sketch → List Path → Path → ℕ → Bool → Type 0
+TellsClosedInstall = TellsPartInstall true

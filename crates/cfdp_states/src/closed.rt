@@ -1,13 +1,13 @@
 //! The view with closed directories.
 
-ghost use Rattle.std.specs.Prelude.{◌≡◌, false, is_none, None, Some, [], IfOk, IfSome, OnOk, Ok, length, map};
+ghost use Rattle.std.specs.Prelude.{◌≡◌, Bool, IsTrue, false, is_none, None, Some, [], IfOk, IfSome, OnOk, Ok, length, map};
 ghost use Rattle.std.specs.List.{list_any};
 ghost use Rattle.cfdp_paths.specs.Paths as names;
 ghost use Rattle.cfdp_paths.specs.Paths.{is_at_or_below};
 ghost use Rattle.cfdp_actions.specs.Filestore.{blocks};
 ghost use Rattle.cfdp_actions.specs.Actions.{Perform, Performed, RenameFile};
 ghost use Rattle.cfdp_states.specs.Alone.{alone};
-ghost use Rattle.cfdp_states.specs.Closed.{after_request, is_cramped, is_inside, looks_inside, moved_closed, moved_path, IsClosedViewOf, TellsClosed, TellsClosedInstall};
+ghost use Rattle.cfdp_states.specs.Closed.{after_request, is_cramped, is_enough, is_inside, looks_inside, moved_closed, moved_path, moves_closed, IsClosedViewOf, IsPartViewOf, TellsClosed, TellsClosedInstall, TellsPart, TellsPartInstall};
 ghost use Rattle.cfdp_states.specs.Views.{only};
 
 use crate::closing::survey_closed;
@@ -44,8 +44,9 @@ impl<'a> ClosedView<'a> {
     ///
     /// [`Memory`] when out of memory.
     ///
-    /// Cost: for each exclusive path a `kind`; for a directory a `deepest`, and four allocations where it has entries;
-    /// for each other exclusive path a `standing`; for each shared path a `kind`, and a `size` where that is a file.
+    /// Cost: for each exclusive path that is in no closed directory a `kind`, for a directory a `has_entries`, and for
+    /// one with entries a `deepest` and four allocations; for each other exclusive path a `standing`; for each shared
+    /// path a `kind`, and a `size` where that is a file.
     pub fn of<S: Filestore>(
         alloc: Global,
         store: &S,
@@ -57,7 +58,31 @@ impl<'a> ClosedView<'a> {
             IsClosedViewOf it.view it.closed.items F (blocks F) (blocks F) 0)) }
         ensures prefixes { IfOk result (λ made. IfSome made (λ it. it.view.prefixes ≡ protected.now)) }
     {
-        let (extents, closed) = survey_closed(alloc, store, footprint)?;
+        ClosedView::with_depths(alloc, store, protected, footprint, true)
+    }
+
+    /// As [`ClosedView::of`], but how deep the closed directories are is found out only if it is to be `known`. If it is
+    /// not, the view says nothing of requests that move one of them: [`ClosedView::knows_enough`].
+    ///
+    /// # Errors
+    ///
+    /// [`Memory`] when out of memory.
+    ///
+    /// Cost: that of `of`, but no `deepest` if the depths are not to be known: nothing that grows with the entries of a
+    /// directory.
+    pub fn with_depths<S: Filestore>(
+        alloc: Global,
+        store: &S,
+        protected: &'a Protected,
+        footprint: &Footprint,
+        known: bool,
+    ) -> Result<Option<ClosedView<'a>>, Memory>
+        ensures told { IfOk result (λ made. IfSome made (λ it.
+            let F = alone (only footprint.now (S.state store.now).filestore) [] in
+            IsPartViewOf known it.view it.closed.items F (blocks F) (blocks F) 0)) }
+        ensures prefixes { IfOk result (λ made. IfSome made (λ it. it.view.prefixes ≡ protected.now)) }
+    {
+        let (extents, closed) = survey_closed(alloc, store, footprint, known)?;
         if extents.blocks() > MOST_BLOCKS {
             return Ok(None);
         }
@@ -82,6 +107,10 @@ impl<'a> ClosedView<'a> {
         ensures told { IfOk result (λ told. IfSome told (λ status.
             TellsClosed self.old.view self.old.closed.items self.new.view self.new.closed.items (Perform request.now)
             (Performed status))) }
+        ensures part { IfOk result (λ told. IfSome told (λ status.
+            (known : Bool) → IsTrue (is_enough known self.old.closed.items request.now)
+            → TellsPart known self.old.view self.old.closed.items self.new.view self.new.closed.items
+            (Perform request.now) (Performed status))) }
         ensures inside { IfOk result (λ told. is_none told
             ≡ looks_inside self.old.closed.items self.old.view.extents request.now) }
         ensures same { result ≡ Ok None → self.new ≡ self.old }
@@ -107,6 +136,8 @@ impl<'a> ClosedView<'a> {
     pub fn install(&mut self, path: &Path, bound: u64) -> Result<Option<bool>, Memory>
         ensures told { IfOk result (λ told. IfSome told (λ done.
             TellsClosedInstall self.old.view self.new.view self.old.closed.items path.now bound done)) }
+        ensures part { IfOk result (λ told. IfSome told (λ done. (known : Bool)
+            → TellsPartInstall known self.old.view self.new.view self.old.closed.items path.now bound done)) }
         ensures closed { OnOk result (self.new.closed.items ≡ self.old.closed.items) }
         ensures inside { IfOk result (λ told. is_none told ≡ is_inside self.old.closed.items path.now) }
         ensures same { result ≡ Ok None → self.new ≡ self.old }
@@ -117,6 +148,31 @@ impl<'a> ClosedView<'a> {
         }
         let done = self.view.install(path, bound)?;
         Ok(Some(done))
+    }
+
+    /// Whether the view says how the request goes, so far as that takes the depths of the closed directories: they are
+    /// known, or the request moves none of them. Takes no memory.
+    pub fn knows_enough(&self, known: bool, request: &Request) -> bool
+        ensures { result ≡ is_enough known self.now.closed.items request.now }
+    {
+        known || !self.moves_closed(request)
+    }
+
+    /// Whether the request names a path to move at or below which a directory is closed.
+    fn moves_closed(&self, request: &Request) -> bool
+        ensures { result ≡ moves_closed self.now.closed.items request.now }
+    {
+        match request.action() {
+            Action::RenameFile => is_any_at(&self.closed, request.first()),
+            Action::CreateFile
+            | Action::DeleteFile
+            | Action::AppendFile
+            | Action::ReplaceFile
+            | Action::CreateDirectory
+            | Action::RemoveDirectory
+            | Action::DenyFile
+            | Action::DenyDirectory => false,
+        }
     }
 
     /// The view itself, which says what the items needed and took.
@@ -155,7 +211,7 @@ impl<'a> ClosedView<'a> {
 }
 
 /// Whether the path is below one of the directories.
-fn is_inside(closed: &[Path], path: &Path) -> bool
+pub(crate) fn is_inside(closed: &[Path], path: &Path) -> bool
     ensures { result ≡ is_inside closed.now path.now }
 {
     closed.iter().any(|directory| path.is_below(directory))

@@ -1,32 +1,34 @@
 //! What is in a store at some paths, without octets, and with directories closed: what is below them is not looked at.
 
-ghost use Rattle.std.specs.Prelude.{◌≡◌, ◌∷◌, ◌++◌, [], Bool, ◌||◌, Some, IfOk, IfSome, OnOk, length, ◌<◌, ◌≤◌};
+ghost use Rattle.std.specs.Prelude.{◌≡◌, ◌∷◌, ◌++◌, [], Bool, ◌||◌, IsTrue, Some, IfOk, IfSome, OnOk, length, ◌<◌, ◌≤◌};
 ghost use Rattle.cfdp_paths.specs.Paths.{Path, is_at_or_below};
-ghost use Rattle.cfdp_actions.specs.Filestore.{blocks, deepest_of, tree_at};
+ghost use Rattle.cfdp_actions.specs.Filestore.{blocks, deepest_of, has_entries, tree_at};
 ghost use Rattle.cfdp_leases.specs.Footprint.{is_covered};
-ghost use Rattle.cfdp_states.specs.Closed.{Closes, IsClosedSurvey, IsFiller};
+ghost use Rattle.cfdp_states.specs.Closed.{Closes, IsFiller, IsPartSurvey};
 ghost use Rattle.cfdp_states.specs.Sketching.{extent_at};
 
+use crate::closed::is_inside;
 use crate::extent::Extent;
 use crate::extents::Extents;
 use crate::surveying::{add_paths, add_tree};
 use cfdp_actions::{Filestore, Kind};
 use cfdp_leases::Footprint;
-use cfdp_paths::{Memory, Path};
+use cfdp_paths::{MOST_NAMES, Memory, Path};
 use std::alloc::{AllocError, Global};
 
 /// What is at each path that the footprint covers, and the directories that are closed: the exclusive ones that have
-/// entries.
+/// entries, and are in no other one. How deep they are is found out only if it is to be known.
 ///
-/// Cost: for each exclusive path a `kind`, for a directory a `deepest`, and a `standing` for what is no directory with
-/// entries.
+/// Cost: for each exclusive path that is in no closed directory a `kind`, for a directory a `has_entries`, for one with
+/// entries a `deepest` if that is to be known, and a `standing` for what is no directory with entries.
 pub fn survey_closed<S: Filestore>(
     alloc: Global,
     store: &S,
     footprint: &Footprint,
+    known: bool,
 ) -> Result<(Extents, Vec<Path>), Memory>
     ensures extents { IfOk result (λ found.
-        IsClosedSurvey found.0 found.1.items (is_covered footprint.now) (S.state store.now).filestore) }
+        IsPartSurvey known found.0 found.1.items (is_covered footprint.now) (S.state store.now).filestore) }
     ensures small { blocks (S.state store.now).filestore ≤ 65536 }
 {
     // Its contract says that few blocks are in use, so that an extent can say each size.
@@ -36,27 +38,31 @@ pub fn survey_closed<S: Filestore>(
     let mut extents = Extents::new(alloc);
     let mut closed = Vec::new(alloc);
     for root in exclusive {
-        add_root(alloc, &mut extents, &mut closed, store, root)?;
+        add_root(alloc, &mut extents, &mut closed, store, root, known)?;
     }
     add_paths(&mut extents, store, shared)?;
     Ok((extents, closed))
 }
 
-/// Adds what is at the path, and what is below it unless it is closed.
+/// Adds what is at the path, and what is below it unless it is closed. Nothing is added in a closed directory.
 fn add_root<S: Filestore>(
     alloc: Global,
     extents: &mut Extents,
     closed: &mut Vec<Path>,
     store: &S,
     root: &Path,
+    known: bool,
 ) -> Result<(), Memory>
     requires { blocks (S.state store.now).filestore ≤ 65536 }
     ensures { OnOk result ((test : Path → Bool)
-        → IsClosedSurvey extents.old closed.old.items test (S.state store.now).filestore
-        → IsClosedSurvey extents.new closed.new.items (λ p. test p || is_at_or_below p root.now)
+        → IsPartSurvey known extents.old closed.old.items test (S.state store.now).filestore
+        → IsPartSurvey known extents.new closed.new.items (λ p. test p || is_at_or_below p root.now)
         (S.state store.now).filestore) }
 {
-    let Some(depth) = depth_below(store, root) else {
+    if is_inside(closed, root) {
+        return Ok(());
+    }
+    let Some(depth) = depth_below(store, root, known) else {
         return add_tree(alloc, extents, store, root);
     };
     // What is below a path comes after it, so that nothing is there yet.
@@ -66,24 +72,29 @@ fn add_root<S: Filestore>(
     close(alloc, extents, closed, root, depth)
 }
 
-/// The number of names of the longest path below a directory; `None` where nothing is below it, or it is no directory.
-fn depth_below<S: Filestore>(store: &S, path: &Path) -> Option<usize>
+/// The number of names of the longest path below a directory, or of some path below it if that is not to be known;
+/// `None` where nothing is below it, or it is no directory.
+fn depth_below<S: Filestore>(store: &S, path: &Path, known: bool) -> Option<usize>
     ensures directory { IfSome result (λ depth. extent_at (S.state store.now).filestore path.now
         ≡ Some Extent.Directory) }
-    ensures depth { IfSome result (λ depth. depth ≡ deepest_of (tree_at (S.state store.now).filestore path.now)) }
+    ensures depth { IfSome result (λ depth. IsTrue known
+        → depth ≡ deepest_of (tree_at (S.state store.now).filestore path.now)) }
+    ensures entries { IfSome result (λ depth. IsTrue (has_entries (S.state store.now).filestore path.now)) }
     ensures below { IfSome result (λ depth. length path.now < depth) }
     ensures within { IfSome result (λ depth. depth ≤ 8) }
 {
-    match store.kind(path) {
-        Some(Kind::Directory) => {
-            let depth = usize::from(store.deepest(path));
-            if path.depth() < depth {
-                Some(depth)
-            } else {
-                None
-            }
-        }
-        _ => None,
+    if store.kind(path) != Some(Kind::Directory) || !store.has_entries(path) {
+        return None;
+    }
+    let depth = if known {
+        usize::from(store.deepest(path))
+    } else {
+        path.depth() + 1
+    };
+    if path.depth() < depth && depth <= MOST_NAMES {
+        Some(depth)
+    } else {
+        None
     }
 }
 

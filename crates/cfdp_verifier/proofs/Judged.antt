@@ -16,7 +16,7 @@ use Rattle.cfdp_leases.specs.Items.{performed, step_bound, items_of}
 use Rattle.cfdp_leases.specs.Footprint.{Footprint, footprint_of}
 use Rattle.cfdp_states.specs.Alone.{statuses, steps, peak, alone, statuses_alone, need_alone, steps_alone}
 use Rattle.cfdp_states.specs.Views.{most_need, Sketch, IsViewOf, TellsInstall, only, installed_if}
-use Rattle.cfdp_states.specs.Closed.{IsClosedViewOf, TellsClosedInstall}
+use Rattle.cfdp_states.specs.Closed.{IsPartViewOf, TellsPartInstall}
 use Rattle.cfdp_verifier.specs.declared.refusal.NotGranted.{NotGranted}
 use Rattle.cfdp_verifier.specs.declared.refusal.NotGranted.TheVariants as no
 use Rattle.cfdp_verifier.specs.Verdict.{DestinationNotAllowed, Refuse, first_failure, destination_allowed, judged, judged_apart, capped}
@@ -41,10 +41,10 @@ pub installed_at : (prefixes : List Path) (v w : Sketch) (p : Path) (size : ℕ)
     InstallGoes (IsViewOf v) (IsViewOf w) prefixes p size done
 installed_at prefixes v w p size done same tells = subst (λ (ps : List Path). InstallGoes (IsViewOf v) (IsViewOf w) ps p size done) same tells
 
-pub installed_at_closed : (prefixes : List Path) (v w : Sketch) (cs : List Path) (p : Path) (size : ℕ) (done : Bool) → v.prefixes ≡ prefixes →
-    TellsClosedInstall v w cs p size done →
-    InstallGoes (IsClosedViewOf v cs) (IsClosedViewOf w cs) prefixes p size done
-installed_at_closed prefixes v w cs p size done same tells = subst (λ (ps : List Path). InstallGoes (IsClosedViewOf v cs) (IsClosedViewOf w cs) ps p size done)
+pub installed_at_closed : (known : Bool) (prefixes : List Path) (v w : Sketch) (cs : List Path) (p : Path) (size : ℕ) (done : Bool) → v.prefixes ≡ prefixes →
+    TellsPartInstall known v w cs p size done →
+    InstallGoes (IsPartViewOf known v cs) (IsPartViewOf known w cs) prefixes p size done
+installed_at_closed known prefixes v w cs p size done same tells = subst (λ (ps : List Path). InstallGoes (IsPartViewOf known v cs) (IsPartViewOf known w cs) ps p size done)
     same tells
 
 pub runs_at : {X : Type 0} (Seen : Filestore → ℕ → ℕ → ℕ → Type 0) (prefixes : List Path) (v w : Sketch) (items : List Item) (result : Result X NotGranted) →
@@ -176,23 +176,23 @@ module _ (prefixes : List Path) (F : Filestore) (bound : ℕ) (d : Option Path) 
       (without_file prefixes F requests fp Seen is seen)) is none
 
 -- and of a view with closed directories, which may not be able to say
-module _ (prefixes : List Path) (F : Filestore) (bound : ℕ) (d : Option Path) (requests : List Request) (fp : Footprint) (v w : Sketch) (cs : List Path)
-    (same : v.prefixes ≡ prefixes)
-    (seen : IsClosedViewOf v cs (alone (only fp F) []) (blocks (alone (only fp F) [])) (blocks (alone (only fp F) [])) 0) (p : Path) (done : Bool)
-    (told : Option Bool) (is_told : told ≡ Some done) (tells : IfSome told (λ done. TellsClosedInstall v w cs p bound done)) where
-  install_told : InstallGoes (IsClosedViewOf v cs) (IsClosedViewOf w cs) prefixes p bound done
-  install_told = installed_at_closed prefixes v w cs p bound done same (some_of (λ done. TellsClosedInstall v w cs p bound done) told done is_told tells)
+module _ (known : Bool) (prefixes : List Path) (F : Filestore) (bound : ℕ) (d : Option Path) (requests : List Request) (fp : Footprint) (v w : Sketch)
+    (cs : List Path) (same : v.prefixes ≡ prefixes)
+    (seen : IsPartViewOf known v cs (alone (only fp F) []) (blocks (alone (only fp F) [])) (blocks (alone (only fp F) [])) 0) (p : Path) (done : Bool)
+    (told : Option Bool) (is_told : told ≡ Some done) (tells : IfSome told (λ done. (known : Bool) → TellsPartInstall known v w cs p bound done)) where
+  install_told : InstallGoes (IsPartViewOf known v cs) (IsPartViewOf known w cs) prefixes p bound done
+  install_told = installed_at_closed known prefixes v w cs p bound done same (some_of (λ done. (known : Bool) → TellsPartInstall known v w cs p bound done) told done is_told tells known)
 
   pub refused_at_closed : d ≡ Some p → fp ≡ footprint_of (items_of d requests) → done ≡ false →
       (spare : ℕ) → judged_apart prefixes F spare (replicate bound 0) (items_of d requests) None ≡ Refuse DestinationNotAllowed
-  refused_at_closed e is failed spare = refused_at prefixes F bound d requests fp (IsClosedViewOf v cs) seen
-      (IsClosedViewOf w cs) p done install_told e is failed spare
+  refused_at_closed e is failed spare = refused_at prefixes F bound d requests fp (IsPartViewOf known v cs) seen
+      (IsPartViewOf known w cs) p done install_told e is failed spare
 
   pub file_at_closed : (ds : List Path) → ds ≡ cs → d ≡ Some p → fp ≡ footprint_of (items_of d requests) → done ≡ true →
-      AtRequests prefixes F (replicate bound 0) (items_of d requests) requests (IsClosedViewOf w ds)
+      AtRequests prefixes F (replicate bound 0) (items_of d requests) requests (IsPartViewOf known w ds)
   file_at_closed ds stay e is ok =
-      subst (λ (cs : List Path). AtRequests prefixes F (replicate bound 0) (items_of d requests) requests (IsClosedViewOf w cs)) (sym stay)
-      (file_at prefixes F bound d requests fp (IsClosedViewOf v cs) seen (IsClosedViewOf w cs) p done install_told e is ok)
+      subst (λ (cs : List Path). AtRequests prefixes F (replicate bound 0) (items_of d requests) requests (IsPartViewOf known w cs)) (sym stay)
+      (file_at prefixes F bound d requests fp (IsPartViewOf known v cs) seen (IsPartViewOf known w cs) p done install_told e is ok)
 
 module _ (prefixes : List Path) (F : Filestore) (x : List ℕ) (items : List Item) (requests : List Request) (Seen : Filestore → ℕ → ℕ → ℕ → Type 0) (w : Sketch)
     (at : AtRequests prefixes F x items requests Seen) where

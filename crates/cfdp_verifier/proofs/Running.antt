@@ -4,7 +4,7 @@
 --     GoesOn          so far each request was successful, and the rest of the list goes from here as the list from its start
 --     Counts          the view has the need and the steps that it describes
 --     begins, goes, fails, ends      the first index, the next index, a request that is not successful, the last index
-use Rattle.std.proofs.Common.{◌≡◌, refl, sym, ◌∙◌, ap, subst, true, false, cond, ℕ, suc, ◌+◌, ◌-◌, ◌≤◌, min, max, List, [], ◌∷◌, Some, Ok, zero, map, drop, length, get_or, Option, IfSome, ◌<◌, arith, add-zero, add-one}
+use Rattle.std.proofs.Common.{◌≡◌, refl, sym, ◌∙◌, ap, subst, Bool, true, false, cond, Result, Err, None, IfOk, ℕ, suc, ◌+◌, ◌-◌, ◌≤◌, min, max, List, [], ◌∷◌, Some, Ok, zero, map, drop, length, get_or, Option, IfSome, ◌<◌, arith, add-zero, add-one}
 use Rattle.std.proofs.Math.Seq.{drop-cons}
 use Rattle.cfdp_status.specs.declared.status.Status.{Status}
 use Rattle.cfdp_status.specs.Codes.{is_successful}
@@ -14,7 +14,7 @@ use Rattle.cfdp_actions.specs.Actions.{Item, Perform, Request, Performed, Answer
 use Rattle.cfdp_leases.specs.Items.{performed, step_bound}
 use Rattle.cfdp_states.specs.Alone.{statuses, steps, peak}
 use Rattle.cfdp_states.specs.Views.{most_need, Sketch, IsViewOf, Tells}
-use Rattle.cfdp_states.specs.Closed.{IsClosedViewOf, TellsClosed}
+use Rattle.cfdp_states.specs.Closed.{IsPartViewOf, TellsPart}
 use Rattle.cfdp_verifier.specs.Verdict.{capped, first_failure}
 use Rattle.cfdp_verifier.specs.Judging.{EndsSo}
 
@@ -56,22 +56,29 @@ added t n s = omega arith
 pub some_of : {A : Type 0} (P : A → Type 0) (o : Option A) (a : A) → o ≡ Some a → IfSome o P → P a
 some_of P o a is h = subst (λ o. IfSome o P) is h
 
+-- what is said of it where enough is known
+pub said_of : {A E : Type 0} (Q : Bool → Type 0) (T : Bool → A → Type 0) (known : Bool) (r : Result (Option A) E) →
+    IfOk r (λ o. IfSome o (λ a. (k : Bool) → Q k → T k a)) → Q known → IfOk r (λ o. IfSome o (T known))
+said_of Q T known (Ok None) h q = tt
+said_of Q T known (Ok (Some a)) h q = h known q
+said_of Q T known (Err e) h q = tt
+
 -- what a view says of an item, at the list's prefixes
 pub told_at : (prefixes : List Path) (v w : Sketch) (item : Item) (answer : Answer) → v.prefixes ≡ prefixes → Tells v w item answer →
     Goes (IsViewOf v) (IsViewOf w) prefixes item answer
 told_at prefixes v w item answer same tells = subst (λ (ps : List Path). Goes (IsViewOf v) (IsViewOf w) ps item answer) same tells
 
-pub told_at_closed : (prefixes : List Path) (v w : Sketch) (cs ds : List Path) (item : Item) (answer : Answer) → v.prefixes ≡ prefixes →
-    TellsClosed v cs w ds item answer →
-    Goes (IsClosedViewOf v cs) (IsClosedViewOf w ds) prefixes item answer
-told_at_closed prefixes v w cs ds item answer same tells = subst (λ (ps : List Path). Goes (IsClosedViewOf v cs) (IsClosedViewOf w ds) ps item answer) same
+pub told_at_closed : (known : Bool) (prefixes : List Path) (v w : Sketch) (cs ds : List Path) (item : Item) (answer : Answer) → v.prefixes ≡ prefixes →
+    TellsPart known v cs w ds item answer →
+    Goes (IsPartViewOf known v cs) (IsPartViewOf known w ds) prefixes item answer
+told_at_closed known prefixes v w cs ds item answer same tells = subst (λ (ps : List Path). Goes (IsPartViewOf known v cs) (IsPartViewOf known w ds) ps item answer) same
     tells
 
 pub view_counts : (w : Sketch) → Counts (IsViewOf w) w
 view_counts w G start most spent seen = (seen.need, seen.steps)
 
-pub closed_view_counts : (w : Sketch) (cs : List Path) → Counts (IsClosedViewOf w cs) w
-closed_view_counts w cs G start most spent c = (c.tells.need ∙ ap (λ n. min n most_need) (as_far most c.most start c.first c.peaks), c.tells.steps)
+pub closed_view_counts : (known : Bool) (w : Sketch) (cs : List Path) → Counts (IsPartViewOf known w cs) w
+closed_view_counts known w cs G start most spent c = (c.tells.need ∙ ap (λ n. min n most_need) (as_far most c.most start c.first c.peaks), c.tells.steps)
   where
     as_far : (peak most start first : ℕ) → peak + first ≡ most + start → most - first ≡ peak - start
     as_far peak most start first e = omega arith

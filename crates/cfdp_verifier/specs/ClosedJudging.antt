@@ -1,23 +1,24 @@
 -- How a list goes on a view with closed directories, which may find that it can't say.
---     TellsClosedRun v closed w items result     as `TellsRun` has it, where the view can say
---     JudgesClosed                               as `JudgesAlone` has it, where the view can say
+--     TellsClosedRun known v closed w items result   as `TellsRun` has it, where the view can say; the depths of the closed
+--                                                    directories may be known
+--     JudgesClosed                                   as `JudgesAlone` has it, where the view can say
 use Rattle.std.specs.Prelude.{⊤, ℕ, ◌≤◌, Bool, true, false, List, Option, Some, None, Result, Ok, Err}
 use Rattle.cfdp_paths.specs.Paths.{Path}
 use Rattle.cfdp_actions.specs.Filestore.{Filestore, blocks}
 use Rattle.cfdp_actions.specs.Actions.{Item}
 use Rattle.cfdp_states.specs.Views.{Sketch}
-use Rattle.cfdp_states.specs.Closed.{IsClosedViewOf}
+use Rattle.cfdp_states.specs.Closed.{IsPartViewOf}
 use Rattle.cfdp_verifier.specs.declared.refusal.NotGranted.{NotGranted}
 use Rattle.cfdp_verifier.specs.Judging.{EndsSo, JudgesAlone}
 
 -- on whatever filestore the view describes
-abbrev pub TellsClosedRun : Sketch → List Path → Sketch → List Item → Result Bool NotGranted → Type 0
-TellsClosedRun v closed w items (Ok false) = ⊤
-TellsClosedRun v closed w items (Ok true) =
-    (F : Filestore) (start high taken : ℕ) → IsClosedViewOf v closed F start high taken → blocks F ≤ high →
+abbrev pub TellsClosedRun : Bool → Sketch → List Path → Sketch → List Item → Result Bool NotGranted → Type 0
+TellsClosedRun known v closed w items (Ok false) = ⊤
+TellsClosedRun known v closed w items (Ok true) =
+    (F : Filestore) (start high taken : ℕ) → IsPartViewOf known v closed F start high taken → blocks F ≤ high →
     EndsSo {X = Bool} v.prefixes F items start high taken w (Ok true)
-TellsClosedRun v closed w items (Err fault) =
-    (F : Filestore) (start high taken : ℕ) → IsClosedViewOf v closed F start high taken → blocks F ≤ high →
+TellsClosedRun known v closed w items (Err fault) =
+    (F : Filestore) (start high taken : ℕ) → IsPartViewOf known v closed F start high taken → blocks F ≤ high →
     EndsSo {X = Bool} v.prefixes F items start high taken w (Err fault)
 
 abbrev pub JudgesClosed : List Path → Filestore → List ℕ → List Item → Result (Option Sketch) NotGranted → Type 0

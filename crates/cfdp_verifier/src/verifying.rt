@@ -29,8 +29,9 @@ use std::alloc::{AllocError, Global};
 ///
 /// Out of memory, which a list of more than 64 requests does not take. Cost: that of reading the names, of
 /// `footprint`, `Leases::conflict` and `View::of` on what they name, and of one `View::install` and a `View::apply` for
-/// each request. A list that moves a directory takes a `ClosedView` instead, and the `View` only if that can't say;
-/// each list takes one `kind` for each rename.
+/// each request. A list with an exclusive path that is a directory with entries takes a `ClosedView` instead, and the
+/// `View` only if that can't say, and one `kind` for each rename; the depths of directories are found out only if one
+/// of the renames moves a directory. Each list takes one `has_entries` for each exclusive path.
 pub fn verify<S: Filestore>(
     alloc: Global,
     store: &S,

@@ -5,7 +5,7 @@ use Rattle.cfdp_actions.specs.Actions.{Perform}
 use Rattle.cfdp_leases.specs.Items.{items_of}
 use Rattle.cfdp_states.specs.Alone.{alone}
 use Rattle.cfdp_states.specs.Views.{Sketch, only}
-use Rattle.cfdp_states.specs.Closed.{IsClosedViewOf}
+use Rattle.cfdp_states.specs.Closed.{IsPartViewOf}
 use Rattle.cfdp_verifier.specs.Judging.{JudgesAlone}
 use Rattle.cfdp_verifier.specs.ClosedJudging.{TellsClosedRun}
 use Rattle.cfdp_verifier.proofs.Running.{some_of}
@@ -22,13 +22,13 @@ returns-in-Some-false g c =
     let requests = c.args.items.now.requests.items in
     let fp = c.args.footprint.now in
     let v = c.in-Some.view in
-    let same : v.view.prefixes ≡ prefixes = some_of (λ it. it.view.prefixes ≡ prefixes) c.in_ok-view.field-0 v c.in-Some.is c.in_ok-view.ensures.prefixes in
+    let same : v.view.prefixes ≡ prefixes = some_of (λ it. it.view.prefixes ≡ prefixes) c.in_ok-made.made v c.in-Some.is c.in_ok-made.ensures.prefixes in
     let G = alone (only fp F) [] in
-    let seen : IsClosedViewOf v.view v.closed.items G (blocks G) (blocks G) 0 =
-    some_of (λ it. IsClosedViewOf it.view it.closed.items G (blocks G) (blocks G) 0) c.in_ok-view.field-0 v c.in-Some.is c.in_ok-view.ensures.told in
-    refused_at_closed prefixes F bound d requests fp v.view c.install.new.self.view v.closed.items same seen c.in-Some-destination.path c.in-Some-false.field-0
+    let seen : IsPartViewOf c.args.known v.view v.closed.items G (blocks G) (blocks G) 0 =
+    some_of (λ it. IsPartViewOf c.args.known it.view it.closed.items G (blocks G) (blocks G) 0) c.in_ok-made.made v c.in-Some.is c.in_ok-made.ensures.told in
+    refused_at_closed c.args.known prefixes F bound d requests fp v.view c.install.new.self.view v.closed.items same seen c.in-Some-destination.path c.in-Some-false.field-0
     c.in_ok-install.field-0
-    c.in-Some-false.is c.in_ok-install.ensures.told c.in-Some-destination.is c.requires.footprint c.in-Some-false.field-0-test
+    c.in-Some-false.is c.in_ok-install.ensures.part c.in-Some-destination.is c.requires.footprint c.in-Some-false.field-0-test
 
 pub returns-in_err-run_requests_closed : goal.returns-in_err-run_requests_closed
 returns-in_err-run_requests_closed g c =
@@ -39,29 +39,29 @@ returns-in_err-run_requests_closed g c =
     let requests = c.args.items.now.requests.items in
     let fp = c.args.footprint.now in
     let v = c.in-Some.view in
-    let same : v.view.prefixes ≡ prefixes = some_of (λ it. it.view.prefixes ≡ prefixes) c.in_ok-view.field-0 v c.in-Some.is c.in_ok-view.ensures.prefixes in
+    let same : v.view.prefixes ≡ prefixes = some_of (λ it. it.view.prefixes ≡ prefixes) c.in_ok-made.made v c.in-Some.is c.in_ok-made.ensures.prefixes in
     let G = alone (only fp F) [] in
-    let seen : IsClosedViewOf v.view v.closed.items G (blocks G) (blocks G) 0 =
-    some_of (λ it. IsClosedViewOf it.view it.closed.items G (blocks G) (blocks G) 0) c.in_ok-view.field-0 v c.in-Some.is c.in_ok-view.ensures.told in
+    let seen : IsPartViewOf c.args.known v.view v.closed.items G (blocks G) (blocks G) 0 =
+    some_of (λ it. IsPartViewOf c.args.known it.view it.closed.items G (blocks G) (blocks G) 0) c.in_ok-made.made v c.in-Some.is c.in_ok-made.ensures.told in
     let u = c.match-items.view in
     let still : u.view.prefixes ≡ prefixes = elim c.match-items.branch [
       | in-Some-destination+in_ok-install+in-Some-true w ↦ rw w.view-is (w.in_ok-install.ensures.prefixes ∙ same)
       | in_default-destination w ↦ rw w.view-is same
     ] in
-    let at : AtRequests prefixes F (replicate bound 0) (items_of d requests) requests (IsClosedViewOf u.view u.closed.items) = elim c.match-items.branch [
-      | in-Some-destination+in_ok-install+in-Some-true w ↦ rw w.view-is (file_at_closed prefixes F bound d requests fp v.view w.install.new.self.view
+    let at : AtRequests prefixes F (replicate bound 0) (items_of d requests) requests (IsPartViewOf c.args.known u.view u.closed.items) = elim c.match-items.branch [
+      | in-Some-destination+in_ok-install+in-Some-true w ↦ rw w.view-is (file_at_closed c.args.known prefixes F bound d requests fp v.view w.install.new.self.view
           v.closed.items same seen
-          w.in-Some-destination.path w.in-Some-true.field-0 w.in_ok-install.field-0 w.in-Some-true.is w.in_ok-install.ensures.told
+          w.in-Some-destination.path w.in-Some-true.field-0 w.in_ok-install.field-0 w.in-Some-true.is w.in_ok-install.ensures.part
           w.install.new.self.closed.items w.in_ok-install.ensures.closed
           w.in-Some-destination.is c.requires.footprint w.in-Some-true.field-0-test)
       | in_default-destination w ↦ rw w.view-is (no_file_at prefixes F bound d requests fp
-          (IsClosedViewOf v.view v.closed.items) seen w.in_default-destination.is c.requires.footprint c.requires.bound)
+          (IsPartViewOf c.args.known v.view v.closed.items) seen w.in_default-destination.is c.requires.footprint c.requires.bound)
     ] in
     let n = c.run_requests_closed.new.view in
     let p = err_from_is_err_and c.from_residual-in_err-run_requests_closed.result c.from_residual-in_err-run_requests_closed.ensures.1 in
     let fault = c.in_err-run_requests_closed.field-0.0 in
-    rw (p.1, p.2) (one_failed prefixes F (replicate bound 0) (items_of d requests) requests (IsClosedViewOf u.view u.closed.items) n.view at Bool fault
-    (runs_at {X = Bool} (IsClosedViewOf u.view u.closed.items) prefixes u.view n.view (map Perform requests) (Err fault) still
+    rw (p.1, p.2) (one_failed prefixes F (replicate bound 0) (items_of d requests) requests (IsPartViewOf c.args.known u.view u.closed.items) n.view at Bool fault
+    (runs_at {X = Bool} (IsPartViewOf c.args.known u.view u.closed.items) prefixes u.view n.view (map Perform requests) (Err fault) still
     (rw c.deref.ensures.value at c.in_err-run_requests_closed.ensures)))
 
 pub returns : goal.returns
@@ -73,28 +73,28 @@ returns g c =
     let requests = c.args.items.now.requests.items in
     let fp = c.args.footprint.now in
     let v = c.in-Some.view in
-    let same : v.view.prefixes ≡ prefixes = some_of (λ it. it.view.prefixes ≡ prefixes) c.in_ok-view.field-0 v c.in-Some.is c.in_ok-view.ensures.prefixes in
+    let same : v.view.prefixes ≡ prefixes = some_of (λ it. it.view.prefixes ≡ prefixes) c.in_ok-made.made v c.in-Some.is c.in_ok-made.ensures.prefixes in
     let G = alone (only fp F) [] in
-    let seen : IsClosedViewOf v.view v.closed.items G (blocks G) (blocks G) 0 =
-    some_of (λ it. IsClosedViewOf it.view it.closed.items G (blocks G) (blocks G) 0) c.in_ok-view.field-0 v c.in-Some.is c.in_ok-view.ensures.told in
+    let seen : IsPartViewOf c.args.known v.view v.closed.items G (blocks G) (blocks G) 0 =
+    some_of (λ it. IsPartViewOf c.args.known it.view it.closed.items G (blocks G) (blocks G) 0) c.in_ok-made.made v c.in-Some.is c.in_ok-made.ensures.told in
     let u = c.match-items.view in
     let still : u.view.prefixes ≡ prefixes = elim c.match-items.branch [
       | in-Some-destination+in_ok-install+in-Some-true w ↦ rw w.view-is (w.in_ok-install.ensures.prefixes ∙ same)
       | in_default-destination w ↦ rw w.view-is same
     ] in
-    let at : AtRequests prefixes F (replicate bound 0) (items_of d requests) requests (IsClosedViewOf u.view u.closed.items) = elim c.match-items.branch [
-      | in-Some-destination+in_ok-install+in-Some-true w ↦ rw w.view-is (file_at_closed prefixes F bound d requests fp v.view w.install.new.self.view
+    let at : AtRequests prefixes F (replicate bound 0) (items_of d requests) requests (IsPartViewOf c.args.known u.view u.closed.items) = elim c.match-items.branch [
+      | in-Some-destination+in_ok-install+in-Some-true w ↦ rw w.view-is (file_at_closed c.args.known prefixes F bound d requests fp v.view w.install.new.self.view
           v.closed.items same seen
-          w.in-Some-destination.path w.in-Some-true.field-0 w.in_ok-install.field-0 w.in-Some-true.is w.in_ok-install.ensures.told
+          w.in-Some-destination.path w.in-Some-true.field-0 w.in_ok-install.field-0 w.in-Some-true.is w.in_ok-install.ensures.part
           w.install.new.self.closed.items w.in_ok-install.ensures.closed
           w.in-Some-destination.is c.requires.footprint w.in-Some-true.field-0-test)
       | in_default-destination w ↦ rw w.view-is (no_file_at prefixes F bound d requests fp
-          (IsClosedViewOf v.view v.closed.items) seen w.in_default-destination.is c.requires.footprint c.requires.bound)
+          (IsPartViewOf c.args.known v.view v.closed.items) seen w.in_default-destination.is c.requires.footprint c.requires.bound)
     ] in
     let n = c.run_requests_closed.new.view in
-    let done = subst (λ b. TellsClosedRun u.view u.closed.items n.view (map Perform c.deref.result.now) (Ok b)) c.if-not-branch.false
+    let done = subst (λ b. TellsClosedRun c.args.known u.view u.closed.items n.view (map Perform c.deref.result.now) (Ok b)) c.if-not-branch.false
     c.in_ok-run_requests_closed.ensures in
     subst (λ (w : Sketch). JudgesAlone prefixes F (replicate bound 0) (items_of d requests) (Ok w)) (sym c.into_view.ensures)
-    (all_done prefixes F (replicate bound 0) (items_of d requests) requests (IsClosedViewOf u.view u.closed.items) n.view at true
-    (runs_at {X = Bool} (IsClosedViewOf u.view u.closed.items) prefixes u.view n.view (map Perform requests) (Ok true) still
+    (all_done prefixes F (replicate bound 0) (items_of d requests) requests (IsPartViewOf c.args.known u.view u.closed.items) n.view at true
+    (runs_at {X = Bool} (IsPartViewOf c.args.known u.view u.closed.items) prefixes u.view n.view (map Perform requests) (Ok true) still
     (rw c.deref.ensures.value at done)))
