@@ -1,9 +1,9 @@
 -- Which numbers a configuration takes.
-use Rattle.std.proofs.Common.{◌≡◌, ℕ, true, false, List, [], ◌∷◌, Option, Some, None, refl, arith}
-use Rattle.cfdp_commands.specs.Replay.{Stage, Preparing, Running, config_by, configured}
+use Rattle.std.proofs.Common.{◌≡◌, ℕ, List, [], ◌∷◌, Option, Some, None, refl, arith}
+use Rattle.cfdp_commands.specs.Commands.{config_by}
 use Rattle.cfdp_lines.proofs.Answering.{NotFew, too_few}
 
-config_by-none : (numbers : Option (List ℕ)) → NotFew numbers → config_by numbers ≡ None
+pub config_by-none : (numbers : Option (List ℕ)) → NotFew numbers → config_by numbers ≡ None
 config_by-none None h = refl
 config_by-none (Some []) h = refl
 config_by-none (Some (a ∷ [])) h = refl
@@ -12,8 +12,3 @@ config_by-none (Some (a ∷ b ∷ c ∷ [])) h = refl
 config_by-none (Some (a ∷ b ∷ c ∷ d ∷ [])) h = refl
 config_by-none (Some (a ∷ b ∷ c ∷ d ∷ e ∷ [])) h = too_few (a ∷ b ∷ c ∷ d ∷ e ∷ []) (omega arith) h
 config_by-none (Some (a ∷ b ∷ c ∷ d ∷ e ∷ f ∷ numbers)) h = refl
-
-pub configured-none : (stage : Stage) (numbers : Option (List ℕ)) → NotFew numbers → configured stage numbers ≡ None
-configured-none (Preparing true config) numbers h = config_by-none numbers h
-configured-none (Preparing false config) numbers h = refl
-configured-none (Running W) numbers h = refl

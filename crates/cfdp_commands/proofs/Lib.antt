@@ -1,6 +1,7 @@
 pub mod Answering
+pub mod Copying
+pub mod Handing
 pub mod Hearing
-pub mod Keeping
 pub mod Numbering
 pub mod PathLengths
 pub mod Preparing

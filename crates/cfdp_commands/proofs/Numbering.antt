@@ -1,8 +1,7 @@
--- What workers leave, by their numbers, and lists that are gone through index by index.
-use Rattle.std.proofs.Common.{◌≡◌, ℕ, suc, ◌+◌, ◌≤◌, Bool, true, false, if◌then◌else◌, List, [], ◌∷◌, ◌++◌, length, map, drop, Some, slice_get, sym, ap, ◌∙◌, subst, add-zero, append_assoc, append-nil, arith}
+-- What workers leave, by their numbers.
+use Rattle.std.proofs.Common.{◌≡◌, ℕ, ◌+◌, ◌≤◌, Bool, true, false, if◌then◌else◌, List, [], ◌∷◌, ◌++◌, length, map, drop, sym, subst, add-zero, append-nil, arith}
 use Rattle.std.proofs.lemmas.List.{drop_all}
 use Rattle.cfdp_transactions.specs.declared.event.Event.{Event}
-use Rattle.cfdp_transactions.proofs.StepDone.{drop_get}
 use Rattle.cfdp_engine.specs.Seats.{Seated}
 use Rattle.cfdp_engine.specs.declared.message.Message.{Message}
 use Rattle.cfdp_engine.specs.Working.{is_passed_over, passed_over}
@@ -44,19 +43,6 @@ numbered-grown {X = X} P all new x before last same =
     let from : length all ≡ 0 + length all = omega arith in
     subst (λ (xs : List X). AllNumbered P 0 xs) (sym same)
     (numbered-snoc P 0 all x before (subst (λ (n : ℕ). P n x) from last))
-
--- ---- lists that grow by what another one has
-
--- one more than before is taken over
-pub taken_over : {X : Type 0} (taken more all : List X) (place : ℕ) (x : X) → slice_get all place ≡ Some x → more ≡ taken ++ x ∷ []
-    → taken ++ drop place all ≡ all → more ++ drop (place + 1) all ≡ all
-taken_over {X = X} taken more all place x at grown before =
-    let next : suc place ≡ place + 1 = omega arith in
-    let behind : drop place all ≡ x ∷ drop (place + 1) all = subst (λ (n : ℕ). drop place all ≡ x ∷ drop n all) next (drop_get place all x at) in
-    ap (λ (xs : List X). xs ++ drop (place + 1) all) grown
-    ∙ append_assoc taken (x ∷ []) (drop (place + 1) all)
-    ∙ ap (λ (xs : List X). taken ++ xs) (sym behind)
-    ∙ before
 
 -- what holds whatever follows holds of all that there is
 pub handed_all : {X : Type 0} (events : Seated → List Event) (said : X → List Said) (files : List X) (seats : List Seated) (dropped : List ℕ)

@@ -1,128 +1,66 @@
--- What the lines of `links` leave: an entity to which nothing has happened, and only what may be handed in.
-use Rattle.std.proofs.Common.{◌≡◌, ℕ, suc, ◌+◌, true, false, nat_lt, if◌then◌else◌, List, [], ◌∷◌, ◌++◌, length, map, drop, get_or, ◌<◌, Option, Some, None, Result, Ok, Err, refl, sym, ap, ◌∙◌, subst}
+-- What the lines of `links` say: only what may be handed in.
+use Rattle.std.proofs.Common.{◌≡◌, ◌≢◌, ℕ, suc, ◌+◌, true, false, if◌then◌else◌, List, [], ◌∷◌, ◌++◌, length, map, drop, get_or, ◌<◌, Option, Some, None, Result, Ok, Err, sym, ap, ◌∙◌, subst}
 use Rattle.std.proofs.Math.Seq.{drop-cons}
 use Rattle.std.specs.Prelude.{⊤}
 use Rattle.std.specs.List.{AllByRecursion}
-use Rattle.cfdp_status.specs.declared.transaction.TransactionId.{TransactionId}
-use Rattle.cfdp_paths.specs.Paths.{Path, path_of}
-use Rattle.cfdp_transactions.specs.Config.{Config, first_fault}
-use Rattle.cfdp_transactions.specs.declared.config.ConfigFault.{ConfigFault}
-use Rattle.cfdp_transactions.specs.Writable.{IsReadable}
-use Rattle.cfdp_commands.specs.Commands.{keyword_of, local_event}
-use Rattle.cfdp_lines.specs.Words.{words_of, numbers_of, id_by}
-use Rattle.cfdp_commands.specs.declared.commands.Keyword.{Keyword}
-use Rattle.cfdp_commands.specs.declared.commands.Keyword.TheVariants as keyword
-use Rattle.cfdp_commands.specs.declared.commands.Local.{Local}
-use Rattle.cfdp_commands.specs.declared.commands.Local.TheVariants.{Step, Cancel, Check, Take}
-use Rattle.cfdp_lines.specs.Hexadecimal.{octets_of_words}
+use Rattle.cfdp_commands.specs.Commands.{Command, SaysPdu, command_in}
+use Rattle.cfdp_commands.specs.Commands as command
 use Rattle.cfdp_lines.specs.Lines.{is_overlong, is_comment, lines_of}
 use Rattle.cfdp_lines.specs.declared.faults.LinkFault.{LinkFault}
-use Rattle.cfdp_commands.specs.Linked.{IsBadFile, IsFresh, IsHeard}
-use Rattle.cfdp_commands.specs.Links.{Said, Steps, Reading, Files, prepared, says, local_said, pdu_said, obeyed_by_link, words_said, link_answer, read_then, read_from, file_said, files_then, files_from, link_files, running}
-use Rattle.cfdp_commands.specs.Replay.{Stage, Preparing, Running, config_without, config_by, configured, with_prefix, prefix_by, protected, alone}
+use Rattle.cfdp_commands.specs.Linked.{IsBadFile, IsHeard}
+use Rattle.cfdp_commands.specs.Links.{Said, Reading, Files, said_by, link_said, link_answer, read_then, read_from, file_said, files_then, files_from, link_files, running}
+use Rattle.cfdp_commands.specs.Replay.{Stage, configured, protected, silent}
 use Rattle.cfdp_lines.specs.Report.{line_answer}
+use Rattle.cfdp_commands.proofs.Handing.{local_readable}
 
 -- ---- lines
 
--- after a line that is not bad
-FreshAfter : Option (Stage × List ℕ) → Type 0
-FreshAfter None = ⊤
-FreshAfter (Some answered) = IsFresh answered.0
+-- what a line says, if it is not bad
+AreHeard : Option (Stage × List Said) → Type 0
+AreHeard None = ⊤
+AreHeard (Some answered) = AllByRecursion IsHeard answered.1
 
-config_without-fresh : (fault : Option ConfigFault) (config : Config) → FreshAfter (config_without fault config)
-unfolding FreshAfter
-config_without-fresh (Some fault) config = tt
-config_without-fresh None config = refl
+silent-heard : (next : Option Stage) → AreHeard (silent next)
+unfolding AreHeard
+silent-heard None = tt
+silent-heard (Some stage) = tt
 
-config_by-fresh : (numbers : Option (List ℕ)) → FreshAfter (config_by numbers)
-unfolding FreshAfter
-config_by-fresh (Some (entity ∷ blocks ∷ cap ∷ checks ∷ journal ∷ [])) =
-    config_without-fresh (first_fault blocks cap checks journal)
-    (record { entity = entity; blocks = blocks; cap = cap; checks = checks; journal = journal; prefixes = [] })
-config_by-fresh numbers = tt
+said_by-heard : (stage : Stage) (said : Command) → AreHeard (said_by stage said)
+unfolding AreHeard
+said_by-heard stage (command.Config entity blocks cap checks journal) = silent-heard (configured stage entity blocks cap checks journal)
+said_by-heard stage (command.Protect octets) = silent-heard (protected stage octets)
+said_by-heard stage (command.Pdu octets) = (tt, tt)
+said_by-heard stage (command.Local which id) = (local_readable which id, tt)
+said_by-heard stage command.Run = (tt, tt)
+said_by-heard stage command.ListAll = tt
 
-configured-fresh : (stage : Stage) (numbers : Option (List ℕ)) → FreshAfter (configured stage numbers)
-unfolding FreshAfter
-configured-fresh (Preparing true config) numbers = config_by-fresh numbers
-configured-fresh stage numbers = tt
+link_said-heard : (stage : Stage) (said : Option (Option Command)) → AreHeard (link_said stage said)
+unfolding AreHeard
+link_said-heard stage None = tt
+link_said-heard stage (Some None) = tt
+link_said-heard stage (Some (Some said)) = said_by-heard stage said
 
-with_prefix-fresh : (config : Config) (path : Option Path) → FreshAfter (with_prefix config path)
-unfolding FreshAfter
-with_prefix-fresh config None = tt
-with_prefix-fresh config (Some path) =
-    elim (nat_lt (length config.prefixes) 8) as (λ few. FreshAfter (if few
-    then Some (Preparing false (record config { prefixes = config.prefixes ++ path ∷ [] }), []) else None)) [
-      | true ↦ refl
-      | false ↦ tt
-    ]
-
-prefix_by-fresh : (config : Config) (octets : Option (List ℕ)) → FreshAfter (prefix_by config octets)
-unfolding FreshAfter
-prefix_by-fresh config None = tt
-prefix_by-fresh config (Some octets) = with_prefix-fresh config (path_of octets)
-
-protected-fresh : (stage : Stage) (octets : Option (List ℕ)) → FreshAfter (protected stage octets)
-unfolding FreshAfter
-protected-fresh (Preparing is_first config) octets = prefix_by-fresh config octets
-protected-fresh (Running W) octets = tt
-
--- what a line says, too
-Keeps : Option (Stage × List Said) → Type 0
-Keeps None = ⊤
-Keeps (Some answered) = IsFresh answered.0 × AllByRecursion IsHeard answered.1
-
-prepared-keeps : (answered : Option (Stage × List ℕ)) → FreshAfter answered → Keeps (prepared answered)
-unfolding FreshAfter Keeps
-prepared-keeps None h = tt
-prepared-keeps (Some answered) h = (h, tt)
-
-pdu_said-keeps : (stage : Stage) (octets : Option (List ℕ)) → IsFresh stage → Keeps (pdu_said stage octets)
-unfolding Keeps
-pdu_said-keeps stage None h = tt
-pdu_said-keeps stage (Some []) h = tt
-pdu_said-keeps stage (Some (octet ∷ octets)) h = (h, (tt, tt))
-
-local_readable : (which : Local) (id : TransactionId) → IsReadable (local_event which id)
-local_readable Step id = tt
-local_readable Cancel id = tt
-local_readable Check id = tt
-local_readable Take id = tt
-
-local_said-keeps : (stage : Stage) (which : Local) (id : Option TransactionId) → IsFresh stage → Keeps (local_said stage (local_event which) id)
-unfolding Keeps
-local_said-keeps stage which None h = tt
-local_said-keeps stage which (Some id) h = (h, (local_readable which id, tt))
-
-alone-keeps : (stage : Stage) (words : List (List ℕ)) → IsFresh stage → Keeps (alone words (says stage Steps))
-unfolding Keeps
-alone-keeps stage [] h = (h, (tt, tt))
-alone-keeps stage (word ∷ words) h = tt
-
-obeyed-keeps : (stage : Stage) (command : Option Keyword) (words : List (List ℕ)) → IsFresh stage → Keeps (obeyed_by_link stage command words)
-unfolding Keeps
-obeyed-keeps stage None words h = tt
-obeyed-keeps stage (Some keyword.Config) words h = prepared-keeps (configured stage (numbers_of words)) (configured-fresh stage (numbers_of words))
-obeyed-keeps stage (Some keyword.Protect) words h = prepared-keeps (protected stage (octets_of_words words)) (protected-fresh stage (octets_of_words words))
-obeyed-keeps stage (Some keyword.Pdu) words h = pdu_said-keeps stage (octets_of_words words) h
-obeyed-keeps stage (Some (keyword.Local which)) words h = local_said-keeps stage which (id_by (numbers_of words)) h
-obeyed-keeps stage (Some keyword.Run) words h = alone-keeps stage words h
-obeyed-keeps stage (Some keyword.List) words h = tt
-
-words_said-keeps : (stage : Stage) (words : List (List ℕ)) → IsFresh stage → Keeps (words_said stage words)
-unfolding Keeps
-words_said-keeps stage [] h = (h, tt)
-words_said-keeps stage (word ∷ words) h = obeyed-keeps stage (keyword_of word) words h
-
-line_answer-keeps : (stage : Stage) (line : List ℕ) → IsFresh stage → Keeps (line_answer link_answer stage line)
-unfolding Keeps
-line_answer-keeps stage line h =
-    elim (is_overlong line) as (λ long. Keeps (if long then None else if is_comment line then Some (stage, []) else link_answer stage line)) [
+line_answer-heard : (stage : Stage) (line : List ℕ) → AreHeard (line_answer link_answer stage line)
+unfolding AreHeard
+line_answer-heard stage line =
+    elim (is_overlong line) as (λ long. AreHeard (if long then None else if is_comment line then Some (stage, []) else link_answer stage line)) [
       | true ↦ tt
-      | false ↦ elim (is_comment line) as (λ comment. Keeps (if comment then Some (stage, []) else link_answer stage line)) [
-        | true ↦ (h, tt)
-        | false ↦ words_said-keeps stage (words_of line) h
+      | false ↦ elim (is_comment line) as (λ comment. AreHeard (if comment then Some (stage, []) else link_answer stage line)) [
+        | true ↦ tt
+        | false ↦ link_said-heard stage (command_in line)
       ]
     ]
+
+-- a PDU that came is never bad
+pub pdu_said : (stage : Stage) (said : Option (Option Command)) → SaysPdu said → link_said stage said ≢ None
+pdu_said stage None pdu none = pdu
+pdu_said stage (Some None) pdu none = pdu
+pdu_said stage (Some (Some (command.Config entity blocks cap checks journal))) pdu none = pdu
+pdu_said stage (Some (Some (command.Protect octets))) pdu none = pdu
+pdu_said stage (Some (Some (command.Pdu octets))) pdu none = absurd cc
+pdu_said stage (Some (Some (command.Local which id))) pdu none = pdu
+pdu_said stage (Some (Some command.Run)) pdu none = pdu
+pdu_said stage (Some (Some command.ListAll)) pdu none = pdu
 
 -- ---- files
 
@@ -130,29 +68,29 @@ heard_more : (said more : List Said) → AllByRecursion IsHeard said → AllByRe
 heard_more [] more h k = k
 heard_more (one ∷ said) more h k = (h.0, heard_more said more h.1 k)
 
--- after a file without a bad line
-abbrev pub IsKept : Result Reading ℕ → Type 0
-IsKept (Ok reading) = IsFresh reading.stage × AllByRecursion IsHeard reading.said
-IsKept (Err line) = ⊤
+-- of a file without a bad line
+abbrev pub IsHeardOf : Result Reading ℕ → Type 0
+IsHeardOf (Ok reading) = AllByRecursion IsHeard reading.said
+IsHeardOf (Err line) = ⊤
 
-read_then-kept : (number : ℕ) (said : List Said) (answered : Option (Stage × List Said)) (later : Reading → Result Reading ℕ)
-    → AllByRecursion IsHeard said → Keeps answered
-    → ((after : Reading) → IsFresh after.stage → AllByRecursion IsHeard after.said → IsKept (later after)) → IsKept (read_then number said answered later)
-unfolding Keeps
-read_then-kept number said None later h k goes = tt
-read_then-kept number said (Some answered) later h k goes =
-    goes (record { stage = answered.0; said = said ++ answered.1 }) k.0 (heard_more said answered.1 h k.1)
+read_then-heard : (number : ℕ) (said : List Said) (answered : Option (Stage × List Said)) (later : Reading → Result Reading ℕ)
+    → AllByRecursion IsHeard said → AreHeard answered
+    → ((after : Reading) → AllByRecursion IsHeard after.said → IsHeardOf (later after)) → IsHeardOf (read_then number said answered later)
+unfolding AreHeard
+read_then-heard number said None later h k goes = tt
+read_then-heard number said (Some answered) later h k goes =
+    goes (record { stage = answered.0; said = said ++ answered.1 }) (heard_more said answered.1 h k)
 
-read_from-kept : (number : ℕ) (reading : Reading) (lines : List (List ℕ)) → IsFresh reading.stage → AllByRecursion IsHeard reading.said
-    → IsKept (read_from number reading lines)
-read_from-kept number reading [] fresh heard = (fresh, heard)
-read_from-kept number reading (line ∷ lines) fresh heard =
-    read_then-kept number reading.said (line_answer link_answer reading.stage line) (λ after. read_from (number + 1) after lines) heard
-    (line_answer-keeps reading.stage line fresh) (λ after f h. read_from-kept (number + 1) after lines f h)
+read_from-heard : (number : ℕ) (reading : Reading) (lines : List (List ℕ)) → AllByRecursion IsHeard reading.said
+    → IsHeardOf (read_from number reading lines)
+read_from-heard number reading [] heard = heard
+read_from-heard number reading (line ∷ lines) heard =
+    read_then-heard number reading.said (line_answer link_answer reading.stage line) (λ after. read_from (number + 1) after lines) heard
+    (line_answer-heard reading.stage line) (λ after h. read_from-heard (number + 1) after lines h)
 
-pub file_kept : (stage : Stage) (script : List ℕ) (reading : Reading) → IsFresh stage → file_said stage script ≡ Ok reading → IsKept (Ok reading)
-file_kept stage script reading fresh read =
-    subst IsKept read (read_from-kept 1 (record { stage = stage; said = [] }) (lines_of script) fresh tt)
+pub file_heard : (stage : Stage) (script : List ℕ) (reading : Reading) → file_said stage script ≡ Ok reading → AllByRecursion IsHeard reading.said
+file_heard stage script reading read =
+    subst IsHeardOf read (read_from-heard 1 (record { stage = stage; said = [] }) (lines_of script) tt)
 
 -- a file without a bad line, and those after it
 pub files_from-more : (file : ℕ) (stage : Stage) (said : List (List Said)) (script : List ℕ) (scripts : List (List ℕ)) (reading : Reading)

@@ -1,6 +1,5 @@
 -- What a run of `links` is.
 --
---   IsFresh          nothing has happened to the entity: it is as its configuration starts it
 --   AddsLine         a line moved the stage on, and what it says came after what was there
 --   IsBadLine        why a file is not read: out of memory, or the bad line that there is
 --   IsBadFile        why the files are not read: the same, of the first file that has a bad line
@@ -33,7 +32,7 @@ use Rattle.std.specs.Io.KnownBytes.{Appends}
 use Rattle.std.specs.List.{AllByRecursion}
 use Rattle.cfdp_transactions.specs.Config.{Config}
 use Rattle.cfdp_transactions.specs.declared.event.Event.{Event}
-use Rattle.cfdp_transactions.specs.World.{World, start}
+use Rattle.cfdp_transactions.specs.World.{World}
 use Rattle.cfdp_transactions.specs.Writable.{IsReadable}
 use Rattle.cfdp_engine.specs.declared.entry.Entry.{Entry}
 use Rattle.cfdp_engine.specs.Journal.{IsHistory, Recorded, events_of}
@@ -46,14 +45,11 @@ use Rattle.cfdp_engine.specs.declared.stop.Stop.TheVariants as stops
 use Rattle.cfdp_engine.specs.declared.working.Worked.{Worked}
 use Rattle.cfdp_commands.specs.JournalTexts.{journal_text}
 use Rattle.cfdp_commands.specs.Links.{Said, Happened, said_of, Reading, Files, link_answer, link_files}
-use Rattle.cfdp_commands.specs.Replay.{Stage, world_of}
+use Rattle.cfdp_commands.specs.Replay.{Stage}
 use Rattle.cfdp_lines.specs.Report.{line_answer}
 use Rattle.cfdp_streams.specs.Streams.{LostWithin}
 use Rattle.cfdp_lines.specs.declared.faults.LinkFault.{LinkFault}
 use Rattle.cfdp_lines.specs.declared.faults.LinkFault.TheVariants.{Memory, BadLine, JournalFull, ReceiptsDiffer}
-
-abbrev pub IsFresh : Stage → Type 0
-IsFresh stage = world_of stage ≡ start (world_of stage).config
 
 -- a line moved the stage on, and what it says came after what was there
 pub record AddsLine (from to : Stage) (line : List ℕ) (before after : List Said) : Type 0 where

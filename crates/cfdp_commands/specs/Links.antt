@@ -3,8 +3,10 @@
 --   Said           what a line says: the octets of a PDU that came, something of the entity's own, or a run
 --   said_of        what a message to a worker says
 --   running        the stage after the first event: the configuration is set
---   link_answer    what a line does: the stage after it, and what it says; nothing where it is bad. As in `replay`,
---                  without `list`
+--   said_by        the stage after a command, and what it says to a worker; nothing where it is bad at this stage. As in
+--                  `replay`, without `list`
+--   link_said      what a line does, by what it says; one without words does nothing
+--   link_answer    what a line does: the stage after it, and what it says to a worker; nothing where it is bad
 --   Reading        how far a file is read: the stage, and what its lines said
 --   read_from      what the lines of a file say, one after the other, or the number of the first bad one
 --   Files          what all files say: the configuration, and what each says
@@ -13,18 +15,14 @@
 --                  after the first file
 use Rattle.std.specs.Prelude.{ℕ, ◌+◌, List, [], ◌∷◌, ◌++◌, Option, Some, None, Result, Ok, Err}
 use Rattle.std.specs.Arc.{arc_value}
-use Rattle.cfdp_status.specs.declared.transaction.TransactionId.{TransactionId}
 use Rattle.cfdp_transactions.specs.Config.{Config}
 use Rattle.cfdp_transactions.specs.declared.event.Event.{Event}
 use Rattle.cfdp_engine.specs.declared.message.Message.{Message}
 use Rattle.cfdp_engine.specs.declared.message.Message.TheVariants as messages
-use Rattle.cfdp_commands.specs.Commands.{keyword_of, local_event}
-use Rattle.cfdp_lines.specs.Words.{words_of, numbers_of, id_by}
-use Rattle.cfdp_commands.specs.declared.commands.Keyword.{Keyword}
-use Rattle.cfdp_commands.specs.declared.commands.Keyword.TheVariants as keyword
-use Rattle.cfdp_lines.specs.Hexadecimal.{octets_of_words}
+use Rattle.cfdp_commands.specs.Commands.{Command, command_in, local_event}
+use Rattle.cfdp_commands.specs.Commands as command
 use Rattle.cfdp_lines.specs.Lines.{lines_of}
-use Rattle.cfdp_commands.specs.Replay.{Stage, Running, at_first, configured, protected, world_of, alone}
+use Rattle.cfdp_commands.specs.Replay.{Stage, Running, at_first, configured, protected, silent, world_of}
 use Rattle.cfdp_lines.specs.Report.{line_answer}
 
 pub data Said : Type 0 where
@@ -47,40 +45,27 @@ said_in (Some message) = said_of message ∷ []
 abbrev pub running : Stage → Stage
 running stage = Running (world_of stage)
 
+abbrev pub says : Stage → Said → Option (Stage × List Said)
+says stage said = Some (running stage, said ∷ [])
+
 -- a line that prepares the entity says nothing to a worker
-abbrev pub prepared : Option (Stage × List ℕ) → Option (Stage × List Said)
-prepared None = None
-prepared (Some answered) = Some (answered.0, [])
+abbrev pub said_by : Stage → Command → Option (Stage × List Said)
+said_by stage (command.Config entity blocks cap checks journal) =
+    silent (configured stage entity blocks cap checks journal)
+said_by stage (command.Protect octets) = silent (protected stage octets)
+said_by stage (command.Pdu octets) = says stage (Came octets)
+said_by stage (command.Local which id) = says stage (Happened (local_event which id))
+said_by stage command.Run = says stage Steps
+said_by stage command.ListAll = None
 
-abbrev pub says : Stage → Said → Stage × List Said
-says stage said = (running stage, said ∷ [])
-
-abbrev pub local_said : Stage → (TransactionId → Event) → Option TransactionId → Option (Stage × List Said)
-local_said stage event None = None
-local_said stage event (Some id) = Some (says stage (Happened (event id)))
-
--- a line without a pair of digits is bad
-abbrev pub pdu_said : Stage → Option (List ℕ) → Option (Stage × List Said)
-pdu_said stage None = None
-pdu_said stage (Some []) = None
-pdu_said stage (Some (octet ∷ octets)) = Some (says stage (Came (octet ∷ octets)))
-
-abbrev pub obeyed_by_link : Stage → Option Keyword → List (List ℕ) → Option (Stage × List Said)
-obeyed_by_link stage None words = None
-obeyed_by_link stage (Some keyword.Config) words = prepared (configured stage (numbers_of words))
-obeyed_by_link stage (Some keyword.Protect) words = prepared (protected stage (octets_of_words words))
-obeyed_by_link stage (Some keyword.Pdu) words = pdu_said stage (octets_of_words words)
-obeyed_by_link stage (Some (keyword.Local which)) words =
-    local_said stage (local_event which) (id_by (numbers_of words))
-obeyed_by_link stage (Some keyword.Run) words = alone words (says stage Steps)
-obeyed_by_link stage (Some keyword.List) words = None
-
-abbrev pub words_said : Stage → List (List ℕ) → Option (Stage × List Said)
-words_said stage [] = Some (stage, [])
-words_said stage (word ∷ words) = obeyed_by_link stage (keyword_of word) words
+-- a bad line, one without words, or a command
+abbrev pub link_said : Stage → Option (Option Command) → Option (Stage × List Said)
+link_said stage None = None
+link_said stage (Some None) = Some (stage, [])
+link_said stage (Some (Some said)) = said_by stage said
 
 abbrev pub link_answer : Stage → List ℕ → Option (Stage × List Said)
-link_answer stage line = words_said stage (words_of line)
+link_answer stage line = link_said stage (command_in line)
 
 -- ---- files
 

@@ -4,17 +4,18 @@
 --                     and then the world (Running)
 --   at_first          the default configuration, which a script may replace by its first line
 --   most_runs         how many steps `run` takes at most
---   configured        the stage after a line `config`, by its numbers
---   protected         the stage after a line `protect`, by the octets of its path
+--   configured        the stage after a configuration is given, by its five numbers
+--   protected         the stage after a path is protected, by its octets
 --   world_of          the world as the first event, and each later one, finds it
+--   silent            the stage after a line that writes nothing
 --   told              the stage after some events, and the lines of their replies
 --   steps_from        the steps of `run`, of the first transaction that can take one until none can
---   local             what a line says whose words are a transaction's name: the event that is made of it
---   pdu_told          what a line `pdu` does, by its octets
---   obeyed            what a command does, by the words after it; nothing where the line is bad
---   replay_answer     what a line does; one without words does nothing
+--   read_told         what a PDU comes to, from what reading it answers
+--   obeyed            what a command does; nothing where it is bad at this stage
+--   answered          what a line does, by what it says; one without words does nothing
+--   replay_answer     what a line does
 --   replay_report     what a whole script writes, and the bad line that ends it, if one does
-use Rattle.std.specs.Prelude.{ℕ, zero, suc, nat_lt, Bool, true, false, if◌then◌else◌, List, [], ◌∷◌, ◌++◌, length, Option, Some, None, Result, Ok, Err}
+use Rattle.std.specs.Prelude.{ℕ, zero, suc, nat_lt, Bool, true, false, if◌then◌else◌, List, [], ◌∷◌, ◌++◌, length, Option, Some, None, option_map, Result, Ok, Err}
 use Rattle.cfdp_status.specs.declared.transaction.TransactionId.{TransactionId}
 use Rattle.cfdp_paths.specs.Paths.{Path, path_of}
 use Rattle.cfdp_pdus.specs.declared.fault.PduFault.{PduFault}
@@ -25,11 +26,8 @@ use Rattle.cfdp_transactions.specs.declared.event.Event.{Event}
 use Rattle.cfdp_transactions.specs.declared.event.Event.TheVariants as events
 use Rattle.cfdp_transactions.specs.Next.{next, run, replies}
 use Rattle.cfdp_transactions.specs.World.{World, start, next_runnable}
-use Rattle.cfdp_commands.specs.Commands.{keyword_of, local_event}
-use Rattle.cfdp_lines.specs.Words.{words_of, numbers_of, id_by}
-use Rattle.cfdp_commands.specs.declared.commands.Keyword.{Keyword}
-use Rattle.cfdp_commands.specs.declared.commands.Keyword.TheVariants as keyword
-use Rattle.cfdp_lines.specs.Hexadecimal.{octets_of_words}
+use Rattle.cfdp_commands.specs.Commands.{Command, command_in, local_event}
+use Rattle.cfdp_commands.specs.Commands as command
 use Rattle.cfdp_texts.specs.Replies.{told_lines, fault_line, not_ours, listing_text}
 use Rattle.cfdp_lines.specs.Report.{Report, script_report}
 
@@ -49,38 +47,27 @@ most_runs = 4224
 -- ---- the configuration
 
 -- the numbers are within their limits
-abbrev pub config_without : Option ConfigFault → Config → Option (Stage × List ℕ)
+abbrev pub config_without : Option ConfigFault → Config → Option Stage
 config_without (Some fault) config = None
-config_without None config = Some (Preparing false config, [])
-
-abbrev pub config_by : Option (List ℕ) → Option (Stage × List ℕ)
-config_by (Some (entity ∷ blocks ∷ cap ∷ checks ∷ journal ∷ [])) =
-    config_without (first_fault blocks cap checks journal)
-    (record { entity = entity; blocks = blocks; cap = cap; checks = checks; journal = journal; prefixes = [] })
-config_by numbers = None
+config_without None config = Some (Preparing false config)
 
 -- only the first line that is not passed over may be one
-abbrev pub configured : Stage → Option (List ℕ) → Option (Stage × List ℕ)
-configured (Preparing true config) numbers = config_by numbers
-configured stage numbers = None
+abbrev pub configured : Stage → (entity blocks cap checks journal : ℕ) → Option Stage
+configured (Preparing true config) entity blocks cap checks journal =
+    config_without (first_fault blocks cap checks journal)
+    (record { entity = entity; blocks = blocks; cap = cap; checks = checks; journal = journal; prefixes = [] })
+configured stage entity blocks cap checks journal = None
 
-abbrev pub with_prefix : Config → Option Path → Option (Stage × List ℕ)
+abbrev pub with_prefix : Config → Option Path → Option Stage
 with_prefix config None = None
 with_prefix config (Some path) =
-    if nat_lt (length config.prefixes) 8 then Some (
-      Preparing false
-          (record config { prefixes = config.prefixes ++ path ∷ [] }),
-      [],
-    )
+    if nat_lt (length config.prefixes) 8
+    then Some (Preparing false (record config { prefixes = config.prefixes ++ path ∷ [] }))
     else None
 
-abbrev pub prefix_by : Config → Option (List ℕ) → Option (Stage × List ℕ)
-prefix_by config None = None
-prefix_by config (Some octets) = with_prefix config (path_of octets)
-
 -- before the first event
-abbrev pub protected : Stage → Option (List ℕ) → Option (Stage × List ℕ)
-protected (Preparing is_first config) octets = prefix_by config octets
+abbrev pub protected : Stage → List ℕ → Option Stage
+protected (Preparing is_first config) octets = with_prefix config (path_of octets)
 protected (Running W) octets = None
 
 -- ---- events
@@ -91,13 +78,6 @@ world_of (Running W) = W
 
 abbrev pub told : World → List Event → Stage × List ℕ
 told W events = (Running (run W events), told_lines events (replies W events))
-
-abbrev pub local_by : World → (TransactionId → Event) → Option TransactionId → Option (Stage × List ℕ)
-local_by W event None = None
-local_by W event (Some id) = Some (told W (event id ∷ []))
-
-abbrev pub local : Stage → (TransactionId → Event) → List (List ℕ) → Option (Stage × List ℕ)
-local stage event words = local_by (world_of stage) event (id_by (numbers_of words))
 
 -- the first step, and those after it
 abbrev pub steps_by : Option TransactionId → (TransactionId → List Event) → List Event
@@ -114,34 +94,29 @@ read_told W (Err fault) = (Running W, fault_line fault)
 read_told W (Ok None) = (Running W, not_ours)
 read_told W (Ok (Some event)) = told W (event ∷ [])
 
--- a line without a pair of digits is bad
-abbrev pub pdu_told : World → Option (List ℕ) → Option (Stage × List ℕ)
-pdu_told W None = None
-pdu_told W (Some []) = None
-pdu_told W (Some (octet ∷ octets)) = Some (read_told W (event_at (octet ∷ octets)))
-
 -- ---- lines
 
--- nothing is after the command
-abbrev pub alone : {A : Type 0} → List (List ℕ) → A → Option A
-alone [] answer = Some answer
-alone (word ∷ words) answer = None
+-- the configuration and the paths that are protected write nothing
+abbrev pub silent : {A : Type 0} → Option Stage → Option (Stage × List A)
+silent next = option_map (λ stage. (stage, [])) next
 
-abbrev pub obeyed : Stage → Option Keyword → List (List ℕ) → Option (Stage × List ℕ)
-obeyed stage None words = None
-obeyed stage (Some keyword.Config) words = configured stage (numbers_of words)
-obeyed stage (Some keyword.Protect) words = protected stage (octets_of_words words)
-obeyed stage (Some keyword.Pdu) words = pdu_told (world_of stage) (octets_of_words words)
-obeyed stage (Some (keyword.Local which)) words = local stage (local_event which) words
-obeyed stage (Some keyword.Run) words = alone words (told (world_of stage) (steps_from most_runs (world_of stage)))
-obeyed stage (Some keyword.List) words = alone words (Running (world_of stage), listing_text (world_of stage))
+abbrev pub obeyed : Stage → Command → Option (Stage × List ℕ)
+obeyed stage (command.Config entity blocks cap checks journal) =
+    silent (configured stage entity blocks cap checks journal)
+obeyed stage (command.Protect octets) = silent (protected stage octets)
+obeyed stage (command.Pdu octets) = Some (read_told (world_of stage) (event_at octets))
+obeyed stage (command.Local which id) = Some (told (world_of stage) (local_event which id ∷ []))
+obeyed stage command.Run = Some (told (world_of stage) (steps_from most_runs (world_of stage)))
+obeyed stage command.ListAll = Some (Running (world_of stage), listing_text (world_of stage))
 
-abbrev pub words_answer : Stage → List (List ℕ) → Option (Stage × List ℕ)
-words_answer stage [] = Some (stage, [])
-words_answer stage (word ∷ words) = obeyed stage (keyword_of word) words
+-- a bad line, one without words, or a command
+abbrev pub answered : Stage → Option (Option Command) → Option (Stage × List ℕ)
+answered stage None = None
+answered stage (Some None) = Some (stage, [])
+answered stage (Some (Some said)) = obeyed stage said
 
 abbrev pub replay_answer : Stage → List ℕ → Option (Stage × List ℕ)
-replay_answer stage line = words_answer stage (words_of line)
+replay_answer stage line = answered stage (command_in line)
 
 abbrev pub replay_report : List ℕ → Report
 replay_report script = script_report replay_answer at_first script

@@ -1,10 +1,30 @@
--- What the state of `replay` between two lines is seen as.
+-- What the state of a script between two lines is seen as.
 --
---   stage_of     the stage, by what its parts are seen as
+--   setup_of     the stage that a setup is: before the first event, or right at it
+--   stage_of     the stage of a script of `replay`
+--   HasBegun     it has an entity
+use Rattle.std.specs.Prelude.{⊤, true, false}
+use Rattle.cfdp_transactions.specs.Config.{Config}
+use Rattle.cfdp_transactions.specs.World.{start}
 use Rattle.cfdp_commands.specs.Replay as spec
+use Rattle.cfdp_commands.specs.declared.setup.Progress.{Progress}
+use Rattle.cfdp_commands.specs.declared.setup.Progress.TheVariants.{First, Open, Closed}
+use Rattle.cfdp_commands.specs.declared.setup.Setup.{Setup}
 use Rattle.cfdp_commands.specs.declared.stage.Stage.{Stage}
 use Rattle.cfdp_commands.specs.declared.stage.Stage.TheVariants.{Preparing, Running}
 
+abbrev pub stage_by : Progress → Config → spec.Stage
+stage_by First config = spec.Preparing true config
+stage_by Open config = spec.Preparing false config
+stage_by Closed config = spec.Running (start config)
+
+abbrev pub setup_of : Setup → spec.Stage
+setup_of setup = stage_by setup.progress (record setup.config { prefixes = setup.protected })
+
 abbrev pub stage_of : Stage → spec.Stage
-stage_of (Preparing is_first config protected) = spec.Preparing is_first (record config { prefixes = protected })
-stage_of (Running entity) = spec.Running entity.core.world
+stage_of (Preparing setup) = setup_of setup
+stage_of (Running W) = spec.Running W
+
+abbrev pub HasBegun : Stage → Type 0
+HasBegun (Preparing setup) = ⊥
+HasBegun (Running W) = ⊤

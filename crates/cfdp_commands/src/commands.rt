@@ -1,15 +1,18 @@
-//! The words of a line of `replay`.
-ghost use Rattle.std.specs.Prelude.{◌≡◌, ◌≢◌, ℕ, ◌<◌, List, ◌∷◌, [], length, get_or, Some, None, IfSome, IsTrue, IsFalse, ◌⊎◌};
-ghost use Rattle.cfdp_commands.specs.Links.{Said};
-ghost use Rattle.cfdp_commands.specs.Replay.{Stage as StageOf, alone};
-ghost use Rattle.std.specs.Char.{is_ascii_digit};
-ghost use Rattle.std.specs.List.{list_all};
-ghost use Rattle.cfdp_commands.specs.Commands.{keyword_of, local_event};
-ghost use Rattle.cfdp_lines.specs.Words.{id_by, is_numeral, number_of, numbers_of, words_of};
+//! What a line of `replay` and of `links` says.
+ghost use Rattle.std.specs.Prelude.{◌≡◌, ◌↔◌, Some, None, Err, IfOk, OnErr, option_map};
+ghost use Rattle.cfdp_commands.specs.Commands.{IsPdu, SaysPdu, alone, command_by, command_in, command_of, config_by, keyword_of, local_by, local_event, pdu_by, protect_by};
+ghost use Rattle.cfdp_lines.specs.Hexadecimal.{octets_of_words};
+ghost use Rattle.cfdp_lines.specs.Words.{id_by, numbers_of, words_of};
+ghost use Rattle.cfdp_lines.specs.declared.script.LineFault.TheVariants.{Bad};
 
-use cfdp_lines::next_word;
+use cfdp_lines::{LineFault, decode_within, decode_words, id_in, next_word, numbers_of};
+use cfdp_paths::Names;
 use cfdp_status::TransactionId;
 use cfdp_transactions::Event;
+use std::alloc::Global;
+
+/// The most octets that spell a path: eight names of 96 octets, with a `/` before each.
+const LONGEST_PATH: usize = 8 * 97;
 
 /// What happens at the receiving entity itself: an event of one transaction.
 #[derive(Clone, Copy)]
@@ -38,25 +41,67 @@ impl Local {
     }
 }
 
+/// The first word of a line that says something.
+#[derive(Clone, Copy)]
+enum Keyword {
+    /// `config`
+    Config,
+    /// `protect`
+    Protect,
+    /// `pdu`
+    Pdu,
+    /// `step`, `cancel`, `check` or `take`
+    Local(Local),
+    /// `run`
+    Run,
+    /// `list`
+    List,
+}
+
 /// What a line says.
 #[derive(Clone, Copy)]
-pub(crate) enum Keyword {
-    /// The configuration is given.
-    Config,
-    /// A path is protected.
-    Protect,
-    /// A PDU came.
-    Pdu,
-    /// Something of the entity's own happened.
-    Local(Local),
+pub(crate) enum Command<'a> {
+    /// The configuration is given, by its five numbers.
+    Config {
+        entity: u64,
+        blocks: u64,
+        cap: u64,
+        checks: u64,
+        journal: u64,
+    },
+    /// A path is protected, by the octets that spell it.
+    Protect(&'a [u8]),
+    /// A PDU of these octets came.
+    Pdu(&'a [u8]),
+    /// Something of the entity's own happened to a transaction.
+    Local(Local, TransactionId),
     /// The next items are performed, of one transaction after the other, until none has any.
     Run,
     /// What is in the filestore is written.
     List,
 }
 
+/// Room for the octets that lines spell. It is used again for each line.
+#[derive(Drop)]
+pub(crate) struct Room {
+    /// Those of a path. They take no memory, so that a bad line is reported even where memory is refused.
+    path: [u8; LONGEST_PATH],
+    /// Those of a PDU.
+    pdu: Vec<u8>,
+}
+
+impl Room {
+    /// Room that takes no memory yet.
+    pub(crate) fn new(alloc: Global) -> Self {
+        Room {
+            path: [0; LONGEST_PATH],
+            pdu: Vec::new(alloc),
+        }
+    }
+}
+
 /// What the first word of a line says, if it says something.
-pub(crate) fn keyword_of(word: &[u8]) -> Option<Keyword>
+fn keyword_of(word: &[u8]) -> Option<Keyword>
     ensures { result ≡ keyword_of word.now }
 {
     if word == b"pdu".as_slice() {
@@ -89,12 +134,126 @@ pub(crate) fn keyword_of(word: &[u8]) -> Option<Keyword>
     None
 }
 
-/// Whether no word is left of a line.
-pub(crate) fn is_end(line: &[u8]) -> bool
-    ensures end { IsTrue result → words_of line.now ≡ [] }
-    ensures more { (answer : StageOf × List ℕ) → IsFalse result → alone (words_of line.now) answer ≡ None }
-    ensures more_said { (answer : StageOf × List Said) → IsFalse result → alone (words_of line.now) answer ≡ None }
+/// What a line `config` says, by the words after its first: five numbers.
+fn read_config<'a>(words: &[u8]) -> Option<Command<'a>>
+    ensures { option_map command_of result ≡ config_by (numbers_of (words_of words.now)) }
+{
+    let Some(numbers) = numbers_of(words) else {
+        return None;
+    };
+    let [entity, blocks, cap, checks, journal] = numbers.as_slice() else {
+        return None;
+    };
+    Some(Command::Config {
+        entity: *entity,
+        blocks: *blocks,
+        cap: *cap,
+        checks: *checks,
+        journal: *journal,
+    })
+}
+
+/// What a line `protect` says, by the words after its first: the octets that spell a path.
+fn read_protect<'a>(words: &[u8], room: &'a mut [u8; LONGEST_PATH]) -> Option<Command<'a>>
+    ensures { option_map command_of result ≡ protect_by (octets_of_words (words_of words.now)) }
+{
+    let Some(len) = decode_within(words, room) else {
+        return None;
+    };
+    let octets = &room[..len];
+    match Names::fault_in(octets) {
+        None => Some(Command::Protect(octets)),
+        Some(_) => None,
+    }
+}
+
+/// What a line `pdu` says, by the words after its first: the octets that came.
+fn read_pdu<'a>(words: &[u8], room: &'a mut Vec<u8>) -> Result<Command<'a>, LineFault>
+    ensures ok { IfOk result (λ command. pdu_by (octets_of_words (words_of words.now)) ≡ Some (command_of command)) }
+    ensures bad { (result ≡ Err Bad) ↔ (pdu_by (octets_of_words (words_of words.now)) ≡ None) }
+    ensures memory { result ≡ Err LineFault.Memory → IsPdu (pdu_by (octets_of_words (words_of words.now))) }
+{
+    if let Err(fault) = decode_words(words, room) {
+        return Err(fault);
+    }
+    if room.is_empty() {
+        return Err(LineFault::Bad);
+    }
+    Ok(Command::Pdu(room.as_slice()))
+}
+
+/// What a line says whose other words name a transaction: something of the entity's own happened to it.
+fn read_local<'a>(which: Local, words: &[u8]) -> Option<Command<'a>>
+    ensures { option_map command_of result ≡ local_by which (id_by (numbers_of (words_of words.now))) }
+{
+    match id_in(words) {
+        Some(id) => Some(Command::Local(which, id)),
+        None => None,
+    }
+}
+
+/// What a line says that has no other word than its first.
+fn read_alone<'a>(words: &[u8], command: Command<'a>) -> Option<Command<'a>>
+    ensures { option_map command_of result ≡ alone (command_of command.entry) (words_of words.now) }
+{
+    let mut rest = words;
+    match next_word(&mut rest) {
+        None => Some(command),
+        Some(_) => None,
+    }
+}
+
+/// What a line says, if it says something.
+fn found(command: Option<Command<'_>>) -> Result<Command<'_>, LineFault>
+    ensures ok { IfOk result (λ found. option_map command_of command.entry ≡ Some (command_of found)) }
+    ensures bad { (result ≡ Err Bad) ↔ (option_map command_of command.entry ≡ None) }
+    ensures only { OnErr result (result ≡ Err Bad) }
+{
+    match command {
+        Some(command) => Ok(command),
+        None => Err(LineFault::Bad),
+    }
+}
+
+/// What a line says, by its first word and the words after it.
+fn read_words<'a>(
+    keyword: Keyword,
+    words: &[u8],
+    room: &'a mut Room,
+) -> Result<Command<'a>, LineFault>
+    ensures ok { IfOk result (λ command. command_by keyword (words_of words.now) ≡ Some (command_of command)) }
+    ensures bad { (result ≡ Err Bad) ↔ (command_by keyword (words_of words.now) ≡ None) }
+    ensures memory { result ≡ Err LineFault.Memory → IsPdu (command_by keyword (words_of words.now)) }
+{
+    match keyword {
+        Keyword::Config => found(read_config(words)),
+        Keyword::Protect => found(read_protect(words, &mut room.path)),
+        Keyword::Pdu => read_pdu(words, &mut room.pdu),
+        Keyword::Local(which) => found(read_local(which, words)),
+        Keyword::Run => found(read_alone(words, Command::Run)),
+        Keyword::List => found(read_alone(words, Command::List)),
+    }
+}
+
+/// What a line says that is neither too long nor a comment: nothing, where it has no word. Only the octets of a PDU
+/// take memory.
+pub(crate) fn read_command<'a>(
+    line: &[u8],
+    room: &'a mut Room,
+) -> Result<Option<Command<'a>>, LineFault>
+    ensures ok { IfOk result (λ command. command_in line.now ≡ Some (option_map command_of command)) }
+    ensures bad { (result ≡ Err Bad) ↔ (command_in line.now ≡ None) }
+    ensures memory { result ≡ Err LineFault.Memory → SaysPdu (command_in line.now) }
 {
     let mut rest = line;
-    next_word(&mut rest).is_none()
+    let Some(word) = next_word(&mut rest) else {
+        return Ok(None);
+    };
+    let Some(keyword) = keyword_of(word) else {
+        return Err(LineFault::Bad);
+    };
+    match read_words(keyword, rest, room) {
+        Ok(command) => Ok(Some(command)),
+        Err(fault) => Err(fault),
+    }
 }

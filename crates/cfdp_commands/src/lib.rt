@@ -10,7 +10,6 @@
 mod closed_text;
 mod commands;
 mod dropped;
-mod entity;
 mod journal_text;
 mod link_files;
 mod link_lines;
@@ -18,7 +17,9 @@ mod messages;
 mod readable;
 mod request_lines;
 mod requests;
+mod setup;
 mod stage;
+mod telling;
 mod transfers;
 mod workers;
 
@@ -27,6 +28,6 @@ pub use link_files::{Prepared, read_files};
 pub use messages::are_same;
 pub use readable::messages_are_readable;
 pub use requests::Requests;
-pub use stage::copy_config;
+pub use setup::copy_config;
 pub use transfers::Transfers;
 pub use workers::run_all;

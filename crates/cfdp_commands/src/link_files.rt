@@ -3,17 +3,17 @@ ghost use Rattle.std.specs.Prelude.{◌≡◌, ℕ, ◌+◌, ◌≤◌, List, �
 ghost use Rattle.std.specs.List.{AllByRecursion};
 ghost use Rattle.cfdp_transactions.specs.World.{start};
 ghost use Rattle.cfdp_lines.specs.Lines.{input_limit};
-ghost use Rattle.cfdp_commands.specs.Linked.{IsBadFile, IsFresh, IsHeard};
+ghost use Rattle.cfdp_commands.specs.Linked.{IsBadFile, IsHeard};
 ghost use Rattle.cfdp_commands.specs.Links.{files_from, link_files, said_of};
-ghost use Rattle.cfdp_commands.specs.Stages.{stage_of};
+ghost use Rattle.cfdp_commands.specs.Stages.{setup_of};
 
 use crate::link_lines::read_file;
-use crate::stage::Stage;
+use crate::setup::Setup;
 use cfdp_engine::Message;
 use cfdp_lines::LinkFault;
-use cfdp_transactions::Core;
+use cfdp_transactions::{Config, Core};
 use cfdp_tree::TreeStore;
-use std::alloc::Global;
+use std::alloc::{AllocError, Global};
 
 /// What is made of the files before a worker starts.
 #[derive(Drop)]
@@ -34,31 +34,39 @@ fn read_next(
     alloc: Global,
     file: u8,
     script: &[u8],
-    stage: &mut Stage,
+    setup: &mut Setup,
     files: &mut Vec<Vec<Message>>,
 ) -> Result<(), LinkFault>
-    requires short { length script.now ≤ input_limit }
-    requires fresh { IsFresh (stage_of stage.old) }
+    requires { length script.now ≤ input_limit }
     ensures ok { OnOk result ((scripts : List (List ℕ)) →
-        files_from file (stage_of stage.old) (map (λ file. map said_of file.items) files.old.items)
+        files_from file (setup_of setup.old) (map (λ file. map said_of file.items) files.old.items)
         (script.now ∷ scripts)
-        ≡ files_from (file + 1) (stage_of stage.new) (map (λ file. map said_of file.items) files.new.items) scripts) }
+        ≡ files_from (file + 1) (setup_of setup.new) (map (λ file. map said_of file.items) files.new.items) scripts) }
     ensures one { OnOk result (length files.new.items ≡ length files.old.items + 1) }
-    ensures fresh { OnOk result (IsFresh (stage_of stage.new)) }
     ensures heard { OnOk result (AllByRecursion (λ file. AllByRecursion IsHeard (map said_of file.items))
         files.old.items → AllByRecursion (λ file. AllByRecursion IsHeard (map said_of file.items)) files.new.items) }
     ensures bad { IfErr result (λ fault. (scripts : List (List ℕ)) →
-        IsBadFile (files_from file (stage_of stage.old) (map (λ file. map said_of file.items) files.old.items)
+        IsBadFile (files_from file (setup_of setup.old) (map (λ file. map said_of file.items) files.old.items)
         (script.now ∷ scripts)) fault) }
 {
-    let messages = match read_file(alloc, file, stage, script) {
+    let messages = match read_file(alloc, file, setup, script) {
         Ok(messages) => messages,
         Err(fault) => return Err(fault),
     };
     let Ok(()) = files.push(messages) else {
         return Err(LinkFault::Memory);
     };
-    Ok(stage.begin(alloc)?)
+    setup.close();
+    Ok(())
+}
+
+/// The core of an entity of this configuration, to which nothing has happened.
+fn core_of(alloc: Global, config: Config) -> Result<Core<TreeStore>, AllocError>
+    ensures { IfOk result (λ core. core.world ≡ start config) }
+{
+    let store = TreeStore::new(alloc, config.blocks())?;
+    let core = Core::new(alloc, config, store)?;
+    Ok(core)
 }
 
 /// Reads the files, in their order.
@@ -80,13 +88,13 @@ pub fn read_files(alloc: Global, scripts: &[Vec<u8>]) -> Result<Prepared, LinkFa
         (λ file. AllByRecursion IsHeard (map said_of file.items)) prepared.files.items) }
     ensures bad { IfErr result (λ fault. IsBadFile (link_files (map (λ script. script.items) scripts.now)) fault) }
 {
-    let mut stage = Stage::new();
+    let mut setup = Setup::new();
     let mut files = Vec::new(alloc);
     for (place, script) in scripts.iter().enumerate() {
-        if let Err(fault) = read_next(alloc, place as u8, script, &mut stage, &mut files) {
+        if let Err(fault) = read_next(alloc, place as u8, script, &mut setup, &mut files) {
             return Err(fault);
         }
     }
-    let core = stage.into_core(alloc)?;
+    let core = core_of(alloc, setup.take_config())?;
     Ok(Prepared { core, files })
 }

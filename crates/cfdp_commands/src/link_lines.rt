@@ -1,141 +1,100 @@
 //! The lines of the files of `links`: what each says to a worker.
-ghost use Rattle.std.specs.Prelude.{◌≡◌, ◌↔◌, ◌<◌, ◌≤◌, [], ◌∷◌, length, map, IfOk, IfErr, OnOk, Err, Ok, Some, None};
-ghost use Rattle.cfdp_commands.specs.Commands.{local_event};
-ghost use Rattle.cfdp_lines.specs.Words.{id_by, numbers_of, words_of};
-ghost use Rattle.cfdp_lines.specs.Hexadecimal.{octets_of_words};
+ghost use Rattle.std.specs.Prelude.{◌≡◌, ◌↔◌, ◌<◌, ◌≤◌, ◌∷◌, length, map, IfOk, IfErr, OnOk, OnErr, Err, Ok, Some, None};
+ghost use Rattle.cfdp_commands.specs.Commands.{command_of};
 ghost use Rattle.cfdp_commands.specs.Linked.{AddsLine, IsBadLine};
 ghost use Rattle.cfdp_lines.specs.Lines.{input_limit, lines_of};
-ghost use Rattle.cfdp_commands.specs.Links.{file_said, link_answer, local_said, obeyed_by_link, pdu_said, prepared, said_in, said_of};
-ghost use Rattle.cfdp_commands.specs.Replay.{configured, protected};
+ghost use Rattle.cfdp_commands.specs.Links.{Happened, file_said, link_answer, said_by, said_in, said_of};
 ghost use Rattle.cfdp_lines.specs.Report.{line_answer};
-ghost use Rattle.cfdp_commands.specs.Stages.{stage_of};
-ghost use Rattle.cfdp_commands.specs.declared.commands.Keyword.TheVariants.{Run as RunAll};
+ghost use Rattle.cfdp_commands.specs.Stages.{setup_of};
 ghost use Rattle.cfdp_lines.specs.declared.script.LineFault.TheVariants.{Bad};
 
-use crate::commands::{Keyword, Local, is_end, keyword_of};
-use crate::stage::Stage;
-use crate::transfers::protect_path;
+use crate::commands::{Command, Room, read_command};
+use crate::setup::Setup;
 use cfdp_engine::Message;
-use cfdp_lines::{
-    COMMENT, LINE_LIMIT, LineFault, LinkFault, NEWLINE, decode_words, id_in, next_word, numbers_of,
-};
+use cfdp_lines::{COMMENT, LINE_LIMIT, LineFault, LinkFault, NEWLINE};
+use cfdp_transactions::Event;
 use memchr::memchr;
 use std::alloc::Global;
 use std::sync::Arc;
 
-/// A line `config`: its words are five numbers.
-fn configure(stage: &mut Stage, line: &[u8]) -> Result<(), LineFault>
-    ensures ok { OnOk result (prepared (configured (stage_of stage.old) (numbers_of (words_of line.now)))
-        ≡ Some (stage_of stage.new, [])) }
-    ensures bad { (result ≡ Err Bad) ↔ (prepared (configured (stage_of stage.old) (numbers_of (words_of line.now)))
-        ≡ None) }
+/// The message of an event.
+fn message_of(alloc: Global, event: Event) -> Result<Message, LineFault>
+    ensures ok { IfOk result (λ message. said_of message ≡ Happened event) }
+    ensures memory { OnErr result (result ≡ Err LineFault.Memory) }
 {
-    let Some(numbers) = numbers_of(line) else {
-        return Err(LineFault::Bad);
-    };
-    stage.configure(&numbers)
-}
-
-/// A line `protect`: its words are the octets of a path.
-fn protect(alloc: Global, stage: &mut Stage, line: &[u8]) -> Result<(), LineFault>
-    ensures ok { OnOk result (prepared (protected (stage_of stage.old) (octets_of_words (words_of line.now)))
-        ≡ Some (stage_of stage.new, [])) }
-    ensures bad { (result ≡ Err Bad) ↔ (prepared (protected (stage_of stage.old) (octets_of_words (words_of line.now)))
-        ≡ None) }
-{
-    protect_path(alloc, stage, line)
-}
-
-/// A line `pdu`: its words are the octets that came.
-fn receive(alloc: Global, stage: &mut Stage, line: &[u8]) -> Result<Message, LineFault>
-    ensures ok { IfOk result (λ message. pdu_said (stage_of stage.old) (octets_of_words (words_of line.now))
-        ≡ Some (stage_of stage.new, said_of message ∷ [])) }
-    ensures bad { (result ≡ Err Bad) ↔ (pdu_said (stage_of stage.old) (octets_of_words (words_of line.now)) ≡ None) }
-{
-    let mut octets = Vec::new(alloc);
-    if let Err(fault) = decode_words(line, &mut octets) {
-        return Err(fault);
-    }
-    if octets.is_empty() {
-        return Err(LineFault::Bad);
-    }
-    stage.begin(alloc)?;
-    Ok(Message::Pdu(octets))
-}
-
-/// A line whose words name a transaction: something of the entity's own happened to it.
-fn tell(alloc: Global, stage: &mut Stage, which: Local, line: &[u8]) -> Result<Message, LineFault>
-    ensures ok { IfOk result (λ message. local_said (stage_of stage.old) (local_event which)
-        (id_by (numbers_of (words_of line.now)))
-        ≡ Some (stage_of stage.new, said_of message ∷ [])) }
-    ensures bad { (result ≡ Err Bad) ↔ (local_said (stage_of stage.old) (local_event which)
-        (id_by (numbers_of (words_of line.now))) ≡ None) }
-{
-    let Some(id) = id_in(line) else {
-        return Err(LineFault::Bad);
-    };
-    stage.begin(alloc)?;
-    match Arc::new(alloc, which.event(id)) {
+    match Arc::new(alloc, event) {
         Ok(event) => Ok(Message::Event(event)),
         Err(_) => Err(LineFault::Memory),
     }
 }
 
-/// A line `run`, without more words.
-fn run(alloc: Global, stage: &mut Stage, line: &[u8]) -> Result<Message, LineFault>
-    ensures ok { IfOk result (λ message. obeyed_by_link (stage_of stage.old) (Some RunAll) (words_of line.now)
-        ≡ Some (stage_of stage.new, said_of message ∷ [])) }
-    ensures bad { (result ≡ Err Bad) ↔ (obeyed_by_link (stage_of stage.old) (Some RunAll) (words_of line.now) ≡ None) }
-{
-    if !is_end(line) {
-        return Err(LineFault::Bad);
-    }
-    stage.begin(alloc)?;
-    Ok(Message::Run)
-}
-
-/// What a line says, by its first word and what is after it.
-fn obey(
+/// What a command says to a worker, if it says something to one.
+fn message_by(
     alloc: Global,
-    stage: &mut Stage,
-    keyword: Keyword,
-    line: &[u8],
+    setup: &mut Setup,
+    command: Command<'_>,
 ) -> Result<Option<Message>, LineFault>
-    ensures ok { IfOk result (λ message. obeyed_by_link (stage_of stage.old) (Some keyword) (words_of line.now)
-        ≡ Some (stage_of stage.new, said_in message)) }
-    ensures bad { (result ≡ Err Bad) ↔ (obeyed_by_link (stage_of stage.old) (Some keyword) (words_of line.now) ≡ None) }
+    ensures ok { IfOk result (λ message. said_by (setup_of setup.old) (command_of command.entry)
+        ≡ Some (setup_of setup.new, said_in message)) }
+    ensures bad { (result ≡ Err Bad) ↔ (said_by (setup_of setup.old) (command_of command.entry) ≡ None) }
 {
-    match keyword {
-        Keyword::Config => configure(stage, line).map(|()| None),
-        Keyword::Protect => protect(alloc, stage, line).map(|()| None),
-        Keyword::Pdu => receive(alloc, stage, line).map(Some),
-        Keyword::Local(which) => tell(alloc, stage, which, line).map(Some),
-        Keyword::Run => run(alloc, stage, line).map(Some),
-        Keyword::List => Err(LineFault::Bad),
+    match command {
+        Command::Config {
+            entity,
+            blocks,
+            cap,
+            checks,
+            journal,
+        } => setup
+            .configure(entity, blocks, cap, checks, journal)
+            .map(|()| None),
+        Command::Protect(octets) => setup.protect(alloc, octets).map(|()| None),
+        Command::Pdu(octets) => {
+            let message = Message::Pdu(Vec::from_slice(alloc, octets)?);
+            setup.close();
+            Ok(Some(message))
+        }
+        Command::Local(which, id) => {
+            let message = message_of(alloc, which.event(id))?;
+            setup.close();
+            Ok(Some(message))
+        }
+        Command::Run => {
+            setup.close();
+            Ok(Some(Message::Run))
+        }
+        Command::List => Err(LineFault::Bad),
     }
 }
 
 /// What a line says that is neither too long nor a comment.
-fn read_words(alloc: Global, stage: &mut Stage, line: &[u8]) -> Result<Option<Message>, LineFault>
-    ensures ok { IfOk result (λ message. link_answer (stage_of stage.old) line.now
-        ≡ Some (stage_of stage.new, said_in message)) }
-    ensures bad { (result ≡ Err Bad) ↔ (link_answer (stage_of stage.old) line.now ≡ None) }
+fn read_words(
+    alloc: Global,
+    setup: &mut Setup,
+    line: &[u8],
+    room: &mut Room,
+) -> Result<Option<Message>, LineFault>
+    ensures ok { IfOk result (λ message. link_answer (setup_of setup.old) line.now
+        ≡ Some (setup_of setup.new, said_in message)) }
+    ensures bad { (result ≡ Err Bad) ↔ (link_answer (setup_of setup.old) line.now ≡ None) }
 {
-    let mut rest = line;
-    let Some(word) = next_word(&mut rest) else {
-        return Ok(None);
-    };
-    let Some(keyword) = keyword_of(word) else {
-        return Err(LineFault::Bad);
-    };
-    obey(alloc, stage, keyword, rest)
+    match read_command(line, room) {
+        Ok(Some(command)) => message_by(alloc, setup, command),
+        Ok(None) => Ok(None),
+        Err(fault) => Err(fault),
+    }
 }
 
 /// What a line says.
-fn read_line(alloc: Global, stage: &mut Stage, line: &[u8]) -> Result<Option<Message>, LineFault>
-    ensures ok { IfOk result (λ message. line_answer link_answer (stage_of stage.old) line.now
-        ≡ Some (stage_of stage.new, said_in message)) }
-    ensures bad { (result ≡ Err Bad) ↔ (line_answer link_answer (stage_of stage.old) line.now ≡ None) }
+fn read_line(
+    alloc: Global,
+    setup: &mut Setup,
+    line: &[u8],
+    room: &mut Room,
+) -> Result<Option<Message>, LineFault>
+    ensures ok { IfOk result (λ message. line_answer link_answer (setup_of setup.old) line.now
+        ≡ Some (setup_of setup.new, said_in message)) }
+    ensures bad { (result ≡ Err Bad) ↔ (line_answer link_answer (setup_of setup.old) line.now ≡ None) }
 {
     if line.len() > LINE_LIMIT {
         return Err(LineFault::Bad);
@@ -143,7 +102,7 @@ fn read_line(alloc: Global, stage: &mut Stage, line: &[u8]) -> Result<Option<Mes
     if line.first() == Some(&COMMENT) {
         return Ok(None);
     }
-    read_words(alloc, stage, line)
+    read_words(alloc, setup, line, room)
 }
 
 /// The first line of some octets, and what is after it.
@@ -161,15 +120,16 @@ fn first_line(octets: &[u8]) -> (&[u8], &[u8])
 /// Appends what a line says.
 fn add_line(
     alloc: Global,
-    stage: &mut Stage,
+    setup: &mut Setup,
     line: &[u8],
+    room: &mut Room,
     messages: &mut Vec<Message>,
 ) -> Result<(), LineFault>
-    ensures ok { OnOk result (AddsLine (stage_of stage.old) (stage_of stage.new) line.now
+    ensures ok { OnOk result (AddsLine (setup_of setup.old) (setup_of setup.new) line.now
         (map said_of messages.old.items) (map said_of messages.new.items)) }
-    ensures bad { (result ≡ Err Bad) ↔ (line_answer link_answer (stage_of stage.old) line.now ≡ None) }
+    ensures bad { (result ≡ Err Bad) ↔ (line_answer link_answer (setup_of setup.old) line.now ≡ None) }
 {
-    match read_line(alloc, stage, line) {
+    match read_line(alloc, setup, line, room) {
         Ok(Some(message)) => {
             let Ok(()) = messages.push(message) else {
                 return Err(LineFault::Memory);
@@ -189,20 +149,21 @@ fn add_line(
 pub(crate) fn read_file(
     alloc: Global,
     file: u8,
-    stage: &mut Stage,
+    setup: &mut Setup,
     script: &[u8],
 ) -> Result<Vec<Message>, LinkFault>
     requires { length script.now ≤ input_limit }
-    ensures ok { IfOk result (λ messages. file_said (stage_of stage.old) script.now
-        ≡ Ok (record { stage = stage_of stage.new; said = map said_of messages.items })) }
-    ensures bad { IfErr result (λ fault. IsBadLine (file_said (stage_of stage.old) script.now) file fault) }
+    ensures ok { IfOk result (λ messages. file_said (setup_of setup.old) script.now
+        ≡ Ok (record { stage = setup_of setup.new; said = map said_of messages.items })) }
+    ensures bad { IfErr result (λ fault. IsBadLine (file_said (setup_of setup.old) script.now) file fault) }
 {
     let mut messages = Vec::new(alloc);
+    let mut room = Room::new(alloc);
     let mut rest = script;
     let mut number = 1u64;
     'lines: while !rest.is_empty() {
         let (line, behind) = first_line(rest);
-        match add_line(alloc, stage, line, &mut messages) {
+        match add_line(alloc, setup, line, &mut room, &mut messages) {
             Ok(()) => {}
             Err(LineFault::Bad) => return Err(LinkFault::BadLine(file, number)),
             Err(LineFault::Memory) => return Err(LinkFault::Memory),

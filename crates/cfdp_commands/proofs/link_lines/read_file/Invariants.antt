@@ -1,13 +1,13 @@
 use Rattle.std.proofs.Common.{◌≡◌, ◌≤◌, ◌+◌, length, map}
 use Rattle.cfdp_lines.specs.Lines.{lines_of}
 use Rattle.cfdp_commands.specs.Links.{file_said, read_from, said_of}
-use Rattle.cfdp_commands.specs.Stages.{stage_of}
+use Rattle.cfdp_commands.specs.Stages.{setup_of}
 use Rattle.cfdp_commands.proofs.link_lines.read_file.Given as goal
 
 abbrev pub invariant-lines : goal.invariant-lines
 invariant-lines l = record {
-  reads : read_from l.number (record { stage = stage_of l.stage; said = map said_of l.messages.items }) (lines_of l.rest)
-      ≡ file_said (stage_of l.initial.stage) l.script;
+  reads : read_from l.number (record { stage = setup_of l.setup; said = map said_of l.messages.items }) (lines_of l.rest)
+      ≡ file_said (setup_of l.initial.setup) l.script;
   number : l.number + length l.rest ≤ length l.script + 1;
 }
 

@@ -1,6 +1,6 @@
 use Rattle.std.proofs.Common.{rules, ◌≡◌, ◌++◌, ◌∷◌, [], Some, slice_get}
-use Rattle.cfdp_commands.proofs.Numbering.{taken_over}
-use Rattle.cfdp_commands.proofs.stage.copy_prefixes.Goals as goal
+use Rattle.cfdp_commands.proofs.Copying.{taken_over}
+use Rattle.cfdp_commands.proofs.setup.copy_prefixes.Goals as goal
 
 pub loop-place-preserved : goal.loop-place-preserved
 loop-place-preserved c =

@@ -1,0 +1,14 @@
+-- A list that is copied index by index.
+use Rattle.std.proofs.Common.{◌≡◌, ℕ, suc, ◌+◌, List, [], ◌∷◌, ◌++◌, drop, Some, slice_get, sym, ap, ◌∙◌, subst, append_assoc, arith}
+use Rattle.cfdp_transactions.proofs.StepDone.{drop_get}
+
+-- one more than before is taken over
+pub taken_over : {X : Type 0} (taken more all : List X) (place : ℕ) (x : X) → slice_get all place ≡ Some x → more ≡ taken ++ x ∷ []
+    → taken ++ drop place all ≡ all → more ++ drop (place + 1) all ≡ all
+taken_over {X = X} taken more all place x at grown before =
+    let next : suc place ≡ place + 1 = omega arith in
+    let behind : drop place all ≡ x ∷ drop (place + 1) all = subst (λ (n : ℕ). drop place all ≡ x ∷ drop n all) next (drop_get place all x at) in
+    ap (λ (xs : List X). xs ++ drop (place + 1) all) grown
+    ∙ append_assoc taken (x ∷ []) (drop (place + 1) all)
+    ∙ ap (λ (xs : List X). taken ++ xs) (sym behind)
+    ∙ before
