@@ -1,31 +1,21 @@
-//! Each module has the lists or the events of one kind. `scene` has what lists are judged on, and `entity` a receiving
-//! entity that is handed events; `guide` has the lists of the repository's `docs/GUIDE.md`, octet for octet; `hostile`
-//! has what means harm: PDUs that are cut or changed, and cancels at every moment; `put_back` has what is put into a
-//! filestore before the first PDU.
+//! What the calls of the core do that no program makes, or does not print: `verdicts`, `views`, `leases` and a
+//! `journal` by themselves, what an entity says of itself between events (`transfers`), memory that is refused, and
+//! workers. Worked lists and transactions whose answers say all are text, in `.ci/cases`. `scene` has what lists are
+//! judged on, and `entity` a receiving entity that is handed events.
 
 mod closed_views;
-mod crowded;
-mod directories;
 mod engine;
 mod entity;
 mod finished;
-mod guide;
-mod hostile;
 mod journal;
 mod leases;
-mod limits;
-mod lists;
-mod live;
-mod memory;
 mod moves;
 mod one_tree;
-mod order;
 mod peak;
-mod phases;
-mod protected;
 mod put_back;
 mod refused_views;
 mod scene;
 mod settings;
 mod transfers;
+mod verdicts;
 mod views;

@@ -3,7 +3,7 @@
 
 ghost use Rattle.std.specs.Prelude.{◌<◌};
 
-use super::scene::{Before, Scene, Told, request};
+use super::scene::{Scene, request};
 use cfdp_actions::{Filestore, Performed, Request, perform, refusal};
 use cfdp_leases::footprint;
 use cfdp_paths::Memory;
@@ -274,50 +274,5 @@ fn random_lists_go_alike_on_both_views(rt: HostRuntime) -> Result<(), Memory> {
     }
     assert!(rt; counts.whole > 300 && counts.moved > 80);
     assert!(rt; counts.refused > 50 && counts.untold > 50);
-    Ok(())
-}
-
-/// A directory with a file.
-static DIRECTORY: [Before; 2] = [
-    Before::Performed(b"\x00\x03\x50\x01d"),
-    Before::Performed(b"\x00\x05\x00\x03d/x"),
-];
-
-/// It moves, there and back; its file answers by the new path, for which it is opened.
-const MOVES: [(&[&[u8]], Told); 2] = [
-    (
-        &[b"\x00\x05\x20\x01d\x01e", b"\x00\x05\x20\x01e\x01d"],
-        Told::Granted(0, 2),
-    ),
-    (
-        &[b"\x00\x05\x20\x01d\x01e", b"\x00\x05\x10\x03e/x"],
-        Told::Granted(0, 3),
-    ),
-];
-
-/// The verdict on a list: where there was no memory for it, it is asked for once more.
-fn judge(
-    rt: &impl Abort,
-    alloc: Global,
-    scene: &Scene,
-    requests: &[&[u8]],
-) -> Result<Told, Memory> {
-    match scene.judge(rt, alloc, None, requests) {
-        Ok(verdict) => Ok(Told::of(rt, &verdict)),
-        Err(_) => {
-            let verdict = scene.judge(rt, alloc, None, requests)?;
-            Ok(Told::of(rt, &verdict))
-        }
-    }
-}
-
-/// A verdict for which there was no memory is the same when it is asked for again.
-#[test]
-fn memory(rt: HostRuntime) -> Result<(), Memory> {
-    let scene = Scene::new(&rt, rt.alloc(), 8, &DIRECTORY)?;
-    for (requests, told) in &MOVES {
-        let verdict = judge(&rt, rt.alloc(), &scene, requests)?;
-        assert!(rt; verdict == *told);
-    }
     Ok(())
 }

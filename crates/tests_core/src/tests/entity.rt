@@ -4,13 +4,13 @@ ghost use Rattle.std.specs.Prelude.{◌≡◌};
 ghost use Rattle.cfdp_actions.specs.Store.{empty_store};
 
 use super::scene::path_of;
-use cfdp_actions::{Entry, Filestore, Kind, ListStore, Protected};
+use cfdp_actions::{Filestore, Kind, ListStore, Protected};
 use cfdp_paths::Memory;
-use cfdp_pdus::{FileData, Header, Pdu, read_pdu};
+use cfdp_pdus::{Pdu, read_pdu};
 use cfdp_status::{Action, Status, TransactionId};
 use cfdp_transactions::{Config, Core, Event, Outcome, Phase, Reply, read_event};
 use cfdp_tree::TreeStore;
-use cfdp_verifier::{Place, Refusal};
+use cfdp_verifier::Refusal;
 use std::alloc::{AllocError, Global};
 use std::process::Abort;
 
@@ -18,8 +18,6 @@ use std::process::Abort;
 #[derive(Clone, Copy)]
 pub enum Given {
     Pdu(&'static str),
-    /// File data: the offset, how many octets, and each of them.
-    Octets(u8, u64, usize, u8),
     Step(u8),
     Cancel(u8),
     Check(u8),
@@ -30,10 +28,8 @@ pub enum Given {
 #[derive(Clone, Copy)]
 pub enum Told {
     Admitted(u32, u32),
-    BadDestination,
     Conflict(u8),
     Stored,
-    Dropped,
     Complete,
     Waiting,
     Faulted(u8),
@@ -44,16 +40,12 @@ pub enum Told {
     Cancelled,
     /// The outcome is sent as this Finished PDU.
     Finished(&'static str),
-    Duplicate,
-    Unknown,
     Idle,
-    NotForUs,
-    TableFull,
     JournalFull,
 }
 
-/// What is at a path: a file of this many octets with this checksum, or a directory.
-pub type Standing = (&'static [u8], Option<(u64, u32)>);
+/// A file: its path, how many octets it has, and their checksum.
+pub type Standing = (&'static [u8], u64, u32);
 
 /// One after another.
 #[derive(Clone, Copy)]
@@ -83,48 +75,6 @@ pub enum Row {
     Over(Option<u8>),
 }
 
-/// What rows are handed to.
-#[derive(Clone, Copy)]
-struct Trial {
-    /// Whether the store is inside an arena, or else in a list.
-    tree: bool,
-    /// Whether each reply is given twice.
-    twice: bool,
-}
-
-static TRIALS: [Trial; 4] = [
-    Trial {
-        tree: false,
-        twice: false,
-    },
-    Trial {
-        tree: false,
-        twice: true,
-    },
-    Trial {
-        tree: true,
-        twice: false,
-    },
-    Trial {
-        tree: true,
-        twice: true,
-    },
-];
-
-/// The header of a PDU of entity 1 to entity 2, in unacknowledged mode.
-pub fn header(number: u8) -> Header {
-    Header {
-        toward_sender: false,
-        acknowledged: false,
-        large: false,
-        id_len: 1,
-        number_len: 1,
-        source: 1,
-        number: u64::from(number),
-        destination: 2,
-    }
-}
-
 /// The transaction of entity 1 with this number.
 pub fn id(number: u8) -> TransactionId {
     TransactionId {
@@ -138,14 +88,6 @@ pub fn octets_of(alloc: Global, text: &str) -> Result<Vec<u8>, Memory> {
     hex::decode(alloc, text).map_err(|_| AllocError)
 }
 
-/// The PDU of octets, which are one: only memory can be refused.
-fn pdu_in(alloc: Global, octets: &[u8]) -> Result<Pdu, Memory> {
-    match read_pdu(alloc, octets) {
-        Ok(pdu) => Ok(pdu),
-        Err(_) => Err(AllocError),
-    }
-}
-
 /// The event of octets, which bring one.
 pub fn event_in(alloc: Global, octets: &[u8]) -> Result<Event, Memory> {
     match read_event(alloc, octets) {
@@ -154,26 +96,10 @@ pub fn event_in(alloc: Global, octets: &[u8]) -> Result<Event, Memory> {
     }
 }
 
-/// This many equal octets of a file.
-fn file_data(
-    alloc: Global,
-    number: u8,
-    offset: u64,
-    count: usize,
-    octet: u8,
-) -> Result<Event, Memory> {
-    let mut octets = Vec::new(alloc);
-    octets.resize(count, octet)?;
-    Ok(Event::Data(header(number), FileData { offset, octets }))
-}
-
 impl Given {
     pub fn event(self, alloc: Global) -> Result<Event, Memory> {
         match self {
             Given::Pdu(text) => event_in(alloc, &octets_of(alloc, text)?),
-            Given::Octets(number, offset, count, octet) => {
-                file_data(alloc, number, offset, count, octet)
-            }
             Given::Step(number) => Ok(Event::Step(id(number))),
             Given::Cancel(number) => Ok(Event::Cancel(id(number))),
             Given::Check(number) => Ok(Event::Check(id(number))),
@@ -194,10 +120,8 @@ impl Told {
     fn reply(self, rt: &impl Abort) -> Reply {
         match self {
             Told::Admitted(blocks, steps) => Reply::Admitted(blocks, steps),
-            Told::BadDestination => Reply::Refused(Refusal::BadPath(Place::Destination)),
             Told::Conflict(number) => Reply::Refused(Refusal::Conflict(id(number))),
             Told::Stored => Reply::Stored,
-            Told::Dropped => Reply::Dropped,
             Told::Complete => Reply::Complete,
             Told::Waiting => Reply::Waiting,
             Told::Faulted(condition) => Reply::Faulted(condition),
@@ -205,11 +129,7 @@ impl Told {
             Told::Installed => Reply::Installed,
             Told::Done => Reply::Done,
             Told::Cancelled => Reply::Cancelled,
-            Told::Duplicate => Reply::Duplicate,
-            Told::Unknown => Reply::Unknown,
             Told::Idle => Reply::Idle,
-            Told::NotForUs => Reply::NotForUs,
-            Told::TableFull => Reply::TableFull,
             Told::JournalFull => Reply::JournalFull,
             Told::Finished(_) => Reply::Memory,
         }
@@ -218,26 +138,20 @@ impl Told {
 
 /// Whether the outcome is sent as this Finished PDU.
 fn is_sent_as(alloc: Global, outcome: &Outcome, text: &str) -> Result<bool, Memory> {
-    match pdu_in(alloc, &octets_of(alloc, text)?)? {
-        Pdu::Finished(header, finished) => {
+    match read_pdu(alloc, &octets_of(alloc, text)?) {
+        Ok(Pdu::Finished(header, finished)) => {
             Ok(outcome.send && outcome.header == header && outcome.finished == finished)
         }
-        _ => Ok(false),
-    }
-}
-
-/// Whether the outcome that is handed out, if one is, is sent as this Finished PDU.
-fn is_finished(alloc: Global, reply: &Reply, text: &str) -> Result<bool, Memory> {
-    match reply {
-        Reply::Taken(shared) => is_sent_as(alloc, shared.outcome(), text),
-        _ => Ok(false),
+        Ok(_) => Ok(false),
+        Err(_) => Err(AllocError),
     }
 }
 
 /// Whether the reply is the one that is reported.
 pub fn is_told(rt: &impl Abort, alloc: Global, reply: &Reply, told: Told) -> Result<bool, Memory> {
-    match told {
-        Told::Finished(text) => is_finished(alloc, reply, text),
+    match (told, reply) {
+        (Told::Finished(text), Reply::Taken(shared)) => is_sent_as(alloc, shared.outcome(), text),
+        (Told::Finished(_), _) => Ok(false),
         _ => Ok(reply.same(&told.reply(rt))),
     }
 }
@@ -283,17 +197,6 @@ fn books<S: Filestore>(core: &Core<S>, id: TransactionId) -> Books {
     )
 }
 
-/// Whether books, blocks and what exists are as they were.
-fn is_as_before<S: Filestore>(
-    alloc: Global,
-    core: &Core<S>,
-    id: TransactionId,
-    before: &(Books, Vec<Entry>),
-) -> Result<bool, Memory> {
-    let listing = core.store().listing(alloc)?;
-    Ok(books(core, id) == before.0 && listing == before.1)
-}
-
 /// Whether an event may be answered with out of memory: over a store that takes none only Metadata and Take may.
 fn may_want_memory<S: Filestore>(core: &Core<S>, event: &Event) -> bool {
     !core.store().takes_no_memory() || matches!(event, Event::Metadata(..) | Event::Take(_))
@@ -313,8 +216,11 @@ fn hand_in<S: Filestore>(
     );
     let reply = apply(rt, core, event, twice);
     if let Reply::Memory = reply {
-        let same = is_as_before(alloc, core, event.transaction(), &before)?;
-        assert!(rt; same && may_want_memory(core, event));
+        let after = (
+            books(core, event.transaction()),
+            core.store().listing(alloc)?,
+        );
+        assert!(rt; before == after && may_want_memory(core, event));
         return Ok(apply(rt, core, event, twice));
     }
     Ok(reply)
@@ -333,18 +239,6 @@ fn replies<S: Filestore>(
     is_told(rt, alloc, &reply, told)
 }
 
-/// Whether an entry of the listing is what is expected.
-fn is_standing(alloc: Global, entry: &Entry, expected: Standing) -> Result<bool, Memory> {
-    let path = path_of(alloc, expected.0)?;
-    let same = match expected.1 {
-        None => entry.kind == Kind::Directory,
-        Some((size, checksum)) => {
-            entry.kind == Kind::File && entry.size == size && entry.checksum == checksum
-        }
-    };
-    Ok(same && entry.path == path)
-}
-
 /// Whether what exists is what is expected, in path order.
 fn stands<S: Filestore>(
     alloc: Global,
@@ -352,43 +246,13 @@ fn stands<S: Filestore>(
     expected: &[Standing],
 ) -> Result<bool, Memory> {
     let listing = core.store().listing(alloc)?;
-    for (entry, row) in listing.iter().zip(expected) {
-        if !is_standing(alloc, entry, *row)? {
+    for (entry, (name, size, checksum)) in listing.iter().zip(expected) {
+        let is_there = entry.kind == Kind::File && entry.path == path_of(alloc, name)?;
+        if !(is_there && entry.size == *size && entry.checksum == *checksum) {
             return Ok(false);
         }
     }
     Ok(listing.len() == expected.len())
-}
-
-/// Whether this many blocks are free, and this many of them were granted to nobody.
-fn has_free<S: Filestore>(core: &Core<S>, free: u32, spare: u32) -> bool {
-    core.store().free() == free && core.spare() == spare
-}
-
-/// Whether this is what is missing of a transaction's file.
-fn has_gaps<S: Filestore>(core: &Core<S>, number: u8, expected: &[(u64, u64)]) -> bool {
-    match core.gaps(id(number)) {
-        None => expected.is_empty(),
-        Some(gaps) => gaps.as_slice() == expected,
-    }
-}
-
-/// Whether a transaction spent this many blocks and steps.
-fn has_spent<S: Filestore>(core: &Core<S>, number: u8, blocks: i64, steps: u32) -> bool {
-    core.blocks_spent(id(number)) == Some(blocks) && core.steps_spent(id(number)) == Some(steps)
-}
-
-/// Whether a transaction's file has come so far.
-fn has_reached<S: Filestore>(core: &Core<S>, number: u8, progress: u64, reach: u64) -> bool {
-    core.progress(id(number)) == Some(progress) && core.reach(id(number)) == Some(reach)
-}
-
-/// Whether a transaction's Metadata has this size and this destination file name.
-fn has_metadata<S: Filestore>(core: &Core<S>, number: u8, size: u64, name: &[u8]) -> bool {
-    match core.metadata(id(number)) {
-        None => false,
-        Some(metadata) => metadata.size == size && metadata.destination_name.as_slice() == name,
-    }
 }
 
 /// Whether these are all transactions, in order of admission.
@@ -399,14 +263,6 @@ fn has_order<S: Filestore>(core: &Core<S>, numbers: &[u8]) -> bool {
         }
     }
     core.transaction_at(numbers.len()) == None
-}
-
-/// Whether this is the first transaction whose outcome can be taken.
-fn is_next_outcome<S: Filestore>(core: &Core<S>, number: Option<u8>) -> bool {
-    match number {
-        None => core.next_outcome() == None,
-        Some(number) => core.next_outcome() == Some(id(number)),
-    }
 }
 
 /// Whether a row holds.
@@ -420,16 +276,29 @@ fn is_met<S: Filestore>(
     match row {
         Row::On(given, told) => replies(rt, alloc, core, (given, told), twice),
         Row::Standing(expected) => stands(alloc, core, expected),
-        Row::Store(free, spare) => Ok(has_free(core, free, spare)),
-        Row::Gaps(number, expected) => Ok(has_gaps(core, number, expected)),
-        Row::Spent(number, blocks, steps) => Ok(has_spent(core, number, blocks, steps)),
+        Row::Store(free, spare) => Ok(core.store().free() == free && core.spare() == spare),
+        Row::Gaps(number, expected) => match core.gaps(id(number)) {
+            None => Ok(expected.is_empty()),
+            Some(gaps) => Ok(gaps.as_slice() == expected),
+        },
+        Row::Spent(number, blocks, steps) => {
+            let spent = (core.blocks_spent(id(number)), core.steps_spent(id(number)));
+            Ok(spent == (Some(blocks), Some(steps)))
+        }
         Row::Phase(number, phase) => Ok(core.phase(id(number)) == phase),
-        Row::Runnable(None) => Ok(core.next_runnable() == None),
-        Row::Runnable(Some(number)) => Ok(core.next_runnable() == Some(id(number))),
-        Row::Reached(number, progress, reach) => Ok(has_reached(core, number, progress, reach)),
-        Row::Metadata(number, size, name) => Ok(has_metadata(core, number, size, name)),
+        Row::Runnable(number) => Ok(core.next_runnable() == number.map(id)),
+        Row::Reached(number, progress, reach) => {
+            let reached = (core.progress(id(number)), core.reach(id(number)));
+            Ok(reached == (Some(progress), Some(reach)))
+        }
+        Row::Metadata(number, size, name) => match core.metadata(id(number)) {
+            None => Ok(false),
+            Some(metadata) => {
+                Ok(metadata.size == size && metadata.destination_name.as_slice() == name)
+            }
+        },
         Row::Order(numbers) => Ok(has_order(core, numbers)),
-        Row::Over(number) => Ok(is_next_outcome(core, number)),
+        Row::Over(number) => Ok(core.next_outcome() == number.map(id)),
     }
 }
 
@@ -462,27 +331,14 @@ fn run<S: Filestore>(
     meet(rt, alloc, &mut core, rows, twice)
 }
 
-fn check_rows(rt: &impl Abort, alloc: Global, rows: &[Row], trial: Trial) -> Result<(), Memory> {
-    if trial.tree {
-        run(rt, alloc, rows, trial.twice, TreeStore::new(alloc, 64)?)
-    } else {
-        run(rt, alloc, rows, trial.twice, ListStore::new(alloc, 64)?)
-    }
-}
-
-/// Hands rows to an entity that has just begun, and to another one whose replies are given twice, over a store of each
-/// kind.
-pub fn check(rt: &impl Abort, alloc: Global, rows: &[Row]) -> Result<(), Memory> {
-    for trial in &TRIALS {
-        check_rows(rt, alloc, rows, *trial)?;
-    }
-    Ok(())
-}
-
-/// The same with the rows of each case.
+/// Hands the rows of each case to entities that have just begun, over a store of each kind. Each reply is given once,
+/// and by other entities twice.
 pub fn check_all(rt: &impl Abort, alloc: Global, cases: &[&[Row]]) -> Result<(), Memory> {
     for case in cases {
-        check(rt, alloc, case)?;
+        for twice in [false, true] {
+            run(rt, alloc, case, twice, ListStore::new(alloc, 64)?)?;
+            run(rt, alloc, case, twice, TreeStore::new(alloc, 64)?)?;
+        }
     }
     Ok(())
 }

@@ -70,43 +70,6 @@ static FOUR: [(Given, Told); 20] = [
     (Given::Cancel(14), Told::JournalFull),
 ];
 
-/// A path in two spellings; and a list that is cancelled after its first request, whose leases another transaction
-/// then gets.
-static TWO_MORE: [(Given, Told); 11] = [
-    (
-        Given::Pdu("240013000108020740000000000000000400022f610003100161"),
-        Told::Admitted(1, 4),
-    ),
-    (
-        Given::Pdu("24000a0001080204000000000000000000"),
-        Told::Complete,
-    ),
-    (Given::Step(8), Told::Performed(0x00)),
-    (Given::Step(8), Told::Performed(0x10)),
-    (
-        Given::Take(8),
-        Told::Finished("2c000f000108020503010500022f6100010410016100"),
-    ),
-    (
-        Given::Pdu("24001700010c020740000000000000000300016100030001620003000163"),
-        Told::Admitted(3, 6),
-    ),
-    (
-        Given::Pdu("24000a00010c0204000000000000000000"),
-        Told::Complete,
-    ),
-    (Given::Step(12), Told::Performed(0x00)),
-    (Given::Cancel(12), Told::Cancelled),
-    (
-        Given::Pdu("24000d00010d0207400000000000000003100161"),
-        Told::Admitted(0, 2),
-    ),
-    (
-        Given::Take(12),
-        Told::Finished("2c001700010c0205f301040001610001040f01620001040f016300060102"),
-    ),
-];
-
 /// Sixteen Metadata PDUs, of neither a file nor requests, of transactions of entity 3.
 static FILLERS: [&str; 16] = [
     "240008000301020740000000000000",
@@ -154,11 +117,6 @@ fn seen(alloc: Global, engine: &Engine) -> Result<Seen, Memory> {
     Ok((listing, core.spare(), engine.journal().len(), phases))
 }
 
-/// Whether all is as it was.
-fn is_as_before(alloc: Global, engine: &Engine, before: &Seen) -> Result<bool, Memory> {
-    Ok(seen(alloc, engine)? == *before)
-}
-
 /// The reply to an event. Where memory is refused or the journal is full, nothing has changed.
 fn accept(
     rt: &impl Abort,
@@ -170,8 +128,7 @@ fn accept(
     let event = Arc::new(alloc, given.event(alloc)?)?;
     let reply = engine.accept(0, event);
     if matches!(reply, Reply::Memory | Reply::JournalFull) {
-        let same = is_as_before(alloc, engine, &before)?;
-        assert!(rt; same);
+        assert!(rt; seen(alloc, engine)? == before);
     }
     Ok(reply)
 }
@@ -191,19 +148,6 @@ fn replies(
     is_told(rt, alloc, &reply, told)
 }
 
-/// Whether an event of the transactions, before which `count` events were journaled or refused, is replied to as it has
-/// to be: the first sixteen by their own replies, and all others by JournalFull.
-fn goes_on(
-    rt: &impl Abort,
-    alloc: Global,
-    engine: &mut Engine,
-    row: (Given, Told),
-    count: usize,
-) -> Result<bool, Memory> {
-    let told = if count < 16 { row.1 } else { Told::JournalFull };
-    replies(rt, alloc, engine, row.0, told)
-}
-
 /// Fills in this many entries.
 fn fill(rt: &impl Abort, alloc: Global, engine: &mut Engine, count: usize) -> Result<(), Memory> {
     for text in FILLERS.iter().take(count) {
@@ -213,41 +157,30 @@ fn fill(rt: &impl Abort, alloc: Global, engine: &mut Engine, count: usize) -> Re
     Ok(())
 }
 
-/// Hands in the events of transactions, after `count` others.
-fn go_on(
-    rt: &impl Abort,
-    alloc: Global,
-    engine: &mut Engine,
-    rows: &[(Given, Told)],
-    count: usize,
-) -> Result<(), Memory> {
+/// Hands in the events of the transactions after `count` others: the first sixteen of all get their own replies, and
+/// all others JournalFull.
+fn go_on(rt: &impl Abort, alloc: Global, engine: &mut Engine, count: usize) -> Result<(), Memory> {
     let mut before = count;
-    for row in rows {
-        let well = goes_on(rt, alloc, engine, *row, before)?;
+    for (given, told) in &FOUR {
+        let told = if before < 16 {
+            *told
+        } else {
+            Told::JournalFull
+        };
+        let well = replies(rt, alloc, engine, *given, told)?;
         assert!(rt; well, "event {before}, of which {count} are fillers");
         before = before.saturating_add(1);
     }
     Ok(())
 }
 
-fn check_behind(rt: &impl Abort, alloc: Global, count: usize) -> Result<(), Memory> {
-    let mut engine = engine(alloc, 16)?;
-    fill(rt, alloc, &mut engine, count)?;
-    go_on(rt, alloc, &mut engine, &FOUR, count)?;
-    assert!(rt; engine.journal().len() == 16);
-    Ok(())
-}
-
 #[test]
 fn fills_behind_any_number_of_entries(rt: HostRuntime) -> Result<(), Memory> {
     for count in 0..=16usize {
-        check_behind(&rt, rt.alloc(), count)?;
+        let mut engine = engine(rt.alloc(), 16)?;
+        fill(&rt, rt.alloc(), &mut engine, count)?;
+        go_on(&rt, rt.alloc(), &mut engine, count)?;
+        assert!(&rt; engine.journal().len() == 16);
     }
     Ok(())
-}
-
-#[test]
-fn goes_on_where_memory_is_refused(rt: HostRuntime) -> Result<(), Memory> {
-    let mut engine = engine(rt.alloc(), 16)?;
-    go_on(&rt, rt.alloc(), &mut engine, &TWO_MORE, 0)
 }

@@ -26,28 +26,14 @@ static MOVES: [Item; 3] = [
     (Action::RemoveDirectory, b"stays", b"", 0x62),
 ];
 
-/// Makes an empty file in the directory.
-fn create(alloc: Global, scene: &mut Scene, name: &[u8]) -> Result<(), Memory> {
-    let create = request(alloc, Action::CreateFile, name, b"")?;
-    perform(&mut scene.store, &scene.protected, &create)?;
-    Ok(())
-}
-
 /// Makes empty files in the directory.
 fn fill(alloc: Global, scene: &mut Scene, directory: &str) -> Result<(), Memory> {
     for number in 0..MANY {
         let name = format!(in alloc; "{directory}/{number}")?;
-        create(alloc, scene, name.as_bytes())?;
+        let create = request(alloc, Action::CreateFile, name.as_bytes(), b"")?;
+        perform(&mut scene.store, &scene.protected, &create)?;
     }
     Ok(())
-}
-
-/// A store with both directories full.
-fn filled(rt: &impl Abort, alloc: Global) -> Result<Scene, Memory> {
-    let mut scene = Scene::new(rt, alloc, 16_384, &BEFORE)?;
-    fill(alloc, &mut scene, "moves")?;
-    fill(alloc, &mut scene, "stays")?;
-    Ok(scene)
 }
 
 /// Moves one directory there and back.
@@ -60,26 +46,23 @@ fn apply(view: &mut View<'_>, requests: &[Request]) -> Result<bool, Memory> {
     Ok(true)
 }
 
-/// Moves it 32 times.
-fn apply_often(rt: &impl Abort, view: &mut View<'_>, requests: &[Request]) -> Result<(), Memory> {
+/// Moves it 32 times on a view of the store.
+fn move_often(rt: &impl Abort, alloc: Global, scene: &Scene) -> Result<(), Memory> {
+    let requests = requests(alloc, &MOVES)?;
+    let leased = footprint(alloc, &requests, None)?;
+    let mut view = View::of(alloc, &scene.store, &scene.protected, &leased)?;
     for number in 0..32 {
-        let holds = apply(view, requests)?;
+        let holds = apply(&mut view, &requests)?;
         assert!(rt; holds, "move {number}");
     }
     assert!(rt; view.need() == 0 && view.steps() == 128);
     Ok(())
 }
 
-/// Moves it on a view of the store.
-fn move_often(rt: &impl Abort, alloc: Global, scene: &Scene) -> Result<(), Memory> {
-    let requests = requests(alloc, &MOVES)?;
-    let leased = footprint(alloc, &requests, None)?;
-    let mut view = View::of(alloc, &scene.store, &scene.protected, &leased)?;
-    apply_often(rt, &mut view, &requests)
-}
-
 #[test]
 fn many_entries_move_often(rt: HostRuntime) -> Result<(), Memory> {
-    let scene = filled(&rt, rt.alloc())?;
+    let mut scene = Scene::new(&rt, rt.alloc(), 16_384, &BEFORE)?;
+    fill(rt.alloc(), &mut scene, "moves")?;
+    fill(rt.alloc(), &mut scene, "stays")?;
     move_often(&rt, rt.alloc(), &scene)
 }

@@ -3,11 +3,10 @@
 
 ghost use Rattle.std.specs.Prelude.{◌≡◌};
 
-use super::entity::header;
 use super::scene::read;
 use cfdp_actions::Protected;
 use cfdp_paths::Memory;
-use cfdp_pdus::Metadata;
+use cfdp_pdus::{Header, Metadata};
 use cfdp_transactions::{Config, Core, Event, Reply};
 use cfdp_tree::TreeStore;
 use cfdp_verifier::Refusal;
@@ -33,6 +32,16 @@ fn event(alloc: Global) -> Result<Event, Memory> {
         requests.push(read(alloc, &tlv(alloc, CREATE_FILE, last)?)?)?;
     }
     requests.push(read(alloc, &tlv(alloc, DELETE_FILE, b'o')?)?)?;
+    let header = Header {
+        toward_sender: false,
+        acknowledged: false,
+        large: false,
+        id_len: 1,
+        number_len: 1,
+        source: 1,
+        number: 1,
+        destination: 2,
+    };
     let metadata = Metadata {
         closure: false,
         checksum_type: 0,
@@ -41,7 +50,7 @@ fn event(alloc: Global) -> Result<Event, Memory> {
         destination_name: Vec::new(alloc),
         requests,
     };
-    Ok(Event::Metadata(header(1), metadata))
+    Ok(Event::Metadata(header, metadata))
 }
 
 /// A core that has just begun.

@@ -1,15 +1,14 @@
-//! What is put into a filestore before the first PDU: each reason for which nothing is put, out of memory, and a
-//! filestore that is read out of one entity and put into another.
+//! What is put into a filestore before the first PDU: each reason for which nothing is put, and out of memory. A
+//! filestore that is read out of one engine and put into another is in `examples/c/restart.c`.
 
 use super::entity::octets_of;
 use super::scene::path_of;
-use cfdp_actions::{Entry, Filestore, Kind, ListStore, Protected};
+use cfdp_actions::{Filestore, ListStore, Protected};
 use cfdp_entity::Entity;
 use cfdp_paths::{Memory, Path};
 use cfdp_status::TransactionId;
 use cfdp_transactions::{Config, Core, NotPut};
 use std::alloc::{AllocError, Global};
-use std::process::Abort;
 
 /// A path, and a directory, or a file of this many equal octets.
 type Put = (&'static [u8], Option<(usize, u8)>);
@@ -76,17 +75,6 @@ fn put(alloc: Global, entity: &mut Entity, what: Put) -> Result<Option<NotPut>, 
 /// The Metadata PDU of transaction 1/1: create directory `app`, create file `app/prog`.
 const METADATA: &str = "24001b00010102074000000000000000055003617070000a00086170702f70726f67";
 
-/// The octets of the file at an entry; none of a directory.
-fn octets_at(alloc: Global, entity: &Entity, entry: &Entry) -> Result<Vec<u8>, Memory> {
-    let mut octets = Vec::new(alloc);
-    if let Kind::File = entry.kind {
-        octets.resize(entry.size as usize, 0)?;
-        let store = entity.core().store();
-        let _count = store.read_at(entry.path.names(), 0, &mut octets);
-    }
-    Ok(octets)
-}
-
 #[test]
 fn each_reason(rt: HostRuntime) -> Result<(), Memory> {
     let alloc = rt.alloc();
@@ -143,46 +131,5 @@ fn memory(rt: HostRuntime) -> Result<(), Memory> {
         }
         assert!(&rt; done.is_ok());
     }
-    Ok(())
-}
-
-/// Puts what an entry of one entity's filestore says into another: whether it was put.
-fn put_entry(alloc: Global, from: &Entity, to: &mut Entity, entry: &Entry) -> Result<bool, Memory> {
-    let octets = octets_at(alloc, from, entry)?;
-    let done = match entry.kind {
-        Kind::Directory => to.put_directory(&entry.path),
-        Kind::File => to.put_file(&entry.path, &octets),
-    };
-    Ok(done.is_ok())
-}
-
-/// Whether both have the same octets at an entry.
-fn is_same(alloc: Global, one: &Entity, other: &Entity, entry: &Entry) -> Result<bool, Memory> {
-    Ok(octets_at(alloc, one, entry)? == octets_at(alloc, other, entry)?)
-}
-
-/// An entity whose filestore has the files.
-fn with_files(rt: &impl Abort, alloc: Global) -> Result<Entity, Memory> {
-    let mut entity = new_entity(alloc)?;
-    for what in FILES {
-        assert!(rt; put(alloc, &mut entity, *what)?.is_none());
-    }
-    Ok(entity)
-}
-
-#[test]
-fn the_same_again(rt: HostRuntime) -> Result<(), Memory> {
-    let alloc = rt.alloc();
-    let before = with_files(&rt, alloc)?;
-    let mut after = new_entity(alloc)?;
-    let listing = before.core().store().listing(alloc)?;
-    for entry in &listing {
-        assert!(&rt; put_entry(alloc, &before, &mut after, entry)?);
-    }
-    for entry in &listing {
-        assert!(&rt; is_same(alloc, &before, &after, entry)?);
-    }
-    assert!(&rt; after.core().store().listing(alloc)? == listing);
-    assert!(&rt; after.core().spare() == before.core().spare());
     Ok(())
 }

@@ -42,18 +42,13 @@ fn answers(view: &View<'_>, paths: &[Path; 3]) -> Answers {
     (view.need(), view.steps(), bounds)
 }
 
-/// Whether a view answers this.
-fn tells(view: &View<'_>, paths: &[Path; 3], told: Answers) -> bool {
-    answers(view, paths) == told
-}
-
 /// Installs `x`: where there is no memory nothing has changed, and it is tried once more.
 fn install(rt: &impl Abort, view: &mut View<'_>, paths: &[Path; 3]) -> Result<bool, Memory> {
     let before = answers(view, paths);
     match view.install(&paths[0], 120) {
         Ok(installed) => Ok(installed),
         Err(_) => {
-            assert!(rt; tells(view, paths, before));
+            assert!(rt; answers(view, paths) == before);
             view.install(&paths[0], 120)
         }
     }
@@ -70,7 +65,7 @@ fn apply(
     match view.apply(request) {
         Ok(told) => Ok(told),
         Err(_) => {
-            assert!(rt; tells(view, paths, before));
+            assert!(rt; answers(view, paths) == before);
             view.apply(request)
         }
     }
@@ -84,40 +79,25 @@ fn asked(alloc: Global) -> Result<[Path; 3], Memory> {
     Ok([installed, before, moved])
 }
 
-/// Applies the requests.
-fn apply_all(rt: &impl Abort, view: &mut View<'_>, paths: &[Path; 3], requests: &[Request]) {
+/// Installs `x` and applies the requests.
+fn try_items(rt: &impl Abort, view: &mut View<'_>, paths: &[Path; 3], requests: &[Request]) {
+    assert!(rt; answers(view, paths) == AT_FIRST);
+    assert!(rt; install(rt, view, paths) == Ok(true));
     for (place, (request, (_, _, _, status))) in requests.iter().zip(&ITEMS).enumerate() {
         let told = apply(rt, view, paths, request);
         assert!(rt; told.map(Status::octet) == Ok(*status), "request {place}");
     }
-}
-
-/// Installs `x` and applies the requests.
-fn try_items(rt: &impl Abort, view: &mut View<'_>, paths: &[Path; 3], requests: &[Request]) {
-    assert!(rt; tells(view, paths, AT_FIRST));
-    assert!(rt; install(rt, view, paths) == Ok(true));
-    apply_all(rt, view, paths, requests);
-    assert!(rt; tells(view, paths, AT_LAST));
+    assert!(rt; answers(view, paths) == AT_LAST);
 }
 
 /// Tries them on a view of the store.
-fn try_on(
-    rt: &impl Abort,
-    alloc: Global,
-    scene: &Scene,
-    paths: &[Path; 3],
-    requests: &[Request],
-) -> Result<(), Memory> {
-    let leased = footprint(alloc, requests, Some(&paths[0]))?;
-    let mut view = View::of(alloc, &scene.store, &scene.protected, &leased)?;
-    try_items(rt, &mut view, paths, requests);
-    Ok(())
-}
-
 fn try_in(rt: &impl Abort, alloc: Global, scene: &Scene) -> Result<(), Memory> {
     let requests = requests(alloc, &ITEMS)?;
     let paths = asked(alloc)?;
-    try_on(rt, alloc, scene, &paths, &requests)
+    let leased = footprint(alloc, &requests, Some(&paths[0]))?;
+    let mut view = View::of(alloc, &scene.store, &scene.protected, &leased)?;
+    try_items(rt, &mut view, &paths, &requests);
+    Ok(())
 }
 
 /// All else that takes memory comes before the install and the requests, so that only one of these can be refused from

@@ -1,14 +1,14 @@
-//! What a list is judged on, how it came about, and the verdict in numbers.
+//! What a list is judged on, how it came about, and the verdict in words.
 
-ghost use Rattle.std.specs.Prelude.{◌≡◌, ◌<◌, ◌≤◌, IfNone};
+ghost use Rattle.std.specs.Prelude.{◌≡◌, ◌≤◌, IfNone};
 
 use cfdp_actions::{Filestore, Kind, ListStore, Protected, Request, perform};
-use cfdp_leases::{Footprint, Leases};
+use cfdp_leases::{Footprint, Leases, footprint};
 use cfdp_paths::{Memory, Path};
 use cfdp_quota::Quota;
 use cfdp_status::{Action, TransactionId};
 use cfdp_tlv::{FILESTORE_REQUEST, FilestoreRequest, read_request, read_tlv};
-use cfdp_verifier::{Grant, Place, Proposal, Refusal, Verdict, verify};
+use cfdp_verifier::{Proposal, Verdict, verify};
 use std::alloc::{AllocError, Global};
 use std::process::Abort;
 
@@ -21,58 +21,9 @@ pub enum Before {
     Delivered(&'static [u8], u64),
     /// A transaction that is over had this request performed.
     Performed(&'static [u8]),
-    /// The transaction with this number was admitted with these requests, and granted this many blocks and steps.
-    Admitted(u8, &'static [&'static [u8]], u32, u32),
-    /// This request of it was performed.
-    Stepped(u8, &'static [u8]),
-    /// It is over.
-    Completed(u8),
+    /// The transaction with this number was admitted with this request, and granted a block.
+    Admitted(u8, &'static [u8]),
 }
-
-/// A verdict in numbers.
-#[derive(Clone, Copy, PartialEq, Eq)]
-pub enum Told {
-    /// This many blocks and steps are granted.
-    Granted(u32, u32),
-    TooManyRequests,
-    BadDestination,
-    /// By the number of the request.
-    BadName(u8),
-    /// By the number of the transaction.
-    Conflict(u64),
-    DestinationNotAllowed,
-    /// By the number of the request and the octet of its status.
-    WouldFail(u8, u8),
-    TooLong(u32),
-    NoRoom(u32, u32),
-}
-
-impl Told {
-    pub fn of(rt: &impl Abort, verdict: &Verdict) -> Told {
-        match verdict {
-            Verdict::Grant(grant) => Told::Granted(grant.blocks, grant.steps),
-            Verdict::Refuse(Refusal::TooManyRequests) => Told::TooManyRequests,
-            Verdict::Refuse(Refusal::BadPath(Place::Destination)) => Told::BadDestination,
-            Verdict::Refuse(Refusal::BadPath(Place::Request(number))) => Told::BadName(*number),
-            Verdict::Refuse(Refusal::Conflict(transaction)) => {
-                assert!(rt; transaction.source == 1);
-                Told::Conflict(transaction.number)
-            }
-            Verdict::Refuse(Refusal::DestinationNotAllowed) => Told::DestinationNotAllowed,
-            Verdict::Refuse(Refusal::WouldFail(number, status)) => {
-                Told::WouldFail(*number, status.octet())
-            }
-            Verdict::Refuse(Refusal::TooLong(steps)) => Told::TooLong(*steps),
-            Verdict::Refuse(Refusal::NoRoom(needed, spare)) => Told::NoRoom(*needed, *spare),
-        }
-    }
-}
-
-/// The destination and the bound of a file, where there is one; the requests' TLVs; and the verdict.
-pub type Row = (Option<(&'static [u8], u64)>, &'static [&'static [u8]], Told);
-
-/// The blocks of the store, what happens before, and the rows.
-pub type Case = (u32, &'static [Before], &'static [Row]);
 
 /// What a list is judged on.
 #[derive(Drop)]
@@ -80,7 +31,8 @@ pub struct Scene {
     blocks: u32,
     pub store: ListStore,
     pub leases: Leases,
-    reserves: [Option<u32>; 64],
+    /// Of the free blocks.
+    reserved: u32,
     pub protected: Protected,
 }
 
@@ -89,14 +41,6 @@ fn id(number: u8) -> TransactionId {
         source: 1,
         number: u64::from(number),
     }
-}
-
-/// Each transaction has the slot of its number.
-fn slot_of(rt: &impl Abort, number: u8) -> usize
-    ensures { result < 64 }
-{
-    assert!(rt; number < 64);
-    usize::from(number)
 }
 
 /// The request of a TLV, which is one, and nothing after it: only memory can be refused.
@@ -118,7 +62,7 @@ fn read_value(alloc: Global, value: &[u8]) -> Result<FilestoreRequest, Memory> {
 }
 
 /// The requests of TLVs.
-pub fn read_all(alloc: Global, tlvs: &[&[u8]]) -> Result<Vec<FilestoreRequest>, Memory> {
+fn read_all(alloc: Global, tlvs: &[&[u8]]) -> Result<Vec<FilestoreRequest>, Memory> {
     let mut requests = Vec::new(alloc);
     for tlv in tlvs {
         requests.push(read(alloc, tlv)?)?;
@@ -211,7 +155,7 @@ impl Scene {
             blocks,
             store: ListStore::new(alloc, blocks)?,
             leases: Leases::new(alloc),
-            reserves: [None; 64],
+            reserved: 0,
             protected: Protected::new(),
         };
         for event in before {
@@ -225,15 +169,7 @@ impl Scene {
             Before::Protected(name) => self.protect(rt, alloc, name),
             Before::Delivered(name, size) => self.deliver(rt, alloc, name, size),
             Before::Performed(tlv) => self.perform(rt, alloc, tlv),
-            Before::Admitted(number, tlvs, blocks, steps) => {
-                self.admit(rt, alloc, number, tlvs, Told::Granted(blocks, steps))
-            }
-            Before::Stepped(number, tlv) => self.step(rt, alloc, slot_of(rt, number), tlv),
-            Before::Completed(number) => {
-                self.leases.release(id(number));
-                self.reserves[slot_of(rt, number)] = None;
-                Ok(())
-            }
+            Before::Admitted(number, tlv) => self.admit(rt, alloc, number, tlv),
         }
     }
 
@@ -258,25 +194,6 @@ impl Scene {
         Ok(())
     }
 
-    /// Performs a request of the transaction in the slot, of whose reserve it takes blocks or gives them back.
-    fn step(
-        &mut self,
-        rt: &impl Abort,
-        alloc: Global,
-        slot: usize,
-        tlv: &[u8],
-    ) -> Result<(), Memory>
-        requires { slot < 64 }
-    {
-        let free = self.store.free();
-        self.perform(rt, alloc, tlv)?;
-        let reserve = u64::from(self.reserves[slot].unwrap_or(0));
-        let had = reserve + u64::from(self.store.free());
-        assert!(rt; u64::from(free) <= had && had - u64::from(free) <= 65_536);
-        self.reserves[slot] = Some((had - u64::from(free)) as u32);
-        Ok(())
-    }
-
     /// Performs a request on the store, which has to be successful.
     fn perform(&mut self, rt: &impl Abort, alloc: Global, tlv: &[u8]) -> Result<(), Memory> {
         let request = parse(alloc, tlv)?;
@@ -285,66 +202,49 @@ impl Scene {
         Ok(())
     }
 
-    /// Lets a transaction hold what it is granted.
+    /// Lets a transaction hold what its request leases, and a block.
     fn admit(
         &mut self,
         rt: &impl Abort,
         alloc: Global,
         number: u8,
-        tlvs: &[&[u8]],
-        told: Told,
+        tlv: &[u8],
     ) -> Result<(), Memory> {
-        let verdict = self.judge(rt, alloc, None, tlvs)?;
-        assert!(rt; Told::of(rt, &verdict) == told);
-        match verdict {
-            Verdict::Grant(grant) => self.hold(rt, number, grant),
-            Verdict::Refuse(_) => Ok(()),
-        }
-    }
-
-    /// Lets a transaction hold this.
-    fn hold(&mut self, rt: &impl Abort, number: u8, grant: Grant) -> Result<(), Memory> {
-        let reserve = grant.blocks;
-        hold(rt, &mut self.leases, id(number), grant.footprint)?;
-        self.reserves[slot_of(rt, number)] = Some(reserve);
+        let request = parse(alloc, tlv)?;
+        let leased = footprint(alloc, &[request], None)?;
+        hold(rt, &mut self.leases, id(number), leased)?;
+        self.reserved = 1;
         Ok(())
     }
 
     /// The blocks of the store, and what live transactions have reserved of the free ones.
     pub fn quota(&self, rt: &impl Abort) -> Quota {
-        let mut quota = Quota::new(self.blocks);
         let free = self.store.free();
         assert!(rt; free <= self.blocks);
-        let used = self.blocks - free;
-        quota.reserve(0, used);
-        quota.took(0, used);
-        quota.close(0);
-        for slot in 0..64u8 {
-            if let Some(reserve) = self.reserves[usize::from(slot)] {
-                assert!(rt; reserve <= quota.spare() && !quota.is_open(slot));
-                quota.reserve(slot, reserve);
-            }
-        }
+        let mut quota = Quota::with_free(self.blocks, free);
+        assert!(rt; self.reserved <= quota.spare() && !quota.is_open(0));
+        quota.reserve(0, self.reserved);
         quota
     }
 
-    /// The verdict on a list with a file, where there is one, by its destination and its bound.
+    /// What is said of a list with a file, where there is one, by its destination and its bound.
     pub fn judge(
         &self,
         rt: &impl Abort,
         alloc: Global,
         file: Option<(&[u8], u64)>,
         tlvs: &[&[u8]],
-    ) -> Result<Verdict, Memory> {
+    ) -> Result<String, Memory> {
         let requests = read_all(alloc, tlvs)?;
-        let verdict = match file {
+        let quota = self.quota(rt);
+        match file {
             None => {
                 let list = Proposal {
                     destination: None,
                     bound: 0,
                     requests: &requests,
                 };
-                self.ask(rt, alloc, &list)?
+                self.tell(alloc, &quota, &list)
             }
             Some((name, bound)) => {
                 let list = Proposal {
@@ -352,66 +252,28 @@ impl Scene {
                     bound,
                     requests: &requests,
                 };
-                self.ask(rt, alloc, &list)?
+                self.tell(alloc, &quota, &list)
             }
-        };
-        Ok(verdict)
+        }
     }
 
-    pub fn ask(
+    /// What is said of a list: what it is granted, or why it is refused. The call is the one of `docs/GUIDE.md`.
+    pub fn tell(
         &self,
-        rt: &impl Abort,
         alloc: Global,
-        list: &Proposal<'_>,
-    ) -> Result<Verdict, Memory>
-        requires { IfNone list.now.destination (list.now.bound ≡ 0) }
+        quota: &Quota,
+        proposal: &Proposal<'_>,
+    ) -> Result<String, Memory>
+        requires bound { IfNone proposal.now.destination (proposal.now.bound ≡ 0) }
     {
-        let quota = self.quota(rt);
-        verify(
-            alloc,
-            &self.store,
-            &self.leases,
-            &quota,
-            &self.protected,
-            list,
-        )
+        let (store, leases, protected) = (&self.store, &self.leases, &self.protected);
+        let text = match verify(alloc, store, leases, quota, protected, proposal)? {
+            Verdict::Grant(grant) => format!(in alloc;
+                "{} blocks, {} steps",
+                grant.blocks, grant.steps
+            )?,
+            Verdict::Refuse(refusal) => format!(in alloc; "{refusal:?}")?,
+        };
+        Ok(text)
     }
-}
-
-/// Compares the verdicts on lists that are judged after the same events on a store of this many blocks.
-pub fn check(
-    rt: &impl Abort,
-    alloc: Global,
-    blocks: u32,
-    before: &[Before],
-    rows: &[Row],
-) -> Result<(), Memory> {
-    let scene = Scene::new(rt, alloc, blocks, before)?;
-    for (place, (file, tlvs, told)) in rows.iter().enumerate() {
-        let verdict = scene.judge(rt, alloc, *file, tlvs)?;
-        assert!(rt; Told::of(rt, &verdict) == *told, "at row {place}");
-    }
-    Ok(())
-}
-
-/// Compares the verdicts of each case.
-pub fn check_all(rt: &impl Abort, alloc: Global, cases: &[Case]) -> Result<(), Memory> {
-    for (blocks, before, rows) in cases {
-        check(rt, alloc, *blocks, before, rows)?;
-    }
-    Ok(())
-}
-
-/// The same for one list without a file that a test puts together, on an empty store.
-pub fn check_list(
-    rt: &impl Abort,
-    alloc: Global,
-    blocks: u32,
-    tlvs: &[&[u8]],
-    told: Told,
-) -> Result<(), Memory> {
-    let scene = Scene::new(rt, alloc, blocks, &[])?;
-    let verdict = scene.judge(rt, alloc, None, tlvs)?;
-    assert!(rt; Told::of(rt, &verdict) == told);
-    Ok(())
 }

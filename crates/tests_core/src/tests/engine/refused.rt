@@ -2,117 +2,82 @@
 //! stops because it is out of memory after a beginning of it.
 
 use super::super::journal::engine;
+use super::scene::{Given, inbox};
 use super::workers::Open;
-use cfdp_engine::{Message, Seat, Shared, Stop, Worked, close, work};
+use cfdp_engine::{Seat, Shared, Stop, Worked, close, work};
 use cfdp_paths::Memory;
+use cfdp_status::{Action, Status};
 use cfdp_transactions::Reply;
 use cfdp_tree::TreeStore;
-use crossbeam_channel::{Receiver, bounded};
-use std::alloc::{AllocError, Global};
-use std::process::Abort;
+use std::alloc::Global;
 use std::sync::Wait;
 
-/// A list that creates a file.
-static CREATE: [&[u8]; 1] = [b"\x24\x00\x0d\x00\x01\x05\x02\x07\x40\0\0\0\0\0\0\0\x03\0\x01a"];
-
-/// Neither a file nor requests, and the end of it.
-static BARE: [&[u8]; 2] = [
-    b"\x24\x00\x08\x00\x01\x06\x02\x07\x40\0\0\0\0\0\0",
-    b"\x24\x00\x0a\x00\x01\x06\x02\x04\0\0\0\0\0\0\0\0\0",
+/// All of the life of 1/5, a PDU that is cut, and one that no receiving entity takes.
+static ONE_LIFE: [Given; 6] = [
+    Given::Cut,
+    Given::Create,
+    Given::Ack,
+    Given::End(5),
+    Given::Run,
+    Given::Take(5),
 ];
 
-/// Whether it is the reply to the first seat's event, or to one of the second's.
-fn is_reply(seat: u8, place: usize, reply: &Reply) -> bool {
-    match reply {
-        Reply::Admitted(1, 2) => seat == 0 && place == 0,
-        Reply::Admitted(0, 0) => seat == 1 && place == 0,
-        Reply::Done => seat == 1 && place == 1,
+/// Neither a file nor requests, and the end of it.
+static BARE: [Given; 2] = [Given::Bare(6), Given::End(6)];
+
+/// Whether it is the reply to the event with this number of the first seat, or of the second.
+fn is_reply(seat: u8, number: usize, reply: &Reply) -> bool {
+    match (seat, number, reply) {
+        (0, 0, Reply::Admitted(1, 2)) | (0, 1, Reply::Complete) => true,
+        (0, 2, Reply::Performed(status)) => *status == Status::Successful(Action::CreateFile),
+        (0, 3, Reply::Taken(outcome)) => outcome.outcome().finished.condition == 0,
+        (1, 0, Reply::Admitted(0, 0)) | (1, 1, Reply::Done) => true,
         _ => false,
     }
 }
 
-/// A closed inbox with these PDUs.
-fn inbox<R: Wait>(
-    rt: &R,
-    alloc: Global,
-    pdus: &[&[u8]],
-) -> Result<Receiver<Message, Global>, Memory> {
-    let Ok((to, inbox)) = bounded(alloc, 16) else {
-        return Err(AllocError);
-    };
-    for pdu in pdus {
-        let message = Message::Pdu(Vec::from_slice(alloc, pdu)?);
-        if to.send(rt, message).is_err() {
-            return Err(AllocError);
-        }
-    }
-    Ok(inbox)
-}
+/// How many events, messages and PDUs without an event are a worker's, where it was not stopped.
+type Counts = (usize, usize, u64);
 
 /// Whether a worker's receipts begin what it was sent, and are all of it where it was not stopped.
-fn is_well(worked: &Worked, seat: u8, sent: usize) -> bool {
+fn is_well(worked: &Worked, seat: u8, counts: Counts) -> bool {
     let receipts = worked.seat.receipts();
-    for (place, receipt) in receipts.iter().enumerate() {
-        if !is_reply(seat, place, &receipt.reply) {
+    for (number, receipt) in receipts.iter().enumerate() {
+        if !is_reply(seat, number, &receipt.reply) {
             return false;
         }
     }
     match worked.stopped {
-        None => receipts.len() == sent,
+        None => (receipts.len(), worked.taken.len(), worked.dropped) == counts,
         Some(stop) => stop == Stop::Memory,
     }
 }
 
-/// A worker of this seat, which was sent these PDUs.
-fn worker<R: Wait>(
-    rt: &R,
-    alloc: Global,
-    shared: &Shared<TreeStore>,
-    seat: u8,
-    pdus: &[&[u8]],
-) -> Result<Worked, Memory> {
-    let inbox = inbox(rt, alloc, pdus)?;
-    Ok(work(rt, alloc, shared, Seat::new(alloc, seat), inbox, &Open))
-}
-
-/// Lets a worker work, and keeps its seat: whether it does well.
+/// Lets a worker of this seat work, and keeps its seat: whether it does well.
 fn does_well<R: Wait>(
     rt: &R,
     alloc: Global,
     shared: &Shared<TreeStore>,
     seats: &mut Vec<Seat>,
     seat: u8,
-    pdus: &[&[u8]],
+    given: &[Given],
+    counts: Counts,
 ) -> Result<bool, Memory> {
-    let worked = worker(rt, alloc, shared, seat, pdus)?;
-    let well = is_well(&worked, seat, pdus.len());
+    let inbox = inbox(rt, alloc, given)?;
+    let worked = work(rt, alloc, shared, Seat::new(alloc, seat), inbox, &Open);
+    let well = is_well(&worked, seat, counts);
     seats.push(worked.seat)?;
     Ok(well)
 }
 
-/// The seats of both workers, where they do well.
-fn both<R: Wait>(
-    rt: &R,
-    alloc: Global,
-    shared: &Shared<TreeStore>,
-) -> Result<Option<Vec<Seat>>, Memory> {
-    let mut seats = Vec::new(alloc);
-    let zero = does_well(rt, alloc, shared, &mut seats, 0, &CREATE)?;
-    let one = does_well(rt, alloc, shared, &mut seats, 1, &BARE)?;
-    Ok(if zero && one { Some(seats) } else { None })
-}
-
-/// Whether both workers do well, and their receipts are the journal.
-fn are_well<R: Wait>(rt: &R, alloc: Global) -> Result<bool, Memory> {
-    let shared = Shared::new(engine(alloc, 1000)?);
-    match both(rt, alloc, &shared)? {
-        Some(seats) => Ok(close(shared.into_journaled(), seats).is_ok()),
-        None => Ok(false),
-    }
-}
-
+/// The receipts of both are the journal.
 #[test]
 fn two_workers(rt: HostRuntime) -> Result<(), Memory> {
-    assert!(rt; are_well(&rt, rt.alloc())?);
+    let alloc = rt.alloc();
+    let shared = Shared::new(engine(alloc, 1000)?);
+    let mut seats = Vec::new(alloc);
+    assert!(&rt; does_well(&rt, alloc, &shared, &mut seats, 0, &ONE_LIFE, (4, 6, 2))?);
+    assert!(&rt; does_well(&rt, alloc, &shared, &mut seats, 1, &BARE, (2, 2, 0))?);
+    assert!(&rt; close(shared.into_journaled(), seats).is_ok());
     Ok(())
 }

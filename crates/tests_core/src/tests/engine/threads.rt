@@ -1,15 +1,14 @@
-//! Several workers at once.
+//! Two workers at once. Four with a thousand events each are in `.ci/cases/links.txt`.
 
-use super::super::journal::Engine;
+use super::super::journal::{Engine, engine};
 use super::calls::closed;
-use super::scene::{Given, inbox, message, send, shared};
-use super::workers::{Open, is_closed};
+use super::scene::{Given, inbox};
 use cfdp_engine::{Gate, Message, Seat, Shared, Worked, work};
+use cfdp_paths::Memory;
 use cfdp_transactions::Reply;
 use cfdp_tree::TreeStore;
-use crossbeam_channel::{Receiver, Sender, bounded};
+use crossbeam_channel::Receiver;
 use std::alloc::Global;
-use std::process::Abort;
 use std::sync::Wait;
 use std::sync::atomic::{AtomicBool, Ordering};
 use std::thread;
@@ -100,138 +99,36 @@ fn begins_with(journaled: &Engine, seat: u8) -> bool {
     }
 }
 
-/// Both seats in a list.
-fn both(rt: &impl Abort, alloc: Global, one: Seat, two: Seat) -> Vec<Seat> {
-    let mut seats = Vec::with_capacity(alloc, 2).expect(rt, "memory");
-    seats.push_reserved(one);
-    seats.push_reserved(two);
-    seats
-}
-
 /// Whether a worker was not stopped, and has this many receipts.
 fn is_done(worked: &Worked, receipts: usize) -> bool {
     worked.stopped.is_none() && worked.seat.receipts().len() == receipts
 }
 
-/// Whether the engine begins with the second seat, and closes with both.
-fn is_closed_in_turn(engine: Shared<TreeStore>, seats: Vec<Seat>) -> bool {
-    let journaled = engine.into_journaled();
-    begins_with(&journaled, 1) && closed(journaled, seats).0.is_none()
-}
-
 /// Whether the workers took all of one and two messages, and the engine closes with their seats and begins with the
 /// second.
 fn is_crossed(
-    rt: &impl Abort,
     alloc: Global,
     engine: Shared<TreeStore>,
     zero: Worked,
     one: Worked,
-) -> bool {
+) -> Result<bool, Memory> {
     let are_done = is_done(&zero, 1) && is_done(&one, 2);
-    let seats = both(rt, alloc, zero.seat, one.seat);
-    are_done && is_closed_in_turn(engine, seats)
+    let mut seats = Vec::new(alloc);
+    seats.push(zero.seat)?;
+    seats.push(one.seat)?;
+    let journaled = engine.into_journaled();
+    Ok(are_done && begins_with(&journaled, 1) && closed(journaled, seats).0.is_none())
 }
 
 #[test]
-fn two_workers_are_at_work_at_once(rt: HostRuntime) {
+fn two_workers_are_at_work_at_once(rt: HostRuntime) -> Result<(), Memory> {
     let alloc = rt.alloc();
-    let engine = shared(&rt, alloc, 1000);
+    let shared = Shared::new(engine(alloc, 1000)?);
     let crossing = Crossing::new(rt);
-    let zero = inbox(&rt, alloc, &[Given::Create]);
-    let one = inbox(&rt, alloc, &[Given::Bare(6), Given::End(6)]);
-    let (zero, one) = two(&rt, alloc, &engine, &crossing, (0, zero), (1, one));
+    let zero = inbox(&rt, alloc, &[Given::Create])?;
+    let one = inbox(&rt, alloc, &[Given::Bare(6), Given::End(6)])?;
+    let (zero, one) = two(&rt, alloc, &shared, &crossing, (0, zero), (1, one));
     assert!(rt; !crossing.gave_up.load(Ordering::SeqCst));
-    assert!(rt; is_crossed(&rt, alloc, engine, zero, one));
-}
-
-/// How many messages each of four workers gets.
-const EACH: u32 = 1_000;
-
-/// The message with this number: the worker's transaction begins, ends and is taken, over and over.
-fn in_turn(worker: u8, number: u32) -> Given {
-    match number % 3 {
-        0 => Given::Bare(worker),
-        1 => Given::End(worker),
-        _ => Given::Take(worker),
-    }
-}
-
-/// Sends workers their messages, one to each in turn.
-fn feed(rt: &(impl Wait + Abort), alloc: Global, workers: Vec<Sender<Message, Global>>) {
-    for number in 0..EACH {
-        for (worker, to) in (0..4u8).zip(workers.iter()) {
-            send(rt, to, message(rt, alloc, in_turn(worker, number)));
-        }
-    }
-}
-
-/// Whether the replies of a worker are those to its messages.
-fn are_in_turn(seat: &Seat) -> bool {
-    for (number, receipt) in seat.receipts().iter().enumerate() {
-        match (number % 3, &receipt.reply) {
-            (0, Reply::Admitted(0, 0)) | (1, Reply::Done) | (2, Reply::Taken(_)) => {}
-            _ => return false,
-        }
-    }
-    true
-}
-
-/// The worker's seat, where it took all its messages.
-fn seat_of(rt: &impl Abort, worked: Worked) -> Seat {
-    let Worked {
-        seat,
-        taken,
-        dropped,
-        stopped,
-    } = worked;
-    assert!(rt; stopped.is_none() && taken.len() == 1_000 && dropped == 0);
-    assert!(rt; seat.receipts().len() == 1_000 && are_in_turn(&seat));
-    seat
-}
-
-/// Both ends of an inbox of 16.
-fn ends(
-    rt: &impl Abort,
-    alloc: Global,
-    senders: &mut Vec<Sender<Message, Global>>,
-) -> Receiver<Message, Global> {
-    let (to, inbox) = bounded(alloc, 16).expect(rt, "memory");
-    let kept = senders.push(to).is_ok();
-    assert!(rt; kept);
-    inbox
-}
-
-/// Four workers while they are fed.
-fn four<R: Threads + Wait + Abort + Sync>(
-    rt: &R,
-    alloc: Global,
-    shared: &Shared<TreeStore>,
-) -> ((Worked, Worked), (Worked, Worked)) {
-    let mut senders = Vec::new(alloc);
-    let zero = ends(rt, alloc, &mut senders);
-    let one = ends(rt, alloc, &mut senders);
-    let second = ends(rt, alloc, &mut senders);
-    let third = ends(rt, alloc, &mut senders);
-    let low = || two(rt, alloc, shared, &Open, (0, zero), (1, one));
-    let high = || two(rt, alloc, shared, &Open, (2, second), (3, third));
-    thread::join(
-        rt,
-        || feed(rt, alloc, senders),
-        || thread::join(rt, low, high),
-    )
-    .1
-}
-
-#[test]
-fn four_workers_take_a_thousand_events_each(rt: HostRuntime) {
-    let alloc = rt.alloc();
-    let engine = shared(&rt, alloc, 4 * EACH);
-    let ((zero, one), (second, third)) = four(&rt, alloc, &engine);
-    let mut seats = Vec::with_capacity(alloc, 4).expect(&rt, "memory");
-    seats.push_reserved(seat_of(&rt, zero));
-    seats.push_reserved(seat_of(&rt, one));
-    seats.push_reserved(seat_of(&rt, second));
-    seats.push_reserved(seat_of(&rt, third));
-    assert!(rt; is_closed(engine, seats));
+    assert!(rt; is_crossed(alloc, shared, zero, one)?);
+    Ok(())
 }

@@ -12,34 +12,30 @@ use std::process::Abort;
 
 /// The footprints of the live transactions in order of admission.
 #[derive(Drop)]
-pub(super) struct Plain {
+struct Plain {
     grants: Vec<(TransactionId, Footprint)>,
 }
 
 impl Plain {
-    pub(super) fn new(alloc: Global) -> Plain {
+    fn new(alloc: Global) -> Plain {
         Plain {
             grants: Vec::new(alloc),
         }
     }
 
-    pub(super) fn conflict(&self, footprint: &Footprint) -> Option<TransactionId> {
+    fn conflict(&self, footprint: &Footprint) -> Option<TransactionId> {
         self.grants
             .iter()
             .find(|grant| conflicts(&grant.1, footprint))
             .map(|grant| grant.0)
     }
 
-    pub(super) fn grant(
-        &mut self,
-        transaction: TransactionId,
-        footprint: Footprint,
-    ) -> Result<(), Memory> {
+    fn grant(&mut self, transaction: TransactionId, footprint: Footprint) -> Result<(), Memory> {
         self.grants.push((transaction, footprint))?;
         Ok(())
     }
 
-    pub(super) fn release(&mut self, transaction: TransactionId) {
+    fn release(&mut self, transaction: TransactionId) {
         self.grants.retain(|grant| grant.0 != transaction);
     }
 }
